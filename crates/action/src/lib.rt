@@ -1,0 +1,16 @@
+//! What a seccomp filter decides of a system call: the actions of seccomp(2), and the 32-bit values
+//! that stand for them.
+//!
+//! Every value has a verdict, an unknown action that of the strictest one. The tables stand in
+//! `specs/Verdict.antt`.
+#![tactic(auto)]
+
+mod action;
+mod laws;
+#[cfg(test)]
+mod tests;
+mod verdict;
+
+pub use action::Action;
+pub use laws::{ranks_are_an_order, values_round_trip, verdicts_round_trip};
+pub use verdict::{ENOSYS, MAX_ERRNO, Verdict};

@@ -1,0 +1,64 @@
+ghost use Rattle.std.specs.Prelude.{◌≡◌};
+
+use crate::action::Action;
+
+/// The greatest errno that a call returns.
+pub const MAX_ERRNO: u16 = 4095;
+
+/// The errno of a call that nobody answers: the function is not there.
+pub const ENOSYS: u16 = 38;
+
+/// What a filter's value says of a call.
+#[derive(Clone, Copy, Debug, PartialEq, Eq)]
+pub struct Verdict {
+    pub action: Action,
+    /// The lower half of the value: for `Action::Errno` the errno.
+    pub ret_data: u16,
+}
+
+impl Verdict {
+    ghost use Rattle.action.specs.Verdict.{errno_of, performs_of, rank_of, value_of, verdict_of};
+
+    /// The verdict that a filter's value stands for. An unknown action is `Action::KillProcess`, and
+    /// the data stays.
+    pub fn of_value(value: u32) -> Verdict
+        ensures { result ≡ verdict_of value }
+    {
+        Verdict {
+            action: Action::of_code((value >> 16) as u16),
+            ret_data: (value & 0xffff) as u16,
+        }
+    }
+
+    /// The value that stands for this verdict.
+    pub fn value(self) -> u32
+        ensures { result ≡ value_of self }
+    {
+        (u32::from(self.action.code()) << 16) | u32::from(self.ret_data)
+    }
+
+    /// Its action's place in the order of actions, from 0 for the strictest to 7.
+    pub fn rank(self) -> u8
+        ensures { result ≡ rank_of self.action }
+    {
+        self.action.rank()
+    }
+
+    /// Whether the call is performed.
+    pub fn performs(self) -> bool
+        ensures { result ≡ performs_of self.action }
+    {
+        matches!(self.action, Action::Log | Action::Allow)
+    }
+
+    /// The errno that the call returns in place of being performed, if it returns one.
+    pub fn errno(self) -> Option<u16>
+        ensures { result ≡ errno_of self }
+    {
+        match self.action {
+            Action::Errno => Some(self.ret_data.min(MAX_ERRNO)),
+            Action::UserNotif | Action::Trace => Some(ENOSYS),
+            _ => None,
+        }
+    }
+}

@@ -1,0 +1,5 @@
+pub mod Code
+pub mod Reading
+pub mod Flow
+pub mod Text
+pub mod OperandText

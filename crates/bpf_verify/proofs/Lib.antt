@@ -1,0 +1,4 @@
+pub mod Places
+pub mod Rules
+pub mod Stored
+pub mod FirstFault

@@ -1,0 +1,14 @@
+//! The data of a system call as a seccomp filter reads it: `struct seccomp_data` of seccomp(2).
+//!
+//! `SysCall` has the fields, `to_bytes` writes the 64 bytes that they are, and `word` and `word_of`
+//! read the 32-bit words that an absolute load can reach. What bytes and words are stands in
+//! `specs/CallData.antt`.
+#![tactic(auto)]
+
+mod sys_call;
+#[cfg(test)]
+mod tests;
+mod words;
+
+pub use sys_call::SysCall;
+pub use words::{word_of, words_of_fields};
