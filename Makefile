@@ -5,7 +5,7 @@
 PREFIX ?= /usr/local
 PROGRAMS := seccheck
 
-.PHONY: test demo install clean
+.PHONY: test demo install table clean
 
 test:
 	rt ci
@@ -20,6 +20,10 @@ install:
 	  (cd crates/$$program && rm -f out/$$program && { rt run -- --help > /dev/null 2>&1 || test -x out/$$program; }); \
 	  install -D -m 755 crates/$$program/out/$$program $(DESTDIR)$(PREFIX)/bin/$$program; \
 	done
+
+# The call table beside the kernel's header on this machine.
+table:
+	@tools/compare_call_table.sh
 
 clean:
 	rm -rf crates/*/out

@@ -195,8 +195,14 @@ fn verify_tells_the_first_fault(rt: HostRuntime) -> Result<(), Fail> {
             "refused NoFinalReturn\n",
         ),
         (
-            [(0x01, 0, 0, 7), (0x03, 0, 0, 16), ret, ret, ret],
-            3,
+            [
+                (0x01, 0, 0, 7),
+                (0x03, 0, 0, 16),
+                (0x60, 0, 0, 15),
+                (0x16, 0, 0, 0),
+                ret,
+            ],
+            4,
             "refused BadWord at 1\n",
         ),
         (
@@ -231,9 +237,9 @@ fn verify_tells_the_first_fault(rt: HostRuntime) -> Result<(), Fail> {
     Ok(())
 }
 
-/// So many loads of the call's number, and a return that allows.
-fn loads(rt: &HostRuntime, count: usize) -> Result<Vec<u8>, Fail> {
-    let load = Insn::new(0x20, 0, 0, 0).ok_or("a load")?;
+/// So many loads with this code, and a return that allows.
+fn loads(rt: &HostRuntime, op: u16, count: usize) -> Result<Vec<u8>, Fail> {
+    let load = Insn::new(op, 0, 0, 0).ok_or("a load")?;
     let allow = Insn::new(0x06, 0, 0, 0x7fff_0000).ok_or("a return")?;
     let mut code = Vec::new(rt.alloc());
     for _ in 0..count {
@@ -245,14 +251,18 @@ fn loads(rt: &HostRuntime, count: usize) -> Result<Vec<u8>, Fail> {
 
 #[test]
 fn files_at_the_limits(rt: HostRuntime) -> Result<(), Fail> {
-    let path = file_of(&rt, "longest", &loads(&rt, 4095)?)?;
-    let (status, out, _err) = seccheck(&rt, "run FILE 0", path.as_str())?;
-    assert_eq!(rt; out.as_str(), "7fff0000 ALLOW 0 steps 4096\n");
-    assert_eq!(rt; status, 0);
-    let path = file_of(&rt, "longer", &loads(&rt, 4096)?)?;
-    let (status, out, _err) = seccheck(&rt, "run FILE 0", path.as_str())?;
-    assert_eq!(rt; out.as_str(), "refused TooLong\n");
-    assert_eq!(rt; status, 1);
+    for op in [0x00, 0x20] {
+        let path = file_of(&rt, "longest", &loads(&rt, op, 4095)?)?;
+        let (status, out, _err) = seccheck(&rt, "verify FILE", path.as_str())?;
+        assert_eq!(rt; out.as_str(), "accepted 4096 instructions\n");
+        assert_eq!(rt; status, 0);
+        let (_status, out, _err) = seccheck(&rt, "run FILE 0", path.as_str())?;
+        assert_eq!(rt; out.as_str(), "7fff0000 ALLOW 0 steps 4096\n");
+        let path = file_of(&rt, "longer", &loads(&rt, op, 4096)?)?;
+        let (status, out, _err) = seccheck(&rt, "verify FILE", path.as_str())?;
+        assert_eq!(rt; out.as_str(), "refused TooLong\n");
+        assert_eq!(rt; status, 1);
+    }
     let path = file_of(&rt, "empty", b"")?;
     let (_status, out, _err) = seccheck(&rt, "run FILE 0", path.as_str())?;
     assert_eq!(rt; out.as_str(), "refused Empty\n");

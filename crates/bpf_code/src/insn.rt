@@ -3,6 +3,7 @@ ghost use Rattle.bpf_code.specs.Code.{bytes_of_insn, code_of, Spells};
 
 use crate::operation::Operation;
 use byteorder::{ByteOrder, LittleEndian};
+use std::mem::size_of;
 
 /// One instruction. Numbers that its operation does not use are kept as they were given.
 #[derive(Clone, Copy, Debug, PartialEq, Eq)]
@@ -16,6 +17,9 @@ pub struct Insn {
     /// The number that the operation works with.
     pub k: u32,
 }
+
+// An instruction is as long as its bytes: the machine's loop rests on it.
+const _: () = prove!(size_of::<Insn>() == 8);
 
 impl Insn {
     /// The instruction with these four numbers, if the code is in the table.

@@ -76,18 +76,18 @@ impl Registers {
 pub(crate) fn step(
     registers: Registers,
     insn: &Insn,
-    data: &[u8; 64],
+    bytes: &[u8; 64],
     words: &mut [u32; 16],
 ) -> After
     requires inside { registers.place < MAX_INSNS }
     requires number { KeepsNumber insn.now.op insn.now.k }
-    ensures follows { (call : SysCall) (s : State) (next : Next) → data.now ≡ bytes_of_call call
+    ensures follows { (call : SysCall) (s : State) (next : Next) → bytes.now ≡ bytes_of_call call
         → StandsFor registers words.old s → Executes insn.now.op call insn.now s next → LeadsTo result words.new next }
 {
     let (a, x, k) = (registers.a, registers.x, insn.k);
     match insn.op {
         Operation::LoadImmediate => registers.with_a(k),
-        Operation::LoadData => registers.with_a(word_of(data, k)),
+        Operation::LoadData => registers.with_a(word_of(bytes, k)),
         Operation::LoadWord => registers.with_a(words[k as usize]),
         Operation::LoadLength => registers.with_a(DATA_LEN),
         Operation::LoadXImmediate => registers.with_x(k),

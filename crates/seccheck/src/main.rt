@@ -5,10 +5,19 @@ use agent::seccheck_run;
 use std::process::ExitCode;
 use std::{env, io};
 
-fn main(rt: HostRuntime) -> io::Result<ExitCode> {
-    let words: Vec<String> = env::args(&rt)?.collect(rt.alloc())?;
-    let mut out = io::writer(&rt);
-    let mut err = rt.stderr();
-    let status = seccheck_run(&rt, &words, &mut out, &mut err);
-    Ok(ExitCode::from(status))
+fn main(rt: HostRuntime) -> ExitCode {
+    let status = match words(&rt) {
+        Ok(words) => seccheck_run(&rt, &words, &mut io::writer(&rt), &mut rt.stderr()),
+        // A process has its words, so only the memory to copy them can be missing.
+        Err(_) => {
+            let _ = eprintln!(rt; "seccheck: Memory");
+            4
+        }
+    };
+    ExitCode::from(status)
+}
+
+/// The words of the command line, the program's name first.
+fn words(rt: &HostRuntime) -> io::Result<Vec<String>> {
+    Ok(env::args(rt)?.collect(rt.alloc())?)
 }

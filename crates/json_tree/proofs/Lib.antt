@@ -1,0 +1,5 @@
+pub mod Items
+pub mod Loops
+pub mod Fields
+pub mod Utf8
+pub mod Values

@@ -1,0 +1,29 @@
+//! What the readers of JSON (RFC 8259) share: trees of `serde_json`, what kind a tree is, and the
+//! members of an object that have to be there or may be left out.
+//!
+//! A member that is null is not there, unless it has to be: then it is of the wrong type. Unknown
+//! members are never looked at. A whole number is one that `serde_json` reads as `u64`.
+#![tactic(auto)]
+
+mod document;
+mod faults;
+mod kinds;
+mod lists;
+mod members;
+mod optional;
+mod required;
+#[cfg(test)]
+mod tests;
+
+pub use document::read;
+pub use faults::{FieldFault, TextFault};
+pub use kinds::{list, object, text, value, whole, word};
+pub use members::{has, member};
+pub use optional::{
+    optional_flag, optional_list, optional_object, optional_text, optional_texts, optional_whole,
+    optional_wholes, optional_word,
+};
+pub use required::{
+    required_list, required_object, required_text, required_texts, required_value, required_whole,
+    required_wholes, required_word,
+};

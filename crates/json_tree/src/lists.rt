@@ -1,0 +1,60 @@
+ghost use Rattle.std.specs.Prelude.{◌≡◌, IfOk, map, option_map, string_bytes};
+ghost use Rattle.serde_json.specs.View.{view};
+ghost use Rattle.json_tree.specs.Tree as kind;
+
+use crate::kinds::{list, text, whole};
+use serde_json::Value;
+use std::alloc::{AllocError, Global};
+
+/// The whole numbers of a list, if it is a list of nothing else.
+#[tactic(auto, unfolding(crate::specs::Tree::wholes))]
+pub(crate) fn wholes(alloc: Global, tree: &Value) -> Result<Option<Vec<u64>>, AllocError>
+    ensures { IfOk result (λ o. option_map (λ v. v.items) o ≡ kind.wholes (view tree.now)) }
+{
+    match list(tree) {
+        Some(items) => each_whole(alloc, items),
+        None => Ok(None),
+    }
+}
+
+/// The texts of a list, if it is a list of nothing else.
+#[tactic(auto, unfolding(crate::specs::Tree::texts))]
+pub(crate) fn texts(alloc: Global, tree: &Value) -> Result<Option<Vec<String>>, AllocError>
+    ensures { IfOk result (λ o. option_map (λ v. map string_bytes v.items) o
+        ≡ kind.texts (view tree.now)) }
+{
+    match list(tree) {
+        Some(items) => each_text(alloc, items),
+        None => Ok(None),
+    }
+}
+
+#[tactic(auto, using(crate::proofs::Items::each_more, crate::proofs::Items::each_stops))]
+fn each_whole(alloc: Global, items: &[Value]) -> Result<Option<Vec<u64>>, AllocError>
+    ensures { IfOk result (λ o. option_map (λ v. v.items) o
+        ≡ kind.each kind.whole (map view items.now)) }
+{
+    let mut numbers = Vec::new(alloc);
+    for item in items {
+        let Some(number) = whole(item) else {
+            return Ok(None);
+        };
+        numbers.push(number)?;
+    }
+    Ok(Some(numbers))
+}
+
+#[tactic(auto, using(crate::proofs::Items::each_more, crate::proofs::Items::each_stops, std::proofs::lemmas::List::map_push))]
+fn each_text(alloc: Global, items: &[Value]) -> Result<Option<Vec<String>>, AllocError>
+    ensures { IfOk result (λ o. option_map (λ v. map string_bytes v.items) o
+        ≡ kind.each kind.text (map view items.now)) }
+{
+    let mut owned = Vec::new(alloc);
+    for item in items {
+        let Some(lent) = text(item) else {
+            return Ok(None);
+        };
+        owned.push(String::from_str(alloc, lent)?)?;
+    }
+    Ok(Some(owned))
+}

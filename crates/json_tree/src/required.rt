@@ -1,0 +1,85 @@
+ghost use Rattle.std.specs.Prelude.{◌≡◌, map, string_bytes};
+ghost use Rattle.serde_json.specs.View.{view};
+ghost use Rattle.json_tree.specs.Reading.{Gives, as_read, required};
+ghost use Rattle.json_tree.specs.Tree as kind;
+
+use crate::faults::FieldFault;
+use crate::kinds::{list, object, text, value, whole, word};
+use crate::lists::{texts, wholes};
+use serde_json::Value;
+use std::alloc::Global;
+
+// Each answers `Missing` where the field is not there, and `WrongType` where it is of another kind, as
+// null is. Those that allocate answer `Memory` where a growth was refused.
+
+/// The whole number of a field that has to be there.
+#[tactic(auto, unfolding(crate::specs::Reading::required))]
+pub fn required_whole(tree: &Value, key: &str) -> Result<u64, FieldFault>
+    ensures { result ≡ required kind.whole key.now (view tree.now) }
+{
+    let found = tree.get(key).ok_or(FieldFault::Missing)?;
+    whole(found).ok_or(FieldFault::WrongType)
+}
+
+/// The whole number below 2^32 of a field that has to be there.
+#[tactic(auto, unfolding(crate::specs::Reading::required))]
+pub fn required_word(tree: &Value, key: &str) -> Result<u32, FieldFault>
+    ensures { result ≡ required kind.word key.now (view tree.now) }
+{
+    let found = tree.get(key).ok_or(FieldFault::Missing)?;
+    word(found).ok_or(FieldFault::WrongType)
+}
+
+/// The text of a field that has to be there.
+#[tactic(auto, unfolding(crate::specs::Reading::required))]
+pub fn required_text<'v>(tree: &'v Value, key: &str) -> Result<&'v str, FieldFault>
+    ensures { as_read (λ t. t.now) result ≡ required kind.text key.now (view tree.now) }
+{
+    let found = tree.get(key).ok_or(FieldFault::Missing)?;
+    text(found).ok_or(FieldFault::WrongType)
+}
+
+/// The items of the list of a field that has to be there.
+#[tactic(auto, unfolding(crate::specs::Reading::required))]
+pub fn required_list<'v>(tree: &'v Value, key: &str) -> Result<&'v [Value], FieldFault>
+    ensures { as_read (λ items. map view items.now) result ≡ required kind.list key.now (view tree.now) }
+{
+    let found = tree.get(key).ok_or(FieldFault::Missing)?;
+    list(found).ok_or(FieldFault::WrongType)
+}
+
+/// The object of a field that has to be there.
+#[tactic(auto, unfolding(crate::specs::Reading::required))]
+pub fn required_object<'v>(tree: &'v Value, key: &str) -> Result<&'v Value, FieldFault>
+    ensures { as_read (λ v. view v.now) result ≡ required kind.object key.now (view tree.now) }
+{
+    let found = tree.get(key).ok_or(FieldFault::Missing)?;
+    object(found).ok_or(FieldFault::WrongType)
+}
+
+/// The whole numbers of the list of a field that has to be there.
+#[tactic(auto, unfolding(crate::specs::Reading::required))]
+pub fn required_wholes(alloc: Global, tree: &Value, key: &str) -> Result<Vec<u64>, FieldFault>
+    ensures { Gives FieldFault.Memory (λ v. v.items) result (required kind.wholes key.now (view tree.now)) }
+{
+    let found = tree.get(key).ok_or(FieldFault::Missing)?;
+    wholes(alloc, found)?.ok_or(FieldFault::WrongType)
+}
+
+/// The texts of the list of a field that has to be there.
+#[tactic(auto, unfolding(crate::specs::Reading::required))]
+pub fn required_texts(alloc: Global, tree: &Value, key: &str) -> Result<Vec<String>, FieldFault>
+    ensures { Gives FieldFault.Memory (λ v. map string_bytes v.items) result (required kind.texts key.now (view tree.now)) }
+{
+    let found = tree.get(key).ok_or(FieldFault::Missing)?;
+    texts(alloc, found)?.ok_or(FieldFault::WrongType)
+}
+
+/// The value, whatever it is but null, of a field that has to be there.
+#[tactic(auto, unfolding(crate::specs::Reading::required))]
+pub fn required_value<'v>(tree: &'v Value, key: &str) -> Result<&'v Value, FieldFault>
+    ensures { as_read (λ v. view v.now) result ≡ required kind.value key.now (view tree.now) }
+{
+    let found = tree.get(key).ok_or(FieldFault::Missing)?;
+    value(found).ok_or(FieldFault::WrongType)
+}

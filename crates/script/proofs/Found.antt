@@ -1,0 +1,228 @@
+-- What is read is so: each reading, where it goes on, gives what the tree has.
+use Rattle.std.proofs.Common.{◌≡◌, ◌⊎◌, inl, inr, ℕ, ◌<◌, List, [], ◌∷◌, length, codes, cond, eqb, leb, ltb, Bool, true, false, Option, Some, None, unwrap_or, Result, Ok, Err, refl, sym, ap, subst, ◌∙◌, arith}
+use Rattle.std.specs.Prelude.{IfOk}
+use Rattle.std.specs.List.{list_all}
+use Rattle.std.proofs.lemmas.Bool.{eqb-false, ltb-false}
+use Rattle.serde_json.specs.Data.{Data}
+use Rattle.serde_json.specs.Find.{get}
+use Rattle.json_tree.specs.declared.faults.FieldFault.{FieldFault}
+use Rattle.json_tree.specs.Tree.{has, list, object, text, tree_of, value, whole, wholes, word}
+use Rattle.json_tree.specs.declared.faults.TextFault.TheVariants.{NotJson}
+use Rattle.json_tree.specs.Reading.{or_else, refuse_if, if_there, in_order, as_fault, required, optional, document, Gives, HasField, MayHaveField}
+use Rattle.json_tree.proofs.Loops.{bind_ok, then_ok}
+use Rattle.json_tree.proofs.Fields.{or_else_ok, refuse_if_ok, as_fault_ok, required_found, optional_found, in_order_found}
+use Rattle.json_tree.proofs.Values.{value_same, object_same, has_not}
+use Rattle.script.specs.declared.faults.ScriptFault.{ScriptFault}
+use Rattle.script.specs.declared.faults.ScriptFault.TheVariants.{Missing, WrongType, UnknownCall, TooMany, BadCode, Memory}
+use Rattle.script.specs.declared.scripts.Step.{Step}
+use Rattle.script.specs.declared.scripts.Step.TheVariants.{Call, Exit, ExitByAttempt}
+use Rattle.script.specs.declared.scripts.TheConstants.{MAX_STEPS}
+use Rattle.script.specs.declared.fields.CallFields.{CallFields}
+use Rattle.script.specs.declared.reader.StepKind.{StepKind}
+use Rattle.script.specs.declared.reader.StepKind.TheVariants as kind
+use Rattle.script.specs.Script.{number_of_name, code, IsCall, HasArgs, HasArch, HasIp, HasCallFields, Says, IsStep, IsScript, ReadsScript}
+use Rattle.script.specs.Reading.{fault_of_field, fault_of_text, here, code_of, codes_of, number_of, call_of, args_of, arch_of, ip_of, on_error_of, call_fields_of, exit_of, exit_by_attempt_of, the_kind, kind_of, call_step_of, exit_step_of, exit_by_attempt_step_of, step_of_kind, step_of, script_of, reading_of}
+
+here_ok : {A : Type 0} (r : Result A FieldFault) (x : A) → here r ≡ Ok x → r ≡ Ok x
+here_ok r x h = as_fault_ok fault_of_field r x h
+
+code_same : (small : Bool) (n m : ℕ) → cond small (Ok n) (Err BadCode) ≡ Ok m → cond small (Some n) None ≡ Some m
+code_same true n m h = cc
+code_same false n m h = absurd cc
+
+code_found : (tree : Data) (n m : ℕ) → whole tree ≡ Some n → code_of n ≡ Ok m → code tree ≡ Some m
+unfolding code code_of
+code_found tree n m is h = rw is (code_same (leb n 255) n m h)
+
+may_code_found : (key : List ℕ) (tree : Data) (given on_error : Option ℕ) → MayHaveField whole key tree given → if_there code_of given ≡ Ok on_error → MayHaveField code key tree on_error
+may_code_found key tree None on_error there h =
+    let none : None ≡ on_error = cc in
+    subst (MayHaveField code key tree) none there
+may_code_found key tree (Some n) on_error there h =
+    let small = bind_ok (code_of n) _ _ h in
+    let is : Some small.0 ≡ on_error = cc in
+    subst (MayHaveField code key tree) is (there.0, there.1, code_found there.0 n small.0 there.2 small.1)
+
+code_is : (small : Bool) (n m : ℕ) → cond small (Ok n) (Err BadCode) ≡ Ok m → (small ≡ true) × (m ≡ n)
+code_is true n m h = (refl, cc)
+code_is false n m h = absurd cc
+
+each_code_found : (ns ms : List ℕ) → in_order code_of ns ≡ Ok ms → (list_all (λ n. leb n 255) ns ≡ true) × (ms ≡ ns)
+unfolding code_of
+each_code_found [] ms h = (refl, cc)
+each_code_found (n ∷ ns) ms h =
+    let first = bind_ok (code_of n) _ _ h in
+    let rest = bind_ok (in_order code_of ns) _ _ first.2 in
+    let small = code_is (leb n 255) n first.0 first.1 in
+    let others = each_code_found ns rest.0 rest.1 in
+    let is : first.0 ∷ rest.0 ≡ ms = cc in
+    (rw small.0 others.0, cc)
+
+codes_found : (ns ms : List ℕ) → codes_of ns ≡ Ok ms → (0 < length ns) × (list_all (λ n. leb n 255) ns ≡ true) × (ms ≡ ns)
+unfolding codes_of
+codes_found ns ms h =
+    let some = then_ok (refuse_if (eqb (length ns) 0) Missing) _ _ h in
+    let all = each_code_found ns ms some.2 in
+    let not_none : length ns ≡ 0 → ⊥ = eqb-false (length ns) 0 (refuse_if_ok (eqb (length ns) 0) Missing some.0 some.1) in
+    (omega arith, all.0, all.1)
+
+number_found : (name : Option (List ℕ)) (number : Option ℕ) (nr : ℕ) → number_of name number ≡ Ok nr → (number ≡ Some nr) ⊎ ((known : List ℕ) × (name ≡ Some known) × (number_of_name known ≡ Some nr))
+number_found (Some known) number nr h = inr (known, refl, or_else_ok UnknownCall (number_of_name known) nr h)
+number_found None number nr h = inl (or_else_ok WrongType number nr h)
+
+call_found : (tree : Data) (nr : ℕ) → call_of tree ≡ Ok nr → (named : Data) × (get (codes "call") tree ≡ Some named) × IsCall named nr
+unfolding call_of
+call_found tree nr h =
+    let named = bind_ok (here (required value (codes "call") tree)) _ _ h in
+    let field = required_found value (codes "call") tree named.0 (here_ok (required value (codes "call") tree) named.0 named.1) in
+    let same : field.0 ≡ named.0 = value_same field.0 named.0 field.2 in
+    (named.0, field.1 ∙ ap Some same, number_found (text named.0) (word named.0) nr named.2)
+
+args_found : (tree : Data) (args : List ℕ) → args_of tree ≡ Ok args → HasArgs tree args
+unfolding args_of
+args_found tree args h =
+    let given = bind_ok (here (optional wholes (codes "args") tree)) _ _ h in
+    let few = then_ok (refuse_if (ltb 6 (length (unwrap_or given.0 []))) WrongType) _ _ given.2 in
+    record {
+      given = given.0;
+      there = optional_found wholes (codes "args") tree given.0 (here_ok (optional wholes (codes "args") tree) given.0 given.1);
+      few = ltb-false 6 (length (unwrap_or given.0 [])) (refuse_if_ok (ltb 6 (length (unwrap_or given.0 []))) WrongType few.0 few.1);
+      is = cc;
+    }
+
+arch_found : (tree : Data) (arch : ℕ) → arch_of tree ≡ Ok arch → HasArch tree arch
+unfolding arch_of
+arch_found tree arch h =
+    let given = bind_ok (here (optional word (codes "arch") tree)) _ _ h in
+    record { given = given.0; there = optional_found word (codes "arch") tree given.0 (here_ok (optional word (codes "arch") tree) given.0 given.1); is = cc }
+
+ip_found : (tree : Data) (ip : ℕ) → ip_of tree ≡ Ok ip → HasIp tree ip
+unfolding ip_of
+ip_found tree ip h =
+    let given = bind_ok (here (optional whole (codes "ip") tree)) _ _ h in
+    record { given = given.0; there = optional_found whole (codes "ip") tree given.0 (here_ok (optional whole (codes "ip") tree) given.0 given.1); is = cc }
+
+on_error_found : (tree : Data) (on_error : Option ℕ) → on_error_of tree ≡ Ok on_error → MayHaveField code (codes "onError") tree on_error
+unfolding on_error_of
+on_error_found tree on_error h =
+    let given = bind_ok (here (optional whole (codes "onError") tree)) _ _ h in
+    may_code_found (codes "onError") tree given.0 on_error (optional_found whole (codes "onError") tree given.0 (here_ok (optional whole (codes "onError") tree) given.0 given.1)) given.2
+
+call_fields_found : (tree : Data) (fields : CallFields) → call_fields_of tree ≡ Ok fields → HasCallFields tree fields
+unfolding call_fields_of
+call_fields_found tree fields h =
+    let args = bind_ok (args_of tree) _ _ h in
+    let arch = bind_ok (arch_of tree) _ _ args.2 in
+    let ip = bind_ok (ip_of tree) _ _ arch.2 in
+    let on_error = bind_ok (on_error_of tree) _ _ ip.2 in
+    let is : record { args = args.0; arch = arch.0; ip = ip.0; on_error = on_error.0 } ≡ fields = cc in
+    subst (HasCallFields tree) is (record {
+      args = args_found tree args.0 args.1;
+      arch = arch_found tree arch.0 arch.1;
+      ip = ip_found tree ip.0 ip.1;
+      on_error = on_error_found tree on_error.0 on_error.1;
+    })
+
+exit_found : (tree : Data) (ends : ℕ) → exit_of tree ≡ Ok ends → HasField code (codes "exit") tree ends
+unfolding exit_of
+exit_found tree ends h =
+    let given = bind_ok (here (required whole (codes "exit") tree)) _ _ h in
+    let field = required_found whole (codes "exit") tree given.0 (here_ok (required whole (codes "exit") tree) given.0 given.1) in
+    (field.0, field.1, code_found field.0 given.0 ends field.2 given.2)
+
+abbrev FlagsAre : Bool → Bool → Bool → StepKind → Type 0
+FlagsAre call exit by_attempt kind.Call = (exit ≡ false) × (by_attempt ≡ false)
+FlagsAre call exit by_attempt kind.Exit = (call ≡ false) × (by_attempt ≡ false)
+FlagsAre call exit by_attempt kind.ExitByAttempt = (call ≡ false) × (exit ≡ false)
+
+the_kind_found : (call exit by_attempt : Bool) (is : StepKind) → the_kind call exit by_attempt ≡ Ok is → FlagsAre call exit by_attempt is
+the_kind_found true false false kind.Call h = (refl, refl)
+the_kind_found false true false kind.Exit h = (refl, refl)
+the_kind_found false false true kind.ExitByAttempt h = (refl, refl)
+the_kind_found _ _ _ _ h = absurd cc
+
+kind_found : (tree : Data) (is : StepKind) → kind_of tree ≡ Ok is → FlagsAre (has (codes "call") tree) (has (codes "exit") tree) (has (codes "exitByAttempt") tree) is
+unfolding kind_of
+kind_found tree is h = the_kind_found (has (codes "call") tree) (has (codes "exit") tree) (has (codes "exitByAttempt") tree) is h
+
+says_found : (tree : Data) (is : StepKind) (step : Step) → kind_of tree ≡ Ok is → step_of_kind is tree ≡ Ok step → Says tree step
+unfolding call_step_of exit_step_of exit_by_attempt_step_of exit_by_attempt_of
+says_found tree kind.Call step alone h =
+    let flags = kind_found tree kind.Call alone in
+    let nr = bind_ok (call_of tree) _ _ h in
+    let fields = bind_ok (call_fields_of tree) _ _ nr.2 in
+    let call = call_found tree nr.0 nr.1 in
+    let is : Call (record { nr = nr.0; arch = fields.0.arch; ip = fields.0.ip; args = fields.0.args }) fields.0.on_error ≡ step = cc in
+    subst (Says tree) is (record {
+      no_exit = has_not (codes "exit") tree flags.0;
+      no_exit_by_attempt = has_not (codes "exitByAttempt") tree flags.1;
+      named = call.0;
+      there = call.1;
+      number = call.2;
+      fields = call_fields_found tree fields.0 fields.1;
+    })
+says_found tree kind.Exit step alone h =
+    let flags = kind_found tree kind.Exit alone in
+    let beside = bind_ok (call_fields_of tree) _ _ h in
+    let ends = bind_ok (exit_of tree) _ _ beside.2 in
+    let is : Exit ends.0 ≡ step = cc in
+    subst (Says tree) is (record {
+      no_call = has_not (codes "call") tree flags.0;
+      no_exit_by_attempt = has_not (codes "exitByAttempt") tree flags.1;
+      beside = beside.0;
+      fields = call_fields_found tree beside.0 beside.1;
+      exit = exit_found tree ends.0 ends.1;
+    })
+says_found tree kind.ExitByAttempt step alone h =
+    let flags = kind_found tree kind.ExitByAttempt alone in
+    let beside = bind_ok (call_fields_of tree) _ _ h in
+    let ends = bind_ok (exit_by_attempt_of tree) _ _ beside.2 in
+    let given = bind_ok (here (required wholes (codes "exitByAttempt") tree)) _ _ ends.1 in
+    let all = codes_found given.0 ends.0 given.2 in
+    let is : ExitByAttempt given.0 ≡ step = cc in
+    subst (Says tree) is (record {
+      no_call = has_not (codes "call") tree flags.0;
+      no_exit = has_not (codes "exit") tree flags.1;
+      beside = beside.0;
+      fields = call_fields_found tree beside.0 beside.1;
+      numbers = required_found wholes (codes "exitByAttempt") tree given.0 (here_ok (required wholes (codes "exitByAttempt") tree) given.0 given.1);
+      some = all.0;
+      small = all.1;
+    })
+
+step_found : (item : Data) (step : Step) → step_of item ≡ Ok step → IsStep item step
+unfolding step_of
+step_found item step h =
+    let tree = bind_ok (or_else WrongType (object item)) _ _ h in
+    let is_object : object item ≡ Some tree.0 = or_else_ok WrongType (object item) tree.0 tree.1 in
+    let same : tree.0 ≡ item = sym (object_same item tree.0 is_object) in
+    let is = bind_ok (kind_of tree.0) _ _ tree.2 in
+    (is_object ∙ ap Some same, subst (λ t. Says t step) same (says_found tree.0 is.0 step is.1 is.2))
+
+script_found : (whole_tree : Data) (steps : List Step) → script_of whole_tree ≡ Ok steps → IsScript whole_tree steps
+unfolding script_of
+script_found whole_tree steps h =
+    let tree = bind_ok (or_else WrongType (object whole_tree)) _ _ h in
+    let is_object : object whole_tree ≡ Some tree.0 = or_else_ok WrongType (object whole_tree) tree.0 tree.1 in
+    let same : tree.0 ≡ whole_tree = sym (object_same whole_tree tree.0 is_object) in
+    let items = bind_ok (here (required list (codes "steps") tree.0)) _ _ tree.2 in
+    let few = then_ok (refuse_if (ltb MAX_STEPS (length items.0)) TooMany) _ _ items.2 in
+    let there = required_found list (codes "steps") tree.0 items.0 (here_ok (required list (codes "steps") tree.0) items.0 items.1) in
+    record {
+      an_object = is_object ∙ ap Some same;
+      items = items.0;
+      there = subst (λ t. HasField list (codes "steps") t items.0) same there;
+      few = ltb-false MAX_STEPS (length items.0) (refuse_if_ok (ltb MAX_STEPS (length items.0)) TooMany few.0 few.1);
+      each = in_order_found step_of IsStep step_found items.0 steps few.2;
+    }
+
+reading_found : (bytes : List ℕ) (steps : List Step) → reading_of bytes ≡ Ok steps → ReadsScript bytes steps
+unfolding reading_of document
+reading_found bytes steps h =
+    let tree = bind_ok (as_fault fault_of_text (document bytes)) _ _ h in
+    (tree.0, or_else_ok NotJson (tree_of bytes) tree.0 (as_fault_ok fault_of_text (document bytes) tree.0 tree.1), script_found tree.0 steps tree.2)
+
+-- what is given is the text's script
+pub found : (bytes : List ℕ) (result : Result (List Step) ScriptFault) → Gives Memory (λ steps. steps) result (reading_of bytes) → IfOk result (ReadsScript bytes)
+found bytes (Ok steps) h = reading_found bytes steps h
+found bytes (Err fault) h = tt

@@ -1,0 +1,97 @@
+-- Scripts as JSON trees, this project's own format: docs/SEMANTICS.md, "Scripts". Which tree is which
+-- script, field by field; nothing here knows of an order in which the fields are read.
+use Rattle.std.specs.Prelude.{◌≡◌, ◌⊎◌, ℕ, ◌<◌, ◌≤◌, List, [], ◌∷◌, length, codes, slice_index, nat_le, if◌then◌else◌, IsTrue, Option, Some, None, unwrap_or, option_and_then}
+use Rattle.std.specs.List.{list_all}
+use Rattle.serde_json.specs.Data.{Data}
+use Rattle.serde_json.specs.Find.{get}
+use Rattle.json_tree.specs.Tree.{tree_of, member, list, object, text, whole, wholes, word}
+use Rattle.json_tree.specs.Reading.{HasField, MayHaveField, Both}
+use Rattle.sys_table.specs.SysTable.{number_of}
+use Rattle.call_data.specs.declared.sys_call.SysCall.{SysCall}
+use Rattle.script.specs.declared.scripts.Step.{Step}
+use Rattle.script.specs.declared.scripts.Step.TheVariants.{Call, Exit, ExitByAttempt}
+use Rattle.script.specs.declared.scripts.TheConstants.{MAX_STEPS}
+use Rattle.script.specs.declared.fields.CallFields.{CallFields}
+use Rattle.script.specs.declared.fields.TheConstants.{NATIVE_ARCH}
+
+-- the number of the call with this name in the call table
+unfoldable pub number_of_name : List ℕ → Option ℕ
+number_of_name name = number_of name
+
+-- a code: a whole number up to 255
+unfoldable pub code : Data → Option ℕ
+code tree = option_and_then (λ n. if nat_le n 255 then Some n else None) (whole tree)
+
+-- a call is a number, or a name
+abbrev pub IsCall : Data → ℕ → Type 0
+IsCall found nr = (word found ≡ Some nr) ⊎ ((name : List ℕ) × (text found ≡ Some name) × (number_of_name name ≡ Some nr))
+
+-- six arguments: those that are given, and the rest are 0
+abbrev pub six : List ℕ → List ℕ
+six given = slice_index given 0 ∷ slice_index given 1 ∷ slice_index given 2 ∷ slice_index given 3 ∷ slice_index given 4 ∷ slice_index given 5 ∷ []
+
+pub record HasArgs (tree : Data) (args : List ℕ) : Type 0 where
+  pub given : Option (List ℕ)
+  pub there : MayHaveField wholes (codes "args") tree given
+  pub few : length (unwrap_or given []) ≤ 6
+  pub is : args ≡ six (unwrap_or given [])
+
+pub record HasArch (tree : Data) (arch : ℕ) : Type 0 where
+  pub given : Option ℕ
+  pub there : MayHaveField word (codes "arch") tree given
+  pub is : arch ≡ unwrap_or given NATIVE_ARCH
+
+pub record HasIp (tree : Data) (ip : ℕ) : Type 0 where
+  pub given : Option ℕ
+  pub there : MayHaveField whole (codes "ip") tree given
+  pub is : ip ≡ unwrap_or given 0
+
+-- what may stand beside a call; where there is no call it has no effect, but is of the same kind
+pub record HasCallFields (tree : Data) (fields : CallFields) : Type 0 where
+  pub args : HasArgs tree fields.args
+  pub arch : HasArch tree fields.arch
+  pub ip : HasIp tree fields.ip
+  pub on_error : MayHaveField code (codes "onError") tree fields.on_error
+
+pub record IsCallStep (tree : Data) (call : SysCall) (on_error : Option ℕ) : Type 0 where
+  pub no_exit : member (codes "exit") tree ≡ None
+  pub no_exit_by_attempt : member (codes "exitByAttempt") tree ≡ None
+  pub named : Data
+  pub there : get (codes "call") tree ≡ Some named
+  pub number : IsCall named call.nr
+  pub fields : HasCallFields tree (record { args = call.args; arch = call.arch; ip = call.ip; on_error = on_error })
+
+pub record IsExitStep (tree : Data) (ends : ℕ) : Type 0 where
+  pub no_call : member (codes "call") tree ≡ None
+  pub no_exit_by_attempt : member (codes "exitByAttempt") tree ≡ None
+  pub beside : CallFields
+  pub fields : HasCallFields tree beside
+  pub exit : HasField code (codes "exit") tree ends
+
+pub record IsExitByAttemptStep (tree : Data) (ends : List ℕ) : Type 0 where
+  pub no_call : member (codes "call") tree ≡ None
+  pub no_exit : member (codes "exit") tree ≡ None
+  pub beside : CallFields
+  pub fields : HasCallFields tree beside
+  pub numbers : HasField wholes (codes "exitByAttempt") tree ends
+  pub some : 0 < length ends
+  pub small : IsTrue (list_all (λ n. nat_le n 255) ends)
+
+abbrev pub Says : Data → Step → Type 0
+Says tree (Call call on_error) = IsCallStep tree call on_error
+Says tree (Exit ends) = IsExitStep tree ends
+Says tree (ExitByAttempt ends) = IsExitByAttemptStep tree ends
+
+abbrev pub IsStep : Data → Step → Type 0
+IsStep tree step = (object tree ≡ Some tree) × Says tree step
+
+pub record IsScript (tree : Data) (steps : List Step) : Type 0 where
+  pub an_object : object tree ≡ Some tree
+  pub items : List Data
+  pub there : HasField list (codes "steps") tree items
+  pub few : length items ≤ MAX_STEPS
+  pub each : Both IsStep items steps
+
+-- the text is this script
+abbrev pub ReadsScript : List ℕ → List Step → Type 0
+ReadsScript bytes steps = (tree : Data) × (tree_of bytes ≡ Some tree) × IsScript tree steps

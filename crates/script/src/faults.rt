@@ -1,0 +1,76 @@
+ghost use Rattle.std.specs.Prelude.{◌≡◌};
+ghost use Rattle.script.specs.declared.faults.ScriptFault.TheVariants.{Memory};
+
+use json_tree::{FieldFault, TextFault};
+use std::alloc::{AllocError, AllocFailed};
+use thiserror::Error;
+
+/// Why a text is no script.
+#[derive(Clone, Copy, Debug, PartialEq, Eq, Error)]
+pub enum ScriptFault {
+    /// The text is no JSON.
+    #[error("NotJson")]
+    NotJson,
+    /// A field that has to be there is not, or a list that has to have an item is empty.
+    #[error("Missing")]
+    Missing,
+    /// A field is of another kind, or a step is of two kinds.
+    #[error("WrongType")]
+    WrongType,
+    /// No call has this name.
+    #[error("UnknownCall")]
+    UnknownCall,
+    /// There are more than `MAX_STEPS` steps.
+    #[error("TooMany")]
+    TooMany,
+    /// A code is above 255.
+    #[error("BadCode")]
+    BadCode,
+    #[error("Memory")]
+    Memory,
+}
+
+impl From<FieldFault> for ScriptFault {
+    ghost use Rattle.std.specs.Prelude.{◌≡◌};
+    ghost use Rattle.script.specs.Reading.{fault_of_field};
+
+    ghost from_gives = { λ field fault. fault ≡ fault_of_field field };
+
+    fn from(fault: FieldFault) -> ScriptFault {
+        match fault {
+            FieldFault::Missing => ScriptFault::Missing,
+            FieldFault::WrongType => ScriptFault::WrongType,
+            FieldFault::Memory => ScriptFault::Memory,
+        }
+    }
+}
+
+impl From<TextFault> for ScriptFault {
+    ghost use Rattle.std.specs.Prelude.{◌≡◌};
+    ghost use Rattle.script.specs.Reading.{fault_of_text};
+
+    ghost from_gives = { λ text fault. fault ≡ fault_of_text text };
+
+    fn from(fault: TextFault) -> ScriptFault {
+        match fault {
+            TextFault::NotJson => ScriptFault::NotJson,
+            TextFault::Memory => ScriptFault::Memory,
+        }
+    }
+}
+
+impl From<AllocError> for ScriptFault {
+    ghost from_gives = { λ _ fault. fault ≡ Memory };
+
+    fn from(_: AllocError) -> ScriptFault {
+        ScriptFault::Memory
+    }
+}
+
+impl<T: Drop> From<AllocFailed<T>> for ScriptFault {
+    ghost from_gives = { λ _ fault. fault ≡ Memory };
+
+    fn from(_: AllocFailed<T>) -> ScriptFault {
+        ScriptFault::Memory
+    }
+}

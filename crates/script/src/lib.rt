@@ -1,0 +1,17 @@
+//! Scripts: what a container of this project does, step by step, read from JSON.
+//!
+//! A step makes a system call, or ends the script with a code. Which trees are which scripts stands
+//! in `specs/Script.antt`, and which fault is found first in `specs/Reading.antt`.
+#![tactic(auto)]
+
+mod faults;
+mod fields;
+mod reader;
+mod scripts;
+#[cfg(test)]
+mod tests;
+
+pub use faults::ScriptFault;
+pub use fields::NATIVE_ARCH;
+pub use reader::read;
+pub use scripts::{Codes, MAX_STEPS, Script, Step};

@@ -1,0 +1,136 @@
+ghost use Rattle.std.specs.Prelude.{◌≡◌, ◌≢◌, List, IfOk, IfErr, map};
+ghost use Rattle.serde_json.specs.View.{view};
+ghost use Rattle.json_tree.specs.Reading.{Gives, in_order};
+ghost use Rattle.script.specs.declared.scripts.Step.{Step};
+ghost use Rattle.script.specs.Script.{ReadsScript};
+ghost use Rattle.script.specs.Reading.{call_step_of, exit_by_attempt_step_of, exit_step_of, first_fault, kind_of, reading_of, script_of, step_of};
+
+use crate::faults::ScriptFault;
+use crate::fields::{call, call_fields, exit, exit_by_attempt};
+use crate::scripts::{MAX_STEPS, Script, Step};
+use call_data::SysCall;
+use json_tree::{has, object, required_list};
+use serde_json::Value;
+use std::alloc::Global;
+
+#[derive(Clone, Copy)]
+pub(crate) enum StepKind {
+    Call,
+    Exit,
+    ExitByAttempt,
+}
+
+/// The script of a text, or its first fault: of the text, then of the steps in order, and of the
+/// fields of a step in order. Fields that no script has are not looked at. `Memory` takes the place of
+/// any answer where a growth was refused.
+pub fn read(alloc: Global, bytes: &[u8]) -> Result<Script, ScriptFault>
+    // What is read is the text's script.
+    ensures found { IfOk result (ReadsScript bytes.now) }
+
+    // What is a script is read, unless memory runs out.
+    ensures only { (steps : List Step) → ReadsScript bytes.now steps
+        → Gives ScriptFault.Memory (λ script. script) result (Ok steps) }
+
+    // A text that is read has no fault, and one that is refused has this first.
+    ensures no_fault { IfOk result (λ _. first_fault bytes.now ≡ None) }
+    ensures first { IfErr result (λ fault. fault ≢ ScriptFault.Memory
+        → first_fault bytes.now ≡ Some fault) }
+{
+    reading(alloc, bytes)
+}
+
+#[tactic(auto, unfolding(crate::specs::Reading::reading_of))]
+fn reading(alloc: Global, bytes: &[u8]) -> Result<Script, ScriptFault>
+    ensures { Gives ScriptFault.Memory (λ s. s) result (reading_of bytes.now) }
+{
+    let tree = json_tree::read(alloc, bytes)?;
+    script(alloc, &tree)
+}
+
+#[tactic(auto, unfolding(crate::specs::Reading::script_of), using(json_tree::proofs::Loops::length_in_order))]
+fn script(alloc: Global, tree: &Value) -> Result<Script, ScriptFault>
+    ensures { Gives ScriptFault.Memory (λ s. s) result (script_of (view tree.now)) }
+{
+    let tree = object(tree).ok_or(ScriptFault::WrongType)?;
+    let items = required_list(tree, "steps")?;
+    if items.len() > MAX_STEPS {
+        return Err(ScriptFault::TooMany);
+    }
+    let steps = steps(alloc, items)?;
+    Ok(Script::new(steps))
+}
+
+#[tactic(auto, using(json_tree::proofs::Loops::in_order_more, json_tree::proofs::Loops::in_order_stops))]
+fn steps(alloc: Global, items: &[Value]) -> Result<Vec<Step>, ScriptFault>
+    ensures { Gives ScriptFault.Memory (λ v. v.items) result (in_order step_of (map view items.now)) }
+{
+    let mut steps = Vec::new(alloc);
+    for item in items {
+        steps.push(step(alloc, item)?)?;
+    }
+    Ok(steps)
+}
+
+#[tactic(auto, unfolding(crate::specs::Reading::step_of))]
+fn step(alloc: Global, item: &Value) -> Result<Step, ScriptFault>
+    ensures { Gives ScriptFault.Memory (λ s. s) result (step_of (view item.now)) }
+{
+    let tree = object(item).ok_or(ScriptFault::WrongType)?;
+    match kind(tree)? {
+        StepKind::Call => call_step(alloc, tree),
+        StepKind::Exit => exit_step(alloc, tree),
+        StepKind::ExitByAttempt => exit_by_attempt_step(alloc, tree),
+    }
+}
+
+#[tactic(auto, unfolding(crate::specs::Reading::kind_of))]
+fn kind(tree: &Value) -> Result<StepKind, ScriptFault>
+    ensures { result ≡ kind_of (view tree.now) }
+{
+    match (
+        has(tree, "call"),
+        has(tree, "exit"),
+        has(tree, "exitByAttempt"),
+    ) {
+        (true, false, false) => Ok(StepKind::Call),
+        (false, true, false) => Ok(StepKind::Exit),
+        (false, false, true) => Ok(StepKind::ExitByAttempt),
+        (false, false, false) => Err(ScriptFault::Missing),
+        _ => Err(ScriptFault::WrongType),
+    }
+}
+
+#[tactic(auto, unfolding(crate::specs::Reading::call_step_of))]
+fn call_step(alloc: Global, tree: &Value) -> Result<Step, ScriptFault>
+    ensures { Gives ScriptFault.Memory (λ s. s) result (call_step_of (view tree.now)) }
+{
+    let nr = call(tree)?;
+    let fields = call_fields(alloc, tree)?;
+    let args = fields.args;
+    let call = SysCall {
+        nr,
+        arch: fields.arch,
+        ip: fields.ip,
+        args,
+    };
+    Ok(Step::Call {
+        call,
+        on_error: fields.on_error,
+    })
+}
+
+#[tactic(auto, unfolding(crate::specs::Reading::exit_step_of))]
+fn exit_step(alloc: Global, tree: &Value) -> Result<Step, ScriptFault>
+    ensures { Gives ScriptFault.Memory (λ s. s) result (exit_step_of (view tree.now)) }
+{
+    let _beside = call_fields(alloc, tree)?;
+    Ok(Step::Exit(exit(tree)?))
+}
+
+#[tactic(auto, unfolding(crate::specs::Reading::exit_by_attempt_step_of))]
+fn exit_by_attempt_step(alloc: Global, tree: &Value) -> Result<Step, ScriptFault>
+    ensures { Gives ScriptFault.Memory (λ s. s) result (exit_by_attempt_step_of (view tree.now)) }
+{
+    let _beside = call_fields(alloc, tree)?;
+    Ok(Step::ExitByAttempt(exit_by_attempt(alloc, tree)?))
+}

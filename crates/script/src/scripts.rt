@@ -1,0 +1,101 @@
+ghost use Rattle.std.specs.Prelude.{◌≡◌, ◌==◌, ◌<◌, ◌≤◌, length};
+
+use call_data::SysCall;
+use std::marker::Model;
+
+/// The most steps that a script has.
+pub const MAX_STEPS: usize = 4096;
+
+/// Codes with which a script ends, one for each attempt. There is one at least.
+#[derive(Drop)]
+pub struct Codes {
+    codes: Vec<u8>,
+}
+
+impl Model for Codes {
+    ghost use Rattle.std.specs.Prelude.{ℕ, List, ◌<◌, length};
+
+    ghost Value = { List ℕ };
+
+    ghost view = { λ c. c.codes.items };
+
+    ghost invariant = { λ c. 0 < length c.codes.items };
+}
+
+impl Codes {
+    pub(crate) fn new(codes: Vec<u8>) -> Codes
+        requires { 0 < length codes.items }
+        ensures { result ≡ codes.items }
+    {
+        Codes { codes }
+    }
+
+    /// The codes of attempts 0, 1, and so on. There is one at least.
+    pub fn as_slice(&self) -> &[u8]
+        ensures value { result.now ≡ self.now }
+        ensures some { 0 < length self.now }
+    {
+        self.codes.as_slice()
+    }
+}
+
+/// What a container does next.
+#[derive(Drop)]
+pub enum Step {
+    /// Makes the call. If the call returns an errno, the script ends with this code, if there is one.
+    Call { call: SysCall, on_error: Option<u8> },
+    /// Ends the script with the code.
+    Exit(u8),
+    /// Ends the script, at attempt k (from 0), with the k-th code, or the last if there are fewer.
+    ExitByAttempt(Codes),
+}
+
+/// The steps of a container, in order.
+#[derive(Drop)]
+pub struct Script {
+    steps: Vec<Step>,
+}
+
+impl Model for Script {
+    ghost use Rattle.std.specs.Prelude.{List, ◌≤◌, length};
+    ghost use Rattle.script.specs.declared.scripts.Step.{Step};
+    ghost use Rattle.script.specs.declared.scripts.TheConstants.{MAX_STEPS};
+
+    ghost Value = { List Step };
+
+    ghost view = { λ s. s.steps.items };
+
+    ghost invariant = { λ s. length s.steps.items ≤ MAX_STEPS };
+}
+
+impl Script {
+    pub(crate) fn new(steps: Vec<Step>) -> Script
+        requires { length steps.items ≤ MAX_STEPS }
+        ensures { result ≡ steps.items }
+    {
+        Script { steps }
+    }
+
+    /// The steps in order, lent.
+    pub fn steps(&self) -> &[Step]
+        ensures value { result.now ≡ self.now }
+        ensures bounded { length self.now ≤ MAX_STEPS }
+    {
+        self.steps.as_slice()
+    }
+
+    /// How many steps there are, at most `MAX_STEPS`.
+    pub fn len(&self) -> usize
+        ensures steps { result ≡ length self.now }
+        ensures bounded { result ≤ MAX_STEPS }
+    {
+        self.steps.len()
+    }
+
+    /// Whether there is no step.
+    pub fn is_empty(&self) -> bool
+        ensures { result ≡ (length self.now == 0) }
+    {
+        self.steps.is_empty()
+    }
+}

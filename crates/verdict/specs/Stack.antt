@@ -1,0 +1,36 @@
+-- What the filters of a stack say of a call together: seccomp(2), "return values". All are run, the first
+-- rank wins, and among values of that rank the newest filter's data.
+use Rattle.std.specs.Prelude.{◌≡◌, ℕ, ◌+◌, ◌<◌, ◌≤◌, List, [], ◌∷◌, length, slice_index}
+use Rattle.action.specs.declared.action.Action.TheVariants.{Allow}
+use Rattle.action.specs.declared.verdict.Verdict.{Verdict}
+use Rattle.action.specs.Verdict.{rank_of, verdict_of}
+use Rattle.bpf_code.specs.declared.insn.Insn.{Insn}
+use Rattle.call_data.specs.declared.sys_call.SysCall.{SysCall}
+use Rattle.bpf_machine.specs.Runs.{Runs}
+
+-- the values that the filters return on the call, in their order
+abbrev pub HaveValues : List (List Insn) → SysCall → List ℕ → Type 0
+HaveValues [] call [] = Unit {0}
+HaveValues [] call (value ∷ values) = ⊥
+HaveValues (code ∷ stack) call [] = ⊥
+HaveValues (code ∷ stack) call (value ∷ values) = ((steps : ℕ) × Runs code call value steps) × HaveValues stack call values
+
+-- the rank of the value at this place
+abbrev pub rank_at : List ℕ → ℕ → ℕ
+rank_at values at = rank_of (verdict_of (slice_index values at)).action
+
+-- the last one among those of first rank stands at this place
+pub record IsChosen (values : List ℕ) (at : ℕ) : Type 0 where
+  pub within : at < length values
+  pub first_rank : (other : ℕ) → other < length values → rank_at values at ≤ rank_at values other
+  pub newest : (later : ℕ) → at < later → later < length values → rank_at values at < rank_at values later
+
+-- the verdict of a list of values, the oldest one first; with none the call is allowed
+pub data IsVerdictOf (values : List ℕ) (verdict : Verdict) : Type 0 where
+  of_none : values ≡ [] → verdict ≡ record { action = Allow; ret_data = 0 } → IsVerdictOf values verdict
+  of_chosen : (at : ℕ) → IsChosen values at → verdict ≡ verdict_of (slice_index values at) → IsVerdictOf values verdict
+
+-- what the kernel counts for filters that are there already: each one's instructions, and four more
+abbrev pub counted : List (List Insn) → ℕ
+counted [] = 0
+counted (code ∷ stack) = length code + 4 + counted stack

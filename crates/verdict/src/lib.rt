@@ -1,0 +1,12 @@
+//! Stacks of seccomp filters, and what they say of a call together: seccomp(2).
+//!
+//! A `Stack` is seen as the list of its filters' code, the oldest one first. What the values of several
+//! filters mean stands in `specs/Stack.antt`.
+#![tactic(auto)]
+
+mod judging;
+mod stack;
+#[cfg(test)]
+mod tests;
+
+pub use stack::{MAX_STACK_INSNS, Stack, StackFault};

@@ -1,0 +1,85 @@
+ghost use Rattle.std.specs.Prelude.{◌≡◌, ◌+◌, ◌<◌, ◌≤◌, ◌++◌, [], ◌∷◌, ℕ, List, OnOk, OnErr, IfErr, IsErrAnd, length};
+ghost use Rattle.bpf_code.specs.declared.insn.Insn.{Insn};
+ghost use Rattle.verdict.specs.declared.stack.TheConstants.{MAX_STACK_INSNS};
+ghost use Rattle.verdict.specs.Stack.{HaveValues, IsVerdictOf, counted};
+
+use crate::judging::judge_all;
+use action::Verdict;
+use bpf_verify::Filter;
+use call_data::SysCall;
+use std::alloc::Global;
+use std::marker::Model;
+use thiserror::Error;
+
+/// How many instructions a stack may have, with four more counted for each filter but the newest:
+/// `MAX_INSNS_PER_PATH` of the kernel's seccomp.
+pub const MAX_STACK_INSNS: usize = 32_768;
+
+/// Why a stack does not take a filter.
+#[derive(Clone, Copy, Debug, PartialEq, Eq, Error)]
+pub enum StackFault {
+    /// The stack would have more than [`MAX_STACK_INSNS`].
+    #[error("TooManyInsns")]
+    TooManyInsns,
+    /// A growth was refused.
+    #[error("Memory")]
+    Memory,
+}
+
+/// The filters of a container, the oldest one first.
+#[derive(Drop)]
+pub struct Stack {
+    filters: Vec<Filter>,
+    taken: usize,
+}
+
+impl Model for Stack {
+    ghost Value = { List (List Insn) };
+
+    ghost view = { λ s. s.filters.items };
+
+    ghost invariant = { λ s. (s.taken ≡ counted s.filters.items) × (s.taken ≤ MAX_STACK_INSNS + 4) };
+}
+
+impl Stack {
+    /// No filters.
+    pub fn new(alloc: Global) -> Stack
+        ensures { result ≡ [] }
+    {
+        Stack {
+            filters: Vec::new(alloc),
+            taken: 0,
+        }
+    }
+
+    /// Adds a filter as the newest one. A refused filter comes back, and the stack is as it was.
+    pub fn push(&mut self, filter: Filter) -> Result<(), (Filter, StackFault)>
+        ensures ok { OnOk result (self.new ≡ self.old ++ filter ∷ []) }
+        ensures err { OnErr result (self.new ≡ self.old) }
+        ensures back { IfErr result (λ refused. refused.0 ≡ filter) }
+
+        // It is too long exactly where its length and what is counted for the others exceed the limit.
+        ensures too_many { IfErr result (λ refused. refused.1 ≡ StackFault.TooManyInsns → MAX_STACK_INSNS < length filter + counted self.old) }
+        ensures refused { MAX_STACK_INSNS < length filter + counted self.old
+            → IsErrAnd result (λ refused. refused.1 ≡ StackFault.TooManyInsns) }
+    {
+        let len = filter.len();
+        if len + self.taken > MAX_STACK_INSNS {
+            return Err((filter, StackFault::TooManyInsns));
+        }
+        match self.filters.push(filter) {
+            Ok(()) => {
+                self.taken += len + 4;
+                Ok(())
+            }
+            Err(refused) => Err((refused.value, StackFault::Memory)),
+        }
+    }
+
+    /// What the filters say of a call together. Every filter is run.
+    pub fn judge(&self, call: &SysCall) -> Verdict
+        ensures { (values : List ℕ) × HaveValues self.now call.now values × IsVerdictOf values result }
+    {
+        judge_all(&self.filters, call)
+    }
+}
