@@ -9,7 +9,7 @@ use Rattle.action.specs.Verdict.{rank_of, verdict_of}
 use Rattle.bpf_code.specs.declared.insn.Insn.{Insn}
 use Rattle.call_data.specs.declared.sys_call.SysCall.{SysCall}
 use Rattle.bpf_machine.specs.Runs.{Runs}
-use Rattle.verdict.specs.Stack.{HaveValues, IsChosen, IsVerdictOf, rank_at, counted}
+use Rattle.verdict.specs.Stack.{HaveValues, IsChosen, IsVerdictOf, IsJudged, rank_at, counted}
 use Rattle.verdict.specs.Stack.IsVerdictOf.{of_none, of_chosen}
 
 pub HaveValues-push : (stack : List (List Insn)) (call : SysCall) (values : List ℕ) (code : List Insn) (value steps : ℕ)
@@ -87,37 +87,24 @@ verdict_changes values value best (of_chosen at chosen e) first =
     of_chosen (length values) (last_chosen values value (λ other within. omega (arith, rank, first, chosen.first_rank other within)))
     (ap verdict_of (sym (get_or-append_seam values value [] 0)))
 
--- the filters so far have values with this verdict
-pub record JudgedSoFar (stack : List (List Insn)) (call : SysCall) (best : Verdict) : Type 0 where
-  pub values : List ℕ
-  pub have : HaveValues stack call values
-  pub verdict : IsVerdictOf values best
+-- one more filter with a value of a later rank
+pub judged_stays : (stack : List (List Insn)) (code : List Insn) (call : SysCall) (best : Verdict) (value steps : ℕ) → ((action : Action) → rank_of action < 8)
+    → IsJudged stack call best → Runs code call value steps → rank_of best.action < rank_of_value value → IsJudged (stack ++ code ∷ []) call best
+judged_stays stack code call best value steps small judged run later_rank = (
+  judged.0 ++ value ∷ [],
+  HaveValues-push stack call judged.0 code value steps judged.1 run,
+  verdict_stays judged.0 value best (λ v. small (verdict_of v).action) judged.2 later_rank,
+)
 
-take_more : (stack : List (List Insn)) (i : ℕ) (code : List Insn) → i < length stack → code ≡ get_or stack i code → take (i + 1) stack ≡ take i stack ++ code ∷ []
+-- one more filter with a value of the same rank or an earlier one
+pub judged_changes : (stack : List (List Insn)) (code : List Insn) (call : SysCall) (best : Verdict) (value steps : ℕ)
+    → IsJudged stack call best → Runs code call value steps → rank_of_value value ≤ rank_of best.action → IsJudged (stack ++ code ∷ []) call (verdict_of value)
+judged_changes stack code call best value steps judged run first =
+    (judged.0 ++ value ∷ [], HaveValues-push stack call judged.0 code value steps judged.1 run, verdict_changes judged.0 value best judged.2 first)
+
+pub take_more : (stack : List (List Insn)) (i : ℕ) (code : List Insn) → i < length stack → code ≡ get_or stack i code → take (i + 1) stack ≡ take i stack ++ code ∷ []
 take_more stack i code below is =
     ap (λ n. take n stack) (add-one i) ∙ take-suc stack i code below ∙ ap (λ (c : List Insn). take i stack ++ c ∷ []) (sym is)
-
-pub judged_stays : (stack : List (List Insn)) (i : ℕ) (code : List Insn) (call : SysCall) (best verdict : Verdict) (value steps : ℕ) → ((action : Action) → rank_of action < 8)
-    → i < length stack → code ≡ get_or stack i code → JudgedSoFar (take i stack) call best → Runs code call value steps
-    → verdict ≡ verdict_of value → rank_of best.action < rank_of verdict.action → JudgedSoFar (take (i + 1) stack) call best
-judged_stays stack i code call best verdict value steps small below is so_far run of_value later_rank =
-    let rank : rank_of verdict.action ≡ rank_of_value value = ap (λ (v : Verdict). rank_of v.action) of_value in
-    record {
-      values = so_far.values ++ value ∷ [];
-      have = rw (take_more stack i code below is) (HaveValues-push (take i stack) call so_far.values code value steps so_far.have run);
-      verdict = verdict_stays so_far.values value best (λ v. small (verdict_of v).action) so_far.verdict (omega (arith, rank, later_rank));
-    }
-
-pub judged_changes : (stack : List (List Insn)) (i : ℕ) (code : List Insn) (call : SysCall) (best verdict : Verdict) (value steps : ℕ)
-    → i < length stack → code ≡ get_or stack i code → JudgedSoFar (take i stack) call best → Runs code call value steps
-    → verdict ≡ verdict_of value → rank_of verdict.action ≤ rank_of best.action → JudgedSoFar (take (i + 1) stack) call verdict
-judged_changes stack i code call best verdict value steps below is so_far run of_value first =
-    let rank : rank_of verdict.action ≡ rank_of_value value = ap (λ (v : Verdict). rank_of v.action) of_value in
-    record {
-      values = so_far.values ++ value ∷ [];
-      have = rw (take_more stack i code below is) (HaveValues-push (take i stack) call so_far.values code value steps so_far.have run);
-      verdict = rw of_value (verdict_changes so_far.values value best so_far.verdict (omega (arith, rank, first)));
-    }
 
 pub counted-push : (stack : List (List Insn)) (code : List Insn) → counted (stack ++ code ∷ []) ≡ counted stack + (length code + 4)
 counted-push [] code = omega arith

@@ -1,10 +1,12 @@
 -- What the filters of a stack say of a call together: seccomp(2), "return values". All are run, the first
 -- rank wins, and among values of that rank the newest filter's data.
 use Rattle.std.specs.Prelude.{◌≡◌, ℕ, ◌+◌, ◌<◌, ◌≤◌, List, [], ◌∷◌, length, slice_index}
+use Rattle.std.specs.List.{All}
 use Rattle.action.specs.declared.action.Action.TheVariants.{Allow}
 use Rattle.action.specs.declared.verdict.Verdict.{Verdict}
 use Rattle.action.specs.Verdict.{rank_of, verdict_of}
 use Rattle.bpf_code.specs.declared.insn.Insn.{Insn}
+use Rattle.bpf_verify.specs.Sound.{IsSound}
 use Rattle.call_data.specs.declared.sys_call.SysCall.{SysCall}
 use Rattle.bpf_machine.specs.Runs.{Runs}
 
@@ -29,6 +31,18 @@ pub record IsChosen (values : List ℕ) (at : ℕ) : Type 0 where
 pub data IsVerdictOf (values : List ℕ) (verdict : Verdict) : Type 0 where
   of_none : values ≡ [] → verdict ≡ record { action = Allow; ret_data = 0 } → IsVerdictOf values verdict
   of_chosen : (at : ℕ) → IsChosen values at → verdict ≡ verdict_of (slice_index values at) → IsVerdictOf values verdict
+
+-- what the stack says of the call
+abbrev pub IsJudged : List (List Insn) → SysCall → Verdict → Type 0
+IsJudged stack call verdict = (values : List ℕ) × HaveValues stack call values × IsVerdictOf values verdict
+
+-- the function that gives what the stack says of each call
+abbrev pub Judges : List (List Insn) → (SysCall → Verdict) → Type 0
+Judges stack verdicts = (call : SysCall) → IsJudged stack call (verdicts call)
+
+-- each filter is sound
+abbrev pub AllSound : List (List Insn) → Type 0
+AllSound stack = All IsSound stack
 
 -- what the kernel counts for filters that are there already: each one's instructions, and four more
 abbrev pub counted : List (List Insn) → ℕ

@@ -1,5 +1,5 @@
-ghost use Rattle.std.specs.Prelude.{◌≡◌, ℕ, List};
-ghost use Rattle.verdict.specs.Stack.{HaveValues, IsVerdictOf};
+ghost use Rattle.std.specs.Prelude.{◌≡◌};
+ghost use Rattle.verdict.specs.Stack.{IsJudged};
 
 use action::{Action, Verdict, ranks_are_an_order};
 use bpf_machine::run;
@@ -8,7 +8,7 @@ use call_data::SysCall;
 
 /// Runs every filter, and keeps the verdict of the newest one among those of first rank.
 pub(crate) fn judge_all(filters: &[Filter], call: &SysCall) -> Verdict
-    ensures { (values : List ℕ) × HaveValues filters.now call.now values × IsVerdictOf values result }
+    ensures { IsJudged filters.now call.now result }
 {
     ranks_are_an_order();
     let mut best = Verdict {

@@ -5,8 +5,10 @@
 #![tactic(auto)]
 
 mod judging;
+mod laws;
 mod stack;
 #[cfg(test)]
 mod tests;
 
+pub use laws::stacks_judge_every_call;
 pub use stack::{MAX_STACK_INSNS, Stack, StackFault};

@@ -1,7 +1,7 @@
 ghost use Rattle.std.specs.Prelude.{◌≡◌, ◌+◌, ◌<◌, ◌≤◌, ◌++◌, [], ◌∷◌, ℕ, List, OnOk, OnErr, IfErr, IsErrAnd, length};
 ghost use Rattle.bpf_code.specs.declared.insn.Insn.{Insn};
 ghost use Rattle.verdict.specs.declared.stack.TheConstants.{MAX_STACK_INSNS};
-ghost use Rattle.verdict.specs.Stack.{HaveValues, IsVerdictOf, counted};
+ghost use Rattle.verdict.specs.Stack.{AllSound, IsJudged, counted};
 
 use crate::judging::judge_all;
 use action::Verdict;
@@ -38,7 +38,8 @@ impl Model for Stack {
 
     ghost view = { λ s. s.filters.items };
 
-    ghost invariant = { λ s. (s.taken ≡ counted s.filters.items) × (s.taken ≤ MAX_STACK_INSNS + 4) };
+    ghost invariant = { λ s. (s.taken ≡ counted s.filters.items) × (s.taken ≤ MAX_STACK_INSNS + 4)
+        × AllSound s.filters.items };
 }
 
 impl Stack {
@@ -63,7 +64,7 @@ impl Stack {
         ensures refused { MAX_STACK_INSNS < length filter + counted self.old
             → IsErrAnd result (λ refused. refused.1 ≡ StackFault.TooManyInsns) }
     {
-        let len = filter.len();
+        let len = filter.insns().len();
         if len + self.taken > MAX_STACK_INSNS {
             return Err((filter, StackFault::TooManyInsns));
         }
@@ -76,9 +77,17 @@ impl Stack {
         }
     }
 
+    /// The filters, the oldest one first.
+    pub fn filters(&self) -> &[Filter]
+        ensures same { result.now ≡ self.now }
+        ensures sound { AllSound self.now }
+    {
+        self.filters.as_slice()
+    }
+
     /// What the filters say of a call together. Every filter is run.
     pub fn judge(&self, call: &SysCall) -> Verdict
-        ensures { (values : List ℕ) × HaveValues self.now call.now values × IsVerdictOf values result }
+        ensures { IsJudged self.now call.now result }
     {
         judge_all(&self.filters, call)
     }

@@ -1,4 +1,4 @@
-use crate::{Stack, StackFault};
+use crate::{Stack, StackFault, stacks_judge_every_call};
 use action::{Action, Verdict};
 use bpf_code::Insn;
 use bpf_verify::{Filter, verify};
@@ -87,6 +87,22 @@ fn each_rank_against_each(rt: HostRuntime) -> Result<(), Fail> {
             let got = judged(&rt, &[*first, *second])?;
             assert_eq!(rt; usize::from(got.rank()), rank.min(other), "{rank} {other}");
         }
+    }
+    Ok(())
+}
+
+#[test]
+fn filters_are_lent_the_oldest_first(rt: HostRuntime) -> Result<(), Fail> {
+    stacks_judge_every_call();
+    let mut stack = Stack::new(rt.alloc());
+    assert!(rt; stack.filters().is_empty());
+    for len in [3, 1, 2] {
+        assert!(rt; stack.push(returning(&rt, 0x7fff_0000, len)?).is_ok());
+    }
+    let filters = stack.filters();
+    assert_eq!(rt; filters.len(), 3);
+    for (filter, len) in filters.iter().zip([3, 1, 2]) {
+        assert_eq!(rt; filter.len(), len);
     }
     Ok(())
 }
