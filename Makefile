@@ -1,29 +1,49 @@
 # make test: the gate, which proves every crate from nothing, tries the must-fail edits, and runs the
-# tests and the stored runs. make demo: a verified filter judges a call. make install PREFIX=..: the
-# proved programs in PREFIX/bin.
+# tests, the stored runs and the examples in C. make demo: a verified filter judges a call, and a script
+# is played under another. make lib: the C library, proved, and its header, in out/c. make install
+# PREFIX=..: the proved programs in PREFIX/bin, the library in PREFIX/lib and PREFIX/include. make bench:
+# the machine beside others.
 
 PREFIX ?= /usr/local
 PROGRAMS := seccheck
+BENCH_FLAGS := -std=gnu11 -O2 -Wall -Wextra
+EXAMPLES := ../../examples
 
-.PHONY: test demo install table clean
+.PHONY: test demo lib install bench table clean
 
 test:
-	rt ci
+	@tools/gate.sh
 
 # Waits for no proof: the program is compiled with checks at run time in the place of proofs.
 demo:
 	@echo "demo: built without waiting for the proofs; 'make test' proves what it runs"
-	@cd crates/seccheck && rt try --data x86_64_only.bpf=../../examples/x86_64_only.bpf -- run x86_64_only.bpf 0
+	@cd crates/seccheck && rt try --data x86_64_only.bpf=$(EXAMPLES)/x86_64_only.bpf \
+	  --data no_ptrace.bpf=$(EXAMPLES)/no_ptrace.bpf --data tries_ptrace.json=$(EXAMPLES)/tries_ptrace.json --cases $(EXAMPLES)/demo
 
-install:
+lib:
+	@cd crates/motchidu_c && rt lib
+	@tools/pack_library.sh crates/motchidu_c/out/libmotchidu_c.a out/c
+
+install: lib
 	@set -e; for program in $(PROGRAMS); do \
 	  (cd crates/$$program && rm -f out/$$program && { rt run -- --help > /dev/null 2>&1 || test -x out/$$program; }); \
 	  install -D -m 755 crates/$$program/out/$$program $(DESTDIR)$(PREFIX)/bin/$$program; \
 	done
+	install -D -m 644 out/c/libmotchidu.a $(DESTDIR)$(PREFIX)/lib/libmotchidu.a
+	install -D -m 644 out/c/motchidu.h $(DESTDIR)$(PREFIX)/include/motchidu.h
+
+# Says so and goes on where the machine has no libpcap. The plain interpreter is assembled so that its
+# jumps keep within 32 bytes, or its speed would hang on where the link puts it.
+bench: lib
+	@mkdir -p out/bench
+	@$(CC) $(BENCH_FLAGS) -Wa,-mbranches-within-32B-boundaries -c bench/plain.c -o out/bench/plain.o
+	@pcap=$$(printf '#if __has_include(<pcap/bpf.h>)\n-lpcap\n#endif\n' | $(CC) -E -P -x c -); \
+	  $(CC) $(BENCH_FLAGS) -Iout/c bench/bench.c bench/pcap.c out/bench/plain.o -Lout/c -lmotchidu $$pcap -o out/bench/bench
+	@out/bench/bench
 
 # The call table beside the kernel's header on this machine.
 table:
 	@tools/compare_call_table.sh
 
 clean:
-	rm -rf crates/*/out
+	rm -rf out crates/*/out

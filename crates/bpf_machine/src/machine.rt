@@ -39,10 +39,14 @@ pub fn run(filter: &Filter, call: &SysCall) -> Ran
     };
     let mut steps = 0;
     'steps: loop {
+        let insn = &code[registers.place];
         steps += 1;
-        match step(registers, &code[registers.place], &data, &mut words) {
-            After::Goes(next) => registers = next,
+        registers = match step(registers, insn, &data, &mut words) {
+            After::Goes(a, x) => registers.next(a, x),
+            After::Holds => registers.skip(u32::from(insn.jt)),
+            After::Fails => registers.skip(u32::from(insn.jf)),
+            After::Skips => registers.skip(insn.k),
             After::Ends(value) => return Ran { value, steps },
-        }
+        };
     }
 }

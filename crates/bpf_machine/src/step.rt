@@ -17,61 +17,61 @@ pub(crate) struct Registers {
     pub(crate) x: u32,
 }
 
+impl Registers {
+    /// At the next instruction, with these numbers.
+    #[inline(always)]
+    pub(crate) fn next(self, a: u32, x: u32) -> Registers
+        requires { self.place < MAX_INSNS }
+        ensures { result ≡ record { place = self.place + 1; a = a; x = x } }
+    {
+        Registers {
+            place: self.place + 1,
+            a,
+            x,
+        }
+    }
+
+    /// Past so many instructions behind this one.
+    #[inline(always)]
+    pub(crate) fn skip(self, count: u32) -> Registers
+        requires { self.place < MAX_INSNS }
+        ensures { result ≡ record { place = self.place + 1 + count; a = self.a; x = self.x } }
+    {
+        Registers {
+            place: self.place + 1 + count as usize,
+            a: self.a,
+            x: self.x,
+        }
+    }
+}
+
 /// What an instruction leads to.
+///
+/// A jump tells only which of its numbers counts. So where a test leads is a branch of the machine's
+/// loop, which a processor foresees; as a number that it looks up it would be waited for.
 pub(crate) enum After {
-    /// On, to the next one.
-    Goes(Registers),
+    /// On to the next instruction, with these numbers in A and X.
+    Goes(u32, u32),
+    /// On past jt instructions, as a test holds.
+    Holds,
+    /// On past jf instructions, as a test fails.
+    Fails,
+    /// On past k instructions.
+    Skips,
     /// The end, with this value.
     Ends(u32),
 }
 
-impl Registers {
-    #[inline(always)]
-    fn with_a(self, a: u32) -> After
-        requires { self.place < MAX_INSNS }
-        ensures { result ≡ After.Goes (record { place = self.place + 1; a = a; x = self.x }) }
-    {
-        After::Goes(Registers {
-            place: self.place + 1,
-            a,
-            x: self.x,
-        })
-    }
-
-    #[inline(always)]
-    fn with_x(self, x: u32) -> After
-        requires { self.place < MAX_INSNS }
-        ensures { result ≡ After.Goes (record { place = self.place + 1; a = self.a; x = x }) }
-    {
-        After::Goes(Registers {
-            place: self.place + 1,
-            a: self.a,
-            x,
-        })
-    }
-
-    #[inline(always)]
-    fn skip(self, count: u32) -> After
-        requires { self.place < MAX_INSNS }
-        ensures { result ≡ After.Goes (record { place = self.place + 1 + count; a = self.a; x = self.x }) }
-    {
-        After::Goes(Registers {
-            place: self.place + 1 + count as usize,
-            a: self.a,
-            x: self.x,
-        })
-    }
-
-    #[inline(always)]
-    fn branch(self, test: bool, insn: &Insn) -> After
-        requires { self.place < MAX_INSNS }
-        ensures { result ≡ After.Goes (record { place = self.place + 1 + (if test then insn.now.jt else insn.now.jf); a = self.a; x = self.x }) }
-    {
-        self.skip(u32::from(if test { insn.jt } else { insn.jf }))
-    }
+#[inline(always)]
+fn branch(holds: bool) -> After
+    ensures { result ≡ (if holds then After.Holds else After.Fails) }
+{
+    if holds { After::Holds } else { After::Fails }
 }
 
 /// Executes one instruction that keeps the rules of sound code.
+///
+/// k is read where it is used, so that it goes from memory straight into the arithmetic.
 #[inline(always)]
 pub(crate) fn step(
     registers: Registers,
@@ -79,63 +79,62 @@ pub(crate) fn step(
     bytes: &[u8; 64],
     words: &mut [u32; 16],
 ) -> After
-    requires inside { registers.place < MAX_INSNS }
-    requires number { KeepsNumber insn.now.op insn.now.k }
+    requires { KeepsNumber insn.now.op insn.now.k }
     ensures follows { (call : SysCall) (s : State) (next : Next) → bytes.now ≡ bytes_of_call call
-        → StandsFor registers words.old s → Executes insn.now.op call insn.now s next → LeadsTo result words.new next }
+        → StandsFor registers words.old s → Executes insn.now.op call insn.now s next → LeadsTo registers insn.now result words.new next }
 {
-    let (a, x, k) = (registers.a, registers.x, insn.k);
+    let (a, x) = (registers.a, registers.x);
     match insn.op {
-        Operation::LoadImmediate => registers.with_a(k),
-        Operation::LoadData => registers.with_a(word_of(bytes, k)),
-        Operation::LoadWord => registers.with_a(words[k as usize]),
-        Operation::LoadLength => registers.with_a(DATA_LEN),
-        Operation::LoadXImmediate => registers.with_x(k),
-        Operation::LoadXWord => registers.with_x(words[k as usize]),
-        Operation::LoadXLength => registers.with_x(DATA_LEN),
+        Operation::LoadImmediate => After::Goes(insn.k, x),
+        Operation::LoadData => After::Goes(word_of(bytes, insn.k), x),
+        Operation::LoadWord => After::Goes(words[insn.k as usize], x),
+        Operation::LoadLength => After::Goes(DATA_LEN, x),
+        Operation::LoadXImmediate => After::Goes(a, insn.k),
+        Operation::LoadXWord => After::Goes(a, words[insn.k as usize]),
+        Operation::LoadXLength => After::Goes(a, DATA_LEN),
         Operation::Store => {
-            words[k as usize] = a;
-            registers.skip(0)
+            words[insn.k as usize] = a;
+            After::Goes(a, x)
         }
         Operation::StoreX => {
-            words[k as usize] = x;
-            registers.skip(0)
+            words[insn.k as usize] = x;
+            After::Goes(a, x)
         }
-        Operation::AddK => registers.with_a(a.wrapping_add(k)),
-        Operation::AddX => registers.with_a(a.wrapping_add(x)),
-        Operation::SubK => registers.with_a(a.wrapping_sub(k)),
-        Operation::SubX => registers.with_a(a.wrapping_sub(x)),
-        Operation::MulK => registers.with_a(a.wrapping_mul(k)),
-        Operation::MulX => registers.with_a(a.wrapping_mul(x)),
-        Operation::DivK => registers.with_a(a / k),
+        Operation::AddK => After::Goes(a.wrapping_add(insn.k), x),
+        Operation::AddX => After::Goes(a.wrapping_add(x), x),
+        Operation::SubK => After::Goes(a.wrapping_sub(insn.k), x),
+        Operation::SubX => After::Goes(a.wrapping_sub(x), x),
+        Operation::MulK => After::Goes(a.wrapping_mul(insn.k), x),
+        Operation::MulX => After::Goes(a.wrapping_mul(x), x),
+        Operation::DivK => After::Goes(a / insn.k, x),
         Operation::DivX => {
             if x == 0 {
                 After::Ends(0)
             } else {
-                registers.with_a(a / x)
+                After::Goes(a / x, x)
             }
         }
-        Operation::OrK => registers.with_a(a | k),
-        Operation::OrX => registers.with_a(a | x),
-        Operation::AndK => registers.with_a(a & k),
-        Operation::AndX => registers.with_a(a & x),
-        Operation::XorK => registers.with_a(a ^ k),
-        Operation::XorX => registers.with_a(a ^ x),
-        Operation::ShiftLeft => registers.with_a(a << k),
-        Operation::ShiftRight => registers.with_a(a >> k),
-        Operation::Negate => registers.with_a(0u32.wrapping_sub(a)),
-        Operation::JumpEqualK => registers.branch(a == k, insn),
-        Operation::JumpEqualX => registers.branch(a == x, insn),
-        Operation::JumpGreaterK => registers.branch(a > k, insn),
-        Operation::JumpGreaterX => registers.branch(a > x, insn),
-        Operation::JumpGreaterOrEqualK => registers.branch(a >= k, insn),
-        Operation::JumpGreaterOrEqualX => registers.branch(a >= x, insn),
-        Operation::JumpAnyBitK => registers.branch(a & k != 0, insn),
-        Operation::JumpAnyBitX => registers.branch(a & x != 0, insn),
-        Operation::Jump => registers.skip(k),
-        Operation::ReturnK => After::Ends(k),
+        Operation::OrK => After::Goes(a | insn.k, x),
+        Operation::OrX => After::Goes(a | x, x),
+        Operation::AndK => After::Goes(a & insn.k, x),
+        Operation::AndX => After::Goes(a & x, x),
+        Operation::XorK => After::Goes(a ^ insn.k, x),
+        Operation::XorX => After::Goes(a ^ x, x),
+        Operation::ShiftLeft => After::Goes(a << insn.k, x),
+        Operation::ShiftRight => After::Goes(a >> insn.k, x),
+        Operation::Negate => After::Goes(0u32.wrapping_sub(a), x),
+        Operation::JumpEqualK => branch(a == insn.k),
+        Operation::JumpEqualX => branch(a == x),
+        Operation::JumpGreaterK => branch(a > insn.k),
+        Operation::JumpGreaterX => branch(a > x),
+        Operation::JumpGreaterOrEqualK => branch(a >= insn.k),
+        Operation::JumpGreaterOrEqualX => branch(a >= x),
+        Operation::JumpAnyBitK => branch(a & insn.k != 0),
+        Operation::JumpAnyBitX => branch(a & x != 0),
+        Operation::Jump => After::Skips,
+        Operation::ReturnK => After::Ends(insn.k),
         Operation::ReturnA => After::Ends(a),
-        Operation::MoveToX => registers.with_x(a),
-        Operation::MoveToA => registers.with_a(x),
+        Operation::MoveToX => After::Goes(a, a),
+        Operation::MoveToA => After::Goes(x, x),
     }
 }

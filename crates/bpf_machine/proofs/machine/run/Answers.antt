@@ -1,61 +1,38 @@
-use Rattle.std.proofs.Common.{arith}
 use Rattle.bpf_machine.proofs.Progress.{progress}
-use Rattle.bpf_machine.proofs.Simulation.{turn_of, sim_step, insn_at}
-use Rattle.bpf_machine.specs.declared.step.After.TheVariants.{Goes, Ends}
+use Rattle.bpf_machine.proofs.Simulation.{first_turn, turn_leads}
+use Rattle.bpf_machine.specs.declared.step.After.TheVariants.{Goes, Holds, Fails, Skips, Ends}
 use Rattle.bpf_machine.proofs.machine.run.Goals as goal
 
-pub overflow_add-steps : goal.overflow_add-steps
-overflow_add-steps c =
-    let turn = turn_of c.insns-code.result.now c.args.call.now c.steps.steps c.steps.registers c.steps.words c.walks_stay_inside.ensures.forward c.walks_stay_inside.ensures.inside c.insns-code.ensures.sound c.steps.invariant in
-    omega (arith, turn.inside, turn.bounded, c.insns-code.ensures.sound.short)
+pub steps-init : goal.steps-init
+steps-init c =
+    first_turn c.insns-code.result.now c.args.call.now _ c.walks_stay_inside.ensures.forward c.walks_stay_inside.ensures.inside c.insns-code.ensures.sound
 
-pub offset_bounds-code-registers : goal.offset_bounds-code-registers
-offset_bounds-code-registers c =
-    let turn = turn_of c.insns-code.result.now c.args.call.now c.steps.steps c.steps.registers c.steps.words c.walks_stay_inside.ensures.forward c.walks_stay_inside.ensures.inside c.insns-code.ensures.sound c.steps.invariant in
-    omega (arith, turn.inside, c.insns-code.ensures.sound.short)
+pub steps-preserved-in-Goes : goal.steps-preserved-in-Goes
+steps-preserved-in-Goes c =
+    rw c.next-registers.ensures (turn_leads (Goes c.in-Goes.a c.in-Goes.x) c.step.new.words c.insns-code.ensures.sound c.steps.invariant
+    (λ s next. c.in-Goes.ensures.follows c.args.call.now s next c.to_bytes-data.ensures)).turn
 
-pub bounds-code-registers : goal.bounds-code-registers
-bounds-code-registers c =
-    let turn = turn_of c.insns-code.result.now c.args.call.now c.steps.steps c.steps.registers c.steps.words c.walks_stay_inside.ensures.forward c.walks_stay_inside.ensures.inside c.insns-code.ensures.sound c.steps.invariant in
-    turn.inside
+pub steps-preserved-in-Holds : goal.steps-preserved-in-Holds
+steps-preserved-in-Holds c =
+    rw (c.skip-registers.ensures, c.from.ensures) (turn_leads Holds c.step.new.words c.insns-code.ensures.sound c.steps.invariant
+    (λ s next. c.in-Holds.ensures.follows c.args.call.now s next c.to_bytes-data.ensures)).turn
 
-pub step-requires-clause-inside : goal.step-requires-clause-inside
-step-requires-clause-inside c =
-    let turn = turn_of c.insns-code.result.now c.args.call.now c.steps.steps c.steps.registers c.steps.words c.walks_stay_inside.ensures.forward c.walks_stay_inside.ensures.inside c.insns-code.ensures.sound c.steps.invariant in
-    omega (arith, turn.inside, c.insns-code.ensures.sound.short)
+pub steps-preserved-in-Fails : goal.steps-preserved-in-Fails
+steps-preserved-in-Fails c =
+    rw (c.skip-registers-in-Fails.ensures, c.from-in-Fails.ensures) (turn_leads Fails c.step.new.words c.insns-code.ensures.sound c.steps.invariant
+    (λ s next. c.in-Fails.ensures.follows c.args.call.now s next c.to_bytes-data.ensures)).turn
 
-pub step-requires-clause-number : goal.step-requires-clause-number
-step-requires-clause-number c =
-    let turn = turn_of c.insns-code.result.now c.args.call.now c.steps.steps c.steps.registers c.steps.words c.walks_stay_inside.ensures.forward c.walks_stay_inside.ensures.inside c.insns-code.ensures.sound c.steps.invariant in
-    turn.number
-
-pub steps-smaller : goal.steps-smaller
-steps-smaller c =
-    let turn = turn_of c.insns-code.result.now c.args.call.now c.steps.steps c.steps.registers c.steps.words c.walks_stay_inside.ensures.forward c.walks_stay_inside.ensures.inside c.insns-code.ensures.sound c.steps.invariant in
-    let done = sim_step c.insns-code.result.now c.args.call.now c.steps.steps c.steps.registers c.steps.words (insn_at c.insns-code.result.now c.steps.registers.place) (Goes c.in-Goes.next) c.step.new.words c.insns-code.ensures.sound turn.stay c.steps.invariant turn.stands
-    (λ s next stands does. c.in-Goes.ensures.follows c.args.call.now s next c.to_bytes-data.ensures stands does) in
-    omega (arith, turn.inside, done.1)
-
+-- where k instructions are skipped
 pub steps-preserved : goal.steps-preserved
 steps-preserved c =
-    let turn = turn_of c.insns-code.result.now c.args.call.now c.steps.steps c.steps.registers c.steps.words c.walks_stay_inside.ensures.forward c.walks_stay_inside.ensures.inside c.insns-code.ensures.sound c.steps.invariant in
-    let done = sim_step c.insns-code.result.now c.args.call.now c.steps.steps c.steps.registers c.steps.words (insn_at c.insns-code.result.now c.steps.registers.place) (Goes c.in-Goes.next) c.step.new.words c.insns-code.ensures.sound turn.stay c.steps.invariant turn.stands
-    (λ s next stands does. c.in-Goes.ensures.follows c.args.call.now s next c.to_bytes-data.ensures stands does) in
-    done.0
+    rw c.skip-registers-in-Skips.ensures (turn_leads Skips c.step.new.words c.insns-code.ensures.sound c.steps.invariant
+    (λ s next. c.in-Skips.ensures.follows c.args.call.now s next c.to_bytes-data.ensures)).turn
 
 pub returns-in-Ends-clause-run : goal.returns-in-Ends-clause-run
 returns-in-Ends-clause-run c =
-    let turn = turn_of c.insns-code.result.now c.args.call.now c.steps.steps c.steps.registers c.steps.words c.walks_stay_inside.ensures.forward c.walks_stay_inside.ensures.inside c.insns-code.ensures.sound c.steps.invariant in
-    let done = sim_step c.insns-code.result.now c.args.call.now c.steps.steps c.steps.registers c.steps.words (insn_at c.insns-code.result.now c.steps.registers.place) (Ends c.in-Ends.value) c.step.new.words c.insns-code.ensures.sound turn.stay c.steps.invariant turn.stands
-    (λ s next stands does. c.in-Ends.ensures.follows c.args.call.now s next c.to_bytes-data.ensures stands does) in
-    rw (← c.insns-code.ensures.same) done
-
-pub returns-in-Ends-clause-bounded : goal.returns-in-Ends-clause-bounded
-returns-in-Ends-clause-bounded c =
-    let turn = turn_of c.insns-code.result.now c.args.call.now c.steps.steps c.steps.registers c.steps.words c.walks_stay_inside.ensures.forward c.walks_stay_inside.ensures.inside c.insns-code.ensures.sound c.steps.invariant in
-    rw (← c.insns-code.ensures.same) (omega (arith, turn.inside, turn.bounded))
+    rw (← c.insns-code.ensures.same) (turn_leads (Ends c.in-Ends.value) c.step.new.words c.insns-code.ensures.sound c.steps.invariant
+    (λ s next. c.in-Ends.ensures.follows c.args.call.now s next c.to_bytes-data.ensures))
 
 pub returns-in-Ends-clause-never_stuck : goal.returns-in-Ends-clause-never_stuck
 returns-in-Ends-clause-never_stuck c =
-    let turn = turn_of c.insns-code.result.now c.args.call.now c.steps.steps c.steps.registers c.steps.words c.walks_stay_inside.ensures.forward c.walks_stay_inside.ensures.inside c.insns-code.ensures.sound c.steps.invariant in
-    rw (← c.insns-code.ensures.same) (λ n s reached. progress c.insns-code.result.now c.args.call.now n s c.insns-code.ensures.sound turn.stay reached)
+    rw (← c.insns-code.ensures.same) (λ n s. progress c.insns-code.result.now c.args.call.now n s c.insns-code.ensures.sound c.steps.invariant.stay)

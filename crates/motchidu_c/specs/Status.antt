@@ -1,0 +1,69 @@
+-- What C is told of a filter: a number, and a place where the fault has one. This project's own; the
+-- numbers are those of enum motchidu_status in include/motchidu.h.
+use Rattle.std.specs.Prelude.{ℕ, Option, Some, None}
+use Rattle.bpf_code.specs.declared.fault.CodeFault.{CodeFault}
+use Rattle.bpf_code.specs.declared.fault.CodeFault.TheVariants as text
+use Rattle.bpf_verify.specs.declared.fault.Fault.{Fault}
+use Rattle.bpf_verify.specs.declared.fault.Fault.TheVariants as fault
+use Rattle.motchidu_c.specs.declared.refusal.Refusal.{Refusal}
+use Rattle.motchidu_c.specs.declared.refusal.Refusal.TheVariants.{Code, Filter}
+use Rattle.motchidu_c.specs.declared.status.Status.{Status}
+use Rattle.motchidu_c.specs.declared.status.Status.TheVariants.{Accepted, Length, TooLong, BadCode, Empty, BadOffset, BadJump, BadWord, BadShift, ZeroDivisor, NoFinalReturn, Unstored, Memory, Lengths}
+
+abbrev pub number_of : Status → ℕ
+number_of Accepted = 0
+number_of Length = 1
+number_of TooLong = 2
+number_of BadCode = 3
+number_of Empty = 4
+number_of BadOffset = 5
+number_of BadJump = 6
+number_of BadWord = 7
+number_of BadShift = 8
+number_of ZeroDivisor = 9
+number_of NoFinalReturn = 10
+number_of Unstored = 11
+number_of Memory = 12
+number_of Lengths = 13
+
+-- the status of a fault of the text
+abbrev pub status_of_text : CodeFault → Status
+status_of_text text.Length = Length
+status_of_text text.TooLong = TooLong
+status_of_text (text.BadCode at) = BadCode
+status_of_text text.Memory = Memory
+
+-- the status of a fault of the code that a text spells
+abbrev pub status_of_code : Fault → Status
+status_of_code fault.Empty = Empty
+status_of_code fault.TooLong = TooLong
+status_of_code (fault.BadOffset at) = BadOffset
+status_of_code (fault.BadJump at) = BadJump
+status_of_code (fault.BadWord at) = BadWord
+status_of_code (fault.BadShift at) = BadShift
+status_of_code (fault.ZeroDivisor at) = ZeroDivisor
+status_of_code fault.NoFinalReturn = NoFinalReturn
+status_of_code (fault.Unstored at) = Unstored
+
+abbrev pub status_of : Refusal → Status
+status_of (Code fault) = status_of_text fault
+status_of (Filter fault) = status_of_code fault
+
+-- the place of a fault that has one, counted in instructions from 0
+abbrev pub place_of : Refusal → Option ℕ
+place_of (Code (text.BadCode at)) = Some at
+place_of (Filter (fault.BadOffset at)) = Some at
+place_of (Filter (fault.BadJump at)) = Some at
+place_of (Filter (fault.BadWord at)) = Some at
+place_of (Filter (fault.BadShift at)) = Some at
+place_of (Filter (fault.ZeroDivisor at)) = Some at
+place_of (Filter (fault.Unstored at)) = Some at
+place_of _ = None
+
+-- that place, or what stood there before
+abbrev pub or_before : Option ℕ → ℕ → ℕ
+or_before (Some at) before = at
+or_before None before = before
+
+abbrev pub place_or : Refusal → ℕ → ℕ
+place_or refusal before = or_before (place_of refusal) before

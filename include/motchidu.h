@@ -1,0 +1,77 @@
+/*
+ * The checker and the machine of seccomp filters, classic BPF as seccomp(2) takes it: whether a filter
+ * is safe to run, why it is not, and what it returns on a call.
+ *
+ * A filter is the bytes of its struct sock_filter (linux/filter.h), 8 each, numbers little-endian, so an
+ * array of them as it lies in memory on x86-64. A call is the 64 bytes of a struct seccomp_data
+ * (linux/seccomp.h), likewise. docs/SEMANTICS.md of the project has each rule.
+ *
+ * What the functions answer and write is proved, against the clauses of crates/motchidu_c that this page
+ * retells. What no proof sees is the caller, who owes this: each pointer points at as much memory as its
+ * length says, which may be read, and written where it is an output; an output overlaps with nothing else
+ * that is passed; no other thread writes to what is passed before the function returns. An array of length
+ * 0 may be NULL, `at` may not.
+ *
+ * The functions take memory by malloc while they run, and give it back by free; the two are C's own, or
+ * keep C's promises. They need 16 KiB of stack, keep nothing between two calls, and may run in many threads
+ * at once, but not in a signal handler, nor in the forked child of a process with threads.
+ *
+ * Link with -lmotchidu. The library is for x86-64, as of x86-64-v2.
+ */
+#ifndef MOTCHIDU_H
+#define MOTCHIDU_H
+
+#include <stddef.h>
+#include <stdint.h>
+
+#ifdef __cplusplus
+extern "C" {
+#endif
+
+/* What a function answers. Names and order of the faults are those of the project's programs, and the
+ * first fault in that order is told. P marks those that have a place. */
+enum motchidu_status {
+    MOTCHIDU_ACCEPTED = 0,        /* the filter is sound: it may be run on any call */
+    MOTCHIDU_LENGTH = 1,          /* its length is no multiple of 8 */
+    MOTCHIDU_TOO_LONG = 2,        /* more than 4,096 instructions */
+    MOTCHIDU_BAD_CODE = 3,        /* P: a code that is not in the table of instructions */
+    MOTCHIDU_EMPTY = 4,           /* no instructions */
+    MOTCHIDU_BAD_OFFSET = 5,      /* P: a load from outside the call's data, or across two of its words */
+    MOTCHIDU_BAD_JUMP = 6,        /* P: a jump to a place outside the filter */
+    MOTCHIDU_BAD_WORD = 7,        /* P: a scratch word of number 16 or more */
+    MOTCHIDU_BAD_SHIFT = 8,       /* P: a shift by 32 bits or more */
+    MOTCHIDU_ZERO_DIVISOR = 9,    /* P: a division by the constant 0 */
+    MOTCHIDU_NO_FINAL_RETURN = 10, /* the last instruction is no return */
+    MOTCHIDU_UNSTORED = 11,       /* P: a load of a scratch word that some walk to it did not store */
+    MOTCHIDU_MEMORY = 12,         /* there was no memory; it says nothing of the filter */
+    MOTCHIDU_LENGTHS = 13         /* the lengths of calls, values and steps don't agree; the filter was
+                                     not looked at. motchidu_run_all alone answers this */
+};
+
+/*
+ * Checks the filter of filter_len bytes.
+ *
+ * Answers a number of enum motchidu_status. Where it marks a place, *at becomes that place, counted in
+ * instructions from 0; else *at is left as it was.
+ */
+uint32_t motchidu_verify(const uint8_t *filter, size_t filter_len, size_t *at);
+
+/*
+ * Checks the filter of filter_len bytes once, and runs it on each call of a list.
+ *
+ * calls_len is in bytes, values_len and steps_len in numbers, and there is one of each for a call:
+ * calls_len is 64 * values_len, and steps_len is values_len; else the answer is MOTCHIDU_LENGTHS. With
+ * MOTCHIDU_ACCEPTED, values[i] is the value that the filter returns on the call at calls + 64 * i (the
+ * action in its upper 16 bits, seccomp(2)), and steps[i] the number of instructions that it executed, the
+ * last one included, which is never above filter_len / 8. With any other answer nothing is written.
+ */
+uint32_t motchidu_run_all(const uint8_t *filter, size_t filter_len,
+                          const uint8_t *calls, size_t calls_len,
+                          uint32_t *values, size_t values_len,
+                          uint32_t *steps, size_t steps_len);
+
+#ifdef __cplusplus
+}
+#endif
+
+#endif

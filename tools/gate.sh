@@ -1,0 +1,32 @@
+#!/bin/bash
+# What make test runs: the gate (rt ci), then the examples in C over the library. Each says what it
+# counted, and the last line has the sum of both.
+set -u
+cd "$(dirname "$0")/.."
+said=$(mktemp)
+trap 'rm -f "$said"' EXIT
+all_passed=0 all_failed=0
+
+# Runs a command whose last line is `N passed, M failed`, and adds that line to the sums. A command that
+# fails, or that says nothing, has one failure at least.
+part() { # NAME COMMAND..
+  local name=$1 status passed failed
+  shift
+  "$@" 2>&1 | tee "$said" | sed -u -E "s/^([0-9]+ passed, [0-9]+ failed)$/$name: \1/"
+  status=${PIPESTATUS[0]}
+  read -r passed failed < <(grep -E '^[0-9]+ passed, [0-9]+ failed$' "$said" | tail -1 | tr -dc '0-9 \n')
+  if [ "$status" != 0 ] || [ -z "${failed:-}" ]; then
+    failed=$((${failed:-0} > 0 ? failed : 1))
+  fi
+  all_passed=$((all_passed + ${passed:-0}))
+  all_failed=$((all_failed + failed))
+}
+
+c_examples() {
+  make --no-print-directory lib && tools/c_examples.sh
+}
+
+part "rt ci" rt ci
+part "C examples" c_examples
+echo "$all_passed passed, $all_failed failed"
+[ $all_failed = 0 ]
