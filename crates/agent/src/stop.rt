@@ -1,14 +1,23 @@
 use crate::file::FileFault;
 use crate::judging::Refusal;
 use bpf_code::CodeFault;
+use bpf_verify::Filter;
+use script::ScriptFault;
 use std::alloc::{AllocError, AllocFailed};
 use std::io::{self, Write};
+use verdict::StackFault;
 
 /// Why a program ends before its work is done.
 #[derive(Debug, Drop)]
 pub(crate) enum Stop<'a> {
-    /// The input is refused.
+    /// The one filter of a command is refused.
     Refused(Refusal),
+    /// The script is refused.
+    Script(ScriptFault),
+    /// A filter of a stack is refused.
+    StackFilter(Refusal),
+    /// A stack does not take a filter.
+    Stack(StackFault),
     /// The command line is refused, or help was asked for.
     CommandLine(clap::Error),
     /// A word of the command line is no number of its range.
@@ -32,6 +41,18 @@ impl Stop<'_> {
                 writeln!(out, "refused {refusal}")?;
                 Ok(1)
             }
+            Stop::Script(fault) => {
+                writeln!(out, "refused script {fault}")?;
+                Ok(1)
+            }
+            Stop::StackFilter(refusal) => {
+                writeln!(out, "refused filter {refusal}")?;
+                Ok(1)
+            }
+            Stop::Stack(fault) => {
+                writeln!(out, "refused filter {fault}")?;
+                Ok(1)
+            }
             Stop::CommandLine(error) => {
                 write!(err, "{error}")?;
                 Ok(2)
@@ -53,6 +74,11 @@ impl Stop<'_> {
 }
 
 impl<'a> From<Refusal> for Stop<'a> {
+    ghost use Rattle.std.specs.Prelude.{◌≡◌};
+    ghost use Rattle.agent.specs.Stops.{of_refusal};
+
+    ghost from_gives = { λ refusal stop. stop ≡ of_refusal refusal };
+
     fn from(refusal: Refusal) -> Stop<'a> {
         match refusal {
             Refusal::Code(CodeFault::Memory) => Stop::Memory,
@@ -61,19 +87,76 @@ impl<'a> From<Refusal> for Stop<'a> {
     }
 }
 
+impl<'a> Stop<'a> {
+    ghost use Rattle.std.specs.Prelude.{◌≡◌};
+    ghost use Rattle.agent.specs.Stops.{of_stack_refusal};
+
+    /// Why a filter of a stack stops the program.
+    pub(crate) fn of_stack_filter(refusal: Refusal) -> Stop<'a>
+        ensures { result ≡ of_stack_refusal refusal }
+    {
+        match refusal {
+            Refusal::Code(CodeFault::Memory) => Stop::Memory,
+            _ => Stop::StackFilter(refusal),
+        }
+    }
+}
+
+impl<'a> From<ScriptFault> for Stop<'a> {
+    ghost use Rattle.std.specs.Prelude.{◌≡◌};
+    ghost use Rattle.agent.specs.Stops.{of_script_fault};
+
+    ghost from_gives = { λ fault stop. stop ≡ of_script_fault fault };
+
+    fn from(fault: ScriptFault) -> Stop<'a> {
+        match fault {
+            ScriptFault::Memory => Stop::Memory,
+            _ => Stop::Script(fault),
+        }
+    }
+}
+
+impl<'a> From<(Filter, StackFault)> for Stop<'a> {
+    ghost use Rattle.std.specs.Prelude.{◌≡◌};
+    ghost use Rattle.agent.specs.Stops.{of_stack_fault};
+
+    ghost from_gives = { λ refused stop. stop ≡ of_stack_fault refused.1 };
+
+    fn from(refused: (Filter, StackFault)) -> Stop<'a> {
+        match refused.1 {
+            StackFault::Memory => Stop::Memory,
+            fault => Stop::Stack(fault),
+        }
+    }
+}
+
 impl<'a> From<AllocError> for Stop<'a> {
+    ghost use Rattle.std.specs.Prelude.{◌≡◌};
+    ghost use Rattle.agent.specs.declared.stop.Stop.TheVariants.{Memory};
+
+    ghost from_gives = { λ _ stop. stop ≡ Memory };
+
     fn from(_: AllocError) -> Stop<'a> {
         Stop::Memory
     }
 }
 
 impl<'a, T: Drop> From<AllocFailed<T>> for Stop<'a> {
+    ghost use Rattle.std.specs.Prelude.{◌≡◌};
+    ghost use Rattle.agent.specs.declared.stop.Stop.TheVariants.{Memory};
+
+    ghost from_gives = { λ _ stop. stop ≡ Memory };
+
     fn from(_: AllocFailed<T>) -> Stop<'a> {
         Stop::Memory
     }
 }
 
 impl<'a> From<clap::Error> for Stop<'a> {
+    ghost use Rattle.agent.specs.Stops.{IsOfCommandLine};
+
+    ghost from_gives = { λ error stop. IsOfCommandLine error stop };
+
     fn from(error: clap::Error) -> Stop<'a> {
         match error.kind() {
             clap::error::ErrorKind::OutOfMemory => Stop::Memory,

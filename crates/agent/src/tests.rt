@@ -5,7 +5,7 @@ use std::test::Fail;
 use std::{env, fs, process};
 
 /// A file of these bytes in the folder for temporary files, whose path is the answer.
-fn file_of(rt: &HostRuntime, name: &str, bytes: &[u8]) -> Result<String, Fail> {
+pub(crate) fn file_of(rt: &HostRuntime, name: &str, bytes: &[u8]) -> Result<String, Fail> {
     let folder = env::temp_dir(rt)?;
     let path = format!(in rt.alloc();
         "{}/motchidu_{name}_{}",
@@ -17,7 +17,7 @@ fn file_of(rt: &HostRuntime, name: &str, bytes: &[u8]) -> Result<String, Fail> {
 }
 
 /// The bytes of these instructions: code, jt, jf, k.
-fn bytes_of(rt: &HostRuntime, parts: &[(u16, u8, u8, u32)]) -> Result<Vec<u8>, Fail> {
+pub(crate) fn bytes_of(rt: &HostRuntime, parts: &[(u16, u8, u8, u32)]) -> Result<Vec<u8>, Fail> {
     let mut code = Vec::new(rt.alloc());
     for (op, jt, jf, k) in parts {
         code.push(Insn::new(*op, *jt, *jf, *k).ok_or("a code of the table")?)?;
@@ -26,7 +26,11 @@ fn bytes_of(rt: &HostRuntime, parts: &[(u16, u8, u8, u32)]) -> Result<Vec<u8>, F
 }
 
 /// The status of `seccheck` with the words of this line, FILE standing for the path, and what it prints.
-fn seccheck(rt: &HostRuntime, line: &str, path: &str) -> Result<(u8, String, String), Fail> {
+pub(crate) fn seccheck(
+    rt: &HostRuntime,
+    line: &str,
+    path: &str,
+) -> Result<(u8, String, String), Fail> {
     let mut words = Vec::new(rt.alloc());
     words.push(String::from_str(rt.alloc(), "seccheck")?)?;
     for word in line.split_whitespace() {
@@ -46,7 +50,7 @@ fn seccheck(rt: &HostRuntime, line: &str, path: &str) -> Result<(u8, String, Str
 }
 
 /// The filter that allows the calls of x86-64 alone.
-const X86_64_ONLY: [u8; 32] = [
+pub(crate) const X86_64_ONLY: [u8; 32] = [
     0x20, 0, 0, 0, 4, 0, 0, 0, 0x15, 0, 1, 0, 0x3e, 0, 0, 0xc0, //
     0x06, 0, 0, 0, 0, 0, 0, 0x80, 0x06, 0, 0, 0, 0, 0, 0xff, 0x7f,
 ];
@@ -238,7 +242,7 @@ fn verify_tells_the_first_fault(rt: HostRuntime) -> Result<(), Fail> {
 }
 
 /// So many loads with this code, and a return that allows.
-fn loads(rt: &HostRuntime, op: u16, count: usize) -> Result<Vec<u8>, Fail> {
+pub(crate) fn loads(rt: &HostRuntime, op: u16, count: usize) -> Result<Vec<u8>, Fail> {
     let load = Insn::new(op, 0, 0, 0).ok_or("a load")?;
     let allow = Insn::new(0x06, 0, 0, 0x7fff_0000).ok_or("a return")?;
     let mut code = Vec::new(rt.alloc());
