@@ -21,6 +21,10 @@ build() { # NAME [FLAG]..
   "$cc" -std=c11 -D_DEFAULT_SOURCE -O2 -Wall -Wextra -Werror -I$library "examples/c/$name.c" -L$library -lmotchidu "$@" -o "$out/$name"
 }
 
+# A machine without a C compiler gets Debian's, where this may install it.
+if ! command -v "$cc" > /dev/null && [ "$(id -u)" = 0 ] && command -v apt-get > /dev/null; then
+  apt-get update -qq && apt-get install -y -qq gcc libc6-dev > /dev/null
+fi
 if ! command -v "$cc" > /dev/null; then
   echo "examples/c: there is no C compiler ($cc): install one, as by apt-get install gcc libc6-dev"
   echo "0 passed, 1 failed"
