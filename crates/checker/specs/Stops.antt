@@ -1,8 +1,8 @@
 -- Why a program ends before its work is done, from the fault that was met: want of memory is told as that,
--- wherever it comes. This project's own: docs/SEMANTICS.md, "Programs".
-use Rattle.std.specs.Prelude.{◌≡◌, ◌≢◌}
-use Rattle.checker.specs.declared.judging.Refusal.{Refusal}
-use Rattle.checker.specs.declared.judging.Refusal.TheVariants.{Code}
+-- wherever it comes; and the status with which it ends. This project's own: docs/SEMANTICS.md, "Programs".
+use Rattle.std.specs.Prelude.{◌≡◌, ◌≢◌, ℕ, Bool, true, false}
+use Rattle.bpf_verify.specs.declared.refusal.Refusal.{Refusal}
+use Rattle.bpf_verify.specs.declared.refusal.Refusal.TheVariants.{Code}
 use Rattle.checker.specs.declared.stop.Stop.{Stop}
 use Rattle.checker.specs.declared.stop.Stop.TheVariants as why
 use Rattle.bpf_code.specs.declared.fault.CodeFault.TheVariants as code
@@ -37,3 +37,28 @@ of_stack_fault fault = why.Stack fault
 -- the command line is refused
 abbrev pub IsOfCommandLine : Error → Stop → Type 0
 IsOfCommandLine error stop = (kind_of error ≡ kind.OutOfMemory → stop ≡ why.Memory) × (kind_of error ≢ kind.OutOfMemory → stop ≡ why.CommandLine error)
+
+-- input refused 1; command line refused 2; a file that can't be read, and what can't be written 3; want of
+-- memory 4
+abbrev pub status_of : Stop → ℕ
+status_of (why.Refused refusal) = 1
+status_of (why.Script fault) = 1
+status_of (why.StackFilter refusal) = 1
+status_of (why.Stack fault) = 1
+status_of (why.CommandLine error) = 2
+status_of (why.BadNumber word) = 2
+status_of (why.File path fault) = 3
+status_of why.Unwritten = 3
+status_of why.Memory = 4
+
+-- that input is refused is the program's answer
+abbrev pub is_refusal : Stop → Bool
+is_refusal (why.Refused refusal) = true
+is_refusal (why.Script fault) = true
+is_refusal (why.StackFilter refusal) = true
+is_refusal (why.Stack fault) = true
+is_refusal (why.CommandLine error) = false
+is_refusal (why.BadNumber word) = false
+is_refusal (why.File path fault) = false
+is_refusal why.Unwritten = false
+is_refusal why.Memory = false

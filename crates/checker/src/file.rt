@@ -1,7 +1,6 @@
-use std::alloc::Global;
-use std::fs;
 use std::io::{self, ErrorKind, Read};
 use std::rt::Files;
+use std::{fmt, fs};
 use thiserror::Error;
 
 /// The greatest length of a file that is read, in bytes.
@@ -11,17 +10,30 @@ pub const MAX_FILE_BYTES: u64 = 1_048_576;
 #[derive(Clone, Copy, Debug, PartialEq, Eq, Error)]
 pub enum FileFault {
     /// There is no such file.
-    #[error("NotFound")]
     NotFound,
     /// It has more bytes than [`MAX_FILE_BYTES`].
-    #[error("TooLarge")]
     TooLarge,
     /// It can't be read: a folder, no permission, a fault of the device.
-    #[error("Failed")]
     Failed,
     /// A growth was refused.
-    #[error("Memory")]
     Memory,
+}
+
+/// The fault's name.
+impl fmt::Display for FileFault {
+    ghost use Rattle.std.specs.Prelude.{Some};
+    ghost use Rattle.checker.specs.FileText.{fault_text};
+
+    ghost output = { λ fault. Some (fault_text fault) };
+
+    fn fmt<W: fmt::Write>(&self, f: &mut fmt::Formatter<W>) -> fmt::Result {
+        f.write_str(match self {
+            FileFault::NotFound => "NotFound",
+            FileFault::TooLarge => "TooLarge",
+            FileFault::Failed => "Failed",
+            FileFault::Memory => "Memory",
+        })
+    }
 }
 
 /// The bytes of a file.

@@ -1,17 +1,13 @@
-ghost use Rattle.std.specs.Prelude.{◌≡◌, ◌≤◌, ℕ, IfOk, IfErr, length};
+ghost use Rattle.std.specs.Prelude.{◌≡◌, ◌≤◌, length};
 ghost use Rattle.action.specs.Verdict.{verdict_of};
-ghost use Rattle.bpf_code.specs.Code.{bytes_of_code};
 ghost use Rattle.bpf_verify.specs.Sound.{IsSound};
 ghost use Rattle.bpf_machine.specs.Runs.{NeverStuck, Runs};
-ghost use Rattle.checker.specs.Refused.{IsRefused};
 
 use action::Verdict;
-use bpf_code::CodeFault;
 use bpf_machine::run;
-use bpf_verify::{Fault, Filter, verify};
+use bpf_verify::Filter;
 use call_data::SysCall;
-use std::alloc::Global;
-use thiserror::Error;
+use std::fmt;
 
 /// What a filter says of a call.
 #[derive(Clone, Copy, Debug, PartialEq, Eq)]
@@ -24,15 +20,18 @@ pub struct Judged {
     pub steps: u32,
 }
 
-/// Why a filter file is refused.
-#[derive(Clone, Copy, Debug, PartialEq, Eq, Error)]
-pub enum Refusal {
-    /// It is no list of instructions.
-    #[error("{0}")]
-    Code(CodeFault),
-    /// Its instructions are no sound filter.
-    #[error("{0}")]
-    Filter(Fault),
+/// The line that is printed of it: `7fff0000 ALLOW 0 steps 3`, the value in eight hexadecimal digits.
+impl fmt::Display for Judged {
+    ghost use Rattle.std.specs.Prelude.{Some};
+    ghost use Rattle.checker.specs.Texts.{judged_text};
+
+    ghost output = { λ judged. Some (judged_text judged) };
+
+    fn fmt<W: fmt::Write>(&self, f: &mut fmt::Formatter<W>) -> fmt::Result {
+        let (value, steps) = (self.value, self.steps);
+        let (action, ret_data) = (self.verdict.action, self.verdict.ret_data);
+        write!(f, "{value:08x} {action} {ret_data} steps {steps}")
+    }
 }
 
 /// Runs a filter on a call and says what its value means.
@@ -53,14 +52,4 @@ pub fn judge(filter: &Filter, call: &SysCall) -> Judged
         verdict: Verdict::of_value(ran.value),
         steps: ran.steps,
     }
-}
-
-/// The filter that a filter file spells, if it is sound.
-pub fn filter_of(alloc: Global, bytes: &[u8]) -> Result<Filter, Refusal>
-    ensures text { IfOk result (λ filter. bytes.now ≡ bytes_of_code filter) }
-    ensures sound { IfOk result (λ filter. IsSound filter) }
-    ensures refused { IfErr result (IsRefused bytes.now) }
-{
-    let insns = bpf_code::read(alloc, bytes).map_err(Refusal::Code)?;
-    verify(insns).map_err(|(_, fault)| Refusal::Filter(fault))
 }

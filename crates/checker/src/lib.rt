@@ -1,29 +1,32 @@
-//! What the programs of Motchidu do: each program's `main` hands its words to a function of this crate
-//! and ends with the status that it answers.
+//! What `seccheck` does: judges calls by filters, shows filters, and plays scripts under them.
 //!
 //! The functions are generic over the runtime and over the writers for standard output and standard
-//! error, so that tests run them over memory. `cell` plays a script under a stack of filters, one step
+//! error, so that tests run them over memory. What is printed is made by functions of `line`, `show`
+//! and `stop`, whose texts stand in `specs/`. `cell` plays a script under a stack of filters, one step
 //! at a time; it prints nothing.
 #![tactic(auto)]
 
+mod call_words;
 mod cell;
 mod file;
 mod judging;
+mod laws;
 mod line;
 mod number;
 #[cfg(test)]
 mod play_tests;
 mod playing;
 mod seccheck;
-mod seccheck_words;
 mod show;
 mod steps;
 mod stop;
 #[cfg(test)]
 mod tests;
+mod words;
 
 pub use file::{FileFault, MAX_FILE_BYTES};
-pub use judging::{Judged, Refusal, filter_of, judge};
+pub use judging::{Judged, judge};
+pub use laws::constants_are_as_stated;
 pub use playing::{Outcome, play};
 pub use seccheck::seccheck_run;
 pub use steps::{Entry, KILLED};

@@ -1,10 +1,26 @@
-ghost use Rattle.std.specs.Prelude.{◌≡◌, IfOk, string_bytes};
+ghost use Rattle.std.specs.Prelude.{◌≡◌, ◌++◌, IfOk, codes, string_bytes};
 ghost use Rattle.checker.specs.LineText.{outcome_text, record_text};
+ghost use Rattle.checker.specs.Texts.{accepted_text, judged_text};
 
+use crate::judging::Judged;
 use crate::playing::Outcome;
 use crate::steps::Entry;
 use std::alloc::{AllocError, Global};
 use std::fmt;
+
+/// The line that is printed of a sound filter of so many instructions.
+pub(crate) fn accepted(alloc: Global, count: usize) -> Result<String, AllocError>
+    ensures { IfOk result (λ text. string_bytes text ≡ accepted_text count) }
+{
+    format!(in alloc; "accepted {count} instructions\n")
+}
+
+/// The line that is printed of what a filter says.
+pub(crate) fn judged_line(alloc: Global, judged: &Judged) -> Result<String, AllocError>
+    ensures { IfOk result (λ text. string_bytes text ≡ judged_text judged.now ++ codes "\n") }
+{
+    format!(in alloc; "{judged}\n")
+}
 
 /// A judged call as it is printed: `PLACE NR ACTION DATA performed`, or `denied`.
 #[derive(Clone, Copy)]
@@ -16,9 +32,9 @@ pub(crate) struct Line {
 
 impl fmt::Display for Line {
     ghost use Rattle.std.specs.Prelude.{Some};
-    ghost use Rattle.checker.specs.LineText.{line_text};
+    ghost use Rattle.checker.specs.LineText.{entry_text};
 
-    ghost output = { λ line. Some (line_text line) };
+    ghost output = { λ line. Some (entry_text line.place line.entry) };
 
     fn fmt<W: fmt::Write>(&self, f: &mut fmt::Formatter<W>) -> fmt::Result {
         let (place, nr) = (self.place, self.entry.call.nr);

@@ -1,11 +1,11 @@
 use crate::file::{FileFault, read_file};
-use crate::judging::{Refusal, filter_of, judge};
-use crate::line::outcome_lines;
+use crate::judging::judge;
+use crate::line::{accepted, judged_line, outcome_lines};
 use crate::playing::play;
-use crate::seccheck_words::{PROGRAM, call_of, command, path_at, word_at};
-use crate::show::shown;
+use crate::show::code_lines;
 use crate::stop::Stop;
-use bpf_verify::Filter;
+use crate::words::{attempt_at, call_at, command, word_at};
+use bpf_verify::{Filter, Refusal, filter_of};
 use call_data::SysCall;
 use clap::error::ErrorKind;
 use std::io::{self, Write};
@@ -22,12 +22,25 @@ pub fn seccheck_run<R: Files + AllocGlobal, O: Write, E: Write>(
     out: &mut O,
     err: &mut E,
 ) -> u8 {
-    match text_of(rt, words) {
+    let stop = match text_of(rt, words) {
         Ok(text) => match out.write_all(text.as_bytes()) {
-            Ok(()) => 0,
-            Err(_) => 3,
+            Ok(()) => return 0,
+            Err(_) => Stop::Unwritten,
         },
-        Err(stop) => stop.tell(PROGRAM, out, err).unwrap_or(3),
+        Err(stop) => stop,
+    };
+    match tell(&stop, out, err) {
+        Ok(()) => stop.status(),
+        Err(_) => Stop::Unwritten.status(),
+    }
+}
+
+/// Says why the program ends: on standard output that its input is refused, else on standard error.
+fn tell<O: Write, E: Write>(stop: &Stop, out: &mut O, err: &mut E) -> io::Result<()> {
+    if stop.is_answer() {
+        write!(out, "{stop}")
+    } else {
+        write!(err, "{stop}")
     }
 }
 
@@ -36,13 +49,16 @@ fn text_of<'a, R: Files + AllocGlobal>(rt: &R, words: &'a [String]) -> Result<St
     let mut command = command(rt.alloc())?;
     let matches = command.try_get_matches_from_mut(words)?;
     match matches.subcommand() {
-        Some(("run", matches)) => run_text(rt, path_at(matches, "FILTER"), call_of(matches)?),
-        Some(("verify", matches)) => verify_text(rt, path_at(matches, "FILTER")),
-        Some(("show", matches)) => show_text(rt, path_at(matches, "FILTER")),
+        Some(("run", matches)) => {
+            let call = call_at(matches).map_err(Stop::BadNumber)?;
+            run_text(rt, word_at(matches, "FILTER"), call)
+        }
+        Some(("verify", matches)) => verify_text(rt, word_at(matches, "FILTER")),
+        Some(("show", matches)) => show_text(rt, word_at(matches, "FILTER")),
         Some(("play", matches)) => {
-            let attempt = word_at(matches, "attempt", 0)?;
+            let attempt = attempt_at(matches).map_err(Stop::BadNumber)?;
             let filters = matches.get_strs("FILTER").unwrap_or(&[]);
-            play_text(rt, path_at(matches, "SCRIPT"), filters, attempt)
+            play_text(rt, word_at(matches, "SCRIPT"), filters, attempt)
         }
         _ => Err(
             command
@@ -52,31 +68,27 @@ fn text_of<'a, R: Files + AllocGlobal>(rt: &R, words: &'a [String]) -> Result<St
     }
 }
 
-/// `accepted N instructions`.
+/// That the filter is accepted.
 fn verify_text<'a, R: Files + AllocGlobal>(rt: &R, path: &'a str) -> Result<String, Stop<'a>> {
     let filter = filter_at(rt, path)?;
-    let count = filter.len();
-    Ok(format!(in rt.alloc(); "accepted {count} instructions\n")?)
+    Ok(accepted(rt.alloc(), filter.len())?)
 }
 
 /// The instructions of a file that is a list of them.
 fn show_text<'a, R: Files + AllocGlobal>(rt: &R, path: &'a str) -> Result<String, Stop<'a>> {
     let bytes = bytes_at(rt, path)?;
     let code = bpf_code::read(rt.alloc(), &bytes).map_err(Refusal::Code)?;
-    Ok(shown(rt.alloc(), &code)?)
+    Ok(code_lines(rt.alloc(), &code)?)
 }
 
-/// The value, its action and data, and the steps.
+/// What the filter says of the call.
 fn run_text<'a, R: Files + AllocGlobal>(
     rt: &R,
     path: &'a str,
     call: SysCall,
 ) -> Result<String, Stop<'a>> {
     let filter = filter_at(rt, path)?;
-    let judged = judge(&filter, &call);
-    let (value, steps) = (judged.value, judged.steps);
-    let (action, ret_data) = (judged.verdict.action, judged.verdict.ret_data);
-    Ok(format!(in rt.alloc(); "{value:08x} {action} {ret_data} steps {steps}\n")?)
+    Ok(judged_line(rt.alloc(), &judge(&filter, &call))?)
 }
 
 /// The record of a script that is played under the filters, and the code with which it ends.

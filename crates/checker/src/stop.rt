@@ -1,10 +1,9 @@
 use crate::file::FileFault;
-use crate::judging::Refusal;
 use bpf_code::CodeFault;
-use bpf_verify::Filter;
+use bpf_verify::{Filter, Refusal};
 use script::ScriptFault;
 use std::alloc::{AllocError, AllocFailed};
-use std::io::{self, Write};
+use std::fmt;
 use verdict::StackFault;
 
 /// Why a program ends before its work is done.
@@ -24,51 +23,57 @@ pub(crate) enum Stop<'a> {
     BadNumber(&'a str),
     /// A file can't be read.
     File(&'a str, FileFault),
+    /// What is to be printed can't be written.
+    Unwritten,
     /// A growth was refused.
     Memory,
 }
 
 impl Stop<'_> {
-    /// Tells why, and gives the program's status.
-    pub(crate) fn tell<O: Write, E: Write>(
-        &self,
-        program: &str,
-        out: &mut O,
-        err: &mut E,
-    ) -> io::Result<u8> {
+    ghost use Rattle.std.specs.Prelude.{◌≡◌};
+    ghost use Rattle.checker.specs.Stops.{is_refusal, status_of};
+
+    /// The status with which the program ends.
+    pub(crate) fn status(&self) -> u8
+        ensures { result ≡ status_of self.now }
+    {
         match self {
-            Stop::Refused(refusal) => {
-                writeln!(out, "refused {refusal}")?;
-                Ok(1)
-            }
-            Stop::Script(fault) => {
-                writeln!(out, "refused script {fault}")?;
-                Ok(1)
-            }
-            Stop::StackFilter(refusal) => {
-                writeln!(out, "refused filter {refusal}")?;
-                Ok(1)
-            }
-            Stop::Stack(fault) => {
-                writeln!(out, "refused filter {fault}")?;
-                Ok(1)
-            }
-            Stop::CommandLine(error) => {
-                write!(err, "{error}")?;
-                Ok(2)
-            }
-            Stop::BadNumber(word) => {
-                writeln!(err, "{program}: {word}: BadNumber")?;
-                Ok(2)
-            }
-            Stop::File(path, fault) => {
-                writeln!(err, "{program}: {path}: {fault}")?;
-                Ok(3)
-            }
-            Stop::Memory => {
-                writeln!(err, "{program}: Memory")?;
-                Ok(4)
-            }
+            Stop::Refused(_) | Stop::Script(_) | Stop::StackFilter(_) | Stop::Stack(_) => 1,
+            Stop::CommandLine(_) | Stop::BadNumber(_) => 2,
+            Stop::File(_, _) | Stop::Unwritten => 3,
+            Stop::Memory => 4,
+        }
+    }
+
+    /// Whether it is told on standard output: that what was given is refused is the program's answer.
+    /// All else goes to standard error.
+    pub(crate) fn is_answer(&self) -> bool
+        ensures { result ≡ is_refusal self.now }
+    {
+        matches!(
+            self,
+            Stop::Refused(_) | Stop::Script(_) | Stop::StackFilter(_) | Stop::Stack(_)
+        )
+    }
+}
+
+/// What is printed of it, with the end of the line. A refused command line is told in clap's own words.
+impl fmt::Display for Stop<'_> {
+    ghost use Rattle.checker.specs.StopText.{stop_text};
+
+    ghost output = { λ stop. stop_text stop };
+
+    fn fmt<W: fmt::Write>(&self, f: &mut fmt::Formatter<W>) -> fmt::Result {
+        match self {
+            Stop::Refused(refusal) => writeln!(f, "refused {refusal}"),
+            Stop::Script(fault) => writeln!(f, "refused script {fault}"),
+            Stop::StackFilter(refusal) => writeln!(f, "refused filter {refusal}"),
+            Stop::Stack(fault) => writeln!(f, "refused filter {fault}"),
+            Stop::CommandLine(error) => write!(f, "{error}"),
+            Stop::BadNumber(word) => writeln!(f, "seccheck: {word}: BadNumber"),
+            Stop::File(path, fault) => writeln!(f, "seccheck: {path}: {fault}"),
+            Stop::Unwritten => Ok(()),
+            Stop::Memory => writeln!(f, "seccheck: Memory"),
         }
     }
 }

@@ -1,6 +1,7 @@
-use crate::{MAX_FILE_BYTES, Refusal, filter_of, seccheck_run};
+use crate::{MAX_FILE_BYTES, constants_are_as_stated, seccheck_run};
 use bpf_code::{Insn, write};
-use bpf_verify::Fault;
+use bpf_verify::{Fault, Refusal, filter_of};
+use std::io::{self, ErrorKind, Write};
 use std::test::Fail;
 use std::{env, fs, process};
 
@@ -25,12 +26,8 @@ pub(crate) fn bytes_of(rt: &HostRuntime, parts: &[(u16, u8, u8, u32)]) -> Result
     Ok(write(rt.alloc(), &code)?)
 }
 
-/// The status of `seccheck` with the words of this line, FILE standing for the path, and what it prints.
-pub(crate) fn seccheck(
-    rt: &HostRuntime,
-    line: &str,
-    path: &str,
-) -> Result<(u8, String, String), Fail> {
+/// The words of a line, `seccheck` first and FILE standing for the path.
+fn words_of(rt: &HostRuntime, line: &str, path: &str) -> Result<Vec<String>, Fail> {
     let mut words = Vec::new(rt.alloc());
     words.push(String::from_str(rt.alloc(), "seccheck")?)?;
     for word in line.split_whitespace() {
@@ -41,12 +38,90 @@ pub(crate) fn seccheck(
         };
         words.push(String::from_str(rt.alloc(), word)?)?;
     }
+    Ok(words)
+}
+
+/// The status of `seccheck` with the words of this line, FILE standing for the path, and what it prints.
+pub(crate) fn seccheck(
+    rt: &HostRuntime,
+    line: &str,
+    path: &str,
+) -> Result<(u8, String, String), Fail> {
+    let words = words_of(rt, line, path)?;
     let mut out = Vec::new(rt.alloc());
     let mut err = Vec::new(rt.alloc());
     let status = seccheck_run(rt, &words, &mut out, &mut err);
     let out = String::from_utf8(out).map_err(|_| "text")?;
     let err = String::from_utf8(err).map_err(|_| "text")?;
     Ok((status, out, err))
+}
+
+/// Takes no byte.
+#[derive(Drop)]
+struct Full;
+
+impl Write for Full {
+    fn write(&mut self, _: &[u8]) -> io::Result<usize> {
+        Err(ErrorKind::StorageFull.into())
+    }
+
+    fn flush(&mut self) -> io::Result<()> {
+        Ok(())
+    }
+}
+
+// What can't be written is 3, whatever it says.
+#[test]
+fn a_writer_that_fails(rt: HostRuntime) -> Result<(), Fail> {
+    let path = file_of(&rt, "unwritten", &X86_64_ONLY)?;
+    for line in ["verify FILE", "run FILE 0", "show FILE"] {
+        let words = words_of(&rt, line, path.as_str())?;
+        let mut err = Vec::new(rt.alloc());
+        assert_eq!(rt; seccheck_run(&rt, &words, &mut Full, &mut err), 3, "{line}");
+        assert!(rt; err.is_empty(), "{line}");
+    }
+    for line in ["run FILE zz", "verify nosuchfile", "--help"] {
+        let words = words_of(&rt, line, path.as_str())?;
+        let mut out = Vec::new(rt.alloc());
+        assert_eq!(rt; seccheck_run(&rt, &words, &mut out, &mut Full), 3, "{line}");
+        assert!(rt; out.is_empty(), "{line}");
+    }
+    Ok(())
+}
+
+// Each part of a call stands at its place, struct seccomp_data of seccomp(2): filters that return the
+// word at each offset.
+#[test]
+fn each_word_of_a_call(rt: HostRuntime) -> Result<(), Fail> {
+    let line = "run FILE 0x00010203 0x1011121314151617 0x2021222324252627 0x3031323334353637 \
+        0x4041424344454647 0x5051525354555657 0x6061626364656667 --arch 0x04050607 \
+        --ip 0x08090a0b0c0d0e0f";
+    let cases = [
+        (0, "00010203 "),
+        (4, "04050607 "),
+        (8, "0c0d0e0f "),
+        (12, "08090a0b "),
+        (16, "14151617 "),
+        (20, "10111213 "),
+        (24, "24252627 "),
+        (28, "20212223 "),
+        (32, "34353637 "),
+        (36, "30313233 "),
+        (40, "44454647 "),
+        (44, "40414243 "),
+        (48, "54555657 "),
+        (52, "50515253 "),
+        (56, "64656667 "),
+        (60, "60616263 "),
+    ];
+    for (offset, want) in cases {
+        let code = [(0x20, 0, 0, offset), (0x16, 0, 0, 0)];
+        let path = file_of(&rt, "word", &bytes_of(&rt, &code)?)?;
+        let (status, out, _err) = seccheck(&rt, line, path.as_str())?;
+        assert!(rt; out.starts_with(want), "{offset}: {out}");
+        assert_eq!(rt; status, 0);
+    }
+    Ok(())
 }
 
 /// The filter that allows the calls of x86-64 alone.
@@ -276,17 +351,47 @@ fn files_at_the_limits(rt: HostRuntime) -> Result<(), Fail> {
     Ok(())
 }
 
+// A file of 1 MiB is read, and found to be too long for a filter; one of a byte more is not read.
 #[test]
-fn a_file_above_the_limit(rt: HostRuntime) -> Result<(), Fail> {
+fn files_of_one_mebibyte(rt: HostRuntime) -> Result<(), Fail> {
+    constants_are_as_stated();
     let mut bytes = Vec::new(rt.alloc());
-    for _ in 0..=MAX_FILE_BYTES {
+    for _ in 0..MAX_FILE_BYTES {
         bytes.push(0u8)?;
     }
     let path = file_of(&rt, "large", &bytes)?;
     let (status, out, err) = seccheck(&rt, "verify FILE", path.as_str())?;
+    assert_eq!(rt; out.as_str(), "refused TooLong\n");
+    assert_eq!(rt; err.as_str(), "");
+    assert_eq!(rt; status, 1);
+    bytes.push(0u8)?;
+    let path = file_of(&rt, "larger", &bytes)?;
+    let (status, out, err) = seccheck(&rt, "verify FILE", path.as_str())?;
     assert!(rt; err.ends_with(": TooLarge\n"));
     assert_eq!(rt; out.as_str(), "");
     assert_eq!(rt; status, 3);
+    Ok(())
+}
+
+// The targets of a `ja` and of the last jumps that a file may have.
+#[test]
+fn jumps_are_shown_with_their_targets(rt: HostRuntime) -> Result<(), Fail> {
+    let code = [
+        (0x05, 0, 0, 1),
+        (0x25, 255, 0, 7),
+        (0x05, 0, 0, 0xffff_ffff),
+        (0x06, 0, 0, 0),
+    ];
+    let path = file_of(&rt, "shown", &bytes_of(&rt, &code)?)?;
+    let (status, out, _err) = seccheck(&rt, "show FILE", path.as_str())?;
+    let want =
+        "0: ja 1 -> 2\n1: jgt #0x7, 255, 0 -> 257, 2\n2: ja 4294967295 -> 4294967298\n3: ret #0x0\n";
+    assert_eq!(rt; out.as_str(), want);
+    assert_eq!(rt; status, 0);
+    let path = file_of(&rt, "shown_longest", &loads(&rt, 0x00, 4095)?)?;
+    let (status, out, _err) = seccheck(&rt, "show FILE", path.as_str())?;
+    assert!(rt; out.ends_with("\n4094: ld #0x0\n4095: ret #0x7fff0000\n"));
+    assert_eq!(rt; status, 0);
     Ok(())
 }
 
@@ -319,7 +424,28 @@ fn command_lines(rt: HostRuntime) -> Result<(), Fail> {
             "",
             "seccheck: 18446744073709551616: BadNumber\n",
         ),
+        (
+            "run FILE 0xffffffff 0xffffffffffffffff --ip 18446744073709551615 --arch 4294967295",
+            0,
+            kill,
+            "",
+        ),
+        (
+            "run FILE 0 --arch 0x100000000",
+            2,
+            "",
+            "seccheck: 0x100000000: BadNumber\n",
+        ),
+        (
+            "run FILE 0 --ip 0x10000000000000000",
+            2,
+            "",
+            "seccheck: 0x10000000000000000: BadNumber\n",
+        ),
         ("run FILE +1", 2, "", "seccheck: +1: BadNumber\n"),
+        ("run FILE 0X10", 2, "", "seccheck: 0X10: BadNumber\n"),
+        ("run FILE 1_0", 2, "", "seccheck: 1_0: BadNumber\n"),
+        ("run FILE 000010", 0, allow, ""),
         ("run FILE 0x", 2, "", "seccheck: 0x: BadNumber\n"),
         ("run FILE 0x+1", 2, "", "seccheck: 0x+1: BadNumber\n"),
         (

@@ -1,14 +1,15 @@
-use crate::number::{number_of, word_of};
-use crate::stop::Stop;
+ghost use Rattle.std.specs.Prelude.{◌≡◌};
+ghost use Rattle.clap.specs.Matches.{found_of};
+ghost use Rattle.json_tree.specs.Reading.{as_fault};
+ghost use Rattle.checker.specs.Words.{attempt_in, call_in, word_in};
+
+use crate::call_words::{call, word_or};
 use call_data::SysCall;
 use clap::{Arg, ArgMatches, Command};
 use std::alloc::{AllocError, Global};
 
 /// The program's name.
 pub(crate) const PROGRAM: &str = "seccheck";
-
-/// `AUDIT_ARCH_X86_64` of linux/audit.h.
-const X86_64: u32 = 0xc000_003e;
 
 /// The command line of `seccheck`.
 pub(crate) fn command<'a>(alloc: Global) -> Result<Command<'a>, AllocError> {
@@ -73,37 +74,29 @@ pub(crate) fn command<'a>(alloc: Global) -> Result<Command<'a>, AllocError> {
         .subcommand(play)
 }
 
-/// The call that the command line writes. Its numbers are looked at in the order of the usage line.
-pub(crate) fn call_of<'a>(matches: &ArgMatches<'a>) -> Result<SysCall, Stop<'a>> {
-    let nr = word_at(matches, "NR", 0)?;
-    let mut args = [0u64; 6];
-    if let Some(words) = matches.get_strs("ARG") {
-        for (arg, word) in args.iter_mut().zip(words) {
-            *arg = number_of(word).ok_or(Stop::BadNumber(word))?;
-        }
-    }
-    let arch = word_at(matches, "arch", X86_64)?;
-    let ip = match matches.get_str("ip") {
-        Some(word) => number_of(word).ok_or(Stop::BadNumber(word))?,
-        None => 0,
-    };
-    Ok(SysCall { nr, arch, ip, args })
+/// The call that the command line of `run` writes.
+pub(crate) fn call_at<'a>(matches: &ArgMatches<'a>) -> Result<SysCall, &'a str>
+    ensures { as_fault (λ w. w.now) result ≡ call_in (found_of matches.now) }
+{
+    call(
+        word_at(matches, "NR"),
+        matches.get_strs("ARG").unwrap_or(&[]),
+        matches.get_str("arch"),
+        matches.get_str("ip"),
+    )
 }
 
-/// The number of an argument, below 2^32.
-pub(crate) fn word_at<'a>(
-    matches: &ArgMatches<'a>,
-    id: &str,
-    default: u32,
-) -> Result<u32, Stop<'a>> {
-    match matches.get_str(id) {
-        Some(word) => word_of(word).ok_or(Stop::BadNumber(word)),
-        None => Ok(default),
-    }
+/// Which attempt the command line of `play` writes.
+pub(crate) fn attempt_at<'a>(matches: &ArgMatches<'a>) -> Result<u32, &'a str>
+    ensures { as_fault (λ w. w.now) result ≡ attempt_in (found_of matches.now) }
+{
+    word_or(0, matches.get_str("attempt"))
 }
 
-/// The path in a required argument.
-pub(crate) fn path_at<'a>(matches: &ArgMatches<'a>, id: &str) -> &'a str {
+/// The word of a required argument.
+pub(crate) fn word_at<'a>(matches: &ArgMatches<'a>, id: &str) -> &'a str
+    ensures { result.now ≡ word_in id.now (found_of matches.now) }
+{
     // clap gives a required argument a value.
     matches.get_str(id).unwrap_or("")
 }
