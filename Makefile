@@ -3,14 +3,16 @@
 # spent, crate by crate. make planted [CRATE=..]: more wrong bodies, which the gate leaves out. make demo:
 # a verified filter judges a call, and a script is played under another. make lib: the C library, proved,
 # and its header, in out/c. make install PREFIX=..: the proved programs in PREFIX/bin, the library in
-# PREFIX/lib and PREFIX/include. make bench: the machine beside others.
+# PREFIX/lib and PREFIX/include. make bench: the machine and the compiler beside others. make kernel
+# [COUNT=..]: the running kernel beside the library.
 
 PREFIX ?= /usr/local
 PROGRAMS := seccheck
+COUNT ?= 100000
 BENCH_FLAGS := -std=gnu11 -O2 -Wall -Wextra
 EXAMPLES := ../../examples
 
-.PHONY: test times planted demo lib install bench table clean
+.PHONY: test times planted demo lib install bench kernel table clean
 
 test:
 	@tools/gate.sh
@@ -36,17 +38,31 @@ install: lib
 	  (cd crates/$$program && rm -f out/$$program && { rt run -- --help > /dev/null 2>&1 || test -x out/$$program; }); \
 	  install -D -m 755 crates/$$program/out/$$program $(DESTDIR)$(PREFIX)/bin/$$program; \
 	done
-	install -D -m 644 out/c/libmotchidu.a $(DESTDIR)$(PREFIX)/lib/libmotchidu.a
-	install -D -m 644 out/c/motchidu.h $(DESTDIR)$(PREFIX)/include/motchidu.h
+	@tools/pack_library.sh crates/motchidu_c/out/libmotchidu_c.a out/install $(PREFIX)
+	install -D -m 644 out/install/libmotchidu.a $(DESTDIR)$(PREFIX)/lib/libmotchidu.a
+	install -D -m 755 out/install/libmotchidu.so.0 $(DESTDIR)$(PREFIX)/lib/libmotchidu.so.0
+	ln -sf libmotchidu.so.0 $(DESTDIR)$(PREFIX)/lib/libmotchidu.so
+	install -D -m 644 out/install/motchidu.pc $(DESTDIR)$(PREFIX)/lib/pkgconfig/motchidu.pc
+	install -D -m 644 out/install/motchidu.h $(DESTDIR)$(PREFIX)/include/motchidu.h
 
-# Says so and goes on where the machine has no libpcap. The plain interpreter is assembled so that its
-# jumps keep within 32 bytes, or its speed would hang on where the link puts it.
+# Says so and goes on where the machine has no libpcap or no libseccomp. The plain interpreter is assembled
+# so that its jumps keep within 32 bytes, or its speed would hang on where the link puts it.
 bench: lib
 	@mkdir -p out/bench
 	@$(CC) $(BENCH_FLAGS) -Wa,-mbranches-within-32B-boundaries -c bench/plain.c -o out/bench/plain.o
 	@pcap=$$(printf '#if __has_include(<pcap/bpf.h>)\n-lpcap\n#endif\n' | $(CC) -E -P -x c -); \
-	  $(CC) $(BENCH_FLAGS) -Iout/c bench/bench.c bench/pcap.c out/bench/plain.o -Lout/c -lmotchidu $$pcap -o out/bench/bench
+	  $(CC) $(BENCH_FLAGS) -Iout/c bench/bench.c bench/pcap.c out/bench/plain.o out/c/libmotchidu.a $$pcap -o out/bench/bench
 	@out/bench/bench
+	@tools/call_names.sh > out/bench/names.h
+	@seccomp=$$(printf '#if __has_include(<seccomp.h>)\n-lseccomp\n#endif\n' | $(CC) -E -P -x c -); \
+	  $(CC) $(BENCH_FLAGS) -Iout/c -Iout/bench bench/profiles.c out/c/libmotchidu.a $$seccomp -o out/bench/profiles
+	@out/bench/profiles
+
+# What the running kernel does with drawn profiles, beside what the library says of COUNT calls.
+kernel: lib
+	@mkdir -p out/bench
+	@$(CC) $(BENCH_FLAGS) -Iout/c bench/kernel.c out/c/libmotchidu.a -o out/bench/kernel
+	@out/bench/kernel $(COUNT)
 
 # The call table beside the kernel's header on this machine.
 table:

@@ -1,8 +1,8 @@
 /*
- * The checker and the machine of seccomp filters, classic BPF as seccomp(2) takes it: whether a filter
- * is safe to run, why it is not, and what it returns on a call.
+ * The compiler, the checker and the machine of seccomp filters, classic BPF as seccomp(2) takes it: the
+ * filter of a profile, whether a filter is safe to run, why it is not, and what it returns on a call.
  *
- * A filter is the bytes of its struct sock_filter (linux/filter.h), 8 each, numbers little-endian, so an
+ * A profile is the JSON text of the linux.seccomp object of the OCI runtime specification 1.1. A filter is the bytes of its struct sock_filter (linux/filter.h), 8 each, numbers little-endian, so an
  * array of them as it lies in memory on x86-64. A call is the 64 bytes of a struct seccomp_data
  * (linux/seccomp.h), likewise. docs/SEMANTICS.md of the project has each rule.
  *
@@ -29,7 +29,8 @@ extern "C" {
 #endif
 
 /* What a function answers. Names and order of the faults are those of the project's programs, and the
- * first fault in that order is told. P marks those that have a place. */
+ * first fault in that order is told. P marks those that have a place. Those from MOTCHIDU_NOT_JSON on are
+ * of profiles, and motchidu_compile alone answers them. */
 enum motchidu_status {
     MOTCHIDU_ACCEPTED = 0,        /* the filter is sound: it may be run on any call */
     MOTCHIDU_LENGTH = 1,          /* its length is no multiple of 8 */
@@ -44,9 +45,43 @@ enum motchidu_status {
     MOTCHIDU_NO_FINAL_RETURN = 10, /* the last instruction is no return */
     MOTCHIDU_UNSTORED = 11,       /* P: a load of a scratch word that some walk to it did not store */
     MOTCHIDU_MEMORY = 12,         /* there was no memory; it says nothing of the filter */
-    MOTCHIDU_LENGTHS = 13         /* the lengths of calls, values and steps don't agree; the filter was
+    MOTCHIDU_LENGTHS = 13,        /* the lengths of calls, values and steps don't agree; the filter was
                                      not looked at. motchidu_run_all alone answers this */
+    MOTCHIDU_NOT_JSON = 14,       /* the text is no JSON */
+    MOTCHIDU_NOT_OBJECT = 15,     /* it is no object */
+    MOTCHIDU_MISSING = 16,        /* a field that has to be there is not */
+    MOTCHIDU_WRONG_TYPE = 17,     /* a field is of another kind */
+    MOTCHIDU_UNKNOWN_ACTION = 18, /* an action that is none */
+    MOTCHIDU_UNKNOWN_OP = 19,     /* an operator that is none */
+    MOTCHIDU_BAD_INDEX = 20,      /* an argument's index above 5 */
+    MOTCHIDU_EMPTY_NAMES = 21,    /* an entry that names no call */
+    MOTCHIDU_REPEATED_INDEX = 22, /* an entry that tests an argument twice */
+    MOTCHIDU_ERRNO_NOT_ALLOWED = 23, /* an errno for an action that returns none */
+    MOTCHIDU_ERRNO_TOO_LARGE = 24, /* an errno above what its action can return */
+    MOTCHIDU_UNKNOWN_CALL = 25,   /* a call of no known name under a stricter action than the default */
+    MOTCHIDU_NOTIFY = 26,         /* SCMP_ACT_NOTIFY, for which nobody listens */
+    MOTCHIDU_TOO_LARGE = 27,      /* a text of more than 262,144 bytes */
+    MOTCHIDU_TOO_HEAVY = 28,      /* more entries, names and conditions than one filter is made for */
+    MOTCHIDU_NO_ROOM = 29         /* the filter is longer than the room for it */
 };
+
+/*
+ * Compiles the profile of profile_len bytes to a sound filter, whose value is on every call what the
+ * profile says of it.
+ *
+ * With MOTCHIDU_ACCEPTED the filter is the first *length of the filter_len bytes at filter, and the others
+ * are left as they were; 32,768 bytes are room for any. With MOTCHIDU_NO_ROOM *length is how many bytes it
+ * takes, and nothing is written. With any other answer *length is left as it was as well.
+ */
+uint32_t motchidu_compile(const uint8_t *profile, size_t profile_len,
+                          uint8_t *filter, size_t filter_len, size_t *length);
+
+/*
+ * Checks the filter of filter_len bytes as motchidu_verify does, with its answers. With MOTCHIDU_ACCEPTED
+ * *longest becomes the most instructions that a way through the filter has, whatever the call: no run
+ * takes more steps.
+ */
+uint32_t motchidu_longest(const uint8_t *filter, size_t filter_len, uint32_t *longest, size_t *at);
 
 /*
  * Checks the filter of filter_len bytes.

@@ -1,6 +1,6 @@
 #!/bin/bash
-# Builds the examples in C against the folder of `make lib` and runs them, so that header and library
-# can't part. Says which fail; the last line is their counts.
+# Builds the examples in C against the folder of `make lib` and runs them, and the one in Python over the
+# shared library, so that header and library can't part. Says which fail; the last line is their counts.
 set -u
 cd "$(dirname "$0")/.."
 library=out/c out=out/examples cc=${CC:-cc} passed=0 failed=0
@@ -11,28 +11,53 @@ count() { # NAME STATUS
     passed=$((passed + 1))
   else
     failed=$((failed + 1))
-    echo "examples/c/$1: failed"
+    echo "examples/$1: failed"
   fi
 }
+
+# Debian's packages for what the machine lacks, where this may install them.
+lacks() { ! command -v "$1" > /dev/null; }
+if { lacks "$cc" || lacks pkg-config; } && [ "$(id -u)" = 0 ] && ! lacks apt-get; then
+  apt-get update -qq && apt-get install -y -qq gcc libc6-dev pkg-config > /dev/null
+fi
+if lacks "$cc" || lacks pkg-config; then
+  echo "examples/c: there is no $cc or no pkg-config: install them, as by apt-get install gcc libc6-dev pkg-config"
+  echo "0 passed, 1 failed"
+  exit 1
+fi
 
 build() { # NAME [FLAG]..
   local name=$1
   shift
-  "$cc" -std=c11 -D_DEFAULT_SOURCE -O2 -Wall -Wextra -Werror -I$library "examples/c/$name.c" -L$library -lmotchidu "$@" -o "$out/$name"
+  "$cc" -std=c11 -D_GNU_SOURCE -O2 -Wall -Wextra -Werror "examples/c/$name.c" "$@" -o "$out/$name"
 }
 
-# A machine without a C compiler gets Debian's, where this may install it.
-if ! command -v "$cc" > /dev/null && [ "$(id -u)" = 0 ] && command -v apt-get > /dev/null; then
-  apt-get update -qq && apt-get install -y -qq gcc libc6-dev > /dev/null
+# Against the shared library, as its pkg-config file says.
+read -ra shared < <(PKG_CONFIG_PATH=$library pkg-config --cflags --libs motchidu)
+shared+=("-Wl,-rpath,$PWD/$library")
+
+build judge "${shared[@]}" && "$out/judge" examples/x86_64_only.bpf > "$out/judge.stdout" && diff examples/c/judge.stdout "$out/judge.stdout"
+count c/judge $?
+
+build every_status -I$library $library/libmotchidu.a -Wl,--wrap=malloc && "$out/every_status"
+count c/every_status $?
+
+if build confine "${shared[@]}"; then
+  "$out/confine" examples/c/confine.json > "$out/confine.stdout"
+  case $? in
+    0) diff examples/c/confine.stdout "$out/confine.stdout" ;;
+    77) cat "$out/confine.stdout" ;;
+    *) false ;;
+  esac
 fi
-if ! command -v "$cc" > /dev/null; then
-  echo "examples/c: there is no C compiler ($cc): install one, as by apt-get install gcc libc6-dev"
-  echo "0 passed, 1 failed"
-  exit 1
+count c/confine $?
+
+if lacks python3; then
+  echo "examples/python: skipped, there is no python3"
+else
+  python3 examples/python/judge.py $library/libmotchidu.so examples/c/confine.json > "$out/judge_py.stdout" \
+    && diff examples/python/judge.stdout "$out/judge_py.stdout"
+  count python/judge $?
 fi
-build judge && "$out/judge" examples/x86_64_only.bpf > "$out/judge.stdout" && diff examples/c/judge.stdout "$out/judge.stdout"
-count judge $?
-build every_status -Wl,--wrap=malloc && "$out/every_status"
-count every_status $?
 echo "$passed passed, $failed failed"
 [ $failed = 0 ]

@@ -1,8 +1,11 @@
 #!/bin/bash
-# Makes of the crate's archive one that a C program links with nothing else: pack_library.sh ARCHIVE FOLDER.
+# Makes of the crate's archive a static and a shared library that a C program links with nothing else, and
+# puts them beside the header and a pkg-config file: pack_library.sh ARCHIVE FOLDER [PREFIX]. PREFIX is
+# where the pkg-config file says they are, the folder itself if it is left out.
+#
 # A crate that takes memory calls the toolchain's few lines over malloc, realloc and free, which go along.
 # Functions begin at multiples of 64 bytes, so that the speed of the machine's loop does not hang on where
-# a link happens to put it.
+# a link happens to put it. The shared library shows the functions of the header alone.
 set -e
 archive=$1 folder=$2
 kit=$(dirname "$(rt doc)")
@@ -11,7 +14,25 @@ trap 'rm -rf "$parts"' EXIT
 mkdir -p "$folder"
 echo 'SECTIONS { .text : SUBALIGN(64) { *(.text .text.*) } }' > "$parts/layout"
 "$kit/toolchain/bin/ld.lld" -r -T "$parts/layout" --whole-archive "$archive" "$kit/c/liblibc_c.a" -o "$parts/motchidu.o"
-rm -f "$folder/libmotchidu.a"
+rm -f "$folder"/libmotchidu.*
 "$kit/toolchain/bin/llvm-ar" rcsD "$folder/libmotchidu.a" "$parts/motchidu.o"
+echo '{ global: motchidu_*; local: *; };' > "$parts/exports"
+"$kit/toolchain/bin/ld.lld" -shared -soname libmotchidu.so.0 --version-script "$parts/exports" -z now -z relro \
+  "$parts/motchidu.o" -o "$folder/libmotchidu.so.0"
+ln -sf libmotchidu.so.0 "$folder/libmotchidu.so"
 cp include/motchidu.h "$folder/"
-echo "$folder: libmotchidu.a and motchidu.h"
+if [ -n "${3:-}" ]; then
+  places="prefix=$3"$'\nlibdir=${prefix}/lib\nincludedir=${prefix}/include'
+else
+  places=$'libdir=${pcfiledir}\nincludedir=${pcfiledir}'
+fi
+cat > "$folder/motchidu.pc" <<END
+$places
+
+Name: motchidu
+Description: Compiles, checks and runs seccomp filters, proved
+Version: 0
+Cflags: -I\${includedir}
+Libs: -L\${libdir} -lmotchidu
+END
+echo "$folder: libmotchidu.a, libmotchidu.so, motchidu.h and motchidu.pc"
