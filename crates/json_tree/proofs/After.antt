@@ -1,6 +1,7 @@
 -- A list read item by item, where what was read before an item may matter to it.
-use Rattle.std.proofs.Common.{◌≡◌, ℕ, suc, ◌+◌, ◌<◌, List, [], ◌∷◌, ◌++◌, length, get_or, map, drop, append_assoc, append-nil, add-one, Result, Ok, Err, refl, sym, ap, subst, ◌∙◌}
+use Rattle.std.proofs.Common.{◌≡◌, ℕ, suc, ◌+◌, ◌<◌, ◌≤◌, List, [], ◌∷◌, ◌++◌, length, get_or, map, drop, append_assoc, append-nil, add-one, Result, Ok, Err, refl, sym, ap, subst, ◌∙◌}
 use Rattle.std.proofs.Math.Seq.{drop-cons}
+use Rattle.std.proofs.lemmas.List.{drop_all}
 use Rattle.json_tree.specs.Reading.{in_order_after, Both}
 use Rattle.json_tree.proofs.Loops.{bind_ok}
 
@@ -20,6 +21,11 @@ pub after_stops : {V A B E : Type 0} (f : List B → A → Result B E) (h : V �
 after_stops f h vs i v ys e all lt is so_far here =
     let step : in_order_after f ys (map h (drop i vs)) ≡ Err e = rw (map_rest h vs i v lt is, here) refl in
     sym so_far ∙ step
+
+-- at the end all are read
+pub after_ends : {V A B E : Type 0} (f : List B → A → Result B E) (h : V → A) (vs : List V) (i : ℕ) (ys : List B) (all : Result (List B) E) → length vs ≤ i
+    → in_order_after f ys (map h (drop i vs)) ≡ all → all ≡ Ok ys
+after_ends f h vs i ys all past so_far = sym so_far ∙ ap (λ rest. in_order_after f ys (map h rest)) (drop_all i vs past)
 
 -- What was read keeps what each item keeps, and is read item by item.
 pub after_found : {A B E : Type 0} (f : List B → A → Result B E) (K : List B → Type 0) (R : A → B → Type 0)

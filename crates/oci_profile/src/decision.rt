@@ -1,5 +1,6 @@
 ghost use Rattle.std.specs.Prelude.{◌≡◌, ◌≤◌, Some, None, if◌then◌else◌, nat_le};
 ghost use Rattle.action.specs.declared.verdict.TheConstants.{MAX_ERRNO};
+ghost use Rattle.action.specs.Verdict.{rank_of};
 ghost use Rattle.oci_profile.specs.Decision.{value_of, verdict_of};
 
 use action::{Action, MAX_ERRNO, Verdict};
@@ -34,6 +35,13 @@ impl Errno {
         } else {
             None
         }
+    }
+
+    /// EPERM, which a call returns where a profile gives no errno.
+    pub fn eperm() -> Errno
+        ensures { result ≡ 1 }
+    {
+        Errno { code: 1 }
     }
 
     /// Its number.
@@ -79,6 +87,13 @@ impl Decision {
             Decision::Log => (Action::Log, 0),
         };
         Verdict { action, ret_data }
+    }
+
+    /// Its place in the order of actions, from 0 for the strictest to 7: `Action::rank`.
+    pub fn rank(self) -> u8
+        ensures { result ≡ rank_of (verdict_of self).action }
+    {
+        self.verdict().rank()
     }
 
     /// The value with which a filter says this.

@@ -1,14 +1,22 @@
 //! Seccomp profiles of containers: the `linux.seccomp` object of the OCI runtime specification 1.1.
 //!
 //! What a profile says of a call stands in `specs/Meaning.antt`, and `Profile::value_on` answers it by
-//! going over the entries.
+//! going over the entries. Which trees are which profiles stands in `specs/Profile.antt`, and which
+//! fault is found first in `specs/Reading.antt`.
 #![tactic(auto)]
 
+mod actions;
+mod args;
 mod conditions;
 mod decision;
+mod faults;
 mod meaning;
 mod profile;
+mod reader;
 
 pub use conditions::{Cond, Conds, Op};
 pub use decision::{Decision, Errno};
+pub use faults::ProfileFault;
+pub use meaning::X32_BIT;
 pub use profile::{Entries, Entry, Numbers, Profile};
+pub use reader::{MAX_PROFILE_BYTES, read};
