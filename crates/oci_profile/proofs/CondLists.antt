@@ -4,7 +4,7 @@ use Rattle.std.specs.Prelude.{All, AllPairs}
 use Rattle.std.specs.List.{list_any}
 use Rattle.std.proofs.lemmas.Bool.{eqb-true, eqb-false, eq-eqb, ne_eqb}
 use Rattle.std.proofs.lemmas.List.{get_or-map, length-append, length-map}
-use Rattle.std.proofs.lemmas.List.Elements.{All-push}
+use Rattle.std.proofs.lemmas.List.Elements.{All-cons, All-nil, All-push}
 use Rattle.std.proofs.lemmas.List.Folds.{Any-from_list_any, list_any_none}
 use Rattle.std.proofs.lemmas.List.Quantifiers.{all_pairs_push}
 use Rattle.std.proofs.lemmas.Map.Made.{IsDistinct-from_AllPairs}
@@ -67,3 +67,10 @@ apart_conds conds apart =
     in
     let few = length-le_from_distinct_below indices 6 (IsDistinct-from_AllPairs (λ a b. (eqb-true a b, eq-eqb a b)) indices differ) small in
     record { in_range = apart.0; apart = apart.1; few = omega (arith, few, same_length) }
+
+-- one condition is on another argument than no other
+pub one_fits : (cond : Cond) → cond.index < 6 → AreConds (cond ∷ [])
+one_fits cond small = apart_conds (cond ∷ []) (All-cons (λ (c : Cond). c.index < 6) cond [] small (All-nil (λ (c : Cond). c.index < 6)), λ i j d lt in_range. absurd (omega arith))
+
+pub none_fit : AreConds []
+none_fit = apart_conds [] (λ k d lt. absurd (omega arith), λ i j d lt in_range. absurd (omega arith))

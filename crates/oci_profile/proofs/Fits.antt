@@ -32,6 +32,9 @@ cons_fits : (here : Option ℕ) (numbers : List ℕ) → ((number : ℕ) → her
 cons_fits None numbers one rest = rest
 cons_fits (Some number) numbers one rest = All-cons (λ nr. nr < NUMBER_LIMIT) number numbers (one number refl) rest
 
+pub one_number_fits : AreSmall → (name : List ℕ) → AreNumbers (cons_option (number_of name) [])
+one_number_fits small name = cons_fits (number_of name) [] (small name) (All-nil (λ nr. nr < NUMBER_LIMIT))
+
 pub numbers_fit : AreSmall → (names : List Data) → AreNumbers (filter_map number_named names)
 numbers_fit small [] = All-nil (λ nr. nr < NUMBER_LIMIT)
 numbers_fit small (name ∷ names) = cons_fits (number_named name) (filter_map number_named names) (number_fits small name) (numbers_fit small names)

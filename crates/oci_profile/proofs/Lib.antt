@@ -4,3 +4,4 @@ pub mod Fits
 pub mod Only
 pub mod Avoids
 pub mod Answered
+pub mod Default

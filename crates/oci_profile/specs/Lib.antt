@@ -5,3 +5,4 @@ pub mod Meaning
 pub mod Faults
 pub mod Profile
 pub mod Reading
+pub mod RuntimeDefault

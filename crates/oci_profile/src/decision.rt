@@ -3,7 +3,7 @@ ghost use Rattle.action.specs.declared.verdict.TheConstants.{MAX_ERRNO};
 ghost use Rattle.action.specs.Verdict.{rank_of};
 ghost use Rattle.oci_profile.specs.Decision.{value_of, verdict_of};
 
-use action::{Action, MAX_ERRNO, Verdict};
+use action::{Action, ENOSYS, MAX_ERRNO, Verdict};
 use std::marker::Model;
 
 /// An errno that a call returns, at most [`MAX_ERRNO`].
@@ -42,6 +42,13 @@ impl Errno {
         ensures { result ≡ 1 }
     {
         Errno { code: 1 }
+    }
+
+    /// ENOSYS, the errno of a call that the kernel does not have.
+    pub fn enosys() -> Errno
+        ensures { result ≡ 38 }
+    {
+        Errno { code: ENOSYS }
     }
 
     /// Its number.

@@ -9,14 +9,18 @@ mod actions;
 mod args;
 mod conditions;
 mod decision;
+mod default_profile;
 mod faults;
+mod laws;
 mod meaning;
 mod profile;
 mod reader;
 
 pub use conditions::{Cond, Conds, Op};
 pub use decision::{Decision, Errno};
+pub use default_profile::runtime_default;
 pub use faults::ProfileFault;
+pub use laws::{constants_are_as_stated, runtime_default_is_light};
 pub use meaning::X32_BIT;
 pub use profile::{Entries, Entry, Numbers, Profile};
 pub use reader::{MAX_PROFILE_BYTES, read};
