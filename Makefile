@@ -1,18 +1,25 @@
 # make test: the gate, which proves every crate from nothing, tries the must-fail edits, and runs the
-# tests, the stored runs and the examples in C. make demo: a verified filter judges a call, and a script
-# is played under another. make lib: the C library, proved, and its header, in out/c. make install
-# PREFIX=..: the proved programs in PREFIX/bin, the library in PREFIX/lib and PREFIX/include. make bench:
-# the machine beside others.
+# tests, the stored runs and the examples in C. make times: the processor seconds that the last gate
+# spent, crate by crate. make planted [CRATE=..]: more wrong bodies, which the gate leaves out. make demo:
+# a verified filter judges a call, and a script is played under another. make lib: the C library, proved,
+# and its header, in out/c. make install PREFIX=..: the proved programs in PREFIX/bin, the library in
+# PREFIX/lib and PREFIX/include. make bench: the machine beside others.
 
 PREFIX ?= /usr/local
 PROGRAMS := seccheck
 BENCH_FLAGS := -std=gnu11 -O2 -Wall -Wextra
 EXAMPLES := ../../examples
 
-.PHONY: test demo lib install bench table clean
+.PHONY: test times planted demo lib install bench table clean
 
 test:
 	@tools/gate.sh
+
+times:
+	@tools/gate_times.py out/gate_times
+
+planted:
+	@tools/planted.sh $(CRATE)
 
 # Waits for no proof: the program is compiled with checks at run time in the place of proofs.
 demo:

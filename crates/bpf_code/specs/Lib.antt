@@ -3,3 +3,4 @@ pub mod Reading
 pub mod Flow
 pub mod Text
 pub mod OperandText
+pub mod FaultText

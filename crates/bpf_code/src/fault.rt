@@ -1,21 +1,35 @@
 use std::alloc::{AllocError, AllocFailed};
+use std::fmt;
 use thiserror::Error;
 
 /// Why bytes are no filter file, in the order in which it is looked for.
 #[derive(Clone, Copy, Debug, PartialEq, Eq, Error)]
 pub enum CodeFault {
     /// The length is no multiple of 8.
-    #[error("Length")]
     Length,
     /// There are more than [`MAX_BYTES`](crate::MAX_BYTES).
-    #[error("TooLong")]
     TooLong,
     /// The lowest place, counted in instructions from 0, whose code is not in the table.
-    #[error("BadCode at {0}")]
     BadCode(usize),
     /// A growth was refused.
-    #[error("Memory")]
     Memory,
+}
+
+/// The fault's name, and its place if it has one.
+impl fmt::Display for CodeFault {
+    ghost use Rattle.std.specs.Prelude.{Some};
+    ghost use Rattle.bpf_code.specs.FaultText.{fault_text};
+
+    ghost output = { λ fault. Some (fault_text fault) };
+
+    fn fmt<W: fmt::Write>(&self, f: &mut fmt::Formatter<W>) -> fmt::Result {
+        match self {
+            CodeFault::Length => f.write_str("Length"),
+            CodeFault::TooLong => f.write_str("TooLong"),
+            CodeFault::BadCode(at) => write!(f, "BadCode at {at}"),
+            CodeFault::Memory => f.write_str("Memory"),
+        }
+    }
 }
 
 impl From<AllocError> for CodeFault {

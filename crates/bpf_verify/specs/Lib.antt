@@ -3,3 +3,5 @@ pub mod Sound
 pub mod Faults
 pub mod Refused
 pub mod Masks
+pub mod FaultText
+pub mod RefusalText

@@ -1,3 +1,4 @@
+use std::fmt;
 use thiserror::Error;
 
 /// Why code is no sound filter, in the order in which it is looked for. The five faults of a place
@@ -5,30 +6,43 @@ use thiserror::Error;
 #[derive(Clone, Copy, Debug, PartialEq, Eq, Error)]
 pub enum Fault {
     /// There are no instructions.
-    #[error("Empty")]
     Empty,
     /// There are more than [`MAX_INSNS`](bpf_code::MAX_INSNS).
-    #[error("TooLong")]
     TooLong,
     /// A load from the call's data that is not of one of its words.
-    #[error("BadOffset at {0}")]
     BadOffset(usize),
     /// A jump to a place outside the code.
-    #[error("BadJump at {0}")]
     BadJump(usize),
     /// A scratch word that the machine does not have.
-    #[error("BadWord at {0}")]
     BadWord(usize),
     /// A shift by as many bits as a register has, or more.
-    #[error("BadShift at {0}")]
     BadShift(usize),
     /// A division by the constant 0.
-    #[error("ZeroDivisor at {0}")]
     ZeroDivisor(usize),
     /// The last instruction is no return.
-    #[error("NoFinalReturn")]
     NoFinalReturn,
     /// A load of a scratch word that some walk to it did not store.
-    #[error("Unstored at {0}")]
     Unstored(usize),
+}
+
+/// The fault's name, and its place if it has one.
+impl fmt::Display for Fault {
+    ghost use Rattle.std.specs.Prelude.{Some};
+    ghost use Rattle.bpf_verify.specs.FaultText.{fault_text};
+
+    ghost output = { λ fault. Some (fault_text fault) };
+
+    fn fmt<W: fmt::Write>(&self, f: &mut fmt::Formatter<W>) -> fmt::Result {
+        match self {
+            Fault::Empty => f.write_str("Empty"),
+            Fault::TooLong => f.write_str("TooLong"),
+            Fault::BadOffset(at) => write!(f, "BadOffset at {at}"),
+            Fault::BadJump(at) => write!(f, "BadJump at {at}"),
+            Fault::BadWord(at) => write!(f, "BadWord at {at}"),
+            Fault::BadShift(at) => write!(f, "BadShift at {at}"),
+            Fault::ZeroDivisor(at) => write!(f, "ZeroDivisor at {at}"),
+            Fault::NoFinalReturn => f.write_str("NoFinalReturn"),
+            Fault::Unstored(at) => write!(f, "Unstored at {at}"),
+        }
+    }
 }

@@ -13,17 +13,31 @@ use crate::filter::Filter;
 use crate::verifier::verify;
 use bpf_code::{CodeFault, written_is_read};
 use std::alloc::Global;
+use std::fmt;
 use thiserror::Error;
 
-/// Why the bytes of a filter are refused. Printed as the fault that it holds.
+/// Why the bytes of a filter are refused.
 #[derive(Clone, Copy, Debug, PartialEq, Eq, Error)]
 pub enum Refusal {
     /// They are no list of instructions, or there was no memory to read them.
-    #[error("{0}")]
     Code(CodeFault),
     /// Their instructions are no sound filter.
-    #[error("{0}")]
     Filter(Fault),
+}
+
+/// The name of the fault that it holds.
+impl fmt::Display for Refusal {
+    ghost use Rattle.std.specs.Prelude.{Some};
+    ghost use Rattle.bpf_verify.specs.RefusalText.{refusal_text};
+
+    ghost output = { λ refusal. Some (refusal_text refusal) };
+
+    fn fmt<W: fmt::Write>(&self, f: &mut fmt::Formatter<W>) -> fmt::Result {
+        match self {
+            Refusal::Code(fault) => write!(f, "{fault}"),
+            Refusal::Filter(fault) => write!(f, "{fault}"),
+        }
+    }
 }
 
 /// The filter that these bytes spell, if it is sound: those of its `struct sock_filter`s, one after the

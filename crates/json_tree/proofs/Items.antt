@@ -1,5 +1,5 @@
 -- The items of a list, one after another.
-use Rattle.std.proofs.Common.{◌≡◌, ℕ, ◌+◌, ◌<◌, List, [], ◌∷◌, ◌++◌, length, get_or, map, take, Option, Some, None, option_map, option_and_then, refl, ap}
+use Rattle.std.proofs.Common.{◌≡◌, ℕ, ◌+◌, ◌<◌, List, [], ◌∷◌, ◌++◌, length, get_or, map, take, Option, Some, None, is_some, Bool, true, false, option_map, option_and_then, refl, ap}
 use Rattle.serde_json.specs.Data.{Data}
 use Rattle.serde_json.specs.View.{view, items_view}
 use Rattle.serde_json.specs.declared.value.Value.{Value}
@@ -16,7 +16,7 @@ pub and_then_some : {A B : Type 0} (f : A → Option B) (o : Option A) (y : B) �
 and_then_some f None y h = absurd cc
 and_then_some f (Some x) y h = (x, refl, h)
 
-map_some : {A B : Type 0} (f : A → B) (o : Option A) (y : B) → option_map f o ≡ Some y → (x : A) × (o ≡ Some x) × (f x ≡ y)
+pub map_some : {A B : Type 0} (f : A → B) (o : Option A) (y : B) → option_map f o ≡ Some y → (x : A) × (o ≡ Some x) × (f x ≡ y)
 map_some f None y h = absurd cc
 map_some f (Some x) y h = (x, refl, cc)
 
@@ -45,3 +45,18 @@ each_more kind h vs i v xs x lt is so_far here = rw (map_more h vs i v lt is) (e
 -- one item is not, so not each is
 pub each_stops : {V A : Type 0} (kind : Data → Option A) (h : V → Data) (vs : List V) (i : ℕ) (v : V) → i < length vs → v ≡ get_or vs i v → kind (h v) ≡ None → each kind (map h vs) ≡ None
 each_stops kind h vs i v lt is here = rw (map_parts h vs i v lt is) (each_stop kind (map h (take i vs)) (h v) _ here)
+
+some_of : {A : Type 0} (o : Option A) → is_some o ≡ true → (x : A) × (o ≡ Some x)
+some_of None h = absurd cc
+some_of (Some x) h = (x, refl)
+
+-- the same where what they are does not matter
+pub each_goes_on : {A : Type 0} (kind : Data → Option A) (vs : List Value) (i : ℕ) (v : Value) → i < length vs → v ≡ get_or vs i v
+    → is_some (each kind (map view (take i vs))) ≡ true → is_some (kind (view v)) ≡ true → is_some (each kind (map view (take (i + 1) vs))) ≡ true
+each_goes_on kind vs i v lt is so_far here =
+    let xs = some_of (each kind (map view (take i vs))) so_far in
+    let x = some_of (kind (view v)) here in
+    ap is_some (each_more kind view vs i v xs.0 x.0 lt is xs.1 x.1)
+
+pub each_fails : {A : Type 0} (kind : Data → Option A) (vs : List Value) (i : ℕ) (v : Value) → i < length vs → v ≡ get_or vs i v → kind (view v) ≡ None → is_some (each kind (map view vs)) ≡ false
+each_fails kind vs i v lt is here = ap is_some (each_stops kind view vs i v lt is here)

@@ -1,4 +1,4 @@
-ghost use Rattle.std.specs.Prelude.{◌≡◌, IfOk, map, option_map, string_bytes};
+ghost use Rattle.std.specs.Prelude.{◌≡◌, IfOk, Ok, None, is_some, map, option_map, string_bytes};
 ghost use Rattle.serde_json.specs.View.{view};
 ghost use Rattle.json_tree.specs.Tree as kind;
 
@@ -6,27 +6,55 @@ use crate::kinds::{list, text, whole};
 use serde_json::Value;
 use std::alloc::{AllocError, Global};
 
+// What a list holds is looked at before anything is allocated, so that another kind is told as that.
+
 /// The whole numbers of a list, if it is a list of nothing else.
 #[tactic(auto, unfolding(crate::specs::Tree::wholes))]
 pub(crate) fn wholes(alloc: Global, tree: &Value) -> Result<Option<Vec<u64>>, AllocError>
-    ensures { IfOk result (λ o. option_map (λ v. v.items) o ≡ kind.wholes (view tree.now)) }
+    ensures value { IfOk result (λ o. option_map (λ v. v.items) o ≡ kind.wholes (view tree.now)) }
+    ensures told { kind.wholes (view tree.now) ≡ None → result ≡ Ok None }
 {
     match list(tree) {
-        Some(items) => each_whole(alloc, items),
-        None => Ok(None),
+        Some(items) if are_whole(items) => each_whole(alloc, items),
+        _ => Ok(None),
     }
 }
 
 /// The texts of a list, if it is a list of nothing else.
 #[tactic(auto, unfolding(crate::specs::Tree::texts))]
 pub(crate) fn texts(alloc: Global, tree: &Value) -> Result<Option<Vec<String>>, AllocError>
-    ensures { IfOk result (λ o. option_map (λ v. map string_bytes v.items) o
+    ensures value { IfOk result (λ o. option_map (λ v. map string_bytes v.items) o
         ≡ kind.texts (view tree.now)) }
+    ensures told { kind.texts (view tree.now) ≡ None → result ≡ Ok None }
 {
     match list(tree) {
-        Some(items) => each_text(alloc, items),
-        None => Ok(None),
+        Some(items) if are_texts(items) => each_text(alloc, items),
+        _ => Ok(None),
     }
+}
+
+#[tactic(auto, using(crate::proofs::Items::each_goes_on, crate::proofs::Items::each_fails))]
+fn are_whole(items: &[Value]) -> bool
+    ensures { result ≡ is_some (kind.each kind.whole (map view items.now)) }
+{
+    for item in items {
+        let Some(_) = whole(item) else {
+            return false;
+        };
+    }
+    true
+}
+
+#[tactic(auto, using(crate::proofs::Items::each_goes_on, crate::proofs::Items::each_fails))]
+fn are_texts(items: &[Value]) -> bool
+    ensures { result ≡ is_some (kind.each kind.text (map view items.now)) }
+{
+    for item in items {
+        let Some(_) = text(item) else {
+            return false;
+        };
+    }
+    true
 }
 
 #[tactic(auto, using(crate::proofs::Items::each_more, crate::proofs::Items::each_stops))]

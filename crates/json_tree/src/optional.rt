@@ -1,5 +1,6 @@
-ghost use Rattle.std.specs.Prelude.{◌≡◌, map, option_map, string_bytes};
+ghost use Rattle.std.specs.Prelude.{◌≡◌, Err, map, option_map, string_bytes};
 ghost use Rattle.serde_json.specs.View.{view};
+ghost use Rattle.json_tree.specs.declared.faults.FieldFault.{FieldFault};
 ghost use Rattle.json_tree.specs.Reading.{Gives, as_read, optional};
 ghost use Rattle.json_tree.specs.Tree as kind;
 
@@ -11,7 +12,7 @@ use serde_json::Value;
 use std::alloc::Global;
 
 // Each answers `WrongType` where the field is there and of another kind. Those that allocate answer
-// `Memory` where a growth was refused.
+// `Memory` where a growth was refused, but tell a fault as that, whether there is memory or not.
 
 /// The `bool` of a field that may be left out, also as null.
 #[tactic(auto, unfolding(crate::specs::Reading::optional))]
@@ -86,8 +87,9 @@ pub fn optional_wholes(
     tree: &Value,
     key: &str,
 ) -> Result<Option<Vec<u64>>, FieldFault>
-    ensures { Gives FieldFault.Memory (option_map (λ v. v.items)) result
+    ensures value { Gives FieldFault.Memory (option_map (λ v. v.items)) result
         (optional kind.wholes key.now (view tree.now)) }
+    ensures told { (fault : FieldFault) → optional kind.wholes key.now (view tree.now) ≡ Err fault → result ≡ Err fault }
 {
     match member(tree, key) {
         Some(found) => wholes(alloc, found)?.map(Some).ok_or(FieldFault::WrongType),
@@ -102,8 +104,9 @@ pub fn optional_texts(
     tree: &Value,
     key: &str,
 ) -> Result<Option<Vec<String>>, FieldFault>
-    ensures { Gives FieldFault.Memory (option_map (λ v. map string_bytes v.items)) result
+    ensures value { Gives FieldFault.Memory (option_map (λ v. map string_bytes v.items)) result
         (optional kind.texts key.now (view tree.now)) }
+    ensures told { (fault : FieldFault) → optional kind.texts key.now (view tree.now) ≡ Err fault → result ≡ Err fault }
 {
     match member(tree, key) {
         Some(found) => texts(alloc, found)?.map(Some).ok_or(FieldFault::WrongType),

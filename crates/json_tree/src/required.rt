@@ -1,5 +1,6 @@
-ghost use Rattle.std.specs.Prelude.{◌≡◌, map, string_bytes};
+ghost use Rattle.std.specs.Prelude.{◌≡◌, Err, map, string_bytes};
 ghost use Rattle.serde_json.specs.View.{view};
+ghost use Rattle.json_tree.specs.declared.faults.FieldFault.{FieldFault};
 ghost use Rattle.json_tree.specs.Reading.{Gives, as_read, required};
 ghost use Rattle.json_tree.specs.Tree as kind;
 
@@ -10,7 +11,8 @@ use serde_json::Value;
 use std::alloc::Global;
 
 // Each answers `Missing` where the field is not there, and `WrongType` where it is of another kind, as
-// null is. Those that allocate answer `Memory` where a growth was refused.
+// null is. Those that allocate answer `Memory` where a growth was refused, but tell a fault as that,
+// whether there is memory or not.
 
 /// The whole number of a field that has to be there.
 #[tactic(auto, unfolding(crate::specs::Reading::required))]
@@ -60,7 +62,8 @@ pub fn required_object<'v>(tree: &'v Value, key: &str) -> Result<&'v Value, Fiel
 /// The whole numbers of the list of a field that has to be there.
 #[tactic(auto, unfolding(crate::specs::Reading::required))]
 pub fn required_wholes(alloc: Global, tree: &Value, key: &str) -> Result<Vec<u64>, FieldFault>
-    ensures { Gives FieldFault.Memory (λ v. v.items) result (required kind.wholes key.now (view tree.now)) }
+    ensures value { Gives FieldFault.Memory (λ v. v.items) result (required kind.wholes key.now (view tree.now)) }
+    ensures told { (fault : FieldFault) → required kind.wholes key.now (view tree.now) ≡ Err fault → result ≡ Err fault }
 {
     let found = tree.get(key).ok_or(FieldFault::Missing)?;
     wholes(alloc, found)?.ok_or(FieldFault::WrongType)
@@ -69,7 +72,8 @@ pub fn required_wholes(alloc: Global, tree: &Value, key: &str) -> Result<Vec<u64
 /// The texts of the list of a field that has to be there.
 #[tactic(auto, unfolding(crate::specs::Reading::required))]
 pub fn required_texts(alloc: Global, tree: &Value, key: &str) -> Result<Vec<String>, FieldFault>
-    ensures { Gives FieldFault.Memory (λ v. map string_bytes v.items) result (required kind.texts key.now (view tree.now)) }
+    ensures value { Gives FieldFault.Memory (λ v. map string_bytes v.items) result (required kind.texts key.now (view tree.now)) }
+    ensures told { (fault : FieldFault) → required kind.texts key.now (view tree.now) ≡ Err fault → result ≡ Err fault }
 {
     let found = tree.get(key).ok_or(FieldFault::Missing)?;
     texts(alloc, found)?.ok_or(FieldFault::WrongType)

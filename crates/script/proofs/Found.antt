@@ -12,6 +12,7 @@ use Rattle.json_tree.specs.Reading.{or_else, refuse_if, if_there, in_order, as_f
 use Rattle.json_tree.proofs.Loops.{bind_ok, then_ok}
 use Rattle.json_tree.proofs.Fields.{or_else_ok, refuse_if_ok, as_fault_ok, required_found, optional_found, in_order_found}
 use Rattle.json_tree.proofs.Values.{value_same, object_same, has_not}
+use Rattle.script.proofs.Six.{has_args}
 use Rattle.script.specs.declared.faults.ScriptFault.{ScriptFault}
 use Rattle.script.specs.declared.faults.ScriptFault.TheVariants.{Missing, WrongType, UnknownCall, TooMany, BadCode, Memory}
 use Rattle.script.specs.declared.scripts.Step.{Step}
@@ -21,7 +22,7 @@ use Rattle.script.specs.declared.fields.CallFields.{CallFields}
 use Rattle.script.specs.declared.reader.StepKind.{StepKind}
 use Rattle.script.specs.declared.reader.StepKind.TheVariants as kind
 use Rattle.script.specs.Script.{number_of_name, code, IsCall, HasArgs, HasArch, HasIp, HasCallFields, Says, IsStep, IsScript, ReadsScript}
-use Rattle.script.specs.Reading.{fault_of_field, fault_of_text, here, code_of, codes_of, number_of, call_of, args_of, arch_of, ip_of, on_error_of, call_fields_of, exit_of, exit_by_attempt_of, the_kind, kind_of, call_step_of, exit_step_of, exit_by_attempt_step_of, step_of_kind, step_of, script_of, reading_of}
+use Rattle.script.specs.Reading.{fault_of_field, fault_of_text, here, items_of, code_of, codes_of, number_of, call_of, args_of, arch_of, ip_of, on_error_of, call_fields_of, exit_of, exit_by_attempt_of, the_kind, kind_of, call_step_of, exit_step_of, exit_by_attempt_step_of, step_of_kind, step_of, script_of, reading_of}
 
 here_ok : {A : Type 0} (r : Result A FieldFault) (x : A) → here r ≡ Ok x → r ≡ Ok x
 here_ok r x h = as_fault_ok fault_of_field r x h
@@ -81,14 +82,8 @@ call_found tree nr h =
 args_found : (tree : Data) (args : List ℕ) → args_of tree ≡ Ok args → HasArgs tree args
 unfolding args_of
 args_found tree args h =
-    let given = bind_ok (here (optional wholes (codes "args") tree)) _ _ h in
-    let few = then_ok (refuse_if (ltb 6 (length (unwrap_or given.0 []))) WrongType) _ _ given.2 in
-    record {
-      given = given.0;
-      there = optional_found wholes (codes "args") tree given.0 (here_ok (optional wholes (codes "args") tree) given.0 given.1);
-      few = ltb-false 6 (length (unwrap_or given.0 [])) (refuse_if_ok (ltb 6 (length (unwrap_or given.0 []))) WrongType few.0 few.1);
-      is = cc;
-    }
+    let items = bind_ok (here (optional list (codes "args") tree)) _ _ h in
+    has_args tree items.0 args (optional_found list (codes "args") tree items.0 (here_ok (optional list (codes "args") tree) items.0 items.1)) items.2
 
 arch_found : (tree : Data) (arch : ℕ) → arch_of tree ≡ Ok arch → HasArch tree arch
 unfolding arch_of
@@ -199,10 +194,14 @@ step_found item step h =
     let is = bind_ok (kind_of tree.0) _ _ tree.2 in
     (is_object ∙ ap Some same, subst (λ t. Says t step) same (says_found tree.0 is.0 step is.1 is.2))
 
+ok_same : (x y : List Data) (r : Result (List Data) ScriptFault) → r ≡ Ok x → r ≡ Ok y → x ≡ y
+ok_same x y r one other = cc
+
 script_found : (whole_tree : Data) (steps : List Step) → script_of whole_tree ≡ Ok steps → IsScript whole_tree steps
-unfolding script_of
+unfolding script_of items_of
 script_found whole_tree steps h =
-    let tree = bind_ok (or_else WrongType (object whole_tree)) _ _ h in
+    let all = bind_ok (items_of whole_tree) _ _ h in
+    let tree = bind_ok (or_else WrongType (object whole_tree)) _ _ all.1 in
     let is_object : object whole_tree ≡ Some tree.0 = or_else_ok WrongType (object whole_tree) tree.0 tree.1 in
     let same : tree.0 ≡ whole_tree = sym (object_same whole_tree tree.0 is_object) in
     let items = bind_ok (here (required list (codes "steps") tree.0)) _ _ tree.2 in
@@ -213,7 +212,7 @@ script_found whole_tree steps h =
       items = items.0;
       there = subst (λ t. HasField list (codes "steps") t items.0) same there;
       few = ltb-false MAX_STEPS (length items.0) (refuse_if_ok (ltb MAX_STEPS (length items.0)) TooMany few.0 few.1);
-      each = in_order_found step_of IsStep step_found items.0 steps few.2;
+      each = in_order_found step_of IsStep step_found items.0 steps (ap (in_order step_of) (ok_same items.0 all.0 (Ok items.0) refl few.2) ∙ all.2);
     }
 
 reading_found : (bytes : List ℕ) (steps : List Step) → reading_of bytes ≡ Ok steps → ReadsScript bytes steps

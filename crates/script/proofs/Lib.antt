@@ -1,2 +1,3 @@
+pub mod Six
 pub mod Found
 pub mod Only

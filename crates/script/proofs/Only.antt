@@ -11,6 +11,7 @@ use Rattle.json_tree.proofs.Items.{and_then_some}
 use Rattle.json_tree.proofs.Fields.{required_only, optional_only, in_order_only}
 use Rattle.json_tree.proofs.Values.{word_no_text, whole_is_value, word_is_value, text_is_value, wholes_is_value, not_there, is_there}
 use Rattle.call_data.specs.declared.sys_call.SysCall.{SysCall}
+use Rattle.script.proofs.Six.{args_only}
 use Rattle.script.specs.declared.faults.ScriptFault.TheVariants.{BadCode}
 use Rattle.script.specs.declared.scripts.Step.{Step}
 use Rattle.script.specs.declared.scripts.Step.TheVariants.{Call, Exit, ExitByAttempt}
@@ -18,7 +19,7 @@ use Rattle.script.specs.declared.scripts.TheConstants.{MAX_STEPS}
 use Rattle.script.specs.declared.fields.CallFields.{CallFields}
 use Rattle.script.specs.declared.reader.StepKind.TheVariants as kind
 use Rattle.script.specs.Script.{code, IsCall, HasArgs, HasArch, HasIp, HasCallFields, IsCallStep, IsExitStep, IsExitByAttemptStep, IsStep, IsScript, ReadsScript}
-use Rattle.script.specs.Reading.{code_of, codes_of, call_of, args_of, arch_of, ip_of, on_error_of, call_fields_of, exit_of, exit_by_attempt_of, kind_of, call_step_of, exit_step_of, exit_by_attempt_step_of, step_of, script_of, reading_of}
+use Rattle.script.specs.Reading.{code_of, codes_of, call_of, args_of, arch_of, ip_of, on_error_of, call_fields_of, exit_of, exit_by_attempt_of, kind_of, call_step_of, exit_step_of, exit_by_attempt_step_of, step_of, items_of, script_of, reading_of}
 
 code_same : (small : Bool) (n m : ℕ) → cond small (Some n) None ≡ Some m → cond small (Ok n) (Err BadCode) ≡ Ok m
 code_same true n m h = cc
@@ -56,10 +57,6 @@ call_only : (tree named : Data) (nr : ℕ) → get (codes "call") tree ≡ Some 
 unfolding call_of
 call_only tree named nr there (inl number) = rw (required_only value (codes "call") tree named (named, there, word_is_value named nr number), word_no_text named nr number, number) refl
 call_only tree named nr there (inr name) = rw (required_only value (codes "call") tree named (named, there, text_is_value named name.0 name.1), name.1, name.2) refl
-
-args_only : (tree : Data) (args : List ℕ) → HasArgs tree args → args_of tree ≡ Ok args
-unfolding args_of
-args_only tree args h = rw (optional_only wholes (codes "args") tree h.given h.there, le-ltb 6 (length (unwrap_or h.given [])) h.few) (ap Ok (sym h.is))
 
 arch_only : (tree : Data) (arch : ℕ) → HasArch tree arch → arch_of tree ≡ Ok arch
 unfolding arch_of
@@ -129,7 +126,7 @@ step_only item (Exit ends) h = rw (h.0, exit_kind item ends h.1) (exit_step_only
 step_only item (ExitByAttempt ends) h = rw (h.0, exit_by_attempt_kind item ends h.1) (exit_by_attempt_step_only item ends h.1)
 
 script_only : (tree : Data) (steps : List Step) → IsScript tree steps → script_of tree ≡ Ok steps
-unfolding script_of
+unfolding script_of items_of
 script_only tree steps h = rw (h.an_object, required_only list (codes "steps") tree h.items h.there, le-ltb MAX_STEPS (length h.items) h.few) (in_order_only step_of IsStep step_only h.items steps h.each)
 
 -- a text's script is read

@@ -1,6 +1,6 @@
 -- Which fault of a text is found first: docs/SEMANTICS.md, "Scripts", has the order. Each definition
 -- says what is read of a tree, its faults in that order.
-use Rattle.std.specs.Prelude.{ℕ, ◌==◌, List, [], length, codes, Bool, true, false, nat_lt, nat_le, if◌then◌else◌, Option, Some, None, unwrap_or, Result, Ok, Err}
+use Rattle.std.specs.Prelude.{ℕ, ◌==◌, List, [], ◌∷◌, length, slice_get, codes, Bool, true, false, nat_lt, nat_le, if◌then◌else◌, Option, Some, None, unwrap_or, Result, Ok, Err}
 use Rattle.std.specs.Result.{result_err}
 use Rattle.serde_json.specs.Data.{Data}
 use Rattle.json_tree.specs.declared.faults.FieldFault.{FieldFault}
@@ -15,10 +15,10 @@ use Rattle.script.specs.declared.scripts.Step.{Step}
 use Rattle.script.specs.declared.scripts.Step.TheVariants.{Call, Exit, ExitByAttempt}
 use Rattle.script.specs.declared.scripts.TheConstants.{MAX_STEPS}
 use Rattle.script.specs.declared.fields.CallFields.{CallFields}
-use Rattle.script.specs.declared.fields.TheConstants.{NATIVE_ARCH}
+use Rattle.call_data.specs.declared.sys_call.TheConstants.{NATIVE_ARCH}
 use Rattle.script.specs.declared.reader.StepKind.{StepKind}
 use Rattle.script.specs.declared.reader.StepKind.TheVariants as kind
-use Rattle.script.specs.Script.{number_of_name, six}
+use Rattle.script.specs.Script.{number_of_name}
 
 abbrev pub fault_of_field : FieldFault → ScriptFault
 fault_of_field field.Missing = Missing
@@ -45,11 +45,29 @@ call_of tree = do
   named ← here (required value (codes "call") tree)
   number_of (text named) (word named)
 
+-- an argument that is not given is 0
+abbrev pub given_argument : Option Data → Result ℕ ScriptFault
+given_argument None = Ok 0
+given_argument (Some item) = or_else WrongType (whole item)
+
+abbrev pub argument_of : List Data → ℕ → Result ℕ ScriptFault
+argument_of items place = given_argument (slice_get items place)
+
+unfoldable pub six_of : List Data → Result (List ℕ) ScriptFault
+six_of items = do
+  refuse_if (nat_lt 6 (length items)) WrongType
+  first ← argument_of items 0
+  second ← argument_of items 1
+  third ← argument_of items 2
+  fourth ← argument_of items 3
+  fifth ← argument_of items 4
+  sixth ← argument_of items 5
+  Ok (first ∷ second ∷ third ∷ fourth ∷ fifth ∷ sixth ∷ [])
+
 unfoldable pub args_of : Data → Result (List ℕ) ScriptFault
 args_of tree = do
-  given ← here (optional wholes (codes "args") tree)
-  refuse_if (nat_lt 6 (length (unwrap_or given []))) WrongType
-  Ok (six (unwrap_or given []))
+  items ← here (optional list (codes "args") tree)
+  six_of (unwrap_or items [])
 
 unfoldable pub arch_of : Data → Result ℕ ScriptFault
 arch_of tree = do
@@ -130,11 +148,17 @@ step_of item = do
   is ← kind_of tree
   step_of_kind is tree
 
-unfoldable pub script_of : Data → Result (List Step) ScriptFault
-script_of whole_tree = do
+-- the steps as they stand there, before any of them is looked at
+unfoldable pub items_of : Data → Result (List Data) ScriptFault
+items_of whole_tree = do
   tree ← or_else WrongType (object whole_tree)
   items ← here (required list (codes "steps") tree)
   refuse_if (nat_lt MAX_STEPS (length items)) TooMany
+  Ok items
+
+unfoldable pub script_of : Data → Result (List Step) ScriptFault
+script_of whole_tree = do
+  items ← items_of whole_tree
   in_order step_of items
 
 unfoldable pub reading_of : List ℕ → Result (List Step) ScriptFault

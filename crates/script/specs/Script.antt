@@ -12,7 +12,7 @@ use Rattle.script.specs.declared.scripts.Step.{Step}
 use Rattle.script.specs.declared.scripts.Step.TheVariants.{Call, Exit, ExitByAttempt}
 use Rattle.script.specs.declared.scripts.TheConstants.{MAX_STEPS}
 use Rattle.script.specs.declared.fields.CallFields.{CallFields}
-use Rattle.script.specs.declared.fields.TheConstants.{NATIVE_ARCH}
+use Rattle.call_data.specs.declared.sys_call.TheConstants.{NATIVE_ARCH}
 
 -- the number of the call with this name in the call table
 unfoldable pub number_of_name : List ℕ → Option ℕ

@@ -3,31 +3,46 @@ ghost use Rattle.script.specs.declared.faults.ScriptFault.TheVariants.{Memory};
 
 use json_tree::{FieldFault, TextFault};
 use std::alloc::{AllocError, AllocFailed};
+use std::fmt;
 use thiserror::Error;
 
 /// Why a text is no script.
 #[derive(Clone, Copy, Debug, PartialEq, Eq, Error)]
 pub enum ScriptFault {
     /// The text is no JSON.
-    #[error("NotJson")]
     NotJson,
     /// A field that has to be there is not, or a list that has to have an item is empty.
-    #[error("Missing")]
     Missing,
     /// A field is of another kind, or a step is of two kinds.
-    #[error("WrongType")]
     WrongType,
     /// No call has this name.
-    #[error("UnknownCall")]
     UnknownCall,
     /// There are more than `MAX_STEPS` steps.
-    #[error("TooMany")]
     TooMany,
     /// A code is above 255.
-    #[error("BadCode")]
     BadCode,
-    #[error("Memory")]
+    /// A growth was refused.
     Memory,
+}
+
+/// The fault's name.
+impl fmt::Display for ScriptFault {
+    ghost use Rattle.std.specs.Prelude.{Some};
+    ghost use Rattle.script.specs.FaultText.{fault_text};
+
+    ghost output = { λ fault. Some (fault_text fault) };
+
+    fn fmt<W: fmt::Write>(&self, f: &mut fmt::Formatter<W>) -> fmt::Result {
+        f.write_str(match self {
+            ScriptFault::NotJson => "NotJson",
+            ScriptFault::Missing => "Missing",
+            ScriptFault::WrongType => "WrongType",
+            ScriptFault::UnknownCall => "UnknownCall",
+            ScriptFault::TooMany => "TooMany",
+            ScriptFault::BadCode => "BadCode",
+            ScriptFault::Memory => "Memory",
+        })
+    }
 }
 
 impl From<FieldFault> for ScriptFault {

@@ -1,20 +1,17 @@
-ghost use Rattle.std.specs.Prelude.{◌≡◌, slice_index};
+ghost use Rattle.std.specs.Prelude.{◌≡◌, Err, length, map};
 ghost use Rattle.serde_json.specs.View.{view};
 ghost use Rattle.json_tree.specs.Reading.{Gives, in_order};
-ghost use Rattle.script.specs.Script.{six};
-ghost use Rattle.script.specs.Reading.{args_of, arch_of, call_fields_of, call_of, code_of, codes_of, exit_by_attempt_of, exit_of, ip_of, on_error_of};
+ghost use Rattle.script.specs.Reading.{args_of, arch_of, argument_of, call_fields_of, call_of, code_of, codes_of, exit_by_attempt_of, exit_of, ip_of, on_error_of, six_of};
 
 use crate::faults::ScriptFault;
 use crate::scripts::Codes;
+use call_data::NATIVE_ARCH;
 use json_tree::{
-    optional_whole, optional_wholes, optional_word, required_value, required_whole,
-    required_wholes, text, word,
+    optional_list, optional_whole, optional_word, required_value, required_whole, required_wholes,
+    text, whole, word,
 };
 use serde_json::Value;
 use std::alloc::Global;
-
-/// The architecture of a call that names none: `AUDIT_ARCH_X86_64` of `linux/audit.h`.
-pub const NATIVE_ARCH: u32 = 0xc000_003e;
 
 const MAX_ARGS: usize = 6;
 
@@ -40,10 +37,10 @@ pub(crate) fn call(tree: &Value) -> Result<u32, ScriptFault>
 }
 
 #[tactic(auto, unfolding(crate::specs::Reading::call_fields_of))]
-pub(crate) fn call_fields(alloc: Global, tree: &Value) -> Result<CallFields, ScriptFault>
-    ensures { Gives ScriptFault.Memory (λ f. f) result (call_fields_of (view tree.now)) }
+pub(crate) fn call_fields(tree: &Value) -> Result<CallFields, ScriptFault>
+    ensures { result ≡ call_fields_of (view tree.now) }
 {
-    let args = args(alloc, tree)?;
+    let args = args(tree)?;
     let arch = arch(tree)?;
     let ip = ip(tree)?;
     let on_error = on_error(tree)?;
@@ -56,35 +53,37 @@ pub(crate) fn call_fields(alloc: Global, tree: &Value) -> Result<CallFields, Scr
 }
 
 #[tactic(auto, unfolding(crate::specs::Reading::args_of))]
-fn args(alloc: Global, tree: &Value) -> Result<[u64; 6], ScriptFault>
-    ensures { Gives ScriptFault.Memory (λ args. args) result (args_of (view tree.now)) }
+fn args(tree: &Value) -> Result<[u64; 6], ScriptFault>
+    ensures { result ≡ args_of (view tree.now) }
 {
-    let Some(given) = optional_wholes(alloc, tree, "args")? else {
-        return Ok([0; 6]);
-    };
-    if given.len() > MAX_ARGS {
+    six_arguments(optional_list(tree, "args")?.unwrap_or(&[]))
+}
+
+/// The arguments that are given, and 0 for the others.
+#[tactic(auto, unfolding(crate::specs::Reading::six_of))]
+fn six_arguments(items: &[Value]) -> Result<[u64; 6], ScriptFault>
+    ensures { result ≡ six_of (map view items.now) }
+{
+    if items.len() > MAX_ARGS {
         return Err(ScriptFault::WrongType);
     }
-    Ok(six_arguments(given.as_slice()))
+    Ok([
+        argument(items, 0)?,
+        argument(items, 1)?,
+        argument(items, 2)?,
+        argument(items, 3)?,
+        argument(items, 4)?,
+        argument(items, 5)?,
+    ])
 }
 
-fn six_arguments(given: &[u64]) -> [u64; 6]
-    ensures { result ≡ six given.now }
+fn argument(items: &[Value], place: usize) -> Result<u64, ScriptFault>
+    ensures { result ≡ argument_of (map view items.now) place }
 {
-    [
-        argument(given, 0),
-        argument(given, 1),
-        argument(given, 2),
-        argument(given, 3),
-        argument(given, 4),
-        argument(given, 5),
-    ]
-}
-
-fn argument(given: &[u64], place: usize) -> u64
-    ensures { result ≡ slice_index given.now place }
-{
-    given.get(place).copied().unwrap_or(0)
+    match items.get(place) {
+        Some(item) => whole(item).ok_or(ScriptFault::WrongType),
+        None => Ok(0),
+    }
 }
 
 #[tactic(auto, unfolding(crate::specs::Reading::arch_of))]
@@ -128,7 +127,8 @@ pub(crate) fn exit_by_attempt(alloc: Global, tree: &Value) -> Result<Codes, Scri
 
 #[tactic(auto, unfolding(crate::specs::Reading::codes_of), using(json_tree::proofs::Loops::length_in_order))]
 fn codes(alloc: Global, numbers: &[u64]) -> Result<Codes, ScriptFault>
-    ensures { Gives ScriptFault.Memory (λ codes. codes) result (codes_of numbers.now) }
+    ensures value { Gives ScriptFault.Memory (λ codes. codes) result (codes_of numbers.now) }
+    ensures none { length numbers.now ≡ 0 → result ≡ Err ScriptFault.Missing }
 {
     if numbers.is_empty() {
         return Err(ScriptFault::Missing);

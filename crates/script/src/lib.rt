@@ -6,12 +6,13 @@
 
 mod faults;
 mod fields;
+mod laws;
 mod reader;
 mod scripts;
 #[cfg(test)]
 mod tests;
 
 pub use faults::ScriptFault;
-pub use fields::NATIVE_ARCH;
+pub use laws::constants_are_as_stated;
 pub use reader::read;
 pub use scripts::{Codes, MAX_STEPS, Script, Step};

@@ -1,9 +1,11 @@
-ghost use Rattle.std.specs.Prelude.{◌≡◌, ◌≢◌, List, IfOk, IfErr, map};
+ghost use Rattle.std.specs.Prelude.{◌≡◌, ◌≢◌, ◌≤◌, List, Err, IfOk, IfErr, length, map};
 ghost use Rattle.serde_json.specs.View.{view};
-ghost use Rattle.json_tree.specs.Reading.{Gives, in_order};
+ghost use Rattle.json_tree.specs.Reading.{Gives, as_read, in_order};
+ghost use Rattle.script.specs.declared.faults.ScriptFault.{ScriptFault};
 ghost use Rattle.script.specs.declared.scripts.Step.{Step};
+ghost use Rattle.script.specs.declared.scripts.TheConstants.{MAX_STEPS};
 ghost use Rattle.script.specs.Script.{ReadsScript};
-ghost use Rattle.script.specs.Reading.{call_step_of, exit_by_attempt_step_of, exit_step_of, first_fault, kind_of, reading_of, script_of, step_of};
+ghost use Rattle.script.specs.Reading.{call_step_of, exit_by_attempt_step_of, exit_step_of, first_fault, items_of, kind_of, reading_of, script_of, step_of};
 
 use crate::faults::ScriptFault;
 use crate::fields::{call, call_fields, exit, exit_by_attempt};
@@ -49,15 +51,28 @@ fn reading(alloc: Global, bytes: &[u8]) -> Result<Script, ScriptFault>
 
 #[tactic(auto, unfolding(crate::specs::Reading::script_of), using(json_tree::proofs::Loops::length_in_order))]
 fn script(alloc: Global, tree: &Value) -> Result<Script, ScriptFault>
-    ensures { Gives ScriptFault.Memory (λ s. s) result (script_of (view tree.now)) }
+    ensures value { Gives ScriptFault.Memory (λ s. s) result (script_of (view tree.now)) }
+
+    // What is found before a step is looked at is told, whether there is memory or not.
+    ensures told { (fault : ScriptFault) → items_of (view tree.now) ≡ Err fault → result ≡ Err fault }
+{
+    let items = items(tree)?;
+    let steps = steps(alloc, items)?;
+    Ok(Script::new(steps))
+}
+
+/// The steps as they stand there.
+#[tactic(auto, unfolding(crate::specs::Reading::items_of))]
+fn items(tree: &Value) -> Result<&[Value], ScriptFault>
+    ensures value { as_read (λ items. map view items.now) result ≡ items_of (view tree.now) }
+    ensures few { IfOk result (λ items. length items.now ≤ MAX_STEPS) }
 {
     let tree = object(tree).ok_or(ScriptFault::WrongType)?;
     let items = required_list(tree, "steps")?;
     if items.len() > MAX_STEPS {
         return Err(ScriptFault::TooMany);
     }
-    let steps = steps(alloc, items)?;
-    Ok(Script::new(steps))
+    Ok(items)
 }
 
 #[tactic(auto, using(json_tree::proofs::Loops::in_order_more, json_tree::proofs::Loops::in_order_stops))]
@@ -77,8 +92,8 @@ fn step(alloc: Global, item: &Value) -> Result<Step, ScriptFault>
 {
     let tree = object(item).ok_or(ScriptFault::WrongType)?;
     match kind(tree)? {
-        StepKind::Call => call_step(alloc, tree),
-        StepKind::Exit => exit_step(alloc, tree),
+        StepKind::Call => call_step(tree),
+        StepKind::Exit => exit_step(tree),
         StepKind::ExitByAttempt => exit_by_attempt_step(alloc, tree),
     }
 }
@@ -101,11 +116,11 @@ fn kind(tree: &Value) -> Result<StepKind, ScriptFault>
 }
 
 #[tactic(auto, unfolding(crate::specs::Reading::call_step_of))]
-fn call_step(alloc: Global, tree: &Value) -> Result<Step, ScriptFault>
-    ensures { Gives ScriptFault.Memory (λ s. s) result (call_step_of (view tree.now)) }
+fn call_step(tree: &Value) -> Result<Step, ScriptFault>
+    ensures { as_read (λ s. s) result ≡ call_step_of (view tree.now) }
 {
     let nr = call(tree)?;
-    let fields = call_fields(alloc, tree)?;
+    let fields = call_fields(tree)?;
     let args = fields.args;
     let call = SysCall {
         nr,
@@ -120,10 +135,10 @@ fn call_step(alloc: Global, tree: &Value) -> Result<Step, ScriptFault>
 }
 
 #[tactic(auto, unfolding(crate::specs::Reading::exit_step_of))]
-fn exit_step(alloc: Global, tree: &Value) -> Result<Step, ScriptFault>
-    ensures { Gives ScriptFault.Memory (λ s. s) result (exit_step_of (view tree.now)) }
+fn exit_step(tree: &Value) -> Result<Step, ScriptFault>
+    ensures { as_read (λ s. s) result ≡ exit_step_of (view tree.now) }
 {
-    let _beside = call_fields(alloc, tree)?;
+    let _beside = call_fields(tree)?;
     Ok(Step::Exit(exit(tree)?))
 }
 
@@ -131,6 +146,6 @@ fn exit_step(alloc: Global, tree: &Value) -> Result<Step, ScriptFault>
 fn exit_by_attempt_step(alloc: Global, tree: &Value) -> Result<Step, ScriptFault>
     ensures { Gives ScriptFault.Memory (λ s. s) result (exit_by_attempt_step_of (view tree.now)) }
 {
-    let _beside = call_fields(alloc, tree)?;
+    let _beside = call_fields(tree)?;
     Ok(Step::ExitByAttempt(exit_by_attempt(alloc, tree)?))
 }

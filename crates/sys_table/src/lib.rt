@@ -7,6 +7,8 @@
 mod laws;
 mod look_up;
 mod table;
+#[cfg(test)]
+mod tests;
 
 pub use laws::names_and_numbers_agree;
 pub use look_up::{name, number};

@@ -8,6 +8,7 @@ use action::Verdict;
 use bpf_verify::Filter;
 use call_data::SysCall;
 use std::alloc::Global;
+use std::fmt;
 use std::marker::Model;
 use thiserror::Error;
 
@@ -19,11 +20,24 @@ pub const MAX_STACK_INSNS: usize = 32_768;
 #[derive(Clone, Copy, Debug, PartialEq, Eq, Error)]
 pub enum StackFault {
     /// The stack would have more than [`MAX_STACK_INSNS`].
-    #[error("TooManyInsns")]
     TooManyInsns,
     /// A growth was refused.
-    #[error("Memory")]
     Memory,
+}
+
+/// The fault's name.
+impl fmt::Display for StackFault {
+    ghost use Rattle.std.specs.Prelude.{Some};
+    ghost use Rattle.verdict.specs.FaultText.{fault_text};
+
+    ghost output = { λ fault. Some (fault_text fault) };
+
+    fn fmt<W: fmt::Write>(&self, f: &mut fmt::Formatter<W>) -> fmt::Result {
+        match self {
+            StackFault::TooManyInsns => f.write_str("TooManyInsns"),
+            StackFault::Memory => f.write_str("Memory"),
+        }
+    }
 }
 
 /// The filters of a container, the oldest one first.

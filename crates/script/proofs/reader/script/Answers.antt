@@ -7,4 +7,4 @@ use Rattle.script.specs.Reading.{step_of}
 use Rattle.script.proofs.reader.script.Goals as goal
 
 pub new-requires : goal.new-requires
-new-requires c = omega (arith, length_in_order step_of (map view c.in_ok-items.items.now) c.in_ok-steps.steps.items c.in_ok-steps.ensures, length-map c.in_ok-items.items.now view)
+new-requires c = omega (arith, length_in_order step_of (map view c.in_ok-items.items.now) c.in_ok-steps.steps.items c.in_ok-steps.ensures, length-map c.in_ok-items.items.now view, c.in_ok-items.ensures.few)

@@ -1,6 +1,0 @@
-use Rattle.std.proofs.Common.{◌≡◌, string_bytes, take}
-use Rattle.agent.specs.LineText.{lines_text}
-use Rattle.agent.proofs.line.outcome_lines.Given as goal
-
-abbrev pub invariant-loop-place : goal.invariant-loop-place
-invariant-loop-place l = string_bytes l.text ≡ lines_text 0 (take l.place l.outcome.entries)

@@ -1,0 +1,4 @@
+pub mod Digits
+pub mod Follows
+pub mod Lines
+pub mod Numerals

@@ -1,0 +1,38 @@
+-- Which call the words of a command line write: docs/SEMANTICS.md, "Programs". Its numbers are looked at in
+-- the order of the usage line, and the first word that writes no number of its range is the answer else.
+use Rattle.std.specs.Prelude.{ℕ, ◌^◌, List, [], ◌∷◌, slice_get, Option, Some, None, Result, Ok}
+use Rattle.json_tree.specs.Reading.{◌>>=◌, or_else}
+use Rattle.call_data.specs.declared.sys_call.SysCall.{SysCall}
+use Rattle.checker.specs.Numbers.{number_in}
+
+-- the number of a word, or the word itself
+abbrev pub written : ℕ → List ℕ → Result ℕ (List ℕ)
+written limit word = or_else word (number_in limit word)
+
+-- the same of a word that may be left out
+abbrev pub written_or : ℕ → ℕ → Option (List ℕ) → Result ℕ (List ℕ)
+written_or limit default None = Ok default
+written_or limit default (Some word) = written limit word
+
+-- an argument that is left out is 0
+abbrev pub argument_of : List (List ℕ) → ℕ → Result ℕ (List ℕ)
+argument_of words place = written_or (2 ^ 64) 0 (slice_get words place)
+
+unfoldable pub arguments_of : List (List ℕ) → Result (List ℕ) (List ℕ)
+arguments_of words = do
+  first ← argument_of words 0
+  second ← argument_of words 1
+  third ← argument_of words 2
+  fourth ← argument_of words 3
+  fifth ← argument_of words 4
+  sixth ← argument_of words 5
+  Ok (first ∷ second ∷ third ∷ fourth ∷ fifth ∷ sixth ∷ [])
+
+-- 0xc000003e is AUDIT_ARCH_X86_64 of linux/audit.h
+unfoldable pub call_of : List ℕ → List (List ℕ) → Option (List ℕ) → Option (List ℕ) → Result SysCall (List ℕ)
+call_of nr args arch ip = do
+  number ← written (2 ^ 32) nr
+  arguments ← arguments_of args
+  architecture ← written_or (2 ^ 32) 0xc000003e arch
+  pointer ← written_or (2 ^ 64) 0 ip
+  Ok (record { nr = number; arch = architecture; ip = pointer; args = arguments })

@@ -1,0 +1,13 @@
+pub mod ArrowText
+pub mod CallWords
+pub mod FileText
+pub mod LineText
+pub mod Numbers
+pub mod Outcome
+pub mod Played
+pub mod Plays
+pub mod StopText
+pub mod ShownText
+pub mod Stops
+pub mod Texts
+pub mod Words

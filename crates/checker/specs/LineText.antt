@@ -1,0 +1,21 @@
+-- A judged call as it is printed, this project's own: docs/SEMANTICS.md, "Programs".
+use Rattle.std.specs.Prelude.{ℕ, List, ◌++◌, codes, Bool, true, false}
+use Rattle.std.specs.Fmt.{decimal}
+use Rattle.action.specs.Verdict.{name_of}
+use Rattle.checker.specs.declared.steps.Entry.{Entry}
+use Rattle.checker.specs.Outcome.{Outcome}
+use Rattle.checker.specs.Texts.{lines_text}
+
+abbrev pub outcome_text : Bool → List ℕ
+outcome_text true = codes "performed"
+outcome_text false = codes "denied"
+
+-- its step's place, the call's number, the verdict's action and data, and whether it was performed
+abbrev pub entry_text : ℕ → Entry → List ℕ
+entry_text place entry =
+    decimal place ++ codes " " ++ decimal entry.call.nr ++ codes " " ++ name_of entry.verdict.action ++ codes " "
+    ++ decimal entry.verdict.ret_data ++ codes " " ++ outcome_text entry.performed
+
+-- a line for each judged call, and one for the end
+abbrev pub record_text : Outcome → List ℕ
+record_text outcome = lines_text entry_text 0 outcome.entries ++ codes "exit " ++ decimal outcome.code ++ codes "\n"

@@ -1,0 +1,20 @@
+-- What is printed where a program ends before its work is done, this project's own: docs/SEMANTICS.md,
+-- "Programs". Nothing is said of a refused command line: its text is clap's.
+use Rattle.std.specs.Prelude.{ℕ, List, [], ◌++◌, codes, Option, Some, None}
+use Rattle.bpf_verify.specs.RefusalText.{refusal_text}
+use Rattle.script.specs.FaultText.{fault_text as script_fault_text}
+use Rattle.verdict.specs.FaultText.{fault_text as stack_fault_text}
+use Rattle.checker.specs.FileText.{fault_text as file_fault_text}
+use Rattle.checker.specs.declared.stop.Stop.{Stop}
+use Rattle.checker.specs.declared.stop.Stop.TheVariants.{Refused, Script, StackFilter, Stack, CommandLine, BadNumber, File, Unwritten, Memory}
+
+abbrev pub stop_text : Stop → Option (List ℕ)
+stop_text (Refused refusal) = Some (codes "refused " ++ refusal_text refusal ++ codes "\n")
+stop_text (Script fault) = Some (codes "refused script " ++ script_fault_text fault ++ codes "\n")
+stop_text (StackFilter refusal) = Some (codes "refused filter " ++ refusal_text refusal ++ codes "\n")
+stop_text (Stack fault) = Some (codes "refused filter " ++ stack_fault_text fault ++ codes "\n")
+stop_text (CommandLine error) = None
+stop_text (BadNumber word) = Some (codes "seccheck: " ++ word.now ++ codes ": BadNumber\n")
+stop_text (File path fault) = Some (codes "seccheck: " ++ path.now ++ codes ": " ++ file_fault_text fault ++ codes "\n")
+stop_text Unwritten = Some []
+stop_text Memory = Some (codes "seccheck: Memory\n")

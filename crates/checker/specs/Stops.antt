@@ -1,0 +1,64 @@
+-- Why a program ends before its work is done, from the fault that was met: want of memory is told as that,
+-- wherever it comes; and the status with which it ends. This project's own: docs/SEMANTICS.md, "Programs".
+use Rattle.std.specs.Prelude.{◌≡◌, ◌≢◌, ℕ, Bool, true, false}
+use Rattle.bpf_verify.specs.declared.refusal.Refusal.{Refusal}
+use Rattle.bpf_verify.specs.declared.refusal.Refusal.TheVariants.{Code}
+use Rattle.checker.specs.declared.stop.Stop.{Stop}
+use Rattle.checker.specs.declared.stop.Stop.TheVariants as why
+use Rattle.bpf_code.specs.declared.fault.CodeFault.TheVariants as code
+use Rattle.clap.specs.Values.{kind_of}
+use Rattle.clap.specs.declared.error.Error.{Error}
+use Rattle.clap.specs.declared.error.kind.ErrorKind.TheVariants as kind
+use Rattle.script.specs.declared.faults.ScriptFault.{ScriptFault}
+use Rattle.script.specs.declared.faults.ScriptFault.TheVariants as script
+use Rattle.verdict.specs.declared.stack.StackFault.{StackFault}
+use Rattle.verdict.specs.declared.stack.StackFault.TheVariants as stack
+
+-- the one filter of a command is refused
+abbrev pub of_refusal : Refusal → Stop
+of_refusal (Code code.Memory) = why.Memory
+of_refusal refusal = why.Refused refusal
+
+-- a filter of a stack is refused
+abbrev pub of_stack_refusal : Refusal → Stop
+of_stack_refusal (Code code.Memory) = why.Memory
+of_stack_refusal refusal = why.StackFilter refusal
+
+-- the script is refused
+abbrev pub of_script_fault : ScriptFault → Stop
+of_script_fault script.Memory = why.Memory
+of_script_fault fault = why.Script fault
+
+-- the stack does not take the filter
+abbrev pub of_stack_fault : StackFault → Stop
+of_stack_fault stack.Memory = why.Memory
+of_stack_fault fault = why.Stack fault
+
+-- the command line is refused
+abbrev pub IsOfCommandLine : Error → Stop → Type 0
+IsOfCommandLine error stop = (kind_of error ≡ kind.OutOfMemory → stop ≡ why.Memory) × (kind_of error ≢ kind.OutOfMemory → stop ≡ why.CommandLine error)
+
+-- input refused 1; command line refused 2; a file that can't be read, and what can't be written 3; want of
+-- memory 4
+abbrev pub status_of : Stop → ℕ
+status_of (why.Refused refusal) = 1
+status_of (why.Script fault) = 1
+status_of (why.StackFilter refusal) = 1
+status_of (why.Stack fault) = 1
+status_of (why.CommandLine error) = 2
+status_of (why.BadNumber word) = 2
+status_of (why.File path fault) = 3
+status_of why.Unwritten = 3
+status_of why.Memory = 4
+
+-- that input is refused is the program's answer
+abbrev pub is_refusal : Stop → Bool
+is_refusal (why.Refused refusal) = true
+is_refusal (why.Script fault) = true
+is_refusal (why.StackFilter refusal) = true
+is_refusal (why.Stack fault) = true
+is_refusal (why.CommandLine error) = false
+is_refusal (why.BadNumber word) = false
+is_refusal (why.File path fault) = false
+is_refusal why.Unwritten = false
+is_refusal why.Memory = false

@@ -1,0 +1,23 @@
+-- What the matches of a command line say: where each word stands is the usage line's, docs/SEMANTICS.md,
+-- "Programs". A required argument always has a word.
+use Rattle.std.specs.Prelude.{ℕ, ◌^◌, List, [], codes, option_map, unwrap_or, Result}
+use Rattle.clap.specs.Matches.{first_value, matched_of, raw_values}
+use Rattle.clap.specs.declared.parser.matches.Found.{Found}
+use Rattle.call_data.specs.declared.sys_call.SysCall.{SysCall}
+use Rattle.checker.specs.CallWords.{call_of, written_or}
+
+-- the word of a required argument
+abbrev pub word_in : List ℕ → Found → List ℕ
+word_in id found = unwrap_or (first_value found id) []
+
+-- the words of an argument that may stand any number of times
+abbrev pub words_in : List ℕ → Found → List (List ℕ)
+words_in id found = unwrap_or (option_map raw_values (matched_of found id)) []
+
+-- the call of `run`
+abbrev pub call_in : Found → Result SysCall (List ℕ)
+call_in found = call_of (word_in (codes "NR") found) (words_in (codes "ARG") found) (first_value found (codes "arch")) (first_value found (codes "ip"))
+
+-- the attempt of `play`, from 0
+abbrev pub attempt_in : Found → Result ℕ (List ℕ)
+attempt_in found = written_or (2 ^ 32) 0 (first_value found (codes "attempt"))

@@ -1,0 +1,32 @@
+//! What `seccheck` does: judges calls by filters, shows filters, and plays scripts under them.
+//!
+//! The functions are generic over the runtime and over the writers for standard output and standard
+//! error, so that tests run them over memory. What is printed is made by functions of `line`, `show`
+//! and `stop`, whose texts stand in `specs/`. `cell` plays a script under a stack of filters, one step
+//! at a time; it prints nothing.
+#![tactic(auto)]
+
+mod call_words;
+mod cell;
+mod file;
+mod judging;
+mod laws;
+mod line;
+mod number;
+#[cfg(test)]
+mod play_tests;
+mod playing;
+mod seccheck;
+mod show;
+mod steps;
+mod stop;
+#[cfg(test)]
+mod tests;
+mod words;
+
+pub use file::{FileFault, MAX_FILE_BYTES};
+pub use judging::{Judged, judge};
+pub use laws::constants_are_as_stated;
+pub use playing::{Outcome, play};
+pub use seccheck::seccheck_run;
+pub use steps::{Entry, KILLED};

@@ -1,0 +1,69 @@
+ghost use Rattle.std.specs.Prelude.{◌≡◌, ◌++◌, IfOk, codes, string_bytes};
+ghost use Rattle.checker.specs.LineText.{outcome_text, record_text};
+ghost use Rattle.checker.specs.Texts.{accepted_text, judged_text};
+
+use crate::judging::Judged;
+use crate::playing::Outcome;
+use crate::steps::Entry;
+use std::alloc::{AllocError, Global};
+use std::fmt;
+
+/// The line that is printed of a sound filter of so many instructions.
+pub(crate) fn accepted(alloc: Global, count: usize) -> Result<String, AllocError>
+    ensures { IfOk result (λ text. string_bytes text ≡ accepted_text count) }
+{
+    format!(in alloc; "accepted {count} instructions\n")
+}
+
+/// The line that is printed of what a filter says.
+pub(crate) fn judged_line(alloc: Global, judged: &Judged) -> Result<String, AllocError>
+    ensures { IfOk result (λ text. string_bytes text ≡ judged_text judged.now ++ codes "\n") }
+{
+    format!(in alloc; "{judged}\n")
+}
+
+/// A judged call as it is printed: `PLACE NR ACTION DATA performed`, or `denied`.
+#[derive(Clone, Copy)]
+pub(crate) struct Line {
+    /// The step that makes the call, from 0.
+    pub(crate) place: usize,
+    pub(crate) entry: Entry,
+}
+
+impl fmt::Display for Line {
+    ghost use Rattle.std.specs.Prelude.{Some};
+    ghost use Rattle.checker.specs.LineText.{entry_text};
+
+    ghost output = { λ line. Some (entry_text line.place line.entry) };
+
+    fn fmt<W: fmt::Write>(&self, f: &mut fmt::Formatter<W>) -> fmt::Result {
+        let (place, nr) = (self.place, self.entry.call.nr);
+        let (action, ret_data) = (self.entry.verdict.action, self.entry.verdict.ret_data);
+        let outcome = outcome(self.entry.performed);
+        write!(f, "{place} {nr} {action} {ret_data} {outcome}")
+    }
+}
+
+fn outcome(performed: bool) -> &'static str
+    ensures { result.now ≡ outcome_text performed }
+{
+    if performed { "performed" } else { "denied" }
+}
+
+/// A line for each judged call, and one for the end. Each step but the last makes a call, so a call's
+/// place in the record is its step's place in the script.
+pub(crate) fn outcome_lines(alloc: Global, outcome: &Outcome) -> Result<String, AllocError>
+    ensures { IfOk result (λ text. string_bytes text ≡ record_text outcome.now) }
+{
+    let mut text = String::new(alloc);
+    for (place, entry) in outcome.entries().iter().enumerate() {
+        let line = Line {
+            place,
+            entry: *entry,
+        };
+        writeln!(text, "{line}")?;
+    }
+    let code = outcome.code();
+    writeln!(text, "exit {code}")?;
+    Ok(text)
+}

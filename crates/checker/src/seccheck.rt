@@ -1,0 +1,134 @@
+use crate::file::{FileFault, read_file};
+use crate::judging::judge;
+use crate::line::{accepted, judged_line, outcome_lines};
+use crate::playing::play;
+use crate::show::code_lines;
+use crate::stop::Stop;
+use crate::words::{attempt_at, call_at, command, word_at};
+use bpf_verify::{Filter, Refusal, filter_of};
+use call_data::SysCall;
+use clap::error::ErrorKind;
+use std::io::{self, Write};
+use std::rt::Files;
+use verdict::Stack;
+
+/// The program `seccheck`: looks at filters, runs them, and plays scripts under them. `words` are the
+/// command line's, the program's name first. The answer is the program's status: 0 done, 1 input
+/// refused, 2 command line refused, 3 file fault, 4 out of memory. What can't be written counts as a
+/// file fault.
+pub fn seccheck_run<R: Files + AllocGlobal, O: Write, E: Write>(
+    rt: &R,
+    words: &[String],
+    out: &mut O,
+    err: &mut E,
+) -> u8 {
+    let stop = match text_of(rt, words) {
+        Ok(text) => match out.write_all(text.as_bytes()) {
+            Ok(()) => return 0,
+            Err(_) => Stop::Unwritten,
+        },
+        Err(stop) => stop,
+    };
+    match tell(&stop, out, err) {
+        Ok(()) => stop.status(),
+        Err(_) => Stop::Unwritten.status(),
+    }
+}
+
+/// Says why the program ends: on standard output that its input is refused, else on standard error.
+fn tell<O: Write, E: Write>(stop: &Stop, out: &mut O, err: &mut E) -> io::Result<()> {
+    if stop.is_answer() {
+        write!(out, "{stop}")
+    } else {
+        write!(err, "{stop}")
+    }
+}
+
+/// What the program prints where nothing stops it.
+fn text_of<'a, R: Files + AllocGlobal>(rt: &R, words: &'a [String]) -> Result<String, Stop<'a>> {
+    let mut command = command(rt.alloc())?;
+    let matches = command.try_get_matches_from_mut(words)?;
+    match matches.subcommand() {
+        Some(("run", matches)) => {
+            let call = call_at(matches).map_err(Stop::BadNumber)?;
+            run_text(rt, word_at(matches, "FILTER"), call)
+        }
+        Some(("verify", matches)) => verify_text(rt, word_at(matches, "FILTER")),
+        Some(("show", matches)) => show_text(rt, word_at(matches, "FILTER")),
+        Some(("play", matches)) => {
+            let attempt = attempt_at(matches).map_err(Stop::BadNumber)?;
+            let filters = matches.get_strs("FILTER").unwrap_or(&[]);
+            play_text(rt, word_at(matches, "SCRIPT"), filters, attempt)
+        }
+        _ => Err(
+            command
+                .error(ErrorKind::MissingSubcommand, "a subcommand is required")?
+                .into(),
+        ),
+    }
+}
+
+/// That the filter is accepted.
+fn verify_text<'a, R: Files + AllocGlobal>(rt: &R, path: &'a str) -> Result<String, Stop<'a>> {
+    let filter = filter_at(rt, path)?;
+    Ok(accepted(rt.alloc(), filter.len())?)
+}
+
+/// The instructions of a file that is a list of them.
+fn show_text<'a, R: Files + AllocGlobal>(rt: &R, path: &'a str) -> Result<String, Stop<'a>> {
+    let bytes = bytes_at(rt, path)?;
+    let code = bpf_code::read(rt.alloc(), &bytes).map_err(Refusal::Code)?;
+    Ok(code_lines(rt.alloc(), &code)?)
+}
+
+/// What the filter says of the call.
+fn run_text<'a, R: Files + AllocGlobal>(
+    rt: &R,
+    path: &'a str,
+    call: SysCall,
+) -> Result<String, Stop<'a>> {
+    let filter = filter_at(rt, path)?;
+    Ok(judged_line(rt.alloc(), &judge(&filter, &call))?)
+}
+
+/// The record of a script that is played under the filters, and the code with which it ends.
+fn play_text<'a, R: Files + AllocGlobal>(
+    rt: &R,
+    script: &'a str,
+    filters: &[&'a str],
+    attempt: u32,
+) -> Result<String, Stop<'a>> {
+    let bytes = bytes_at(rt, script)?;
+    let script = script::read(rt.alloc(), &bytes)?;
+    let stack = stack_at(rt, filters)?;
+    let outcome = play(rt.alloc(), script, stack, attempt)?;
+    Ok(outcome_lines(rt.alloc(), &outcome)?)
+}
+
+/// The stack of the filters in these files, the oldest one first. Each is read, judged and added before
+/// the next one is read.
+fn stack_at<'a, R: Files + AllocGlobal>(rt: &R, paths: &[&'a str]) -> Result<Stack, Stop<'a>> {
+    let mut stack = Stack::new(rt.alloc());
+    for path in paths {
+        let bytes = bytes_at(rt, path)?;
+        match filter_of(rt.alloc(), &bytes) {
+            Ok(filter) => stack.push(filter)?,
+            Err(refusal) => return Err(Stop::of_stack_filter(refusal)),
+        }
+    }
+    Ok(stack)
+}
+
+/// The filter in a file.
+fn filter_at<'a, R: Files + AllocGlobal>(rt: &R, path: &'a str) -> Result<Filter, Stop<'a>> {
+    let bytes = bytes_at(rt, path)?;
+    Ok(filter_of(rt.alloc(), &bytes)?)
+}
+
+/// The bytes of a file.
+fn bytes_at<'a, R: Files + AllocGlobal>(rt: &R, path: &'a str) -> Result<Vec<u8>, Stop<'a>> {
+    read_file(rt, path).map_err(|fault| match fault {
+        FileFault::Memory => Stop::Memory,
+        _ => Stop::File(path, fault),
+    })
+}

@@ -1,0 +1,171 @@
+use crate::file::FileFault;
+use bpf_code::CodeFault;
+use bpf_verify::{Filter, Refusal};
+use script::ScriptFault;
+use std::alloc::{AllocError, AllocFailed};
+use std::fmt;
+use verdict::StackFault;
+
+/// Why a program ends before its work is done.
+#[derive(Debug, Drop)]
+pub(crate) enum Stop<'a> {
+    /// The one filter of a command is refused.
+    Refused(Refusal),
+    /// The script is refused.
+    Script(ScriptFault),
+    /// A filter of a stack is refused.
+    StackFilter(Refusal),
+    /// A stack does not take a filter.
+    Stack(StackFault),
+    /// The command line is refused, or help was asked for.
+    CommandLine(clap::Error),
+    /// A word of the command line is no number of its range.
+    BadNumber(&'a str),
+    /// A file can't be read.
+    File(&'a str, FileFault),
+    /// What is to be printed can't be written.
+    Unwritten,
+    /// A growth was refused.
+    Memory,
+}
+
+impl Stop<'_> {
+    ghost use Rattle.std.specs.Prelude.{◌≡◌};
+    ghost use Rattle.checker.specs.Stops.{is_refusal, status_of};
+
+    /// The status with which the program ends.
+    pub(crate) fn status(&self) -> u8
+        ensures { result ≡ status_of self.now }
+    {
+        match self {
+            Stop::Refused(_) | Stop::Script(_) | Stop::StackFilter(_) | Stop::Stack(_) => 1,
+            Stop::CommandLine(_) | Stop::BadNumber(_) => 2,
+            Stop::File(_, _) | Stop::Unwritten => 3,
+            Stop::Memory => 4,
+        }
+    }
+
+    /// Whether it is told on standard output: that what was given is refused is the program's answer.
+    /// All else goes to standard error.
+    pub(crate) fn is_answer(&self) -> bool
+        ensures { result ≡ is_refusal self.now }
+    {
+        matches!(
+            self,
+            Stop::Refused(_) | Stop::Script(_) | Stop::StackFilter(_) | Stop::Stack(_)
+        )
+    }
+}
+
+/// What is printed of it, with the end of the line. A refused command line is told in clap's own words.
+impl fmt::Display for Stop<'_> {
+    ghost use Rattle.checker.specs.StopText.{stop_text};
+
+    ghost output = { λ stop. stop_text stop };
+
+    fn fmt<W: fmt::Write>(&self, f: &mut fmt::Formatter<W>) -> fmt::Result {
+        match self {
+            Stop::Refused(refusal) => writeln!(f, "refused {refusal}"),
+            Stop::Script(fault) => writeln!(f, "refused script {fault}"),
+            Stop::StackFilter(refusal) => writeln!(f, "refused filter {refusal}"),
+            Stop::Stack(fault) => writeln!(f, "refused filter {fault}"),
+            Stop::CommandLine(error) => write!(f, "{error}"),
+            Stop::BadNumber(word) => writeln!(f, "seccheck: {word}: BadNumber"),
+            Stop::File(path, fault) => writeln!(f, "seccheck: {path}: {fault}"),
+            Stop::Unwritten => Ok(()),
+            Stop::Memory => writeln!(f, "seccheck: Memory"),
+        }
+    }
+}
+
+impl<'a> From<Refusal> for Stop<'a> {
+    ghost use Rattle.std.specs.Prelude.{◌≡◌};
+    ghost use Rattle.checker.specs.Stops.{of_refusal};
+
+    ghost from_gives = { λ refusal stop. stop ≡ of_refusal refusal };
+
+    fn from(refusal: Refusal) -> Stop<'a> {
+        match refusal {
+            Refusal::Code(CodeFault::Memory) => Stop::Memory,
+            _ => Stop::Refused(refusal),
+        }
+    }
+}
+
+impl<'a> Stop<'a> {
+    ghost use Rattle.std.specs.Prelude.{◌≡◌};
+    ghost use Rattle.checker.specs.Stops.{of_stack_refusal};
+
+    /// Why a filter of a stack stops the program.
+    pub(crate) fn of_stack_filter(refusal: Refusal) -> Stop<'a>
+        ensures { result ≡ of_stack_refusal refusal }
+    {
+        match refusal {
+            Refusal::Code(CodeFault::Memory) => Stop::Memory,
+            _ => Stop::StackFilter(refusal),
+        }
+    }
+}
+
+impl<'a> From<ScriptFault> for Stop<'a> {
+    ghost use Rattle.std.specs.Prelude.{◌≡◌};
+    ghost use Rattle.checker.specs.Stops.{of_script_fault};
+
+    ghost from_gives = { λ fault stop. stop ≡ of_script_fault fault };
+
+    fn from(fault: ScriptFault) -> Stop<'a> {
+        match fault {
+            ScriptFault::Memory => Stop::Memory,
+            _ => Stop::Script(fault),
+        }
+    }
+}
+
+impl<'a> From<(Filter, StackFault)> for Stop<'a> {
+    ghost use Rattle.std.specs.Prelude.{◌≡◌};
+    ghost use Rattle.checker.specs.Stops.{of_stack_fault};
+
+    ghost from_gives = { λ refused stop. stop ≡ of_stack_fault refused.1 };
+
+    fn from(refused: (Filter, StackFault)) -> Stop<'a> {
+        match refused.1 {
+            StackFault::Memory => Stop::Memory,
+            fault => Stop::Stack(fault),
+        }
+    }
+}
+
+impl<'a> From<AllocError> for Stop<'a> {
+    ghost use Rattle.std.specs.Prelude.{◌≡◌};
+    ghost use Rattle.checker.specs.declared.stop.Stop.TheVariants.{Memory};
+
+    ghost from_gives = { λ _ stop. stop ≡ Memory };
+
+    fn from(_: AllocError) -> Stop<'a> {
+        Stop::Memory
+    }
+}
+
+impl<'a, T: Drop> From<AllocFailed<T>> for Stop<'a> {
+    ghost use Rattle.std.specs.Prelude.{◌≡◌};
+    ghost use Rattle.checker.specs.declared.stop.Stop.TheVariants.{Memory};
+
+    ghost from_gives = { λ _ stop. stop ≡ Memory };
+
+    fn from(_: AllocFailed<T>) -> Stop<'a> {
+        Stop::Memory
+    }
+}
+
+impl<'a> From<clap::Error> for Stop<'a> {
+    ghost use Rattle.checker.specs.Stops.{IsOfCommandLine};
+
+    ghost from_gives = { λ error stop. IsOfCommandLine error stop };
+
+    fn from(error: clap::Error) -> Stop<'a> {
+        match error.kind() {
+            clap::error::ErrorKind::OutOfMemory => Stop::Memory,
+            _ => Stop::CommandLine(error),
+        }
+    }
+}
