@@ -60,10 +60,6 @@ each kind (d ∷ ds) = option_and_then (λ x. option_map (λ xs. x ∷ xs) (each
 unfoldable pub wholes : Data → Option (List ℕ)
 wholes tree = option_and_then (each whole) (list tree)
 
--- a list of texts
-unfoldable pub texts : Data → Option (List (List ℕ))
-texts tree = option_and_then (each text) (list tree)
-
 -- a list of texts, as its items
 unfoldable pub text_list : Data → Option (List Data)
 text_list tree = option_and_then (λ items. if list_all (λ item. is_some (text item)) items then Some items else None) (list tree)

@@ -21,11 +21,11 @@ pub use faults::{FieldFault, TextFault};
 pub use kinds::{list, object, text, value, whole, word};
 pub use members::{has, member};
 pub use optional::{
-    optional_flag, optional_list, optional_object, optional_text, optional_texts, optional_whole,
-    optional_wholes, optional_word,
+    optional_flag, optional_list, optional_object, optional_text, optional_whole, optional_wholes,
+    optional_word,
 };
 pub use required::{
-    required_list, required_object, required_text, required_texts, required_value, required_whole,
-    required_wholes, required_word,
+    required_list, required_object, required_text, required_value, required_whole, required_wholes,
+    required_word,
 };
 pub use text_lists::{optional_text_list, required_text_list};

@@ -1,8 +1,8 @@
-ghost use Rattle.std.specs.Prelude.{◌≡◌, IfOk, Ok, None, is_some, map, option_map, string_bytes};
+ghost use Rattle.std.specs.Prelude.{◌≡◌, IfOk, Ok, None, is_some, map, option_map};
 ghost use Rattle.serde_json.specs.View.{view};
 ghost use Rattle.json_tree.specs.Tree as kind;
 
-use crate::kinds::{list, text, whole};
+use crate::kinds::{list, whole};
 use serde_json::Value;
 use std::alloc::{AllocError, Global};
 
@@ -20,37 +20,12 @@ pub(crate) fn wholes(alloc: Global, tree: &Value) -> Result<Option<Vec<u64>>, Al
     }
 }
 
-/// The texts of a list, if it is a list of nothing else.
-#[tactic(auto, unfolding(crate::specs::Tree::texts))]
-pub(crate) fn texts(alloc: Global, tree: &Value) -> Result<Option<Vec<String>>, AllocError>
-    ensures value { IfOk result (λ o. option_map (λ v. map string_bytes v.items) o
-        ≡ kind.texts (view tree.now)) }
-    ensures told { kind.texts (view tree.now) ≡ None → result ≡ Ok None }
-{
-    match list(tree) {
-        Some(items) if are_texts(items) => each_text(alloc, items),
-        _ => Ok(None),
-    }
-}
-
 #[tactic(auto, using(crate::proofs::Items::each_goes_on, crate::proofs::Items::each_fails))]
 fn are_whole(items: &[Value]) -> bool
     ensures { result ≡ is_some (kind.each kind.whole (map view items.now)) }
 {
     for item in items {
         let Some(_) = whole(item) else {
-            return false;
-        };
-    }
-    true
-}
-
-#[tactic(auto, using(crate::proofs::Items::each_goes_on, crate::proofs::Items::each_fails))]
-fn are_texts(items: &[Value]) -> bool
-    ensures { result ≡ is_some (kind.each kind.text (map view items.now)) }
-{
-    for item in items {
-        let Some(_) = text(item) else {
             return false;
         };
     }
@@ -70,19 +45,4 @@ fn each_whole(alloc: Global, items: &[Value]) -> Result<Option<Vec<u64>>, AllocE
         numbers.push(number)?;
     }
     Ok(Some(numbers))
-}
-
-#[tactic(auto, using(crate::proofs::Items::each_more, crate::proofs::Items::each_stops, std::proofs::lemmas::List::map_push))]
-fn each_text(alloc: Global, items: &[Value]) -> Result<Option<Vec<String>>, AllocError>
-    ensures { IfOk result (λ o. option_map (λ v. map string_bytes v.items) o
-        ≡ kind.each kind.text (map view items.now)) }
-{
-    let mut owned = Vec::new(alloc);
-    for item in items {
-        let Some(lent) = text(item) else {
-            return Ok(None);
-        };
-        owned.push(String::from_str(alloc, lent)?)?;
-    }
-    Ok(Some(owned))
 }

@@ -1,4 +1,4 @@
-ghost use Rattle.std.specs.Prelude.{◌≡◌, Err, map, option_map, string_bytes};
+ghost use Rattle.std.specs.Prelude.{◌≡◌, Err, map, option_map};
 ghost use Rattle.serde_json.specs.View.{view};
 ghost use Rattle.json_tree.specs.declared.faults.FieldFault.{FieldFault};
 ghost use Rattle.json_tree.specs.Reading.{Gives, as_read, optional};
@@ -6,7 +6,7 @@ ghost use Rattle.json_tree.specs.Tree as kind;
 
 use crate::faults::FieldFault;
 use crate::kinds::{flag, list, object, text, whole, word};
-use crate::lists::{texts, wholes};
+use crate::lists::wholes;
 use crate::members::member;
 use serde_json::Value;
 use std::alloc::Global;
@@ -93,23 +93,6 @@ pub fn optional_wholes(
 {
     match member(tree, key) {
         Some(found) => wholes(alloc, found)?.map(Some).ok_or(FieldFault::WrongType),
-        None => Ok(None),
-    }
-}
-
-/// The texts of the list of a field that may be left out, also as null.
-#[tactic(auto, unfolding(crate::specs::Reading::optional))]
-pub fn optional_texts(
-    alloc: Global,
-    tree: &Value,
-    key: &str,
-) -> Result<Option<Vec<String>>, FieldFault>
-    ensures value { Gives FieldFault.Memory (option_map (λ v. map string_bytes v.items)) result
-        (optional kind.texts key.now (view tree.now)) }
-    ensures told { (fault : FieldFault) → optional kind.texts key.now (view tree.now) ≡ Err fault → result ≡ Err fault }
-{
-    match member(tree, key) {
-        Some(found) => texts(alloc, found)?.map(Some).ok_or(FieldFault::WrongType),
         None => Ok(None),
     }
 }

@@ -1,4 +1,4 @@
-ghost use Rattle.std.specs.Prelude.{◌≡◌, Err, map, string_bytes};
+ghost use Rattle.std.specs.Prelude.{◌≡◌, Err, map};
 ghost use Rattle.serde_json.specs.View.{view};
 ghost use Rattle.json_tree.specs.declared.faults.FieldFault.{FieldFault};
 ghost use Rattle.json_tree.specs.Reading.{Gives, as_read, required};
@@ -6,7 +6,7 @@ ghost use Rattle.json_tree.specs.Tree as kind;
 
 use crate::faults::FieldFault;
 use crate::kinds::{list, object, text, value, whole, word};
-use crate::lists::{texts, wholes};
+use crate::lists::wholes;
 use serde_json::Value;
 use std::alloc::Global;
 
@@ -67,16 +67,6 @@ pub fn required_wholes(alloc: Global, tree: &Value, key: &str) -> Result<Vec<u64
 {
     let found = tree.get(key).ok_or(FieldFault::Missing)?;
     wholes(alloc, found)?.ok_or(FieldFault::WrongType)
-}
-
-/// The texts of the list of a field that has to be there.
-#[tactic(auto, unfolding(crate::specs::Reading::required))]
-pub fn required_texts(alloc: Global, tree: &Value, key: &str) -> Result<Vec<String>, FieldFault>
-    ensures value { Gives FieldFault.Memory (λ v. map string_bytes v.items) result (required kind.texts key.now (view tree.now)) }
-    ensures told { (fault : FieldFault) → required kind.texts key.now (view tree.now) ≡ Err fault → result ≡ Err fault }
-{
-    let found = tree.get(key).ok_or(FieldFault::Missing)?;
-    texts(alloc, found)?.ok_or(FieldFault::WrongType)
 }
 
 /// The value, whatever it is but null, of a field that has to be there.

@@ -86,6 +86,10 @@ fn lists(rt: HostRuntime) {
     let found = read(rt.alloc(), text).expect(&rt, "JSON");
     assert!(rt; required_wholes(rt.alloc(), &found, "a").is_ok());
     assert!(rt; optional_wholes(rt.alloc(), &found, "a").is_ok());
-    assert!(rt; required_texts(rt.alloc(), &found, "b").is_ok());
-    assert!(rt; optional_texts(rt.alloc(), &found, "b").is_ok());
+    assert!(rt; required_text_list(&found, "b").is_ok());
+    assert!(rt; optional_text_list(&found, "b").is_ok());
+    assert_eq!(rt;
+        required_text_list(&found, "a").err(),
+        Some(FieldFault::WrongType)
+    );
 }

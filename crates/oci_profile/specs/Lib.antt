@@ -6,3 +6,4 @@ pub mod Faults
 pub mod Profile
 pub mod Reading
 pub mod RuntimeDefault
+pub mod FaultText
