@@ -46,7 +46,7 @@ fn are_whole(items: &[Value]) -> bool
 }
 
 #[tactic(auto, using(crate::proofs::Items::each_goes_on, crate::proofs::Items::each_fails))]
-fn are_texts(items: &[Value]) -> bool
+pub(crate) fn are_texts(items: &[Value]) -> bool
     ensures { result ≡ is_some (kind.each kind.text (map view items.now)) }
 {
     for item in items {

@@ -3,55 +3,70 @@ ghost use Rattle.oci_profile.specs.declared.faults.ProfileFault.TheVariants.{Mem
 
 use json_tree::{FieldFault, TextFault};
 use std::alloc::{AllocError, AllocFailed};
+use std::fmt;
 use thiserror::Error;
 
 /// Why a text is no profile.
 #[derive(Clone, Copy, Debug, PartialEq, Eq, Error)]
 pub enum ProfileFault {
     /// The text has more than [`MAX_PROFILE_BYTES`](crate::MAX_PROFILE_BYTES) bytes.
-    #[error("TooLarge")]
     TooLarge,
     /// The text is no JSON.
-    #[error("NotJson")]
     NotJson,
     /// The text is JSON, but no object.
-    #[error("NotObject")]
     NotObject,
     /// A field that has to be there is not.
-    #[error("Missing")]
     Missing,
     /// A field is of another kind.
-    #[error("WrongType")]
     WrongType,
     /// The action is SCMP_ACT_NOTIFY, for which there is no listener.
-    #[error("Notify")]
     Notify,
     /// No action has this name.
-    #[error("UnknownAction")]
     UnknownAction,
     /// An errno is given for an action that takes none.
-    #[error("ErrnoNotAllowed")]
     ErrnoNotAllowed,
     /// An errno is above what its action takes.
-    #[error("ErrnoTooLarge")]
     ErrnoTooLarge,
     /// An entry names no call.
-    #[error("EmptyNames")]
     EmptyNames,
     /// No call has an argument with this index.
-    #[error("BadIndex")]
     BadIndex,
     /// An entry has two conditions on one argument.
-    #[error("RepeatedIndex")]
     RepeatedIndex,
     /// No comparison has this name.
-    #[error("UnknownOp")]
     UnknownOp,
     /// An entry that is stricter than the default names a call that is not in the table.
-    #[error("UnknownCall")]
     UnknownCall,
-    #[error("Memory")]
+    /// A growth was refused.
     Memory,
+}
+
+/// The fault's name.
+impl fmt::Display for ProfileFault {
+    ghost use Rattle.std.specs.Prelude.{Some};
+    ghost use Rattle.oci_profile.specs.Faults.{fault_text};
+
+    ghost output = { λ fault. Some (fault_text fault) };
+
+    fn fmt<W: fmt::Write>(&self, f: &mut fmt::Formatter<W>) -> fmt::Result {
+        f.write_str(match self {
+            ProfileFault::TooLarge => "TooLarge",
+            ProfileFault::NotJson => "NotJson",
+            ProfileFault::NotObject => "NotObject",
+            ProfileFault::Missing => "Missing",
+            ProfileFault::WrongType => "WrongType",
+            ProfileFault::Notify => "Notify",
+            ProfileFault::UnknownAction => "UnknownAction",
+            ProfileFault::ErrnoNotAllowed => "ErrnoNotAllowed",
+            ProfileFault::ErrnoTooLarge => "ErrnoTooLarge",
+            ProfileFault::EmptyNames => "EmptyNames",
+            ProfileFault::BadIndex => "BadIndex",
+            ProfileFault::RepeatedIndex => "RepeatedIndex",
+            ProfileFault::UnknownOp => "UnknownOp",
+            ProfileFault::UnknownCall => "UnknownCall",
+            ProfileFault::Memory => "Memory",
+        })
+    }
 }
 
 impl From<FieldFault> for ProfileFault {
