@@ -103,6 +103,13 @@ names_of tree = do
   refuse_if (length names == 0) EmptyNames
   Ok names
 
+-- what is judged of an entry before its arguments
+unfoldable pub all_but_args_of : Data → Result Decision ProfileFault
+all_but_args_of item = do
+  tree ← or_else WrongType (object item)
+  names ← names_of tree
+  decision_of (codes "action") (codes "errnoRet") tree
+
 unfoldable pub entry_of : Decision → Data → Result Entry ProfileFault
 entry_of default item = do
   tree ← or_else WrongType (object item)

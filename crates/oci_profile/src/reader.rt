@@ -4,7 +4,7 @@ ghost use Rattle.json_tree.specs.Reading.{Gives, as_read, in_order};
 ghost use Rattle.oci_profile.specs.declared.faults.ProfileFault.{ProfileFault};
 ghost use Rattle.oci_profile.specs.declared.profile.Profile.{Profile};
 ghost use Rattle.oci_profile.specs.Profile.{ReadsProfile, are_known, number_named, rank};
-ghost use Rattle.oci_profile.specs.Reading.{all_but_entries_of, default_of, entry_of, first_fault, head_of, ignored_of, items_of, names_of, profile_of, reading_of, short_of};
+ghost use Rattle.oci_profile.specs.Reading.{all_but_args_of, all_but_entries_of, default_of, entry_of, first_fault, head_of, ignored_of, items_of, names_of, profile_of, reading_of, short_of};
 
 use crate::actions::decision;
 use crate::args::conds;
@@ -119,9 +119,13 @@ fn each_entry(alloc: Global, default: &Decision, items: &[Value]) -> Result<Entr
     Ok(Entries::new(entries))
 }
 
-#[tactic(auto, unfolding(crate::specs::Reading::entry_of))]
+#[tactic(auto, unfolding(crate::specs::Reading::entry_of, crate::specs::Reading::all_but_args_of))]
 fn entry(alloc: Global, default: &Decision, item: &Value) -> Result<Entry, ProfileFault>
-    ensures { Gives ProfileFault.Memory (λ e. e) result (entry_of default.now (view item.now)) }
+    ensures value { Gives ProfileFault.Memory (λ e. e) result (entry_of default.now (view item.now)) }
+
+    // What is found before the arguments is told, whether there is memory or not.
+    ensures told { (fault : ProfileFault) → all_but_args_of (view item.now) ≡ Err fault
+        → result ≡ Err fault }
 {
     let tree = object(item).ok_or(ProfileFault::WrongType)?;
     let names = names(tree)?;
