@@ -2,7 +2,7 @@ ghost use Rattle.std.specs.Prelude.{◌≡◌, IfOk, Ok, None, is_some, map, opt
 ghost use Rattle.serde_json.specs.View.{view};
 ghost use Rattle.json_tree.specs.Tree as kind;
 
-use crate::kinds::{list, whole};
+use crate::kinds::{list, text, whole};
 use serde_json::Value;
 use std::alloc::{AllocError, Global};
 
@@ -26,6 +26,18 @@ fn are_whole(items: &[Value]) -> bool
 {
     for item in items {
         let Some(_) = whole(item) else {
+            return false;
+        };
+    }
+    true
+}
+
+#[tactic(auto, using(crate::proofs::Items::each_goes_on, crate::proofs::Items::each_fails))]
+pub(crate) fn are_texts(items: &[Value]) -> bool
+    ensures { result ≡ is_some (kind.each kind.text (map view items.now)) }
+{
+    for item in items {
+        let Some(_) = text(item) else {
             return false;
         };
     }

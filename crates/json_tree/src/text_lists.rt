@@ -1,11 +1,11 @@
-ghost use Rattle.std.specs.Prelude.{◌≡◌, is_some, map, option_map};
-ghost use Rattle.std.specs.List.{list_all};
+ghost use Rattle.std.specs.Prelude.{◌≡◌, map, option_map};
 ghost use Rattle.serde_json.specs.View.{view};
 ghost use Rattle.json_tree.specs.Reading.{as_read, optional, required};
 ghost use Rattle.json_tree.specs.Tree as kind;
 
 use crate::faults::FieldFault;
-use crate::kinds::{list, text};
+use crate::kinds::list;
+use crate::lists::are_texts;
 use crate::members::member;
 use serde_json::Value;
 
@@ -42,21 +42,4 @@ fn text_list(tree: &Value) -> Option<&[Value]>
 {
     let items = list(tree)?;
     if are_texts(items) { Some(items) } else { None }
-}
-
-fn are_texts(items: &[Value]) -> bool
-    ensures { result ≡ list_all (λ item. is_some (kind.text item)) (map view items.now) }
-{
-    for item in items {
-        if !is_text(item) {
-            return false;
-        }
-    }
-    true
-}
-
-fn is_text(tree: &Value) -> bool
-    ensures { result ≡ is_some (kind.text (view tree.now)) }
-{
-    text(tree).is_some()
 }

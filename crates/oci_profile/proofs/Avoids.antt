@@ -16,7 +16,7 @@ use Rattle.oci_profile.specs.declared.faults.ProfileFault.{ProfileFault}
 use Rattle.oci_profile.specs.declared.faults.ProfileFault.TheVariants.{TooLarge, NotObject, WrongType, EmptyNames, BadIndex, RepeatedIndex, UnknownCall}
 use Rattle.oci_profile.specs.Faults.{fault_of_text}
 use Rattle.oci_profile.specs.Profile.{are_known, rank}
-use Rattle.oci_profile.specs.Reading.{here, action_of, with_given, decision_of, op_named, op_of, is_tested, index_of, cond_of, conds_of, names_of, entry_of, ignored_of, entries_of, default_of, profile_of, short_of}
+use Rattle.oci_profile.specs.Reading.{here, action_of, with_given, decision_of, op_named, op_of, is_tested, index_of, cond_of, conds_of, names_of, entry_of, ignored_of, head_of, items_of, default_of, profile_of, short_of}
 
 abbrev pub Avoids : {A : Type 0} → Result A ProfileFault → Type 0
 Avoids (Ok x) = Unit {0}
@@ -128,12 +128,12 @@ ignored_avoids tree =
     (next _ _ (field_avoids (optional text (codes "listenerPath") tree)) (next _ _ (field_avoids (optional text (codes "listenerMetadata") tree)) tt)))
 
 profile_avoids : (tree : Data) → Avoids (profile_of tree)
-unfolding profile_of default_of entries_of
+unfolding profile_of head_of items_of default_of
 profile_avoids whole_tree =
-    bind _ _ (otherwise NotObject (object whole_tree) (λ same. cc)) (λ tree.
-    bind _ _ (decision_avoids (codes "defaultAction") (codes "defaultErrnoRet") tree) (λ default.
-    next _ _ (ignored_avoids tree)
-    (bind _ _ (bind _ _ (field_avoids (optional list (codes "syscalls") tree)) (λ items. each (entry_of default) (entry_avoids default) (unwrap_or items []))) (λ entries. tt))))
+    bind _ _ (bind _ _ (otherwise NotObject (object whole_tree) (λ same. cc)) (λ tree.
+    bind _ _ (decision_avoids (codes "defaultAction") (codes "defaultErrnoRet") tree) (λ default. next _ _ (ignored_avoids tree) tt))) (λ default.
+    bind _ _ (bind _ _ (field_avoids (optional list (codes "syscalls") whole_tree)) (λ given. tt)) (λ items.
+    bind _ _ (each (entry_of default) (entry_avoids default) items) (λ entries. tt)))
 
 pub short_avoids : (bytes : List ℕ) → Avoids (short_of bytes)
 unfolding short_of

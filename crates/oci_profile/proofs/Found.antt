@@ -9,7 +9,7 @@ use Rattle.serde_json.specs.Data.{Data}
 use Rattle.json_tree.specs.declared.faults.FieldFault.{FieldFault}
 use Rattle.json_tree.specs.declared.faults.TextFault.TheVariants.{NotJson}
 use Rattle.json_tree.specs.Tree.{list, object, text, text_list, tree_of, whole}
-use Rattle.json_tree.specs.Reading.{or_else, refuse_if, in_order_after, as_fault, required, optional, document, Gives, HasField, MayHaveField, Both}
+use Rattle.json_tree.specs.Reading.{◌>>=◌, or_else, refuse_if, in_order, in_order_after, as_fault, required, optional, document, Gives, HasField, MayHaveField, Both}
 use Rattle.json_tree.proofs.Loops.{bind_ok, then_ok}
 use Rattle.json_tree.proofs.Fields.{or_else_ok, refuse_if_ok, as_fault_ok, required_found, optional_found, in_order_found}
 use Rattle.json_tree.proofs.After.{after_found}
@@ -28,7 +28,7 @@ use Rattle.oci_profile.specs.declared.reader.TheConstants.{MAX_PROFILE_BYTES}
 use Rattle.oci_profile.specs.Conditions.{AreConds}
 use Rattle.oci_profile.specs.Faults.{fault_of_text}
 use Rattle.oci_profile.specs.Profile.{IsNameOf, IsErrnoOf, HasDecision, IsOpName, IsCond, number_named, are_known, rank, IsEntry, HasIgnored, IsProfile, ReadsProfile}
-use Rattle.oci_profile.specs.Reading.{here, action_of, with_given, decision_of, op_named, op_of, is_tested, index_of, cond_of, conds_of, names_of, entry_of, ignored_of, entries_of, default_of, profile_of, short_of}
+use Rattle.oci_profile.specs.Reading.{here, action_of, with_given, decision_of, op_named, op_of, is_tested, index_of, cond_of, conds_of, names_of, entry_of, ignored_of, head_of, items_of, default_of, profile_of, short_of}
 use Rattle.oci_profile.proofs.CondLists.{AreApart, apart_push, apart_conds}
 
 here_ok : {A : Type 0} (r : Result A FieldFault) (x : A) → here r ≡ Ok x → r ≡ Ok x
@@ -247,36 +247,43 @@ ignored_found tree u h =
       metadata_there = optional_found text (codes "listenerMetadata") tree metadata.0 (here_ok (optional text (codes "listenerMetadata") tree) metadata.0 metadata.1);
     }
 
-entries_found : (default : Decision) (tree : Data) (entries : List Entry) → entries_of default tree ≡ Ok entries
-    → (syscalls : Option (List Data)) × MayHaveField list (codes "syscalls") tree syscalls × Both (IsEntry default) (unwrap_or syscalls []) entries
-unfolding entries_of
-entries_found default tree entries h =
-    let items = bind_ok (here (optional list (codes "syscalls") tree)) _ _ h in (
-      items.0,
-      optional_found list (codes "syscalls") tree items.0 (here_ok (optional list (codes "syscalls") tree) items.0 items.1),
-      in_order_found (entry_of default) (IsEntry default) (entry_found default) (unwrap_or items.0 []) entries items.2,
-    )
+abbrev HasHead : Data → Decision → Type 0
+HasHead tree default = (object tree ≡ Some tree) × HasDecision (codes "defaultAction") (codes "defaultErrnoRet") tree default × HasIgnored tree
 
-profile_found : (whole_tree : Data) (profile : Profile) → profile_of whole_tree ≡ Ok profile → IsProfile whole_tree profile
-unfolding profile_of default_of
-profile_found whole_tree profile h =
+head_found : (whole_tree : Data) (default : Decision) → head_of whole_tree ≡ Ok default → HasHead whole_tree default
+unfolding head_of default_of
+head_found whole_tree default h =
     let tree = bind_ok (or_else NotObject (object whole_tree)) _ _ h in
     let is_object : object whole_tree ≡ Some tree.0 = or_else_ok NotObject (object whole_tree) tree.0 tree.1 in
     let same : tree.0 ≡ whole_tree = sym (object_same whole_tree tree.0 is_object) in
-    let default = bind_ok (default_of tree.0) _ _ tree.2 in
-    let ignored = then_ok (ignored_of tree.0) _ _ default.2 in
-    let entries = bind_ok (entries_of default.0 tree.0) _ _ ignored.2 in
-    let each = entries_found default.0 tree.0 entries.0 entries.1 in
+    let decision = bind_ok (decision_of (codes "defaultAction") (codes "defaultErrnoRet") tree.0) _ _ tree.2 in
+    let ignored = then_ok (ignored_of tree.0) _ _ decision.2 in
+    let is : decision.0 ≡ default = cc in
+    subst (HasHead whole_tree) is (subst (λ t. HasHead t decision.0) same (
+      ap object same ∙ is_object,
+      decision_found (codes "defaultAction") (codes "defaultErrnoRet") tree.0 decision.0 decision.1,
+      ignored_found tree.0 ignored.0 ignored.1,
+    ))
+
+profile_found : (tree : Data) (profile : Profile) → profile_of tree ≡ Ok profile → IsProfile tree profile
+unfolding profile_of items_of
+profile_found tree profile h =
+    let default = bind_ok (head_of tree) _ _ h in
+    let items = bind_ok (here (optional list (codes "syscalls") tree) >>= λ given. Ok (unwrap_or given [])) _ _ default.2 in
+    let given = bind_ok (here (optional list (codes "syscalls") tree)) _ _ items.1 in
+    let entries = bind_ok (in_order (entry_of default.0) items.0) _ _ items.2 in
     let made : Profile = record { default = default.0; entries = entries.0 } in
     let is : made ≡ profile = cc in
-    subst (IsProfile whole_tree) is (subst (λ t. IsProfile t made) same (record {
-      an_object = ap object same ∙ is_object;
-      decides = decision_found (codes "defaultAction") (codes "defaultErrnoRet") tree.0 default.0 default.1;
-      ignored = ignored_found tree.0 ignored.0 ignored.1;
-      syscalls = each.0;
-      there = each.1;
-      each = each.2;
-    }))
+    let items_are : unwrap_or given.0 [] ≡ items.0 = cc in
+    let head = head_found tree default.0 default.1 in
+    subst (IsProfile tree) is (record {
+      an_object = head.0;
+      decides = head.1;
+      ignored = head.2;
+      syscalls = given.0;
+      there = optional_found list (codes "syscalls") tree given.0 (here_ok (optional list (codes "syscalls") tree) given.0 given.1);
+      each = in_order_found (entry_of default.0) (IsEntry default.0) (entry_found default.0) (unwrap_or given.0 []) entries.0 (ap (in_order (entry_of default.0)) items_are ∙ entries.1);
+    })
 
 short_found : (bytes : List ℕ) (profile : Profile) → length bytes ≤ MAX_PROFILE_BYTES → short_of bytes ≡ Ok profile → ReadsProfile bytes profile
 unfolding short_of document

@@ -16,7 +16,7 @@ use Rattle.oci_profile.specs.declared.decision.Decision.TheVariants.{KillProcess
 use Rattle.oci_profile.specs.declared.profile.Entry.{Entry}
 use Rattle.oci_profile.specs.declared.profile.Profile.{Profile}
 use Rattle.oci_profile.specs.Profile.{IsNameOf, IsErrnoOf, HasDecision, IsOpName, IsCond, are_known, rank, IsEntry, HasIgnored, IsProfile, ReadsProfile}
-use Rattle.oci_profile.specs.Reading.{action_of, with_given, decision_of, op_named, op_of, is_tested, index_of, cond_of, conds_of, names_of, entry_of, ignored_of, entries_of, default_of, profile_of, short_of}
+use Rattle.oci_profile.specs.Reading.{action_of, with_given, decision_of, op_named, op_of, is_tested, index_of, cond_of, conds_of, names_of, entry_of, ignored_of, head_of, items_of, default_of, profile_of, short_of}
 use Rattle.oci_profile.proofs.CondLists.{AreApart, apart_at}
 
 -- the decision where no errno is given
@@ -122,7 +122,7 @@ ignored_only tree h =
     ) refl
 
 profile_only : (tree : Data) (profile : Profile) → IsProfile tree profile → profile_of tree ≡ Ok profile
-unfolding profile_of default_of entries_of
+unfolding profile_of head_of items_of default_of
 profile_only tree profile h =
     rw (
       h.an_object,

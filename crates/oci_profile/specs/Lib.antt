@@ -6,4 +6,3 @@ pub mod Faults
 pub mod Profile
 pub mod Reading
 pub mod RuntimeDefault
-pub mod FaultText

@@ -103,6 +103,13 @@ names_of tree = do
   refuse_if (length names == 0) EmptyNames
   Ok names
 
+-- what is judged of an entry before its arguments
+unfoldable pub all_but_args_of : Data → Result Decision ProfileFault
+all_but_args_of item = do
+  tree ← or_else WrongType (object item)
+  names ← names_of tree
+  decision_of (codes "action") (codes "errnoRet") tree
+
 unfoldable pub entry_of : Decision → Data → Result Entry ProfileFault
 entry_of default item = do
   tree ← or_else WrongType (object item)
@@ -121,20 +128,34 @@ ignored_of tree = do
   here (optional text (codes "listenerMetadata") tree)
   Ok tt
 
-unfoldable pub entries_of : Decision → Data → Result (List Entry) ProfileFault
-entries_of default tree = do
-  items ← here (optional list (codes "syscalls") tree)
-  in_order (entry_of default) (unwrap_or items [])
-
 unfoldable pub default_of : Data → Result Decision ProfileFault
 default_of tree = decision_of (codes "defaultAction") (codes "defaultErrnoRet") tree
 
-unfoldable pub profile_of : Data → Result Profile ProfileFault
-profile_of whole_tree = do
+-- the default, once all fields but the entries are judged
+unfoldable pub head_of : Data → Result Decision ProfileFault
+head_of whole_tree = do
   tree ← or_else NotObject (object whole_tree)
   default ← default_of tree
   ignored_of tree
-  entries ← entries_of default tree
+  Ok default
+
+-- the entries as they stand there
+unfoldable pub items_of : Data → Result (List Data) ProfileFault
+items_of tree = do
+  items ← here (optional list (codes "syscalls") tree)
+  Ok (unwrap_or items [])
+
+-- what is judged before an entry is looked at
+unfoldable pub all_but_entries_of : Data → Result (List Data) ProfileFault
+all_but_entries_of tree = do
+  head_of tree
+  items_of tree
+
+unfoldable pub profile_of : Data → Result Profile ProfileFault
+profile_of tree = do
+  default ← head_of tree
+  items ← items_of tree
+  entries ← in_order (entry_of default) items
   Ok (record { default = default; entries = entries })
 
 unfoldable pub short_of : List ℕ → Result Profile ProfileFault

@@ -44,7 +44,7 @@ pub enum ProfileFault {
 /// The fault's name.
 impl fmt::Display for ProfileFault {
     ghost use Rattle.std.specs.Prelude.{Some};
-    ghost use Rattle.oci_profile.specs.FaultText.{fault_text};
+    ghost use Rattle.oci_profile.specs.Faults.{fault_text};
 
     ghost output = { λ fault. Some (fault_text fault) };
 

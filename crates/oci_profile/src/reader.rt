@@ -1,9 +1,10 @@
 ghost use Rattle.std.specs.Prelude.{◌≡◌, ◌≢◌, ◌↔◌, ◌<◌, IfOk, IfErr, filter_map, length, map, nat_lt, Some, None, Ok, Err};
 ghost use Rattle.serde_json.specs.View.{view};
 ghost use Rattle.json_tree.specs.Reading.{Gives, as_read, in_order};
+ghost use Rattle.oci_profile.specs.declared.faults.ProfileFault.{ProfileFault};
 ghost use Rattle.oci_profile.specs.declared.profile.Profile.{Profile};
 ghost use Rattle.oci_profile.specs.Profile.{ReadsProfile, are_known, number_named, rank};
-ghost use Rattle.oci_profile.specs.Reading.{default_of, entries_of, entry_of, first_fault, ignored_of, names_of, profile_of, reading_of, short_of};
+ghost use Rattle.oci_profile.specs.Reading.{all_but_args_of, all_but_entries_of, default_of, entry_of, first_fault, head_of, ignored_of, items_of, names_of, profile_of, reading_of, short_of};
 
 use crate::actions::decision;
 use crate::args::conds;
@@ -53,15 +54,29 @@ fn short(alloc: Global, bytes: &[u8]) -> Result<Profile, ProfileFault>
     profile(alloc, &tree)
 }
 
-#[tactic(auto, unfolding(crate::specs::Reading::profile_of))]
+#[tactic(auto, unfolding(crate::specs::Reading::profile_of, crate::specs::Reading::all_but_entries_of))]
 fn profile(alloc: Global, tree: &Value) -> Result<Profile, ProfileFault>
-    ensures { Gives ProfileFault.Memory (λ p. p) result (profile_of (view tree.now)) }
+    ensures value { Gives ProfileFault.Memory (λ p. p) result (profile_of (view tree.now)) }
+
+    // What is found before an entry is looked at is told, whether there is memory or not.
+    ensures told { (fault : ProfileFault) → all_but_entries_of (view tree.now) ≡ Err fault
+        → result ≡ Err fault }
+{
+    let default = head(tree)?;
+    let items = items(tree)?;
+    let entries = each_entry(alloc, &default, items)?;
+    Ok(Profile::new(default, entries))
+}
+
+// The default, once all fields but the entries are judged.
+#[tactic(auto, unfolding(crate::specs::Reading::head_of))]
+fn head(tree: &Value) -> Result<Decision, ProfileFault>
+    ensures { result ≡ head_of (view tree.now) }
 {
     let tree = object(tree).ok_or(ProfileFault::NotObject)?;
     let default = default(tree)?;
     ignored(tree)?;
-    let entries = entries(alloc, &default, tree)?;
-    Ok(Profile::new(default, entries))
+    Ok(default)
 }
 
 #[tactic(auto, unfolding(crate::specs::Reading::default_of))]
@@ -69,6 +84,14 @@ fn default(tree: &Value) -> Result<Decision, ProfileFault>
     ensures { result ≡ default_of (view tree.now) }
 {
     decision(tree, "defaultAction", "defaultErrnoRet")
+}
+
+// The entries as they stand there.
+#[tactic(auto, unfolding(crate::specs::Reading::items_of))]
+fn items(tree: &Value) -> Result<&[Value], ProfileFault>
+    ensures { as_read (λ items. map view items.now) result ≡ items_of (view tree.now) }
+{
+    Ok(optional_list(tree, "syscalls")?.unwrap_or(&[]))
 }
 
 #[tactic(auto, unfolding(crate::specs::Reading::ignored_of))]
@@ -80,16 +103,6 @@ fn ignored(tree: &Value) -> Result<(), ProfileFault>
     optional_text(tree, "listenerPath")?;
     optional_text(tree, "listenerMetadata")?;
     Ok(())
-}
-
-#[tactic(auto, unfolding(crate::specs::Reading::entries_of))]
-fn entries(alloc: Global, default: &Decision, tree: &Value) -> Result<Entries, ProfileFault>
-    ensures { Gives ProfileFault.Memory (λ e. e) result (entries_of default.now (view tree.now)) }
-{
-    match optional_list(tree, "syscalls")? {
-        Some(items) => each_entry(alloc, default, items),
-        None => Ok(Entries::new(Vec::new(alloc))),
-    }
 }
 
 #[tactic(auto, using(json_tree::proofs::Loops::in_order_more, json_tree::proofs::Loops::in_order_stops))]
@@ -106,9 +119,13 @@ fn each_entry(alloc: Global, default: &Decision, items: &[Value]) -> Result<Entr
     Ok(Entries::new(entries))
 }
 
-#[tactic(auto, unfolding(crate::specs::Reading::entry_of))]
+#[tactic(auto, unfolding(crate::specs::Reading::entry_of, crate::specs::Reading::all_but_args_of))]
 fn entry(alloc: Global, default: &Decision, item: &Value) -> Result<Entry, ProfileFault>
-    ensures { Gives ProfileFault.Memory (λ e. e) result (entry_of default.now (view item.now)) }
+    ensures value { Gives ProfileFault.Memory (λ e. e) result (entry_of default.now (view item.now)) }
+
+    // What is found before the arguments is told, whether there is memory or not.
+    ensures told { (fault : ProfileFault) → all_but_args_of (view item.now) ≡ Err fault
+        → result ≡ Err fault }
 {
     let tree = object(item).ok_or(ProfileFault::WrongType)?;
     let names = names(tree)?;
