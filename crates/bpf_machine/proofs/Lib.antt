@@ -1,3 +1,4 @@
 pub mod Steps
 pub mod Progress
 pub mod Simulation
+pub mod LongestRun

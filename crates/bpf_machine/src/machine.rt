@@ -1,4 +1,5 @@
-ghost use Rattle.std.specs.Prelude.{◌≤◌, length};
+ghost use Rattle.std.specs.Prelude.{◌≤◌, ℕ, length};
+ghost use Rattle.bpf_verify.specs.Longest.{IsLongest};
 ghost use Rattle.bpf_machine.specs.Runs.{NeverStuck, Runs};
 
 use crate::step::{After, Registers, step};
@@ -24,6 +25,9 @@ pub fn run(filter: &Filter, call: &SysCall) -> Ran
 
     // It ends within the filter's own length.
     ensures bounded { result.steps ≤ length filter.now }
+
+    // Nor does it take more steps than the longest walk has places: `Filter::longest`.
+    ensures longest { (places : ℕ) → IsLongest filter.now places → result.steps ≤ places }
 
     // Each state that the run comes to has a next one: it reads only data and stored words.
     ensures never_stuck { NeverStuck filter.now call.now }

@@ -5,3 +5,5 @@ pub mod Refused
 pub mod Masks
 pub mod FaultText
 pub mod RefusalText
+pub mod Longest
+pub mod Ahead

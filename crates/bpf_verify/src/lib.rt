@@ -8,6 +8,7 @@
 mod fault;
 mod filter;
 mod laws;
+mod longest;
 mod place;
 mod refusal;
 mod verifier;

@@ -1,3 +1,4 @@
+use Rattle.bpf_machine.proofs.LongestRun.{run_at_most}
 use Rattle.bpf_machine.proofs.Progress.{progress}
 use Rattle.bpf_machine.proofs.Simulation.{first_turn, turn_leads}
 use Rattle.bpf_machine.specs.declared.step.After.TheVariants.{Goes, Holds, Fails, Skips, Ends}
@@ -32,6 +33,10 @@ pub returns-in-Ends-clause-run : goal.returns-in-Ends-clause-run
 returns-in-Ends-clause-run c =
     rw (← c.insns-code.ensures.same) (turn_leads (Ends c.in-Ends.value) c.step.new.words c.insns-code.ensures.sound c.steps.invariant
     (λ s next. c.in-Ends.ensures.follows c.args.call.now s next c.to_bytes-data.ensures))
+
+pub returns-in-Ends-clause-longest : goal.returns-in-Ends-clause-longest
+returns-in-Ends-clause-longest c = λ places longest.
+    run_at_most c.args.filter.now c.args.call.now _ _ places (returns-in-Ends-clause-run c) longest
 
 pub returns-in-Ends-clause-never_stuck : goal.returns-in-Ends-clause-never_stuck
 returns-in-Ends-clause-never_stuck c =
