@@ -1,0 +1,4 @@
+//! Compiles seccomp profiles to classic BPF filters: OCI runtime-spec 1.1, config-linux, seccomp.
+#![tactic(auto)]
+
+mod code;
