@@ -1,6 +1,7 @@
 ghost use Rattle.std.specs.Prelude.{◌≡◌, ◌≢◌, ◌↔◌, ℕ, ◌/◌, ◌%◌, ◌^◌, ◌<◌, ◌≤◌, IsTrue};
 ghost use Rattle.action.specs.declared.action.Action.{Action};
 ghost use Rattle.action.specs.declared.verdict.Verdict.{Verdict};
+ghost use Rattle.action.specs.declared.verdict.TheConstants.{ENOSYS, MAX_ERRNO};
 ghost use Rattle.action.specs.Verdict.{code_of, performs_of, rank_of, value_of, verdict_of};
 
 /// A verdict is the one that its value stands for.
@@ -26,4 +27,12 @@ pub fn ranks_are_an_order()
     ensures distinct { (one other : Action) → rank_of one ≡ rank_of other → one ≡ other }
     ensures performing_last { (action : Action)
         → IsTrue (performs_of action) ↔ (rank_of Action.Log ≤ rank_of action) }
+{}
+
+/// What the constants of this crate are, in the standards' own numbers.
+pub fn constants_are_as_stated()
+    // linux/err.h, as seccomp(2) caps it
+    ensures max_errno { MAX_ERRNO ≡ 4095 }
+    // asm-generic/errno.h
+    ensures enosys { ENOSYS ≡ 38 }
 {}

@@ -12,5 +12,7 @@ mod tests;
 mod verdict;
 
 pub use action::Action;
-pub use laws::{ranks_are_an_order, values_round_trip, verdicts_round_trip};
+pub use laws::{
+    constants_are_as_stated, ranks_are_an_order, values_round_trip, verdicts_round_trip,
+};
 pub use verdict::{ENOSYS, MAX_ERRNO, Verdict};

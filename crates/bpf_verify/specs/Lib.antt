@@ -1,4 +1,5 @@
 pub mod Walks
 pub mod Sound
 pub mod Faults
+pub mod Refused
 pub mod Masks

@@ -5,10 +5,12 @@
 //! `specs/CallData.antt`.
 #![tactic(auto)]
 
+mod laws;
 mod sys_call;
 #[cfg(test)]
 mod tests;
 mod words;
 
-pub use sys_call::SysCall;
+pub use laws::{constants_are_as_stated, fields_fit};
+pub use sys_call::{NATIVE_ARCH, SysCall};
 pub use words::{word_of, words_of_fields};

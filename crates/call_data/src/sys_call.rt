@@ -3,6 +3,9 @@ ghost use Rattle.std.specs.Prelude.{◌≡◌, ◌<◌, ◌%◌};
 use crate::words::word_of;
 use byteorder::{ByteOrder, LittleEndian};
 
+/// The architecture of the calls of x86-64: `AUDIT_ARCH_X86_64` of `linux/audit.h`.
+pub const NATIVE_ARCH: u32 = 0xc000_003e;
+
 /// A system call as its filters see it, before it is performed.
 #[derive(Clone, Copy, Debug, PartialEq, Eq)]
 pub struct SysCall {

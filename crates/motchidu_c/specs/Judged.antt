@@ -3,13 +3,14 @@
 use Rattle.std.specs.Prelude.{◌≡◌, ℕ, ◌+◌, ◌*◌, ◌<◌, ◌≤◌, List, length, slice_index, slice_range}
 use Rattle.bpf_code.specs.declared.insn.Insn.{Insn}
 use Rattle.bpf_machine.specs.Runs.{NeverStuck, Runs}
-use Rattle.call_data.specs.CallData.{bytes_of_call}
+use Rattle.call_data.specs.CallData.{IsCall, bytes_of_call}
 use Rattle.call_data.specs.declared.sys_call.SysCall.{SysCall}
 
 -- the run of the code on the call with these bytes: it gives this value after so many steps, ends within
 -- the code's length, and is never stuck
 pub record IsJudged (code : List Insn) (bytes : List ℕ) (value steps : ℕ) : Type 0 where
   pub call : SysCall
+  pub fits : IsCall call
   pub bytes_are : bytes_of_call call ≡ bytes
   pub runs : Runs code call value steps
   pub bounded : steps ≤ length code

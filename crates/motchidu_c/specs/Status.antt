@@ -5,8 +5,8 @@ use Rattle.bpf_code.specs.declared.fault.CodeFault.{CodeFault}
 use Rattle.bpf_code.specs.declared.fault.CodeFault.TheVariants as text
 use Rattle.bpf_verify.specs.declared.fault.Fault.{Fault}
 use Rattle.bpf_verify.specs.declared.fault.Fault.TheVariants as fault
-use Rattle.motchidu_c.specs.declared.refusal.Refusal.{Refusal}
-use Rattle.motchidu_c.specs.declared.refusal.Refusal.TheVariants.{Code, Filter}
+use Rattle.bpf_verify.specs.declared.refusal.Refusal.{Refusal}
+use Rattle.bpf_verify.specs.declared.refusal.Refusal.TheVariants.{Code, Filter}
 use Rattle.motchidu_c.specs.declared.status.Status.{Status}
 use Rattle.motchidu_c.specs.declared.status.Status.TheVariants.{Accepted, Length, TooLong, BadCode, Empty, BadOffset, BadJump, BadWord, BadShift, ZeroDivisor, NoFinalReturn, Unstored, Memory, Lengths}
 

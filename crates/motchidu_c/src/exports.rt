@@ -4,16 +4,18 @@ ghost use Rattle.bpf_code.specs.declared.fault.CodeFault.{CodeFault};
 ghost use Rattle.bpf_code.specs.Reading.{HasFault};
 ghost use Rattle.bpf_code.specs.declared.limits.TheConstants.{MAX_INSNS};
 ghost use Rattle.bpf_verify.specs.declared.fault.Fault.{Fault};
+ghost use Rattle.bpf_verify.specs.declared.refusal.Refusal.{Refusal};
 ghost use Rattle.bpf_verify.specs.Faults.{IsFirstFault};
+ghost use Rattle.bpf_verify.specs.Refused.{IsRefused, IsTextOf};
 ghost use Rattle.bpf_verify.specs.Sound.{IsSound};
 ghost use Rattle.motchidu_c.specs.declared.status.Status.TheVariants.{Accepted, Memory, Lengths};
 ghost use Rattle.motchidu_c.specs.Judged.{AreJudged, HaveRoom};
-ghost use Rattle.motchidu_c.specs.Refused.{IsRefused, IsTextOf};
 ghost use Rattle.motchidu_c.specs.Status.{number_of, place_or, status_of, status_of_code, status_of_text};
 
 use crate::calls::{have_room, run_each};
-use crate::refusal::{Refusal, filter_of};
+use crate::refusal::{place_of, status_of};
 use crate::status::Status;
+use bpf_verify::filter_of;
 use std::alloc::Global;
 
 /// Checks a filter. What is told of a refused one is its first fault, and `at` is set where that has
@@ -37,10 +39,10 @@ pub extern "C" fn motchidu_verify(alloc: Global, filter: &[u8], at: &mut usize) 
     match filter_of(alloc, filter) {
         Ok(_) => Status::Accepted.number(),
         Err(refusal) => {
-            if let Some(place) = refusal.place() {
+            if let Some(place) = place_of(refusal) {
                 *at = place;
             }
-            refusal.status().number()
+            status_of(refusal).number()
         }
     }
 }
@@ -84,6 +86,6 @@ pub extern "C" fn motchidu_run_all(
             run_each(&filter, calls, values, steps);
             Status::Accepted.number()
         }
-        Err(refusal) => refusal.status().number(),
+        Err(refusal) => status_of(refusal).number(),
     }
 }

@@ -1,8 +1,7 @@
 //! The checker and the machine of seccomp filters for C: the static library of `include/motchidu.h`.
 //!
 //! Each export calls the crates below and states their clauses again. A `Status` is what an export
-//! answers, as a number; which faults it stands for says `specs/Status.antt`, and what a filter is
-//! refused for `specs/Refused.antt`. A caller from C owes what the header says of its pointers.
+//! answers, as a number; which faults it stands for says `specs/Status.antt`. A caller from C owes what the header says of its pointers.
 #![tactic(auto)]
 
 mod calls;
@@ -11,5 +10,4 @@ mod refusal;
 mod status;
 
 pub use exports::{motchidu_run_all, motchidu_verify};
-pub use refusal::Refusal;
 pub use status::Status;

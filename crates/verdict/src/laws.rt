@@ -2,6 +2,7 @@ ghost use Rattle.std.specs.Prelude.{◌≡◌, List};
 ghost use Rattle.action.specs.declared.verdict.Verdict.{Verdict};
 ghost use Rattle.bpf_code.specs.declared.insn.Insn.{Insn};
 ghost use Rattle.call_data.specs.declared.sys_call.SysCall.{SysCall};
+ghost use Rattle.verdict.specs.declared.stack.TheConstants.{MAX_STACK_INSNS};
 ghost use Rattle.verdict.specs.Stack.{AllSound, IsJudged, Judges};
 
 use action::ranks_are_an_order;
@@ -17,3 +18,9 @@ pub fn stacks_judge_every_call()
     runs_are_determined();
     sound_code_runs();
 }
+
+/// What the constant of this crate is, in the standard's own number.
+pub fn constants_are_as_stated()
+    // MAX_INSNS_PER_PATH of the kernel's seccomp: 2^18 bytes of 8-byte instructions
+    ensures max_stack_insns { MAX_STACK_INSNS ≡ 32768 }
+{}

@@ -10,5 +10,5 @@ mod stack;
 #[cfg(test)]
 mod tests;
 
-pub use laws::stacks_judge_every_call;
+pub use laws::{constants_are_as_stated, stacks_judge_every_call};
 pub use stack::{MAX_STACK_INSNS, Stack, StackFault};

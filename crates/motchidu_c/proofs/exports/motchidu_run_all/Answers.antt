@@ -1,6 +1,6 @@
 use Rattle.std.proofs.Common.{◌≡◌, ◌≢◌, ◌∙◌, ap}
 use Rattle.bpf_code.specs.declared.fault.CodeFault.TheVariants.{Memory}
-use Rattle.motchidu_c.specs.declared.refusal.Refusal.TheVariants.{Code, Filter}
+use Rattle.bpf_verify.specs.declared.refusal.Refusal.TheVariants.{Code, Filter}
 use Rattle.motchidu_c.specs.Status.{number_of, status_of}
 use Rattle.motchidu_c.proofs.exports.motchidu_run_all.Goals as goal
 
@@ -11,7 +11,7 @@ returns-in-Ok-clause-first c room code fault is short first enough =
 
 pub returns-in-Err-clause-first : goal.returns-in-Err-clause-first
 returns-in-Err-clause-first c room code fault is short first enough =
-    let not_memory : c.in-Err.refusal ≢ Code Memory = λ e. enough (c.number-in-Err.ensures ∙ ap number_of (c.status.ensures ∙ ap status_of e)) in
+    let not_memory : c.in-Err.refusal ≢ Code Memory = λ e. enough (c.number-in-Err.ensures ∙ ap number_of (c.status_of.ensures ∙ ap status_of e)) in
     let told = c.in-Err.ensures.first code fault is short first (λ e. not_memory (cc)) in
     let same : c.in-Err.refusal ≡ Filter fault = cc in
-    c.number-in-Err.ensures ∙ ap number_of (c.status.ensures ∙ ap status_of same)
+    c.number-in-Err.ensures ∙ ap number_of (c.status_of.ensures ∙ ap status_of same)

@@ -2,7 +2,7 @@ use Rattle.std.proofs.Common.{◌≡◌, ◌∙◌, sym, subst, List}
 use Rattle.bpf_code.specs.declared.insn.Insn.{Insn}
 use Rattle.bpf_verify.specs.Faults.{IsFirstFault}
 use Rattle.bpf_verify.specs.Sound.{IsSound}
-use Rattle.motchidu_c.proofs.refusal.filter_of.Goals as goal
+use Rattle.bpf_verify.proofs.refusal.filter_of.Goals as goal
 
 -- the bytes spell one code alone
 pub returns-in-Ok-verify-clause-first : goal.returns-in-Ok-verify-clause-first

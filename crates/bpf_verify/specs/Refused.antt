@@ -7,8 +7,8 @@ use Rattle.bpf_code.specs.declared.fault.CodeFault.TheVariants.{Memory}
 use Rattle.bpf_code.specs.Code.{Fits, bytes_of_code}
 use Rattle.bpf_code.specs.Reading.{HasFault}
 use Rattle.bpf_verify.specs.Faults.{IsFirstFault}
-use Rattle.motchidu_c.specs.declared.refusal.Refusal.{Refusal}
-use Rattle.motchidu_c.specs.declared.refusal.Refusal.TheVariants.{Code, Filter}
+use Rattle.bpf_verify.specs.declared.refusal.Refusal.{Refusal}
+use Rattle.bpf_verify.specs.declared.refusal.Refusal.TheVariants.{Code, Filter}
 
 -- the bytes spell this code, and no other: its numbers have room in them
 pub record IsTextOf (bytes : List ℕ) (code : List Insn) : Type 0 where

@@ -1,0 +1,54 @@
+ghost use Rattle.std.specs.Prelude.{◌≡◌, ◌≢◌, ◌≤◌, IsOk, IfOk, IfErr, List, length};
+ghost use Rattle.bpf_code.specs.declared.insn.Insn.{Insn};
+ghost use Rattle.bpf_code.specs.declared.fault.CodeFault.{CodeFault};
+ghost use Rattle.bpf_code.specs.declared.limits.TheConstants.{MAX_INSNS};
+ghost use Rattle.bpf_code.specs.Reading.{HasFault};
+ghost use Rattle.bpf_verify.specs.declared.fault.Fault.{Fault};
+ghost use Rattle.bpf_verify.specs.Faults.{IsFirstFault};
+ghost use Rattle.bpf_verify.specs.Refused.{IsRefused, IsTextOf};
+ghost use Rattle.bpf_verify.specs.Sound.{IsSound};
+
+use crate::fault::Fault;
+use crate::filter::Filter;
+use crate::verifier::verify;
+use bpf_code::{CodeFault, written_is_read};
+use std::alloc::Global;
+use thiserror::Error;
+
+/// Why the bytes of a filter are refused. Printed as the fault that it holds.
+#[derive(Clone, Copy, Debug, PartialEq, Eq, Error)]
+pub enum Refusal {
+    /// They are no list of instructions, or there was no memory to read them.
+    #[error("{0}")]
+    Code(CodeFault),
+    /// Their instructions are no sound filter.
+    #[error("{0}")]
+    Filter(Fault),
+}
+
+/// The filter that these bytes spell, if it is sound: those of its `struct sock_filter`s, one after the
+/// other, little-endian. A fault of the bytes comes before one of the code that they spell.
+/// `Code(Memory)` where a growth was refused, and only for bytes that spell code.
+pub fn filter_of(alloc: Global, bytes: &[u8]) -> Result<Filter, Refusal>
+    ensures text { IfOk result (λ filter. IsTextOf bytes.now filter) }
+    ensures sound { IfOk result (λ filter. IsSound filter) }
+    ensures refused { IfErr result (IsRefused bytes.now) }
+
+    // A text with a fault is refused for it, whether there is memory or not.
+    ensures told { (fault : CodeFault) → HasFault bytes.now fault → result ≡ Err (Refusal.Code fault) }
+
+    // Sound code is accepted, and of other code the first fault is told, where there is memory.
+    ensures accepts { (code : List Insn) → IsTextOf bytes.now code → IsSound code
+        → result ≢ Err (Refusal.Code CodeFault.Memory) → IsOk result }
+    ensures first { (code : List Insn) (fault : Fault) → IsTextOf bytes.now code → length code ≤ MAX_INSNS → IsFirstFault code fault
+        → result ≢ Err (Refusal.Code CodeFault.Memory) → result ≡ Err (Refusal.Filter fault) }
+{
+    written_is_read();
+    match bpf_code::read(alloc, bytes) {
+        Ok(insns) => match verify(insns) {
+            Ok(filter) => Ok(filter),
+            Err((_, fault)) => Err(Refusal::Filter(fault)),
+        },
+        Err(fault) => Err(Refusal::Code(fault)),
+    }
+}

@@ -1,0 +1,4 @@
+pub mod Decision
+pub mod Conditions
+pub mod Entries
+pub mod Meaning
