@@ -63,6 +63,12 @@ pub put_gives : (insn : Insn) (old new : List Insn) (call : SysCall) (a to b val
 put_gives insn old new call a to b value most puts to_is on =
     leads insn puts.stands to b most to_is (omega arith) (puts.keeps call to b value most on)
 
+pub front_gives : (insn : Insn) (old new : List Insn) (call : SysCall) (a to b value most : ℕ) → Puts insn old new
+    → LeadsTo insn.op call insn (length old) a to b → Gives old call to b value most → Gives new call (length new - 1) a value (most + 1)
+front_gives insn old new call a to b value most puts to_is on =
+    let same : length new - 1 ≡ length old = omega (arith, puts.longer) in
+    rw same (put_gives insn old new call a to b value most puts to_is on)
+
 pub put_return : (insn : Insn) (old new : List Insn) (call : SysCall) (a value most : ℕ) → Puts insn old new → insn.op ≡ ReturnK → value ≡ insn.k → 0 < most → Gives new call (length old) a value most
 put_return insn old new call a value most puts op is some = ends insn puts.stands op is some
 
@@ -106,7 +112,7 @@ branch_leads GreaterOrEqual call insn at a hit miss hit_in miss_in jt jf = (bran
 
 pub jump_gives : (test : Test) (insn : Insn) (old new : List Insn) (call : SysCall) (a hit miss value most : ℕ) → Puts insn old new → insn.op ≡ operation_of test
     → hit < length old → miss < length old → insn.jt ≡ length old - 1 - hit → insn.jf ≡ length old - 1 - miss
-    → Gives old call (cond (holds_of test insn.k a) hit miss) a value most → Gives new call (length old) a value (most + 1)
+    → Gives old call (cond (holds_of test insn.k a) hit miss) a value most → Gives new call (length new - 1) a value (most + 1)
 jump_gives test insn old new call a hit miss value most puts op hit_in miss_in jt jf on =
     let P : Operation → Type 0 = λ o. LeadsTo o call insn (length old) a (cond (holds_of test insn.k a) hit miss) a in
-    put_gives insn old new call a (cond (holds_of test insn.k a) hit miss) a value most puts (subst P (sym op) (branch_leads test call insn (length old) a hit miss hit_in miss_in jt jf)) on
+    front_gives insn old new call a (cond (holds_of test insn.k a) hit miss) a value most puts (subst P (sym op) (branch_leads test call insn (length old) a hit miss hit_in miss_in jt jf)) on

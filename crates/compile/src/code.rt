@@ -138,7 +138,7 @@ impl Code {
         requires inside { offset < DATA_LEN }
         requires aligned { offset % 4 ≡ 0 }
         ensures gives { OnOk result ((call : SysCall) (a value most : ℕ) → Gives self.old call (length self.old - 1) (data_word call offset) value most
-            → Gives self.new call (length self.old) a value (most + 1)) }
+            → Gives self.new call (length self.new - 1) a value (most + 1)) }
         ensures at { IfOk result (λ at. at ≡ length self.old) }
         ensures longer { OnOk result (length self.new ≡ length self.old + 1) }
         ensures keeps { Keeps self.old self.new }
@@ -156,7 +156,7 @@ impl Code {
     pub(crate) fn mask(&mut self, bits: u32) -> Result<usize, AllocError>
         requires some { 0 < length self.old }
         ensures gives { OnOk result ((call : SysCall) (a value most : ℕ) → Gives self.old call (length self.old - 1) (bit_and a bits) value most
-            → Gives self.new call (length self.old) a value (most + 1)) }
+            → Gives self.new call (length self.new - 1) a value (most + 1)) }
         ensures at { IfOk result (λ at. at ≡ length self.old) }
         ensures longer { OnOk result (length self.new ≡ length self.old + 1) }
         ensures keeps { Keeps self.old self.new }
@@ -183,7 +183,7 @@ impl Code {
         requires hit_near { length self.old ≤ hit + 1 + REACH }
         requires miss_near { length self.old ≤ miss + 1 + REACH }
         ensures gives { OnOk result ((call : SysCall) (a value most : ℕ) → Gives self.old call (if holds_of test k a then hit else miss) a value most
-            → Gives self.new call (length self.old) a value (most + 1)) }
+            → Gives self.new call (length self.new - 1) a value (most + 1)) }
         ensures at { IfOk result (λ at. at ≡ length self.old) }
         ensures longer { OnOk result (length self.new ≡ length self.old + 1) }
         ensures keeps { Keeps self.old self.new }

@@ -2,3 +2,5 @@
 #![tactic(auto)]
 
 mod code;
+mod condition;
+mod halves;
