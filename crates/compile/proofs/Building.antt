@@ -116,3 +116,8 @@ pub jump_gives : (test : Test) (insn : Insn) (old new : List Insn) (call : SysCa
 jump_gives test insn old new call a hit miss value most puts op hit_in miss_in jt jf on =
     let P : Operation → Type 0 = λ o. LeadsTo o call insn (length old) a (cond (holds_of test insn.k a) hit miss) a in
     front_gives insn old new call a (cond (holds_of test insn.k a) hit miss) a value most puts (subst P (sym op) (branch_leads test call insn (length old) a hit miss hit_in miss_in jt jf)) on
+
+-- the same of the place in front
+pub front_is : (P : ℕ → Type 0) (new : List Insn) (r : Result ℕ AllocError) → IfOk r (λ at. at + 1 ≡ length new) → OnOk r (P (length new - 1)) → IfOk r P
+front_is P new (Ok at) is p = let same : length new - 1 ≡ at = omega arith in subst P same p
+front_is P new (Err e) is p = tt

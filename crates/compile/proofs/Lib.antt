@@ -1,3 +1,4 @@
 pub mod Building
 pub mod Turning
 pub mod Words
+pub mod Links

@@ -1,2 +1,4 @@
 pub mod Backward
 pub mod Tests
+pub mod Chains
+pub mod Sizes

@@ -139,7 +139,7 @@ impl Code {
         requires aligned { offset % 4 ≡ 0 }
         ensures gives { OnOk result ((call : SysCall) (a value most : ℕ) → Gives self.old call (length self.old - 1) (data_word call offset) value most
             → Gives self.new call (length self.new - 1) a value (most + 1)) }
-        ensures at { IfOk result (λ at. at ≡ length self.old) }
+        ensures at { IfOk result (λ at. at + 1 ≡ length self.new) }
         ensures longer { OnOk result (length self.new ≡ length self.old + 1) }
         ensures keeps { Keeps self.old self.new }
         ensures grows { length self.old ≤ length self.new }
@@ -157,7 +157,7 @@ impl Code {
         requires some { 0 < length self.old }
         ensures gives { OnOk result ((call : SysCall) (a value most : ℕ) → Gives self.old call (length self.old - 1) (bit_and a bits) value most
             → Gives self.new call (length self.new - 1) a value (most + 1)) }
-        ensures at { IfOk result (λ at. at ≡ length self.old) }
+        ensures at { IfOk result (λ at. at + 1 ≡ length self.new) }
         ensures longer { OnOk result (length self.new ≡ length self.old + 1) }
         ensures keeps { Keeps self.old self.new }
         ensures grows { length self.old ≤ length self.new }
@@ -184,7 +184,7 @@ impl Code {
         requires miss_near { length self.old ≤ miss + 1 + REACH }
         ensures gives { OnOk result ((call : SysCall) (a value most : ℕ) → Gives self.old call (if holds_of test k a then hit else miss) a value most
             → Gives self.new call (length self.new - 1) a value (most + 1)) }
-        ensures at { IfOk result (λ at. at ≡ length self.old) }
+        ensures at { IfOk result (λ at. at + 1 ≡ length self.new) }
         ensures longer { OnOk result (length self.new ≡ length self.old + 1) }
         ensures keeps { Keeps self.old self.new }
         ensures grows { length self.old ≤ length self.new }
