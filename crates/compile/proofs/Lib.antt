@@ -2,3 +2,4 @@ pub mod Building
 pub mod Turning
 pub mod Words
 pub mod Links
+pub mod Leaves

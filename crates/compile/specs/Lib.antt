@@ -2,3 +2,4 @@ pub mod Backward
 pub mod Tests
 pub mod Chains
 pub mod Sizes
+pub mod Bounds

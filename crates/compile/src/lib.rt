@@ -5,3 +5,4 @@ mod chain;
 mod code;
 mod condition;
 mod halves;
+mod leaf;
