@@ -28,7 +28,7 @@ none_hold : (conds : List Cond) (call : SysCall) → length conds ≡ 0 → all_
 none_hold [] call none = refl
 none_hold (first ∷ conds) call none = absurd (omega arith)
 
-bare_holds : (entry : Entry) (call : SysCall) → IsBare entry → all_hold entry call ≡ true
+pub bare_holds : (entry : Entry) (call : SysCall) → IsBare entry → all_hold entry call ≡ true
 unfolding all_hold
 bare_holds entry call bare = none_hold entry.conds call bare
 

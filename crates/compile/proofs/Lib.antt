@@ -3,3 +3,5 @@ pub mod Turning
 pub mod Words
 pub mod Links
 pub mod Leaves
+pub mod Deciding
+pub mod Scanning

@@ -26,7 +26,7 @@ pub(crate) fn names(entry: &Entry, nr: u32) -> bool
 }
 
 /// Whether the entry decides of the number without a condition.
-fn decides(entry: &Entry, nr: u32) -> bool
+pub(crate) fn decides(entry: &Entry, nr: u32) -> bool
     ensures yes { IsTrue result → (names entry.now nr ≡ true) × IsBare entry.now }
     ensures no { OnFalse result (IsBare entry.now → names entry.now nr ≡ false) }
 {

@@ -6,3 +6,4 @@ mod code;
 mod condition;
 mod halves;
 mod leaf;
+mod ranges;
