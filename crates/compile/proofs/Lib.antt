@@ -5,3 +5,5 @@ pub mod Links
 pub mod Leaves
 pub mod Deciding
 pub mod Scanning
+pub mod Splitting
+pub mod Trees

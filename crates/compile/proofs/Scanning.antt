@@ -73,7 +73,7 @@ pub added_below-suc : (entries : List Entry) (n : ℕ) → added_below entries (
 unfolding added_below
 added_below-suc entries n = refl
 
-same_size : (profile : Profile) (start : ℕ) → range_size profile start start ≡ 1 + added_of profile.entries start
+pub same_size : (profile : Profile) (start : ℕ) → range_size profile start start ≡ 1 + added_of profile.entries start
 unfolding range_size
 same_size profile start = ap (λ b. 1 + added_of profile.entries start + cond b 0 (3 + added_of profile.entries start)) (eq-eqb start start refl) ∙ omega arith
 
@@ -115,13 +115,13 @@ pub record Scan (profile : Profile) (starts : List ℕ) (last : Option ℕ) (nr 
   pub said : IsSaid profile last before
   pub fit : AreEntries profile.entries
 
-index_front : (starts : List ℕ) (x at : ℕ) → at < length starts → slice_index (starts ++ x ∷ []) at ≡ slice_index starts at
+pub index_front : (starts : List ℕ) (x at : ℕ) → at < length starts → slice_index (starts ++ x ∷ []) at ≡ slice_index starts at
 index_front starts x at inside = get_or-append starts (x ∷ []) 0 at inside
 
-index_last : (starts : List ℕ) (x at : ℕ) → at ≡ length starts → slice_index (starts ++ x ∷ []) at ≡ x
+pub index_last : (starts : List ℕ) (x at : ℕ) → at ≡ length starts → slice_index (starts ++ x ∷ []) at ≡ x
 index_last starts x at last = ap (λ n. slice_index (starts ++ x ∷ []) n) last ∙ get_or-append_seam starts x [] 0
 
-len_seam : (starts : List ℕ) (x : ℕ) → length (starts ++ x ∷ []) ≡ length starts + 1
+pub len_seam : (starts : List ℕ) (x : ℕ) → length (starts ++ x ∷ []) ≡ length starts + 1
 len_seam [] x = refl
 len_seam (y ∷ starts) x = omega (arith, len_seam starts x)
 

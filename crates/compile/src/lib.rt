@@ -7,3 +7,5 @@ mod condition;
 mod halves;
 mod leaf;
 mod ranges;
+mod singles;
+mod tree;
