@@ -3,3 +3,4 @@ pub mod Loops
 pub mod Fields
 pub mod Utf8
 pub mod Values
+pub mod After

@@ -1,6 +1,6 @@
 -- How a tree is read: what it gives, or the first fault in the order of reading. That order is this
 -- project's own, written by each reader as a do-block.
-use Rattle.std.specs.Prelude.{◌≡◌, ◌≢◌, ℕ, List, [], ◌∷◌, Bool, true, false, ⊤, Option, Some, None, Result, Ok, Err}
+use Rattle.std.specs.Prelude.{◌≡◌, ◌≢◌, ℕ, List, [], ◌∷◌, ◌++◌, Bool, true, false, ⊤, Option, Some, None, Result, Ok, Err}
 use Rattle.serde_json.specs.Data.{Data}
 use Rattle.serde_json.specs.Find.{get}
 use Rattle.json_tree.specs.declared.faults.FieldFault.{FieldFault}
@@ -37,6 +37,11 @@ if_there f (Some x) = f x >>= λ y. Ok (Some y)
 abbrev pub in_order : {A B E : Type 0} → (A → Result B E) → List A → Result (List B) E
 in_order f [] = Ok []
 in_order f (x ∷ xs) = f x >>= λ y. in_order f xs >>= λ ys. Ok (y ∷ ys)
+
+-- each item in order, where what was read before it may matter
+abbrev pub in_order_after : {A B E : Type 0} → (List B → A → Result B E) → List B → List A → Result (List B) E
+in_order_after f done [] = Ok done
+in_order_after f done (x ∷ xs) = f done x >>= λ y. in_order_after f (done ++ y ∷ []) xs
 
 -- the result, its fault named as this reader names it
 abbrev pub as_fault : {A D E : Type 0} → (D → E) → Result A D → Result A E

@@ -1,6 +1,7 @@
 -- What a reader asks of a JSON tree (RFC 8259): of the tree that `serde_json` reads of a text.
 -- A kind says what a tree is, if it is that: `Data → Option A`.
 use Rattle.std.specs.Prelude.{ℕ, ◌^◌, List, [], ◌∷◌, Bool, nat_lt, if◌then◌else◌, is_some, Option, Some, None, option_map, option_and_then}
+use Rattle.std.specs.List.{list_all}
 use Rattle.std.specs.Str.{is_utf8}
 use Rattle.serde_json.specs.Data as json
 use Rattle.serde_json.specs.Data.{Data, Items}
@@ -62,6 +63,10 @@ wholes tree = option_and_then (each whole) (list tree)
 -- a list of texts
 unfoldable pub texts : Data → Option (List (List ℕ))
 texts tree = option_and_then (each text) (list tree)
+
+-- a list of texts, as its items
+unfoldable pub text_list : Data → Option (List Data)
+text_list tree = option_and_then (λ items. if list_all (λ item. is_some (text item)) items then Some items else None) (list tree)
 
 -- the member with this key: one that is null is not there
 unfoldable pub member : List ℕ → Data → Option Data

@@ -14,6 +14,7 @@ mod optional;
 mod required;
 #[cfg(test)]
 mod tests;
+mod text_lists;
 
 pub use document::read;
 pub use faults::{FieldFault, TextFault};
@@ -27,3 +28,4 @@ pub use required::{
     required_list, required_object, required_text, required_texts, required_value, required_whole,
     required_wholes, required_word,
 };
+pub use text_lists::{optional_text_list, required_text_list};

@@ -1,8 +1,9 @@
 ghost use Rattle.std.specs.Prelude.{◌≡◌, ◌≤◌, Some, None, if◌then◌else◌, nat_le};
 ghost use Rattle.action.specs.declared.verdict.TheConstants.{MAX_ERRNO};
+ghost use Rattle.action.specs.Verdict.{rank_of};
 ghost use Rattle.oci_profile.specs.Decision.{value_of, verdict_of};
 
-use action::{Action, MAX_ERRNO, Verdict};
+use action::{Action, ENOSYS, MAX_ERRNO, Verdict};
 use std::marker::Model;
 
 /// An errno that a call returns, at most [`MAX_ERRNO`].
@@ -34,6 +35,20 @@ impl Errno {
         } else {
             None
         }
+    }
+
+    /// EPERM, which a call returns where a profile gives no errno.
+    pub fn eperm() -> Errno
+        ensures { result ≡ 1 }
+    {
+        Errno { code: 1 }
+    }
+
+    /// ENOSYS, the errno of a call that the kernel does not have.
+    pub fn enosys() -> Errno
+        ensures { result ≡ 38 }
+    {
+        Errno { code: ENOSYS }
     }
 
     /// Its number.
@@ -79,6 +94,13 @@ impl Decision {
             Decision::Log => (Action::Log, 0),
         };
         Verdict { action, ret_data }
+    }
+
+    /// Its place in the order of actions, from 0 for the strictest to 7: `Action::rank`.
+    pub fn rank(self) -> u8
+        ensures { result ≡ rank_of (verdict_of self).action }
+    {
+        self.verdict().rank()
     }
 
     /// The value with which a filter says this.

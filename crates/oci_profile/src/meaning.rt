@@ -4,10 +4,7 @@ ghost use Rattle.oci_profile.specs.Meaning.{all_hold, compares, decision_of, hol
 use crate::conditions::{Cond, Op};
 use crate::decision::Decision;
 use crate::profile::{Entry, Profile};
-use call_data::SysCall;
-
-/// The architecture whose calls profiles speak of: `AUDIT_ARCH_X86_64` of linux/audit.h.
-pub const NATIVE_ARCH: u32 = 0xc000_003e;
+use call_data::{NATIVE_ARCH, SysCall};
 
 /// From here on numbers are those of the x32 interface: `__X32_SYSCALL_BIT` of asm/unistd.h.
 pub const X32_BIT: u32 = 0x4000_0000;

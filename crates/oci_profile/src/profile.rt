@@ -49,6 +49,18 @@ pub struct Entry {
     pub conds: Conds,
 }
 
+impl Entry {
+    pub(crate) fn new(numbers: Numbers, decision: Decision, conds: Conds) -> Entry
+        ensures { result ≡ record { numbers = numbers; decision = decision; conds = conds } }
+    {
+        Entry {
+            numbers,
+            decision,
+            conds,
+        }
+    }
+}
+
 /// The entries of a profile, in order.
 #[derive(Drop)]
 pub struct Entries {
@@ -95,4 +107,12 @@ pub struct Profile {
     pub default: Decision,
     /// The first of these that applies to a call decides.
     pub entries: Entries,
+}
+
+impl Profile {
+    pub(crate) fn new(default: Decision, entries: Entries) -> Profile
+        ensures { result ≡ record { default = default; entries = entries } }
+    {
+        Profile { default, entries }
+    }
 }

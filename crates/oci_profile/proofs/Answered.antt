@@ -1,0 +1,37 @@
+-- What a reading of a short text says of the text's first fault.
+use Rattle.std.proofs.Common.{◌≡◌, ◌≢◌, ℕ, ◌<◌, ◌≤◌, List, length, Some, None, Result, Ok, Err, refl, ap, subst, ◌∙◌}
+use Rattle.std.specs.Prelude.{IfOk, IfErr}
+use Rattle.std.specs.Result.{result_err}
+use Rattle.std.proofs.lemmas.Bool.{lt-ltb, le-ltb}
+use Rattle.json_tree.specs.Reading.{Gives}
+use Rattle.oci_profile.specs.declared.faults.ProfileFault.{ProfileFault}
+use Rattle.oci_profile.specs.declared.faults.ProfileFault.TheVariants.{TooLarge, Memory}
+use Rattle.oci_profile.specs.declared.profile.Profile.{Profile}
+use Rattle.oci_profile.specs.declared.reader.TheConstants.{MAX_PROFILE_BYTES}
+use Rattle.oci_profile.specs.Reading.{first_fault, reading_of, short_of}
+use Rattle.oci_profile.proofs.Avoids.{Avoids, short_avoids}
+
+pub long_fault : (bytes : List ℕ) → MAX_PROFILE_BYTES < length bytes → first_fault bytes ≡ Some TooLarge
+unfolding reading_of
+long_fault bytes long = rw (lt-ltb MAX_PROFILE_BYTES (length bytes) long) refl
+
+short_reading : (bytes : List ℕ) → length bytes ≤ MAX_PROFILE_BYTES → reading_of bytes ≡ short_of bytes
+unfolding reading_of
+short_reading bytes short = rw (le-ltb MAX_PROFILE_BYTES (length bytes) short) refl
+
+pub no_fault : (bytes : List ℕ) (result : Result Profile ProfileFault) → length bytes ≤ MAX_PROFILE_BYTES → Gives Memory (λ profile. profile) result (short_of bytes)
+    → IfOk result (λ profile. first_fault bytes ≡ None)
+no_fault bytes (Ok profile) short h = ap result_err (short_reading bytes short ∙ h)
+no_fault bytes (Err fault) short h = tt
+
+pub first : (bytes : List ℕ) (result : Result Profile ProfileFault) → length bytes ≤ MAX_PROFILE_BYTES → Gives Memory (λ profile. profile) result (short_of bytes)
+    → IfErr result (λ fault. fault ≢ Memory → first_fault bytes ≡ Some fault)
+first bytes (Ok profile) short h = tt
+first bytes (Err fault) short h = λ not_memory. ap result_err (short_reading bytes short ∙ h not_memory)
+
+pub not_large : (bytes : List ℕ) (result : Result Profile ProfileFault) → Gives Memory (λ profile. profile) result (short_of bytes) → result ≡ Err TooLarge → ⊥
+not_large bytes (Ok profile) h is = cc
+not_large bytes (Err fault) h is =
+    let same : fault ≡ TooLarge = cc in
+    let not_memory : fault ≢ Memory = λ memory. cc in
+    subst Avoids (h not_memory) (short_avoids bytes) same

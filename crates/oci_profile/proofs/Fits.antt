@@ -1,0 +1,54 @@
+-- What is read is as a profile's type asks.
+use Rattle.std.proofs.Common.{◌≡◌, ℕ, ◌<◌, List, [], ◌∷◌, Option, Some, None, Ok, refl, sym, subst}
+use Rattle.std.specs.Prelude.{filter_map}
+use Rattle.std.specs.List.{cons_option}
+use Rattle.std.proofs.lemmas.List.Elements.{All-nil, All-cons}
+use Rattle.serde_json.specs.Data.{Data}
+use Rattle.json_tree.specs.Tree.{text}
+use Rattle.json_tree.specs.Reading.{in_order, Both}
+use Rattle.json_tree.proofs.Fields.{in_order_found}
+use Rattle.json_tree.proofs.Items.{and_then_some}
+use Rattle.sys_table.specs.SysTable.{number_of}
+use Rattle.sys_table.specs.declared.table.TheConstants.{NUMBER_LIMIT}
+use Rattle.oci_profile.specs.declared.decision.Decision.{Decision}
+use Rattle.oci_profile.specs.declared.profile.Entry.{Entry}
+use Rattle.oci_profile.specs.Conditions.{AreNumbers}
+use Rattle.oci_profile.specs.Entries.{IsFit, AreEntries}
+use Rattle.oci_profile.specs.Profile.{number_named}
+use Rattle.oci_profile.specs.Reading.{entry_of}
+use Rattle.oci_profile.proofs.Found.{entry_found}
+
+-- the numbers of the table are below its limit
+abbrev pub AreSmall : Type 0
+AreSmall = (name : List ℕ) (number : ℕ) → number_of name ≡ Some number → number < NUMBER_LIMIT
+
+number_fits : AreSmall → (name : Data) (number : ℕ) → number_named name ≡ Some number → number < NUMBER_LIMIT
+unfolding number_named
+number_fits small name number h =
+    let bytes = and_then_some number_of (text name) number h in
+    small bytes.0 number bytes.2
+
+cons_fits : (here : Option ℕ) (numbers : List ℕ) → ((number : ℕ) → here ≡ Some number → number < NUMBER_LIMIT) → AreNumbers numbers → AreNumbers (cons_option here numbers)
+cons_fits None numbers one rest = rest
+cons_fits (Some number) numbers one rest = All-cons (λ nr. nr < NUMBER_LIMIT) number numbers (one number refl) rest
+
+pub one_number_fits : AreSmall → (name : List ℕ) → AreNumbers (cons_option (number_of name) [])
+one_number_fits small name = cons_fits (number_of name) [] (small name) (All-nil (λ nr. nr < NUMBER_LIMIT))
+
+pub numbers_fit : AreSmall → (names : List Data) → AreNumbers (filter_map number_named names)
+numbers_fit small [] = All-nil (λ nr. nr < NUMBER_LIMIT)
+numbers_fit small (name ∷ names) = cons_fits (number_named name) (filter_map number_named names) (number_fits small name) (numbers_fit small names)
+
+entry_fits : AreSmall → (default : Decision) (item : Data) (entry : Entry) → entry_of default item ≡ Ok entry → IsFit entry
+entry_fits small default item entry h =
+    let is = entry_found default item entry h in
+    record { numbers_fit = subst AreNumbers (sym is.numbers_are) (numbers_fit small is.names); conds_fit = is.conds_fit }
+
+each_fits : (items : List Data) (entries : List Entry) → Both (λ item entry. IsFit entry) items entries → AreEntries entries
+each_fits [] [] h = All-nil IsFit
+each_fits [] (entry ∷ entries) h = absurd h
+each_fits (item ∷ items) [] h = absurd h
+each_fits (item ∷ items) (entry ∷ entries) h = All-cons IsFit entry entries h.0 (each_fits items entries h.1)
+
+pub entries_fit : AreSmall → (default : Decision) (items : List Data) (entries : List Entry) → in_order (entry_of default) items ≡ Ok entries → AreEntries entries
+entries_fit small default items entries h = each_fits items entries (in_order_found (entry_of default) (λ item entry. IsFit entry) (entry_fits small default) items entries h)

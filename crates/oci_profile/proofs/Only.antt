@@ -1,0 +1,138 @@
+-- What is so is read: where the tree has it, each reading goes on and gives it.
+use Rattle.std.proofs.Common.{◌≡◌, inl, inr, ℕ, ◌<◌, List, [], ◌∷◌, ◌++◌, ◌&&◌, not, length, codes, cond, ltb, Bool, true, false, Option, Some, None, unwrap_or, Ok, refl, sym, ap, arith}
+use Rattle.std.proofs.Math.Dec.{eqb-suc-zero}
+use Rattle.std.proofs.lemmas.Bool.{le-leb, lt-leb, lt-ltb, ltb-true}
+use Rattle.serde_json.specs.Data.{Data}
+use Rattle.json_tree.specs.Tree.{list, text, text_list, whole}
+use Rattle.json_tree.specs.Reading.{document, HasField, MayHaveField, Both}
+use Rattle.json_tree.proofs.Fields.{required_only, optional_only, in_order_only}
+use Rattle.json_tree.proofs.After.{after_only}
+use Rattle.action.specs.declared.verdict.TheConstants.{MAX_ERRNO}
+use Rattle.oci_profile.specs.declared.conditions.Cond.{Cond}
+use Rattle.oci_profile.specs.declared.conditions.Op.{Op}
+use Rattle.oci_profile.specs.declared.conditions.Op.TheVariants.{NotEqual, Less, LessOrEqual, Equal, GreaterOrEqual, Greater, MaskedEqual}
+use Rattle.oci_profile.specs.declared.decision.Decision.{Decision}
+use Rattle.oci_profile.specs.declared.decision.Decision.TheVariants.{KillProcess, KillThread, Trap, Errno, Trace, Allow, Log}
+use Rattle.oci_profile.specs.declared.profile.Entry.{Entry}
+use Rattle.oci_profile.specs.declared.profile.Profile.{Profile}
+use Rattle.oci_profile.specs.Profile.{IsNameOf, IsErrnoOf, HasDecision, IsOpName, IsCond, are_known, rank, IsEntry, HasIgnored, IsProfile, ReadsProfile}
+use Rattle.oci_profile.specs.Reading.{action_of, with_given, decision_of, op_named, op_of, is_tested, index_of, cond_of, conds_of, names_of, entry_of, ignored_of, entries_of, default_of, profile_of, short_of}
+use Rattle.oci_profile.proofs.CondLists.{AreApart, apart_at}
+
+-- the decision where no errno is given
+abbrev base : Decision → Decision
+base (Errno errno) = Errno 1
+base (Trace message) = Trace 1
+base KillProcess = KillProcess
+base KillThread = KillThread
+base Trap = Trap
+base Allow = Allow
+base Log = Log
+
+action_only : (decision : Decision) (name : List ℕ) → IsNameOf decision name → action_of name ≡ Ok (base decision)
+unfolding action_of
+action_only KillProcess name h = rw h refl
+action_only KillThread name (inl h) = rw h refl
+action_only KillThread name (inr h) = rw h refl
+action_only Trap name h = rw h refl
+action_only (Errno errno) name h = rw h refl
+action_only (Trace message) name h = rw h refl
+action_only Allow name h = rw h refl
+action_only Log name h = rw h refl
+
+given_only : (decision : Decision) (given : Option ℕ) → IsErrnoOf decision given → with_given (base decision) given ≡ Ok decision
+given_only (Errno errno) None h = ap (λ n. Ok (Errno n)) (sym h.0)
+given_only (Errno errno) (Some given) h = let same : given ≡ errno = sym h.0 in rw (same, le-leb errno MAX_ERRNO h.1) refl
+given_only (Trace message) None h = ap (λ n. Ok (Trace n)) (sym h.0)
+given_only (Trace message) (Some given) h = let same : given ≡ message = sym h.0 in rw (same, lt-ltb message 65536 h.1) refl
+given_only KillProcess given h = rw h refl
+given_only KillThread given h = rw h refl
+given_only Trap given h = rw h refl
+given_only Allow given h = rw h refl
+given_only Log given h = rw h refl
+
+decision_only : (action_key errno_key : List ℕ) (tree : Data) (decision : Decision) → HasDecision action_key errno_key tree decision → decision_of action_key errno_key tree ≡ Ok decision
+unfolding decision_of
+decision_only action_key errno_key tree decision h =
+    rw (required_only text action_key tree h.name h.there, action_only decision h.name h.named, optional_only whole errno_key tree h.given h.errno) (given_only decision h.given h.errno_is)
+
+op_named_only : (op : Op) (name : List ℕ) → IsOpName op name → op_named name ≡ Ok op
+unfolding op_named
+op_named_only NotEqual name h = rw h refl
+op_named_only Less name h = rw h refl
+op_named_only LessOrEqual name h = rw h refl
+op_named_only Equal name h = rw h refl
+op_named_only GreaterOrEqual name h = rw h refl
+op_named_only Greater name h = rw h refl
+op_named_only MaskedEqual name h = rw h refl
+
+op_only : (tree : Data) (op : Op) (name : List ℕ) → HasField text (codes "op") tree name → IsOpName op name → op_of tree ≡ Ok op
+unfolding op_of
+op_only tree op name there named = rw (required_only text (codes "op") tree name there) (op_named_only op name named)
+
+index_only : (done : List Cond) (tree : Data) (index : ℕ) → HasField whole (codes "index") tree index → index < 6 → is_tested done index ≡ false → index_of done tree ≡ Ok index
+unfolding index_of
+index_only done tree index there small new = rw (required_only whole (codes "index") tree index there, lt-leb 6 index small, new) refl
+
+cond_only : (done : List Cond) (item : Data) (cond : Cond) (rest : List Cond) → AreApart (done ++ cond ∷ rest) → IsCond item cond → cond_of done item ≡ Ok cond
+unfolding cond_of
+cond_only done item cond rest apart h =
+    let fit = apart_at done cond rest apart in
+    rw (
+      h.an_object,
+      index_only done item cond.index h.index fit.0 fit.1,
+      required_only whole (codes "value") item cond.value h.value,
+      optional_only whole (codes "valueTwo") item h.given h.two,
+      op_only item cond.op h.name h.op h.named,
+    ) (ap (λ n. Ok (record { index = cond.index; op = cond.op; value = cond.value; value_two = n })) (sym h.two_is))
+
+conds_only : (tree : Data) (args : Option (List Data)) (conds : List Cond) → MayHaveField list (codes "args") tree args → Both IsCond (unwrap_or args []) conds → AreApart conds → conds_of tree ≡ Ok conds
+unfolding conds_of
+conds_only tree args conds there each apart =
+    rw (optional_only list (codes "args") tree args there) (after_only cond_of AreApart IsCond cond_only [] (unwrap_or args []) conds apart each)
+
+names_only : (tree : Data) (names : List Data) → HasField text_list (codes "names") tree names → 0 < length names → names_of tree ≡ Ok names
+unfolding names_of
+names_only tree [] there some = absurd (omega arith)
+names_only tree (name ∷ names) there some = rw (required_only text_list (codes "names") tree (name ∷ names) there, eqb-suc-zero (length names)) refl
+
+allowed : (stricter known : Bool) → (stricter ≡ true → known ≡ true) → (stricter && not known) ≡ false
+allowed true known h = rw (h refl) refl
+allowed false known h = refl
+
+entry_only : (default : Decision) (item : Data) (entry : Entry) → IsEntry default item entry → entry_of default item ≡ Ok entry
+unfolding entry_of
+entry_only default item entry h =
+    rw (
+      h.an_object,
+      names_only item h.names h.there h.some,
+      decision_only (codes "action") (codes "errnoRet") item entry.decision h.decides,
+      conds_only item h.args entry.conds h.args_there h.conds_are (h.conds_fit.in_range, h.conds_fit.apart),
+      allowed (ltb (rank entry.decision) (rank default)) (are_known h.names) (λ stricter. h.known (ltb-true (rank entry.decision) (rank default) stricter)),
+    ) (ap (λ numbers. Ok (record { numbers = numbers; decision = entry.decision; conds = entry.conds })) (sym h.numbers_are))
+
+ignored_only : (tree : Data) → HasIgnored tree → ignored_of tree ≡ Ok tt
+unfolding ignored_of
+ignored_only tree h =
+    rw (
+      optional_only text_list (codes "architectures") tree h.architectures h.architectures_there,
+      optional_only text_list (codes "flags") tree h.flags h.flags_there,
+      optional_only text (codes "listenerPath") tree h.path h.path_there,
+      optional_only text (codes "listenerMetadata") tree h.metadata h.metadata_there,
+    ) refl
+
+profile_only : (tree : Data) (profile : Profile) → IsProfile tree profile → profile_of tree ≡ Ok profile
+unfolding profile_of default_of entries_of
+profile_only tree profile h =
+    rw (
+      h.an_object,
+      decision_only (codes "defaultAction") (codes "defaultErrnoRet") tree profile.default h.decides,
+      ignored_only tree h.ignored,
+      optional_only list (codes "syscalls") tree h.syscalls h.there,
+      in_order_only (entry_of profile.default) (IsEntry profile.default) (entry_only profile.default) (unwrap_or h.syscalls []) profile.entries h.each,
+    ) refl
+
+-- a text's profile is read
+pub only : (bytes : List ℕ) (profile : Profile) → ReadsProfile bytes profile → short_of bytes ≡ Ok profile
+unfolding short_of document
+only bytes profile h = rw h.is (profile_only h.tree profile h.says)
