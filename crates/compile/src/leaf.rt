@@ -12,11 +12,8 @@ ghost use Rattle.compile.specs.declared.code.TheConstants.{RECENT};
 
 use crate::chain::{Chain, add_link, settle};
 use crate::code::Code;
-use oci_profile::{Decision, Entry, Profile};
+use oci_profile::{Decision, Entry, Profile, X32_BIT};
 use std::alloc::AllocError;
-
-/// From here on numbers are those of the x32 interface: `__X32_SYSCALL_BIT` of asm/unistd.h.
-pub(crate) const X32_BIT: u32 = 0x4000_0000;
 
 #[tactic(auto, unfolding(oci_profile::specs::Meaning::names))]
 pub(crate) fn names(entry: &Entry, nr: u32) -> bool

@@ -9,8 +9,8 @@ ghost use Rattle.compile.specs.Bounds.{named, named_below};
 ghost use Rattle.compile.specs.Ranges.{AreRanges};
 ghost use Rattle.compile.specs.Sizes.{added_below, split_size};
 
-use crate::leaf::{X32_BIT, decides, names};
-use oci_profile::{Decision, Entry, Profile};
+use crate::leaf::{decides, names};
+use oci_profile::{Decision, Entry, Profile, X32_BIT};
 use std::alloc::{AllocError, Global};
 use sys_table::NUMBER_LIMIT;
 
