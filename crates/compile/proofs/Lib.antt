@@ -7,3 +7,4 @@ pub mod Deciding
 pub mod Scanning
 pub mod Splitting
 pub mod Trees
+pub mod Weights

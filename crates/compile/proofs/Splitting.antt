@@ -90,6 +90,7 @@ pub record SplitSoFar (profile : Profile) (starts : List ℕ) (done : ℕ) (news
   pub alike : (at nr : ℕ) (call : SysCall) → at < length news → IsBetween news at (at + 1) nr → (length news ≤ at + 1 → done < length starts → nr < slice_index starts done) → nr ≢ slice_index singles at
       → chosen profile nr call ≡ chosen profile (slice_index news at) call
   pub few : length news ≤ done
+  pub many : 2 ≤ length starts → done ≡ length starts → 2 ≤ length news
   pub short : split_size profile news singles 0 (length news) ≤ split_size profile starts starts 0 done
 
 pub split_start : (profile : Profile) (starts news singles : List ℕ) → news ≡ [] → singles ≡ [] → SplitSoFar profile starts 0 news singles
@@ -103,14 +104,15 @@ split_start profile starts news singles no_news no_singles =
       begins = λ _. refl;
       alike = λ at nr call inside. absurd (omega arith);
       few = omega arith;
+      many = λ two whole. absurd (omega arith);
       short = omega (arith, ap (λ k. split_size profile news singles 0 k) none, split_size-zero profile news singles 0);
     }
 
-pub split_more : (profile : Profile) (starts news singles wider paired : List ℕ) (done single next : ℕ) → SplitSoFar profile starts done news singles → done < length starts → done < next → next ≤ length starts
+pub split_more : (profile : Profile) (starts news singles wider paired : List ℕ) (done single next : ℕ) → SplitSoFar profile starts done news singles → done < length starts → done < next → next ≤ length starts → (next ≡ length starts → next ≡ done + 1)
     → range_size profile (slice_index starts done) single + 2 ≤ split_size profile starts starts done (next - done)
     → ((nr : ℕ) (call : SysCall) → IsBetween starts done next nr → nr ≢ single → chosen profile nr call ≡ chosen profile (slice_index starts done) call)
     → wider ≡ news ++ slice_index starts done ∷ [] → paired ≡ singles ++ single ∷ [] → SplitSoFar profile starts next wider paired
-split_more profile starts news singles wider paired done single next so_far inside onward next_in size alike wider_is paired_is =
+split_more profile starts news singles wider paired done single next so_far inside onward next_in last_one size alike wider_is paired_is =
     let P : List ℕ → Type 0 = λ ws. SplitSoFar profile starts next ws paired in
     let Q : List ℕ → Type 0 = λ ps. SplitSoFar profile starts next (news ++ slice_index starts done ∷ []) ps in
     let start : ℕ = slice_index starts done in
@@ -147,6 +149,7 @@ split_more profile starts news singles wider paired done single next so_far insi
             alike nr call (record { above = omega (arith, between.above); below = λ some. end (omega arith) some }) (λ same. other (same ∙ sym single_is)) ∙ ap (λ k. chosen profile k call) (sym is)
       ];
       few = omega (arith, so_far.few);
+      many = λ two whole. omega (arith, so_far.begun (omega (arith, last_one whole)));
       short =
           let sum : done + (next - done) ≡ next = omega arith in
           let from_start : 0 + done ≡ done = omega arith in

@@ -3,6 +3,7 @@ ghost use Rattle.bpf_code.specs.declared.insn.Insn.{Insn};
 ghost use Rattle.bpf_code.specs.declared.limits.TheConstants.{DATA_LEN, MAX_INSNS};
 ghost use Rattle.bpf_code.specs.declared.operation.Operation.TheVariants.{ReturnK};
 ghost use Rattle.call_data.specs.declared.sys_call.SysCall.{SysCall};
+ghost use Rattle.bpf_verify.specs.Sound.{IsSound};
 ghost use Rattle.bpf_machine.specs.Runs.{Runs};
 ghost use Rattle.compile.specs.Backward.{Gives, IsBackward, Keeps, PointsInside, Puts, Returns, data_word};
 ghost use Rattle.compile.specs.Tests.{holds_of, operation_of};
@@ -233,6 +234,7 @@ impl Code {
     pub(crate) fn filter(self) -> Filter
         requires some { 0 < length self }
         requires short { length self ≤ MAX_INSNS }
+        ensures sound { IsSound result }
         ensures runs { (call : SysCall) (value most : ℕ) → Gives self call (length self - 1) 0 value most
             → (steps : ℕ) × (steps ≤ most) × Runs result call value steps }
     {

@@ -3,9 +3,14 @@
 
 mod chain;
 mod code;
+mod compiler;
 mod condition;
+mod fault;
 mod halves;
 mod leaf;
 mod ranges;
 mod singles;
 mod tree;
+mod weight;
+
+pub use fault::CompileFault;

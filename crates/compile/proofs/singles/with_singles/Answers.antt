@@ -7,4 +7,4 @@ loop-at-init c = split_start c.args.profile.now c.args.starts.now c.new-news.res
 pub loop-at-preserved : goal.loop-at-preserved
 loop-at-preserved c =
     split_more c.args.profile.now c.args.starts.now c.loop-at.news.items c.loop-at.singles.items c.push.new.self.items c.push-in-loop-at.new.self.items c.loop-at.at c.next_range-single.result.0 c.next_range-single.result.1
-    c.loop-at.invariant c.loop-at-test.true c.next_range-single.ensures.onward c.next_range-single.ensures.inside c.next_range-single.ensures.short c.next_range-single.ensures.alike c.in_ok-push.ensures.items c.in_ok-push-2.ensures.items
+    c.loop-at.invariant c.loop-at-test.true c.next_range-single.ensures.onward c.next_range-single.ensures.inside c.next_range-single.ensures.last c.next_range-single.ensures.short c.next_range-single.ensures.alike c.in_ok-push.ensures.items c.in_ok-push-2.ensures.items

@@ -22,5 +22,6 @@ returns c =
     let len : length code ≡ length c.args.self = ap length c.self.view_is in
     let same : c.in-Ok.filter ≡ reverse code = c.in-Ok.ensures.same ∙ c.turned.ensures in
     record {
+      sound = subst IsSound (sym same) (turned_sound code c.self.invariant (omega (arith, c.requires.some)) (omega (arith, c.requires.short)));
       runs = λ call value most gives. rw same (gives_runs code call value most c.self.invariant (omega (arith, c.requires.some)) (rw c.self.view_is gives));
     }
