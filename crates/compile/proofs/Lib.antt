@@ -8,3 +8,4 @@ pub mod Scanning
 pub mod Splitting
 pub mod Trees
 pub mod Weights
+pub mod Assembled

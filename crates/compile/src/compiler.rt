@@ -47,3 +47,47 @@ fn assemble(
     code.load(4)?;
     Ok(code.filter())
 }
+
+/// The filter of a profile that is light enough.
+fn light_filter(alloc: Global, profile: &Profile) -> Result<Filter, AllocError>
+    requires { weight profile.now ≤ MAX_INSNS }
+    ensures sound { IfOk result (λ filter. IsSound filter) }
+    ensures means { IfOk result (λ filter. (call : SysCall) → IsCall call → (steps : ℕ) × Runs filter call (meaning profile.now call) steps) }
+    ensures few { IfOk result (λ filter. AreBare profile.now.entries → (call : SysCall) (d : ℕ) → IsCall call
+        → HasDigits (2 * named_below profile.now.entries NUMBER_LIMIT + 1) d → (steps : ℕ) × (steps ≤ 5 + 2 * d) × Runs filter call (meaning profile.now call) steps) }
+{
+    let plain = ranges(alloc, profile)?;
+    let split = with_singles(alloc, profile, plain.as_slice())?;
+    assemble(
+        alloc,
+        profile,
+        split.starts.as_slice(),
+        split.singles.as_slice(),
+    )
+}
+
+/// Compiles a profile to a filter.
+///
+/// A balanced tree finds the call's number among ranges of numbers that the profile treats alike; a number
+/// with conditions leads to its entries in order.
+pub fn compile(alloc: Global, profile: &Profile) -> Result<Filter, CompileFault>
+    // Told whether there is memory or not; what else is refused is refused for want of memory.
+    ensures long { (result ≡ Err CompileFault.TooLong) ↔ (MAX_INSNS < weight profile.now) }
+    ensures sound { IfOk result (λ filter. IsSound filter) }
+
+    // At every call the filter's value is what the profile says.
+    ensures means { IfOk result (λ filter. (call : SysCall) → IsCall call → (steps : ℕ) × Runs filter call (meaning profile.now call) steps) }
+
+    // Where no entry has conditions, two steps for each binary digit of 2 w + 1 are enough, and five more;
+    // w counts the numbers that are named, each once.
+    ensures few { IfOk result (λ filter. AreBare profile.now.entries → (call : SysCall) (d : ℕ) → IsCall call
+        → HasDigits (2 * named_below profile.now.entries NUMBER_LIMIT + 1) d → (steps : ℕ) × (steps ≤ 5 + 2 * d) × Runs filter call (meaning profile.now call) steps) }
+{
+    if is_heavy(profile) {
+        return Err(CompileFault::TooLong);
+    }
+    match light_filter(alloc, profile) {
+        Ok(filter) => Ok(filter),
+        Err(_) => Err(CompileFault::Memory),
+    }
+}

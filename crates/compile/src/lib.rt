@@ -13,4 +13,5 @@ mod singles;
 mod tree;
 mod weight;
 
+pub use compiler::compile;
 pub use fault::CompileFault;

@@ -58,6 +58,7 @@ const SCANNED: u32 = NUMBER_LIMIT as u32 + 1;
 pub(crate) fn ranges(alloc: Global, profile: &Profile) -> Result<Vec<u32>, AllocError>
     ensures ranges { IfOk result (λ starts. AreRanges profile.now starts.items) }
     ensures many { IfOk result (λ starts. 2 ≤ length starts.items) }
+    ensures fit { IfOk result (λ _. AreEntries profile.now.entries) }
     ensures few { IfOk result (λ starts. length starts.items ≤ 2 + 2 * named_below profile.now.entries NUMBER_LIMIT) }
     ensures short { IfOk result (λ starts. split_size profile.now starts.items starts.items 0 (length starts.items)
         ≤ 3 * length starts.items + added_below profile.now.entries (NUMBER_LIMIT + 1)) }
