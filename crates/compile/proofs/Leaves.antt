@@ -1,0 +1,143 @@
+-- What the entries of a profile decide of one number, as chains.
+use Rattle.std.proofs.Common.{◌≡◌, ℕ, zero, suc, ◌+◌, ◌-◌, ◌*◌, ◌<◌, ◌≤◌, ◌&&◌, Bool, true, false, cond, List, [], ◌∷◌, ◌++◌, Option, Some, None, length, refl, sym, ap, ◌∙◌, subst, arith, add-one, drop, take, get_or}
+use Rattle.std.proofs.lemmas.List.{take_more, drop_all}
+use Rattle.std.proofs.Math.Seq.{drop-cons}
+use Rattle.std.proofs.lemmas.List.Elements.{All-get_or}
+use Rattle.bpf_code.specs.declared.insn.Insn.{Insn}
+use Rattle.call_data.specs.declared.sys_call.SysCall.{SysCall}
+use Rattle.call_data.specs.CallData.{IsCall}
+use Rattle.oci_profile.specs.declared.conditions.Cond.{Cond}
+use Rattle.oci_profile.specs.declared.decision.Decision.{Decision}
+use Rattle.oci_profile.specs.declared.decision.Decision.TheVariants.{KillProcess}
+use Rattle.oci_profile.specs.declared.profile.Entry.{Entry}
+use Rattle.oci_profile.specs.declared.profile.Profile.{Profile}
+use Rattle.std.specs.Prelude.{nat_le}
+use Rattle.std.proofs.lemmas.Bool.Decides.{nat_tests}
+use Rattle.oci_profile.specs.Decision.{value_of}
+use Rattle.oci_profile.specs.Meaning.{all_of, all_hold, names, decision_of, chosen}
+use Rattle.compile.specs.declared.chain.Known.{Known}
+use Rattle.compile.specs.declared.chain.Chain.{Chain}
+use Rattle.compile.specs.Backward.{GivesAlways, Keeps}
+use Rattle.compile.specs.Bounds.{IsBare, AreBare}
+use Rattle.compile.specs.Chains.{LinkGives, Stands, owed}
+use Rattle.compile.specs.Sizes.{added_of, steps_of}
+use Rattle.compile.proofs.Building.{gives_more}
+use Rattle.compile.proofs.Words.{GivesAlways-more}
+
+none_hold : (conds : List Cond) (call : SysCall) → length conds ≡ 0 → all_of conds call ≡ true
+none_hold [] call none = refl
+none_hold (first ∷ conds) call none = absurd (omega arith)
+
+pub bare_holds : (entry : Entry) (call : SysCall) → IsBare entry → all_hold entry call ≡ true
+unfolding all_hold
+bare_holds entry call bare = none_hold entry.conds call bare
+
+-- from an entry on that decides of the number without a condition nothing is asked
+pub decided_at : (entries : List Entry) (default : Decision) (nr at : ℕ) (call : SysCall) (entry : Entry) → at < length entries → entry ≡ get_or entries at entry
+    → names entry nr ≡ true → IsBare entry → decision_of entries default nr call ≡ decision_of (take at entries) entry.decision nr call
+decided_at [] default nr at call entry inside is named bare = absurd (omega arith)
+decided_at (first ∷ entries) default nr zero call entry inside is named bare =
+    let decides : (names entry nr && all_hold entry call) ≡ true = ap (λ b. b && all_hold entry call) named ∙ bare_holds entry call bare in
+    ap (λ (e : Entry). cond (names e nr && all_hold e call) e.decision (decision_of entries default nr call)) (sym is)
+    ∙ ap (λ b. cond b entry.decision (decision_of entries default nr call)) decides
+decided_at (first ∷ entries) default nr (suc at) call entry inside is named bare =
+    ap (λ d. cond (names first nr && all_hold first call) first.decision d) (decided_at entries default nr at call entry (omega arith) is named bare)
+
+added_of-append : (one other : List Entry) (nr : ℕ) → added_of (one ++ other) nr ≡ added_of one nr + added_of other nr
+added_of-append [] other nr = omega arith
+added_of-append (entry ∷ one) other nr = omega (arith, added_of-append one other nr)
+
+added_one : (entry : Entry) (nr : ℕ) → names entry nr ≡ false → added_of (entry ∷ []) nr ≡ 0
+added_one entry nr unnamed = ap (λ b. cond b (1 + 6 * length entry.conds) 0 + 0) unnamed
+
+pub bare_more : (entries : List Entry) (nr at : ℕ) (entry : Entry) → at < length entries → entry ≡ get_or entries at entry → (IsBare entry → names entry nr ≡ false)
+    → (AreBare entries → added_of (take at entries) nr ≡ 0) → AreBare entries → added_of (take (at + 1) entries) nr ≡ 0
+bare_more entries nr at entry inside is unnamed before bare =
+    let here : IsBare (get_or entries at entry) = All-get_or IsBare entries at entry inside bare in
+    let now : IsBare entry = subst IsBare (sym is) here in
+    let last : added_of (get_or entries at entry ∷ []) nr ≡ 0 = ap (λ (e : Entry). added_of (e ∷ []) nr) (sym is) ∙ added_one entry nr (unnamed now) in
+    ap (λ es. added_of es nr) (take_more entries at entry inside) ∙ added_of-append (take at entries) (get_or entries at entry ∷ []) nr ∙ omega (arith, before bare, last)
+
+-- an entry that does not name the number changes nothing
+pub unnamed_link : (code : List Insn) (call : SysCall) (link : Option Known) (place value other most more : ℕ) (named holds : Bool) → named ≡ false → most ≤ more
+    → LinkGives code call link place other most → LinkGives code call link place (cond (named && holds) value other) more
+unnamed_link code call None place value other most more true holds unnamed larger gives = absurd (cc)
+unnamed_link code call None place value other most more false holds unnamed larger gives = GivesAlways-more code call place other most more gives larger
+unnamed_link code call (Some known) place value other most more true holds unnamed larger gives = absurd (cc)
+unnamed_link code call (Some known) place value other most more false holds unnamed larger gives =
+    ((gives.0.0, omega (arith, gives.0.1), gives.0.2), GivesAlways-more code call known.check _ most more gives.1 larger)
+
+-- what a loop over the entries from the last one has put so far
+pub record ChainSoFar (old code : List Insn) (chain : Chain) (entries : List Entry) (last : Decision) (nr done : ℕ) : Type 0 where
+  pub gives : (call : SysCall) → IsCall call
+      → LinkGives code call chain.known chain.place (value_of (decision_of (drop (length entries - done) entries) last nr call)) (steps_of (drop (length entries - done) entries))
+  pub stands : Stands code chain.known chain.place
+  pub short : length code + owed chain.known ≤ length old + 1 + added_of (drop (length entries - done) entries) nr
+  pub keeps : Keeps old code
+  pub grows : length old ≤ length code
+
+pub steps_some : (entries : List Entry) → 0 < steps_of entries
+steps_some [] = omega arith
+steps_some (entry ∷ entries) = omega (arith, steps_some entries)
+
+value_of-cond : (b : Bool) (one other : Decision) → value_of (cond b one other) ≡ cond b (value_of one) (value_of other)
+value_of-cond true one other = refl
+value_of-cond false one other = refl
+
+pub added_take : (entries : List Entry) (n nr : ℕ) → added_of (take n entries) nr ≤ added_of entries nr
+added_take [] zero nr = omega arith
+added_take [] (suc n) nr = omega arith
+added_take (entry ∷ entries) zero nr = omega arith
+added_take (entry ∷ entries) (suc n) nr = omega (arith, added_take entries n nr)
+
+pub steps_take : (entries : List Entry) (n : ℕ) → steps_of (take n entries) ≤ steps_of entries
+steps_take [] zero = omega arith
+steps_take [] (suc n) = omega arith
+steps_take (entry ∷ entries) zero = omega (arith, steps_some entries)
+steps_take (entry ∷ entries) (suc n) = omega (arith, steps_take entries n)
+
+below : (n limit : ℕ) → n < limit → nat_le limit n ≡ false
+below n limit less = grind (arith, nat_tests)
+
+from : (n limit : ℕ) → limit ≤ n → nat_le limit n ≡ true
+from n limit large = grind (arith, nat_tests)
+
+pub x32_chosen : (profile : Profile) (nr : ℕ) (call : SysCall) → 0x40000000 ≤ nr → chosen profile nr call ≡ value_of KillProcess
+unfolding chosen
+x32_chosen profile nr call large = ap (λ b. cond b (value_of KillProcess) (value_of (decision_of profile.entries profile.default nr call))) (from nr 0x40000000 large)
+
+pub native_chosen : (profile : Profile) (nr : ℕ) (call : SysCall) → nr < 0x40000000 → chosen profile nr call ≡ value_of (decision_of profile.entries profile.default nr call)
+unfolding chosen
+native_chosen profile nr call small = ap (λ b. cond b (value_of KillProcess) (value_of (decision_of profile.entries profile.default nr call))) (below nr 0x40000000 small)
+
+link_put : (code : List Insn) (call : SysCall) (link : Option Known) (place : ℕ) (applies : Bool) (one other : Decision) (most conds : ℕ)
+    → LinkGives code call link place (cond applies (value_of one) (value_of other)) (most + 6 * conds) → LinkGives code call link place (value_of (cond applies one other)) (6 * conds + most)
+link_put code call link place applies one other most conds gives =
+    let sum : 6 * conds + most ≡ most + 6 * conds = omega arith in
+    rw (value_of-cond applies one other, sum) gives
+
+-- one more entry put
+pub chain_more : (old code new : List Insn) (chain next : Chain) (entries : List Entry) (last : Decision) (nr done : ℕ) (entry : Entry) → done < length entries
+    → entry ≡ get_or entries (length entries - 1 - done) entry → ChainSoFar old code chain entries last nr done
+    → ((call : SysCall) (other most : ℕ) → IsCall call → 0 < most → LinkGives code call chain.known chain.place other most
+    → LinkGives new call next.known next.place (cond (names entry nr && all_hold entry call) (value_of entry.decision) other) (most + 6 * length entry.conds))
+    → Stands new next.known next.place → length new + owed next.known ≤ length code + owed chain.known + cond (names entry nr) (1 + 6 * length entry.conds) 0
+    → Keeps code new → length code ≤ length new → ChainSoFar old new next entries last nr (done + 1)
+chain_more old code new chain next entries last nr done entry inside is so_far adds stands short keeps grows =
+    let rest : List Entry = drop (length entries - done) entries in
+    let at : ℕ = length entries - 1 - done in
+    let index : suc at ≡ length entries - done = omega arith in
+    let now : length entries - (done + 1) ≡ at = omega arith in
+    let at_in : at < length entries = omega arith in
+    let whole : drop (length entries - (done + 1)) entries ≡ entry ∷ rest =
+    ap (λ n. drop n entries) now ∙ drop-cons entries at entry at_in ∙ ap (λ n. get_or entries at entry ∷ drop n entries) index ∙ ap (λ (e : Entry). e ∷ rest) (sym is) in
+    record {
+      gives = λ call is_call.
+          let P : List Entry → Type 0 = λ es. LinkGives new call next.known next.place (value_of (decision_of es last nr call)) (steps_of es) in
+          let put = adds call (value_of (decision_of rest last nr call)) (steps_of rest) is_call (steps_some rest) (so_far.gives call is_call) in
+          subst P (sym whole) (link_put new call next.known next.place (names entry nr && all_hold entry call) entry.decision (decision_of rest last nr call) (steps_of rest) (length entry.conds) put);
+      stands = stands;
+      short = omega (arith, ap (λ es. added_of es nr) whole, so_far.short, short);
+      keeps = λ call place a value most gives. keeps call place a value most (so_far.keeps call place a value most gives);
+      grows = omega (arith, so_far.grows, grows);
+    }

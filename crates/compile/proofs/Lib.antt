@@ -1,0 +1,11 @@
+pub mod Building
+pub mod Turning
+pub mod Words
+pub mod Links
+pub mod Leaves
+pub mod Deciding
+pub mod Scanning
+pub mod Splitting
+pub mod Trees
+pub mod Weights
+pub mod Assembled

@@ -1,0 +1,41 @@
+use Rattle.std.proofs.Common.{◌≡◌, ℕ, ◌+◌, ◌-◌, ◌*◌, ◌<◌, ◌≤◌, ◌==◌, Bool, false, true, cond, List, length, refl, sym, ap, ◌∙◌, arith, subst}
+use Rattle.std.proofs.lemmas.Result.{on_ok_weaker}
+use Rattle.std.specs.Prelude.{bit_and, slice_index, nat_lt}
+use Rattle.bpf_code.specs.declared.insn.Insn.{Insn}
+use Rattle.call_data.specs.declared.sys_call.SysCall.{SysCall}
+use Rattle.compile.specs.Backward.{Gives, GivesAlways, data_word}
+use Rattle.compile.specs.Tests.{holds_of}
+use Rattle.compile.specs.declared.code.Test.TheVariants.{Equal}
+use Rattle.compile.proofs.Building.{gives_more}
+use Rattle.compile.proofs.Words.{GivesAlways-more, at_front, by_test, both_give, either_gives, turns_to, equal_words, order_words, from_word, masked_words, masked_low, masked_high}
+use Rattle.compile.proofs.halves.test_from.Goals as goal
+
+pub returns-then-is_from-clause-gives : goal.returns-then-is_from-clause-gives
+returns-then-is_from-clause-gives c =
+    on_ok_weaker c.test_word.result (λ tests call value most is_call gives.
+    let new : List Insn = c.test_word.new.code in
+    let high : ℕ = data_word call (20 + 8 * c.args.index) in
+    let arg : ℕ = slice_index call.args c.args.index in
+    let halves = from_word c.args.test arg c.args.with high c.high-with_high.result c.low-with_low.result (c.if-is_from.ensures refl)
+    (c.words.ensures.high call c.args.index is_call c.requires.index_in) c.high-with_high.ensures c.low-with_low.ensures c.if-with_low-eq0.true in
+    GivesAlways-more new call (length new - 1) value (most + 2) (most + 6)
+    (tests call value most (by_test c.args.code.now call _ _ c.args.hit c.args.miss value most halves gives))
+    (omega arith)) c.test_word.ensures.gives
+
+pub returns-clause-gives : goal.returns-clause-gives
+returns-clause-gives c =
+    on_ok_weaker c.test_order.result (λ tests call value most is_call gives.
+    let new : List Insn = c.test_order.new.code in
+    let mid : List Insn = c.test_word-2.new.code in
+    let high : ℕ = data_word call (20 + 8 * c.args.index) in
+    let low : ℕ = data_word call (16 + 8 * c.args.index) in
+    let arg : ℕ = slice_index call.args c.args.index in
+    let halves = order_words c.args.test arg c.args.with high low c.high-with_high.result c.low-with_low.result c.requires.order
+    (c.words.ensures.high call c.args.index is_call c.requires.index_in) (c.words.ensures.low call c.args.index is_call c.requires.index_in) c.high-with_high.ensures c.low-with_low.ensures in
+    GivesAlways-more new call (length new - 1) value (most + 2 + 3) (most + 6)
+    (tests call value (most + 2)
+    (either_gives c.args.code.now mid call (nat_lt c.high-with_high.result high) (high == c.high-with_high.result) (holds_of c.args.test c.low-with_low.result low) c.args.hit c.args.miss c.in_ok-rest.rest value most (most + 2)
+    c.in_ok-rest.ensures.keeps (omega arith)
+    (λ g. at_front mid call c.in_ok-rest.rest value (most + 2) c.in_ok-rest.ensures.at (c.in_ok-rest.ensures.gives call value most g))
+    (by_test c.args.code.now call _ _ c.args.hit c.args.miss value most halves gives)))
+    (omega arith)) c.test_order.ensures.gives

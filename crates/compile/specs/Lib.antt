@@ -1,0 +1,6 @@
+pub mod Bounds
+pub mod Backward
+pub mod Tests
+pub mod Chains
+pub mod Sizes
+pub mod Ranges

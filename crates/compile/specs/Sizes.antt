@@ -1,0 +1,37 @@
+-- This project's own: bounds of the code and of the steps that a profile's numbers lead to. Only private
+-- functions cite this.
+use Rattle.std.specs.Prelude.{◌≡◌, ℕ, zero, suc, ◌+◌, ◌*◌, ◌≤◌, ◌==◌, ◌⊎◌, if◌then◌else◌, List, [], ◌∷◌, length, slice_index}
+use Rattle.oci_profile.specs.declared.profile.Entry.{Entry}
+use Rattle.oci_profile.specs.declared.profile.Profile.{Profile}
+use Rattle.oci_profile.specs.Meaning.{names}
+use Rattle.compile.specs.Bounds.{AreBare}
+
+-- the instructions of the entries that name the number
+abbrev pub added_of : List Entry → ℕ → ℕ
+added_of [] nr = 0
+added_of (entry ∷ entries) nr = (if names entry nr then 1 + 6 * length entry.conds else 0) + added_of entries nr
+
+-- the same of all numbers below this one
+unfoldable pub added_below : List Entry → ℕ → ℕ
+added_below entries zero = 0
+added_below entries (suc n) = added_of entries n + added_below entries n
+
+-- the steps through the entries, and the return
+abbrev pub steps_of : List Entry → ℕ
+steps_of [] = 1
+steps_of (entry ∷ entries) = 6 * length entry.conds + steps_of entries
+
+-- so many steps are enough in a range: one test finds its single number, and a jump may lead to the rest
+abbrev pub IsEnough : Profile → ℕ → Type 0
+IsEnough profile most = (steps_of profile.entries + 2 ≤ most) ⊎ (AreBare profile.entries × (2 ≤ most))
+
+-- the instructions of one range, where the single number that is treated in another way is not its start
+unfoldable pub range_size : Profile → ℕ → ℕ → ℕ
+range_size profile start single =
+    1 + added_of profile.entries start + (if single == start then 0 else 3 + added_of profile.entries single)
+
+-- and of so many ranges from one on, each with its part of the tree
+unfoldable pub split_size : Profile → List ℕ → List ℕ → ℕ → ℕ → ℕ
+split_size profile starts singles at zero = 0
+split_size profile starts singles at (suc n) =
+    split_size profile starts singles at n + (range_size profile (slice_index starts (at + n)) (slice_index singles (at + n)) + 2)

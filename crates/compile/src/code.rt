@@ -1,0 +1,260 @@
+ghost use Rattle.std.specs.Prelude.{◌≡◌, ◌≤◌, ◌<◌, ◌+◌, ◌-◌, ◌*◌, ◌%◌, ◌^◌, ℕ, List, [], reverse, Some, slice_get, length, IfOk, IfSome, OnOk, IsTrue, bit_and, if◌then◌else◌, ◌==◌, nat_lt, nat_le};
+ghost use Rattle.bpf_code.specs.declared.insn.Insn.{Insn};
+ghost use Rattle.bpf_code.specs.declared.limits.TheConstants.{DATA_LEN, MAX_INSNS};
+ghost use Rattle.bpf_code.specs.declared.operation.Operation.TheVariants.{ReturnK};
+ghost use Rattle.call_data.specs.declared.sys_call.SysCall.{SysCall};
+ghost use Rattle.bpf_verify.specs.Sound.{IsSound};
+ghost use Rattle.bpf_machine.specs.Runs.{Runs};
+ghost use Rattle.compile.specs.Backward.{Gives, IsBackward, Keeps, PointsInside, Puts, Returns, data_word};
+ghost use Rattle.compile.specs.Tests.{holds_of, operation_of};
+ghost use Rattle.compile.specs.declared.code.TheConstants.{REACH, RECENT};
+
+use bpf_code::{Insn, MAX_INSNS, Operation};
+use bpf_verify::{Filter, verify};
+use std::alloc::{AllocError, Global};
+use std::marker::Model;
+
+/// How many instructions a branch can skip.
+pub(crate) const REACH: usize = 255;
+
+/// Among how many of the latest instructions a return is looked for to be shared: so few that the
+/// branches that are put in front of it next reach it.
+pub(crate) const RECENT: usize = 200;
+
+/// What a branch tests of A.
+#[derive(Clone, Copy)]
+pub(crate) enum Test {
+    Equal,
+    Greater,
+    GreaterOrEqual,
+}
+
+impl Test {
+    fn operation(self) -> Operation
+        ensures { result ≡ operation_of self }
+    {
+        match self {
+            Test::Equal => Operation::JumpEqualK,
+            Test::Greater => Operation::JumpGreaterK,
+            Test::GreaterOrEqual => Operation::JumpGreaterOrEqualK,
+        }
+    }
+}
+
+/// Code that is built from its last instruction to its first. A place is the number of instructions
+/// behind one, so that it stays as it is while more is put in front.
+#[derive(Drop)]
+pub(crate) struct Code {
+    insns: Vec<Insn>,
+}
+
+impl Model for Code {
+    ghost Value = { List Insn };
+
+    ghost view = { λ c. c.insns.items };
+
+    ghost invariant = { λ c. IsBackward c.insns.items };
+}
+
+impl Code {
+    /// No instructions.
+    pub(crate) fn new(alloc: Global) -> Code
+        ensures { result ≡ [] }
+    {
+        Code {
+            insns: Vec::new(alloc),
+        }
+    }
+
+    /// The number of instructions, which is the place of the next one.
+    pub(crate) fn len(&self) -> usize
+        ensures { result ≡ length self.now }
+    {
+        self.insns.len()
+    }
+
+    /// The instruction at a place.
+    fn at(&self, place: usize) -> Insn
+        requires { place < length self.now }
+        ensures stands { slice_get self.now place ≡ Some result }
+        ensures inside { PointsInside result.op result place }
+    {
+        self.insns[place]
+    }
+
+    /// Puts an instruction in front.
+    fn put(&mut self, insn: Insn) -> Result<usize, AllocError>
+        requires { PointsInside insn.op insn (length self.old) }
+        ensures puts { OnOk result (Puts insn self.old self.new) }
+        ensures at { IfOk result (λ at. at ≡ length self.old) }
+        ensures longer { length self.new ≤ length self.old + 1 }
+        ensures keeps { Keeps self.old self.new }
+        ensures grows { length self.old ≤ length self.new }
+    {
+        let at = self.insns.len();
+        self.insns.push(insn)?;
+        Ok(at)
+    }
+
+    /// A return of this value: a recent one, or a new one.
+    pub(crate) fn value(&mut self, value: u32) -> Result<usize, AllocError>
+        ensures gives { IfOk result (λ at. (call : SysCall) (a : ℕ) → Gives self.new call at a value 1) }
+        ensures recent { IfOk result (λ at. length self.new ≤ at + RECENT) }
+        ensures inside { IfOk result (λ at. at < length self.new) }
+        ensures longer { length self.new ≤ length self.old + 1 }
+        ensures keeps { Keeps self.old self.new }
+        ensures grows { length self.old ≤ length self.new }
+    {
+        match self.recent_return(value) {
+            Some(at) => Ok(at),
+            None => self.put(Insn {
+                op: Operation::ReturnK,
+                jt: 0,
+                jf: 0,
+                k: value,
+            }),
+        }
+    }
+
+    /// The latest return of this value, if it is recent.
+    fn recent_return(&self, value: u32) -> Option<usize>
+        ensures returns { IfSome result (λ at. Returns self.now at value) }
+        ensures recent { IfSome result (λ at. length self.now ≤ at + RECENT) }
+        ensures inside { IfSome result (λ at. at < length self.now) }
+    {
+        let len = self.len();
+        for back in 0..RECENT.min(len) {
+            let at = len - 1 - back;
+            let insn = self.at(at);
+            if is_return(insn.op) && insn.k == value {
+                return Some(at);
+            }
+        }
+        None
+    }
+
+    /// Loads the word of the call's data at this offset, and goes on with the code.
+    pub(crate) fn load(&mut self, offset: u32) -> Result<usize, AllocError>
+        requires some { 0 < length self.old }
+        requires inside { offset < DATA_LEN }
+        requires aligned { offset % 4 ≡ 0 }
+        ensures gives { OnOk result ((call : SysCall) (a value most : ℕ) → Gives self.old call (length self.old - 1) (data_word call offset) value most
+            → Gives self.new call (length self.new - 1) a value (most + 1)) }
+        ensures at { IfOk result (λ at. at + 1 ≡ length self.new) }
+        ensures longer { OnOk result (length self.new ≡ length self.old + 1) }
+        ensures keeps { Keeps self.old self.new }
+        ensures grows { length self.old ≤ length self.new }
+    {
+        self.put(Insn {
+            op: Operation::LoadData,
+            jt: 0,
+            jf: 0,
+            k: offset,
+        })
+    }
+
+    /// Keeps these bits of A alone, and goes on with the code.
+    pub(crate) fn mask(&mut self, bits: u32) -> Result<usize, AllocError>
+        requires some { 0 < length self.old }
+        ensures gives { OnOk result ((call : SysCall) (a value most : ℕ) → Gives self.old call (length self.old - 1) (bit_and a bits) value most
+            → Gives self.new call (length self.new - 1) a value (most + 1)) }
+        ensures at { IfOk result (λ at. at + 1 ≡ length self.new) }
+        ensures longer { OnOk result (length self.new ≡ length self.old + 1) }
+        ensures keeps { Keeps self.old self.new }
+        ensures grows { length self.old ≤ length self.new }
+    {
+        self.put(Insn {
+            op: Operation::AndK,
+            jt: 0,
+            jf: 0,
+            k: bits,
+        })
+    }
+
+    /// Goes on at one place where the test of A holds, else at the other.
+    pub(crate) fn jump(
+        &mut self,
+        test: Test,
+        k: u32,
+        hit: usize,
+        miss: usize,
+    ) -> Result<usize, AllocError>
+        requires hit_inside { hit < length self.old }
+        requires miss_inside { miss < length self.old }
+        requires hit_near { length self.old ≤ hit + 1 + REACH }
+        requires miss_near { length self.old ≤ miss + 1 + REACH }
+        ensures gives { OnOk result ((call : SysCall) (a value most : ℕ) → Gives self.old call (if holds_of test k a then hit else miss) a value most
+            → Gives self.new call (length self.new - 1) a value (most + 1)) }
+        ensures at { IfOk result (λ at. at + 1 ≡ length self.new) }
+        ensures longer { OnOk result (length self.new ≡ length self.old + 1) }
+        ensures keeps { Keeps self.old self.new }
+        ensures grows { length self.old ≤ length self.new }
+    {
+        let at = self.len();
+        self.put(Insn {
+            op: test.operation(),
+            jt: (at - 1 - hit) as u8,
+            jf: (at - 1 - miss) as u8,
+            k,
+        })
+    }
+
+    /// A place that does what this one does, with at most so many instructions between it and the next
+    /// one that is put in front.
+    pub(crate) fn near(&mut self, place: usize, reach: usize) -> Result<usize, AllocError>
+        requires inside { place < length self.old }
+        requires within { reach ≤ REACH }
+        requires short { length self.old < 2 ^ 32 }
+        ensures near { IfOk result (λ at. length self.new ≤ at + 1 + reach) }
+        ensures inside { IfOk result (λ at. at < length self.new) }
+        ensures same { IfOk result (λ at. length self.old ≤ place + 1 + reach → (at ≡ place) × (self.new ≡ self.old)) }
+        ensures gives { IfOk result (λ at. (call : SysCall) (a value most : ℕ) → Gives self.old call place a value most
+            → Gives self.new call at a value (most + 1)) }
+        ensures longer { length self.new ≤ length self.old + 1 }
+        ensures keeps { Keeps self.old self.new }
+        ensures grows { length self.old ≤ length self.new }
+    {
+        let len = self.len();
+        if len <= place + 1 + reach {
+            return Ok(place);
+        }
+        let insn = self.at(place);
+        if is_return(insn.op) {
+            return self.put(insn);
+        }
+        self.put(Insn {
+            op: Operation::Jump,
+            jt: 0,
+            jf: 0,
+            k: (len - 1 - place) as u32,
+        })
+    }
+
+    /// The filter that it is, from the instruction that was put last.
+    pub(crate) fn filter(self) -> Filter
+        requires some { 0 < length self }
+        requires short { length self ≤ MAX_INSNS }
+        ensures sound { IsSound result }
+        ensures runs { (call : SysCall) (value most : ℕ) → Gives self call (length self - 1) 0 value most
+            → (steps : ℕ) × (steps ≤ most) × Runs result call value steps }
+    {
+        match verify(turned(self.insns)) {
+            Ok(filter) => filter,
+            Err(_) => unreachable!(),
+        }
+    }
+}
+
+/// The instructions in the order in which a filter has them.
+fn turned(mut insns: Vec<Insn>) -> Vec<Insn>
+    ensures { result.items ≡ reverse insns.items }
+{
+    insns.as_mut_slice().reverse();
+    insns
+}
+
+fn is_return(op: Operation) -> bool
+    ensures { IsTrue result → op ≡ ReturnK }
+{
+    matches!(op, Operation::ReturnK)
+}

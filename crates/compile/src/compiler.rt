@@ -1,0 +1,93 @@
+ghost use Rattle.std.specs.Prelude.{◌≡◌, ◌≤◌, ◌<◌, ◌+◌, ◌*◌, ◌^◌, ◌↔◌, ℕ, Err, IfOk, length};
+ghost use Rattle.bpf_code.specs.declared.limits.TheConstants.{MAX_INSNS};
+ghost use Rattle.bpf_machine.specs.Runs.{Runs};
+ghost use Rattle.bpf_verify.specs.Sound.{IsSound};
+ghost use Rattle.call_data.specs.declared.sys_call.SysCall.{SysCall};
+ghost use Rattle.call_data.specs.CallData.{IsCall};
+ghost use Rattle.oci_profile.specs.Meaning.{meaning, weight};
+ghost use Rattle.sys_table.specs.declared.table.TheConstants.{NUMBER_LIMIT};
+ghost use Rattle.compile.specs.declared.fault.CompileFault.{CompileFault};
+ghost use Rattle.compile.specs.Bounds.{AreBare, HasDigits, named_below};
+ghost use Rattle.compile.specs.Ranges.{AreSplit};
+ghost use Rattle.compile.specs.Sizes.{IsEnough, split_size};
+
+use crate::code::{Code, REACH, Test};
+use crate::fault::CompileFault;
+use crate::halves::words;
+use crate::ranges::ranges;
+use crate::singles::with_singles;
+use crate::tree::tree;
+use crate::weight::is_heavy;
+use bpf_verify::Filter;
+use call_data::NATIVE_ARCH;
+use oci_profile::{Decision, Profile};
+use std::alloc::{AllocError, Global};
+
+/// The tests of the architecture and the number, and the tree over the ranges.
+fn assemble(
+    alloc: Global,
+    profile: &Profile,
+    starts: &[u32],
+    singles: &[u32],
+) -> Result<Filter, AllocError>
+    requires split { AreSplit profile.now starts.now singles.now }
+    requires many { 2 ≤ length starts.now }
+    requires short { split_size profile.now starts.now singles.now 0 (length starts.now) + 4 ≤ MAX_INSNS }
+    ensures sound { IfOk result (λ filter. IsSound filter) }
+    ensures runs { IfOk result (λ filter. (call : SysCall) (levels most : ℕ) → IsCall call → IsEnough profile.now most → length starts.now ≤ 2 ^ levels
+        → (steps : ℕ) × (steps ≤ most + 2 * levels + 3) × Runs filter call (meaning profile.now call) steps) }
+{
+    words();
+    let mut code = Code::new(alloc);
+    let kill = code.value(Decision::KillProcess.value())?;
+    tree(&mut code, profile, starts, singles, 0, starts.len())?;
+    let native = code.load(0)?;
+    let foreign = code.near(kill, REACH)?;
+    code.jump(Test::Equal, NATIVE_ARCH, native, foreign)?;
+    code.load(4)?;
+    Ok(code.filter())
+}
+
+/// The filter of a profile that is light enough.
+fn light_filter(alloc: Global, profile: &Profile) -> Result<Filter, AllocError>
+    requires { weight profile.now ≤ MAX_INSNS }
+    ensures sound { IfOk result (λ filter. IsSound filter) }
+    ensures means { IfOk result (λ filter. (call : SysCall) → IsCall call → (steps : ℕ) × Runs filter call (meaning profile.now call) steps) }
+    ensures few { IfOk result (λ filter. AreBare profile.now.entries → (call : SysCall) (d : ℕ) → IsCall call
+        → HasDigits (2 * named_below profile.now.entries NUMBER_LIMIT + 1) d → (steps : ℕ) × (steps ≤ 5 + 2 * d) × Runs filter call (meaning profile.now call) steps) }
+{
+    let plain = ranges(alloc, profile)?;
+    let split = with_singles(alloc, profile, plain.as_slice())?;
+    assemble(
+        alloc,
+        profile,
+        split.starts.as_slice(),
+        split.singles.as_slice(),
+    )
+}
+
+/// Compiles a profile to a filter.
+///
+/// A balanced tree finds the call's number among ranges of numbers that the profile treats alike; a number
+/// with conditions leads to its entries in order.
+pub fn compile(alloc: Global, profile: &Profile) -> Result<Filter, CompileFault>
+    // Told whether there is memory or not; what else is refused is refused for want of memory.
+    ensures long { (result ≡ Err CompileFault.TooLong) ↔ (MAX_INSNS < weight profile.now) }
+    ensures sound { IfOk result (λ filter. IsSound filter) }
+
+    // At every call the filter's value is what the profile says.
+    ensures means { IfOk result (λ filter. (call : SysCall) → IsCall call → (steps : ℕ) × Runs filter call (meaning profile.now call) steps) }
+
+    // Where no entry has conditions, two steps for each binary digit of 2 w + 1 are enough, and five more;
+    // w counts the numbers that are named, each once.
+    ensures few { IfOk result (λ filter. AreBare profile.now.entries → (call : SysCall) (d : ℕ) → IsCall call
+        → HasDigits (2 * named_below profile.now.entries NUMBER_LIMIT + 1) d → (steps : ℕ) × (steps ≤ 5 + 2 * d) × Runs filter call (meaning profile.now call) steps) }
+{
+    if is_heavy(profile) {
+        return Err(CompileFault::TooLong);
+    }
+    match light_filter(alloc, profile) {
+        Ok(filter) => Ok(filter),
+        Err(_) => Err(CompileFault::Memory),
+    }
+}

@@ -1,0 +1,107 @@
+ghost use Rattle.std.specs.Prelude.{◌≡◌, ◌≤◌, ◌<◌, ◌+◌, ◌*◌, ◌&&◌, ℕ, length, take, IfOk, IsTrue, OnOk, true, false, if◌then◌else◌};
+ghost use Rattle.std.specs.Bool.{OnFalse};
+ghost use Rattle.call_data.specs.declared.sys_call.SysCall.{SysCall};
+ghost use Rattle.call_data.specs.CallData.{IsCall};
+ghost use Rattle.oci_profile.specs.Decision.{value_of};
+ghost use Rattle.oci_profile.specs.Meaning.{all_hold, chosen, decision_of, names};
+ghost use Rattle.compile.specs.Backward.{GivesAlways, Keeps};
+ghost use Rattle.compile.specs.Bounds.{AreBare, IsBare};
+ghost use Rattle.compile.specs.Chains.{LinkGives, Stands, owed};
+ghost use Rattle.compile.specs.Sizes.{added_of, steps_of};
+ghost use Rattle.compile.specs.declared.code.TheConstants.{RECENT};
+
+use crate::chain::{Chain, add_link, settle};
+use crate::code::Code;
+use oci_profile::{Decision, Entry, Profile, X32_BIT};
+use std::alloc::AllocError;
+
+#[tactic(auto, unfolding(oci_profile::specs::Meaning::names))]
+pub(crate) fn names(entry: &Entry, nr: u32) -> bool
+    ensures { result ≡ names entry.now nr }
+{
+    entry.numbers.as_slice().iter().any(|number| *number == nr)
+}
+
+/// Whether the entry decides of the number without a condition.
+pub(crate) fn decides(entry: &Entry, nr: u32) -> bool
+    ensures yes { IsTrue result → (names entry.now nr ≡ true) × IsBare entry.now }
+    ensures no { OnFalse result (IsBare entry.now → names entry.now nr ≡ false) }
+{
+    names(entry, nr) && entry.conds.as_slice().is_empty()
+}
+
+/// How many entries come before the first that decides of the number without a condition, and what is
+/// decided behind them. What follows it is never asked.
+fn bare_end(entries: &[Entry], default: Decision, nr: u32) -> (usize, Decision)
+    ensures same { (call : SysCall) → decision_of entries.now default nr call ≡ decision_of (take result.0 entries.now) result.1 nr call }
+    ensures inside { result.0 ≤ length entries.now }
+    ensures bare { AreBare entries.now → added_of (take result.0 entries.now) nr ≡ 0 }
+{
+    for (at, entry) in entries.iter().enumerate() {
+        if decides(entry, nr) {
+            return (at, entry.decision);
+        }
+    }
+    (entries.len(), default)
+}
+
+/// Puts an entry in front if it names the number.
+fn add_named(code: &mut Code, entry: &Entry, nr: u32, chain: Chain) -> Result<Chain, AllocError>
+    requires stands { Stands code.old chain.known chain.place }
+    ensures gives { IfOk result (λ next. (call : SysCall) (other most : ℕ) → IsCall call → 0 < most
+        → LinkGives code.old call chain.known chain.place other most
+        → LinkGives code.new call next.known next.place (if names entry.now nr && all_hold entry.now call then value_of entry.now.decision else other) (most + 6 * length entry.now.conds)) }
+    ensures stands { IfOk result (λ next. Stands code.new next.known next.place) }
+    ensures longer { IfOk result (λ next. length code.new + owed next.known ≤ length code.old + owed chain.known + (if names entry.now nr then 1 + 6 * length entry.now.conds else 0)) }
+    ensures keeps { Keeps code.old code.new }
+    ensures grows { length code.old ≤ length code.new }
+{
+    if names(entry, nr) {
+        add_link(code, entry, chain)
+    } else {
+        Ok(chain)
+    }
+}
+
+/// What the entries decide of a number, the last entry put first: the first that names the number and
+/// whose conditions all hold, else this.
+fn chain_leaf(
+    code: &mut Code,
+    entries: &[Entry],
+    last: Decision,
+    nr: u32,
+) -> Result<usize, AllocError>
+    ensures gives { IfOk result (λ at. (call : SysCall) → IsCall call
+        → GivesAlways code.new call at (value_of (decision_of entries.now last nr call)) (steps_of entries.now)) }
+    ensures inside { IfOk result (λ at. at < length code.new) }
+    ensures recent { IfOk result (λ at. length code.new ≤ at + RECENT) }
+    ensures longer { OnOk result (length code.new ≤ length code.old + 1 + added_of entries.now nr) }
+    ensures keeps { Keeps code.old code.new }
+    ensures grows { length code.old ≤ length code.new }
+{
+    let place = code.value(last.value())?;
+    let mut chain = Chain { place, known: None };
+    for done in 0..entries.len() {
+        chain = add_named(code, &entries[entries.len() - 1 - done], nr, chain)?;
+    }
+    settle(code, chain)
+}
+
+/// What the profile decides of a number, whatever is in A.
+pub(crate) fn leaf(code: &mut Code, profile: &Profile, nr: u32) -> Result<usize, AllocError>
+    ensures gives { IfOk result (λ at. (call : SysCall) → IsCall call
+        → GivesAlways code.new call at (chosen profile.now nr call) (steps_of profile.now.entries)) }
+    ensures inside { IfOk result (λ at. at < length code.new) }
+    ensures recent { IfOk result (λ at. length code.new ≤ at + RECENT) }
+    ensures longer { OnOk result (length code.new ≤ length code.old + 1 + added_of profile.now.entries nr) }
+    ensures bare { AreBare profile.now.entries → OnOk result (length code.new ≤ length code.old + 1) }
+    ensures keeps { Keeps code.old code.new }
+    ensures grows { length code.old ≤ length code.new }
+{
+    if nr >= X32_BIT {
+        return code.value(Decision::KillProcess.value());
+    }
+    let entries = profile.entries.as_slice();
+    let (end, last) = bare_end(entries, profile.default, nr);
+    chain_leaf(code, &entries[..end], last, nr)
+}
