@@ -3,7 +3,7 @@
 use Rattle.std.specs.Prelude.{ℕ, List, [], ◌++◌, codes, Option, Some, None}
 use Rattle.bpf_verify.specs.RefusalText.{refusal_text}
 use Rattle.compile.specs.FaultText.{fault_text as compile_fault_text}
-use Rattle.oci_profile.specs.FaultText.{fault_text as profile_fault_text}
+use Rattle.oci_profile.specs.Faults.{fault_text as profile_fault_text}
 use Rattle.script.specs.FaultText.{fault_text as script_fault_text}
 use Rattle.verdict.specs.FaultText.{fault_text as stack_fault_text}
 use Rattle.checker.specs.FileText.{fault_text as file_fault_text}
