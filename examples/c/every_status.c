@@ -1,4 +1,4 @@
-/* One filter for each status of motchidu.h, so that the numbers of the header and those of the library
+/* One filter, and one profile, for each status of motchidu.h, so that the numbers of the header and those of the library
  * can't part. Prints each row that is not as it should be, and ends with their number. */
 #include <linux/filter.h>
 #include <linux/seccomp.h>
@@ -64,13 +64,90 @@ static void expect_run(const char *name, const void *code, size_t len, size_t ca
     }
 }
 
+#define ENTRY(fields) "{\"defaultAction\":\"SCMP_ACT_ALLOW\",\"syscalls\":[{" fields "}]}"
+#define ARG(fields) ENTRY("\"names\":[\"read\"],\"action\":\"SCMP_ACT_TRAP\",\"args\":[" fields "]")
+
+static const struct {
+    const char *text;
+    enum motchidu_status want;
+} profiles[] = {
+    {ENTRY("\"names\":[\"read\"],\"action\":\"SCMP_ACT_TRAP\""), MOTCHIDU_ACCEPTED},
+    {"{", MOTCHIDU_NOT_JSON},
+    {"[]", MOTCHIDU_NOT_OBJECT},
+    {"{}", MOTCHIDU_MISSING},
+    {"{\"defaultAction\":1}", MOTCHIDU_WRONG_TYPE},
+    {"{\"defaultAction\":\"ALLOW\"}", MOTCHIDU_UNKNOWN_ACTION},
+    {ARG("{\"index\":0,\"value\":1,\"op\":\"EQ\"}"), MOTCHIDU_UNKNOWN_OP},
+    {ARG("{\"index\":6,\"value\":1,\"op\":\"SCMP_CMP_EQ\"}"), MOTCHIDU_BAD_INDEX},
+    {ENTRY("\"names\":[],\"action\":\"SCMP_ACT_TRAP\""), MOTCHIDU_EMPTY_NAMES},
+    {ARG("{\"index\":0,\"value\":1,\"op\":\"SCMP_CMP_EQ\"},{\"index\":0}"), MOTCHIDU_REPEATED_INDEX},
+    {"{\"defaultAction\":\"SCMP_ACT_ALLOW\",\"defaultErrnoRet\":1}", MOTCHIDU_ERRNO_NOT_ALLOWED},
+    {"{\"defaultAction\":\"SCMP_ACT_ERRNO\",\"defaultErrnoRet\":4096}", MOTCHIDU_ERRNO_TOO_LARGE},
+    {ENTRY("\"names\":[\"nosuchcall\"],\"action\":\"SCMP_ACT_TRAP\""), MOTCHIDU_UNKNOWN_CALL},
+    {"{\"defaultAction\":\"SCMP_ACT_NOTIFY\"}", MOTCHIDU_NOTIFY},
+};
+
+/* Compiles a profile with this much room, and says whether room and length are as the answer has it. */
+static void expect_compiled(const char *name, const char *text, size_t text_len, size_t room, uint32_t want, size_t want_length) {
+    static uint8_t filter[64];
+    size_t length = NOWHERE, after = want == MOTCHIDU_ACCEPTED ? want_length : 0;
+    memset(filter, 0xa5, sizeof filter);
+    uint32_t status = motchidu_compile((const uint8_t *)text, text_len, filter, room, &length);
+    expect(name, status, length, want, want_length);
+    for (size_t i = after; i < sizeof filter; i++)
+        if (filter[i] != 0xa5) {
+            printf("%s: byte %zu was written\n", name, i);
+            wrong++;
+        }
+    size_t at;
+    if (after > 0)
+        expect(name, verify(filter, after, &at), at, MOTCHIDU_ACCEPTED, NOWHERE);
+}
+
+static void expect_profiles(void) {
+    /* a test of the architecture and one of the number for each of two edges, three returns, two loads */
+    static char large[262144 + 1], heavy[8192];
+    for (size_t i = 0; i < sizeof profiles / sizeof *profiles; i++) {
+        size_t length = profiles[i].want == MOTCHIDU_ACCEPTED ? 64 : NOWHERE;
+        expect_compiled(profiles[i].text, profiles[i].text, strlen(profiles[i].text), 64, profiles[i].want, length);
+    }
+    expect_compiled("room for all but a byte", profiles[0].text, strlen(profiles[0].text), 63, MOTCHIDU_NO_ROOM, 64);
+    expect_compiled("no room", profiles[0].text, strlen(profiles[0].text), 0, MOTCHIDU_NO_ROOM, 64);
+    expect_compiled("no text", NULL, 0, 64, MOTCHIDU_NOT_JSON, NOWHERE);
+    memset(large, ' ', sizeof large);
+    expect_compiled("262,144 bytes", large, sizeof large - 1, 64, MOTCHIDU_NOT_JSON, NOWHERE);
+    expect_compiled("262,145 bytes", large, sizeof large, 64, MOTCHIDU_TOO_LARGE, NOWHERE);
+    /* 512 names weigh 7 and 8 each, 4,103 */
+    strcpy(heavy, "{\"defaultAction\":\"SCMP_ACT_ERRNO\",\"syscalls\":[{\"action\":\"SCMP_ACT_ALLOW\",\"names\":[\"read\"");
+    for (int i = 1; i < 512; i++)
+        strcat(heavy, ",\"read\"");
+    strcat(heavy, "]}]}");
+    expect_compiled("512 names", heavy, strlen(heavy), 64, MOTCHIDU_TOO_HEAVY, NOWHERE);
+    no_memory = 1;
+    expect_compiled("no memory for a profile", profiles[0].text, strlen(profiles[0].text), 64, MOTCHIDU_MEMORY, NOWHERE);
+    expect_compiled("no memory, too large", large, sizeof large, 64, MOTCHIDU_TOO_LARGE, NOWHERE);
+    no_memory = 0;
+}
+
+static void expect_longest(const char *name, const void *code, size_t len, uint32_t want, uint32_t want_longest, size_t want_at) {
+    uint32_t longest = NOWHERE;
+    size_t at = NOWHERE;
+    uint32_t status = motchidu_longest(code, len, &longest, &at);
+    expect(name, status, at, want, want_at);
+    expect(name, longest, 0, want == MOTCHIDU_ACCEPTED ? want_longest : NOWHERE, 0);
+}
+
 int main(void) {
     size_t at;
     for (size_t i = 0; i < sizeof rows / sizeof *rows; i++) {
         uint32_t status = verify(rows[i].code, rows[i].len, &at);
         expect(rows[i].name, status, at, rows[i].want, rows[i].at);
         expect_run(rows[i].name, rows[i].code, rows[i].len, 128, 2, rows[i].want);
+        expect_longest(rows[i].name, rows[i].code, rows[i].len, rows[i].want, 2, rows[i].at);
     }
+    static const struct sock_filter dead[] = {ALLOW, LOAD_NR, ALLOW};
+    expect_longest("a return in front", dead, sizeof dead, MOTCHIDU_ACCEPTED, 1, NOWHERE);
+    expect_profiles();
 
     static uint8_t long_filter[8 * 4097];
     uint32_t status = verify(long_filter, sizeof long_filter, &at);

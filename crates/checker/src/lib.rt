@@ -8,12 +8,12 @@
 
 mod call_words;
 mod cell;
+#[cfg(test)]
+mod compile_tests;
 mod file;
 mod judging;
 mod laws;
 mod line;
-#[cfg(test)]
-mod longest_tests;
 mod number;
 #[cfg(test)]
 mod play_tests;
