@@ -89,7 +89,7 @@ fn figures_of_the_default(rt: HostRuntime) -> Result<(), Fail> {
     Ok(())
 }
 
-// RuntimeDefault by the rows of its documentation.
+// What RuntimeDefault says of clone, clone3, ptrace, personality and read.
 #[test]
 fn values_of_the_default(rt: HostRuntime) -> Result<(), Fail> {
     let profile = runtime_default(rt.alloc())?;
