@@ -1,5 +1,5 @@
 -- What is so is read: where the tree has it, each reading goes on and gives it.
-use Rattle.std.proofs.Common.{◌≡◌, inl, inr, ℕ, ◌<◌, List, [], ◌∷◌, ◌&&◌, length, codes, cond, leb, Bool, true, false, Option, Some, None, unwrap_or, Ok, Err, refl, sym, ap, arith}
+use Rattle.std.proofs.Common.{◌≡◌, inl, inr, ℕ, ◌<◌, List, [], ◌∷◌, ◌&&◌, length, codes, cond, leb, Bool, true, false, Option, Some, None, Ok, Err, refl, sym, ap, arith}
 use Rattle.std.specs.List.{list_all}
 use Rattle.std.proofs.Math.Dec.{eqb-suc-zero}
 use Rattle.std.proofs.lemmas.Bool.{le-ltb}
@@ -18,8 +18,8 @@ use Rattle.script.specs.declared.scripts.Step.TheVariants.{Call, Exit, ExitByAtt
 use Rattle.script.specs.declared.scripts.TheConstants.{MAX_STEPS}
 use Rattle.script.specs.declared.fields.CallFields.{CallFields}
 use Rattle.script.specs.declared.reader.StepKind.TheVariants as kind
-use Rattle.script.specs.Script.{code, IsCall, HasArgs, HasArch, HasIp, HasCallFields, IsCallStep, IsExitStep, IsExitByAttemptStep, IsStep, IsScript, ReadsScript}
-use Rattle.script.specs.Reading.{code_of, codes_of, call_of, args_of, arch_of, ip_of, on_error_of, call_fields_of, exit_of, exit_by_attempt_of, kind_of, call_step_of, exit_step_of, exit_by_attempt_step_of, step_of, items_of, script_of, reading_of}
+use Rattle.script.specs.Script.{code, IsCall, HasArch, HasIp, HasCallFields, IsCallStep, IsExitStep, IsExitByAttemptStep, IsStep, IsScript, ReadsScript}
+use Rattle.script.specs.Reading.{code_of, codes_of, call_of, arch_of, ip_of, on_error_of, call_fields_of, exit_of, exit_by_attempt_of, kind_of, call_step_of, exit_step_of, exit_by_attempt_step_of, step_of, items_of, script_of, reading_of}
 
 code_same : (small : Bool) (n m : ℕ) → cond small (Some n) None ≡ Some m → cond small (Ok n) (Err BadCode) ≡ Ok m
 code_same true n m h = cc

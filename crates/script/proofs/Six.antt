@@ -1,5 +1,5 @@
 -- Six arguments, each read by itself, are those of the list that is read as a whole.
-use Rattle.std.proofs.Common.{◌≡◌, ℕ, zero, suc, ◌+◌, ◌<◌, ◌≤◌, List, [], ◌∷◌, length, codes, ltb, Option, Some, None, unwrap_or, Result, Ok, refl, sym, ap, ◌∙◌, arith, slice_index}
+use Rattle.std.proofs.Common.{◌≡◌, ℕ, zero, suc, ◌<◌, ◌≤◌, List, [], ◌∷◌, length, codes, ltb, Option, Some, None, unwrap_or, Result, Ok, refl, sym, ap, ◌∙◌, arith, slice_index}
 use Rattle.std.proofs.lemmas.Bool.{le-ltb, ltb-false}
 use Rattle.serde_json.specs.Data.{Data}
 use Rattle.json_tree.specs.Tree.{each, list, whole, wholes}

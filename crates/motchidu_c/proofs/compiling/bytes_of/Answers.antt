@@ -1,4 +1,4 @@
-use Rattle.std.proofs.Common.{◌≡◌, ◌≢◌, ◌<◌, ◌∙◌, Err, ap, sym, arith}
+use Rattle.std.proofs.Common.{◌≡◌, ◌≢◌, ◌<◌, ◌∙◌, Err, ap, arith}
 use Rattle.bpf_code.specs.declared.limits.TheConstants.{MAX_INSNS}
 use Rattle.oci_profile.specs.declared.faults.ProfileFault.TheVariants.{Memory}
 use Rattle.oci_profile.specs.Meaning.{weight}
