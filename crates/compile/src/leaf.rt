@@ -15,19 +15,12 @@ use crate::code::Code;
 use oci_profile::{Decision, Entry, Profile, X32_BIT};
 use std::alloc::AllocError;
 
-#[tactic(auto, unfolding(oci_profile::specs::Meaning::names))]
-pub(crate) fn names(entry: &Entry, nr: u32) -> bool
-    ensures { result ≡ names entry.now nr }
-{
-    entry.numbers.as_slice().iter().any(|number| *number == nr)
-}
-
 /// Whether the entry decides of the number without a condition.
 pub(crate) fn decides(entry: &Entry, nr: u32) -> bool
     ensures yes { IsTrue result → (names entry.now nr ≡ true) × IsBare entry.now }
     ensures no { OnFalse result (IsBare entry.now → names entry.now nr ≡ false) }
 {
-    names(entry, nr) && entry.conds.as_slice().is_empty()
+    entry.names(nr) && entry.conds.as_slice().is_empty()
 }
 
 /// How many entries come before the first that decides of the number without a condition, and what is
@@ -56,7 +49,7 @@ fn add_named(code: &mut Code, entry: &Entry, nr: u32, chain: Chain) -> Result<Ch
     ensures keeps { Keeps code.old code.new }
     ensures grows { length code.old ≤ length code.new }
 {
-    if names(entry, nr) {
+    if entry.names(nr) {
         add_link(code, entry, chain)
     } else {
         Ok(chain)

@@ -9,7 +9,7 @@ ghost use Rattle.compile.specs.Bounds.{named, named_below};
 ghost use Rattle.compile.specs.Ranges.{AreRanges};
 ghost use Rattle.compile.specs.Sizes.{added_below, split_size};
 
-use crate::leaf::{decides, names};
+use crate::leaf::decides;
 use oci_profile::{Decision, Entry, Profile, X32_BIT};
 use std::alloc::{AllocError, Global};
 use sys_table::NUMBER_LIMIT;
@@ -35,7 +35,7 @@ fn decided_by(entries: &[Entry], default: Decision, nr: u32) -> Option<u32>
         if decides(entry, nr) {
             return Some(entry.decision.value());
         }
-        if names(entry, nr) {
+        if entry.names(nr) {
             return None;
         }
     }

@@ -26,6 +26,19 @@ impl Profile {
     }
 }
 
+impl Entry {
+    ghost use Rattle.std.specs.Prelude.{◌≡◌};
+    ghost use Rattle.oci_profile.specs.Meaning.{names};
+
+    /// Whether the entry names the call with this number.
+    #[tactic(auto, unfolding(crate::specs::Meaning::names))]
+    pub fn names(&self, nr: u32) -> bool
+        ensures { result ≡ names self.now nr }
+    {
+        self.numbers.as_slice().iter().any(|number| *number == nr)
+    }
+}
+
 // What the first entry that applies decides, else the default.
 fn decision(entries: &[Entry], default: Decision, call: &SysCall) -> Decision
     ensures { result ≡ decision_of entries.now default call.now.nr call.now }
@@ -41,14 +54,7 @@ fn decision(entries: &[Entry], default: Decision, call: &SysCall) -> Decision
 fn applies(entry: &Entry, call: &SysCall) -> bool
     ensures { result ≡ (names entry.now call.now.nr && all_hold entry.now call.now) }
 {
-    names_call(entry, call.nr) && is_met(entry, call)
-}
-
-#[tactic(auto, unfolding(crate::specs::Meaning::names))]
-fn names_call(entry: &Entry, nr: u32) -> bool
-    ensures { result ≡ names entry.now nr }
-{
-    entry.numbers.as_slice().iter().any(|number| *number == nr)
+    entry.names(call.nr) && is_met(entry, call)
 }
 
 #[tactic(auto, unfolding(crate::specs::Meaning::all_hold))]
