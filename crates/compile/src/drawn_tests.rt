@@ -1,4 +1,5 @@
 use crate::tests::{call, entry, filter_of, profile_of};
+use crate::{CompileFault, compile};
 use bpf_machine::run;
 use bpf_verify::Filter;
 use oci_profile::Profile;
@@ -185,6 +186,22 @@ fn large_profiles(rt: HostRuntime) -> Result<(), Fail> {
         let profile = profile_of(&rt, "ERRNO", entries.as_str())?;
         let filter = filter_of(&rt, &profile)?;
         assert!(rt; agree(&filter, &profile, 0, to), "{to}");
+    }
+    Ok(())
+}
+
+// What is heavier is refused, however deep it is: 4,002 conditions on one number, one on each call below
+// number 340, and one entry more than fits.
+#[test]
+fn heavier_profiles(rt: HostRuntime) -> Result<(), Fail> {
+    for entries in [
+        deep(rt.alloc(), 667)?,
+        wide(rt.alloc(), 340)?,
+        deep(rt.alloc(), 93)?,
+    ] {
+        let profile = profile_of(&rt, "ERRNO", entries.as_str())?;
+        let fault = compile(rt.alloc(), &profile).err();
+        assert_eq!(rt; fault, Some(CompileFault::TooLong));
     }
     Ok(())
 }
