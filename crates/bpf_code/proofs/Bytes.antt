@@ -1,7 +1,7 @@
 -- Eight bytes and the instruction that they spell; a text and its instructions.
 use Rattle.std.proofs.Common.{◌≡◌, ℕ, ◌+◌, ◌-◌, ◌*◌, ◌<◌, List, [], ◌∷◌, ◌++◌, length, take, drop, get_or, refl, sym, ap, ◌∙◌, arith, append_assoc, add-one, length-drop}
 use Rattle.std.proofs.Math.Seq.{drop-cons, take-add, take-suc}
-use Rattle.std.proofs.lemmas.List.{take-append-drop, get_or-take, get_or-drop, length-take-le}
+use Rattle.std.proofs.lemmas.List.{take-append-drop, take_more, get_or-take, get_or-drop, length-take-le}
 use Rattle.std.proofs.lemmas.Nat.{le_bytes_2, le_bytes_4}
 use Rattle.std.proofs.lemmas.Grind.{common_steps}
 use Rattle.std.specs.List.{AllByRecursion}
@@ -76,3 +76,6 @@ written_more code i d bytes piece new below so_far here appended =
 pub fits_more : (code : List Insn) (insn : Insn) → AllByRecursion Fits code → Fits insn → AllByRecursion Fits (code ++ insn ∷ [])
 fits_more [] insn so_far here = (here, tt)
 fits_more (first ∷ code) insn so_far here = (so_far.0, fits_more code insn so_far.1 here)
+
+pub fits_further : (code : List Insn) (at : ℕ) (d : Insn) → at < length code → AllByRecursion Fits (take at code) → Fits (get_or code at d) → AllByRecursion Fits (take (at + 1) code)
+fits_further code at d within so_far here = rw (take_more code at d within) (fits_more (take at code) (get_or code at d) so_far here)

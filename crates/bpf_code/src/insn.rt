@@ -1,5 +1,5 @@
 ghost use Rattle.std.specs.Prelude.{◌≡◌, ◌≢◌, IfSome, IfNone};
-ghost use Rattle.bpf_code.specs.Code.{bytes_of_insn, code_of, Spells};
+ghost use Rattle.bpf_code.specs.Code.{Spells, bytes_of_insn, code_of};
 
 use crate::operation::Operation;
 use byteorder::{ByteOrder, LittleEndian};

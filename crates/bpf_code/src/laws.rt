@@ -6,6 +6,8 @@ ghost use Rattle.bpf_code.specs.declared.limits.TheConstants.{DATA_LEN, MAX_BYTE
 ghost use Rattle.bpf_code.specs.Code.{Fits, bytes_of_code};
 ghost use Rattle.bpf_code.specs.Reading.{HasFault};
 
+use crate::insn::Insn;
+
 /// What was written is read again: a text of instructions has no fault, and no other instructions
 /// have it.
 pub fn written_is_read()
@@ -13,6 +15,13 @@ pub fn written_is_read()
     ensures alone { (code other : List Insn) → AllByRecursion Fits code → AllByRecursion Fits other
         → bytes_of_code code ≡ bytes_of_code other → code ≡ other }
 {}
+
+/// The numbers of an instruction fit their fields, as its type says.
+pub fn numbers_fit(insn: Insn)
+    ensures { Fits insn }
+{
+    let _ = insn;
+}
 
 /// What the constants of this crate are, in the standards' own numbers.
 pub fn constants_are_as_stated()

@@ -23,6 +23,14 @@ judged_text judged =
 abbrev pub accepted_text : ℕ → List ℕ
 accepted_text count = codes "accepted " ++ decimal count ++ codes " instructions\n"
 
+-- what is said of a profile's filter, of so many instructions
+abbrev pub compiled_text : ℕ → List ℕ
+compiled_text count = codes "compiled " ++ decimal count ++ codes " instructions\n"
+
+-- how many instructions a run takes at most
+abbrev pub longest_text : ℕ → List ℕ
+longest_text most = codes "longest " ++ decimal most ++ codes "\n"
+
 -- the places that an instruction may go to, if it is a jump: where its test holds, and where it fails
 abbrev pub arrow_text : Flow → ℕ → Insn → List ℕ
 arrow_text Jumps place insn = codes " -> " ++ decimal (place + 1 + insn.k)

@@ -50,6 +50,18 @@ pub(crate) fn read_file<R: Files + AllocGlobal>(rt: &R, path: &str) -> Result<Ve
     Ok(bytes)
 }
 
+/// Writes a file anew.
+pub(crate) fn write_file<R: Files + AllocGlobal>(
+    rt: &R,
+    path: &str,
+    bytes: &[u8],
+) -> Result<(), FileFault> {
+    fs::write(rt, path, bytes).map_err(|error| match fault_of(error) {
+        FileFault::Memory => FileFault::Memory,
+        _ => FileFault::Failed,
+    })
+}
+
 fn fault_of(error: io::Error) -> FileFault {
     match error.kind() {
         ErrorKind::NotFound => FileFault::NotFound,

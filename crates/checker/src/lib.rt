@@ -12,6 +12,8 @@ mod file;
 mod judging;
 mod laws;
 mod line;
+#[cfg(test)]
+mod longest_tests;
 mod number;
 #[cfg(test)]
 mod play_tests;

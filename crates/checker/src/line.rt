@@ -1,6 +1,6 @@
 ghost use Rattle.std.specs.Prelude.{◌≡◌, ◌++◌, IfOk, codes, string_bytes};
 ghost use Rattle.checker.specs.LineText.{outcome_text, record_text};
-ghost use Rattle.checker.specs.Texts.{accepted_text, judged_text};
+ghost use Rattle.checker.specs.Texts.{accepted_text, compiled_text, judged_text, longest_text};
 
 use crate::judging::Judged;
 use crate::playing::Outcome;
@@ -13,6 +13,20 @@ pub(crate) fn accepted(alloc: Global, count: usize) -> Result<String, AllocError
     ensures { IfOk result (λ text. string_bytes text ≡ accepted_text count) }
 {
     format!(in alloc; "accepted {count} instructions\n")
+}
+
+/// The line that is printed of a filter that was compiled, of so many instructions.
+pub(crate) fn compiled(alloc: Global, count: usize) -> Result<String, AllocError>
+    ensures { IfOk result (λ text. string_bytes text ≡ compiled_text count) }
+{
+    format!(in alloc; "compiled {count} instructions\n")
+}
+
+/// The line that is printed of a filter whose runs take so many steps at most.
+pub(crate) fn longest(alloc: Global, most: u32) -> Result<String, AllocError>
+    ensures { IfOk result (λ text. string_bytes text ≡ longest_text most) }
+{
+    format!(in alloc; "longest {most}\n")
 }
 
 /// The line that is printed of what a filter says.

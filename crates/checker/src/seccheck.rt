@@ -1,18 +1,19 @@
-use crate::file::{FileFault, read_file};
+use crate::file::{read_file, write_file};
 use crate::judging::judge;
-use crate::line::{accepted, judged_line, outcome_lines};
+use crate::line::{accepted, compiled, judged_line, longest, outcome_lines};
 use crate::playing::play;
 use crate::show::code_lines;
-use crate::stop::Stop;
+use crate::stop::{Stop, stop_at};
 use crate::words::{attempt_at, call_at, command, word_at};
 use bpf_verify::{Filter, Refusal, filter_of};
 use call_data::SysCall;
 use clap::error::ErrorKind;
+use compile::compile;
 use std::io::{self, Write};
 use std::rt::Files;
 use verdict::Stack;
 
-/// The program `seccheck`: looks at filters, runs them, and plays scripts under them. `words` are the
+/// The program `seccheck`: compiles profiles, looks at filters, runs them, and plays scripts under them. `words` are the
 /// command line's, the program's name first. The answer is the program's status: 0 done, 1 input
 /// refused, 2 command line refused, 3 file fault, 4 out of memory. What can't be written counts as a
 /// file fault.
@@ -53,7 +54,11 @@ fn text_of<'a, R: Files + AllocGlobal>(rt: &R, words: &'a [String]) -> Result<St
             let call = call_at(matches).map_err(Stop::BadNumber)?;
             run_text(rt, word_at(matches, "FILTER"), call)
         }
+        Some(("compile", matches)) => {
+            compile_text(rt, word_at(matches, "PROFILE"), word_at(matches, "OUT"))
+        }
         Some(("verify", matches)) => verify_text(rt, word_at(matches, "FILTER")),
+        Some(("budget", matches)) => budget_text(rt, word_at(matches, "FILTER")),
         Some(("show", matches)) => show_text(rt, word_at(matches, "FILTER")),
         Some(("play", matches)) => {
             let attempt = attempt_at(matches).map_err(Stop::BadNumber)?;
@@ -66,6 +71,26 @@ fn text_of<'a, R: Files + AllocGlobal>(rt: &R, words: &'a [String]) -> Result<St
                 .into(),
         ),
     }
+}
+
+/// That the profile was compiled and its filter written. The file is opened once there is a filter.
+fn compile_text<'a, R: Files + AllocGlobal>(
+    rt: &R,
+    profile: &'a str,
+    out: &'a str,
+) -> Result<String, Stop<'a>> {
+    let bytes = bytes_at(rt, profile)?;
+    let profile = oci_profile::read(rt.alloc(), &bytes)?;
+    let filter = compile(rt.alloc(), &profile)?;
+    let code = bpf_code::write(rt.alloc(), filter.insns())?;
+    write_file(rt, out, &code).map_err(|fault| stop_at(out, fault))?;
+    Ok(compiled(rt.alloc(), filter.len())?)
+}
+
+/// How many instructions a run of the filter takes at most.
+fn budget_text<'a, R: Files + AllocGlobal>(rt: &R, path: &'a str) -> Result<String, Stop<'a>> {
+    let filter = filter_at(rt, path)?;
+    Ok(longest(rt.alloc(), filter.longest())?)
 }
 
 /// That the filter is accepted.
@@ -127,8 +152,5 @@ fn filter_at<'a, R: Files + AllocGlobal>(rt: &R, path: &'a str) -> Result<Filter
 
 /// The bytes of a file.
 fn bytes_at<'a, R: Files + AllocGlobal>(rt: &R, path: &'a str) -> Result<Vec<u8>, Stop<'a>> {
-    read_file(rt, path).map_err(|fault| match fault {
-        FileFault::Memory => Stop::Memory,
-        _ => Stop::File(path, fault),
-    })
+    read_file(rt, path).map_err(|fault| stop_at(path, fault))
 }

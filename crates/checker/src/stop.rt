@@ -1,6 +1,10 @@
+ghost use Rattle.checker.specs.Stops.{IsOfFile};
+
 use crate::file::FileFault;
 use bpf_code::CodeFault;
 use bpf_verify::{Filter, Refusal};
+use compile::CompileFault;
+use oci_profile::ProfileFault;
 use script::ScriptFault;
 use std::alloc::{AllocError, AllocFailed};
 use std::fmt;
@@ -11,6 +15,10 @@ use verdict::StackFault;
 pub(crate) enum Stop<'a> {
     /// The one filter of a command is refused.
     Refused(Refusal),
+    /// The profile is refused.
+    Profile(ProfileFault),
+    /// The profile is not compiled.
+    Compile(CompileFault),
     /// The script is refused.
     Script(ScriptFault),
     /// A filter of a stack is refused.
@@ -38,7 +46,8 @@ impl Stop<'_> {
         ensures { result ≡ status_of self.now }
     {
         match self {
-            Stop::Refused(_) | Stop::Script(_) | Stop::StackFilter(_) | Stop::Stack(_) => 1,
+            Stop::Refused(_) | Stop::Profile(_) | Stop::Compile(_) => 1,
+            Stop::Script(_) | Stop::StackFilter(_) | Stop::Stack(_) => 1,
             Stop::CommandLine(_) | Stop::BadNumber(_) => 2,
             Stop::File(_, _) | Stop::Unwritten => 3,
             Stop::Memory => 4,
@@ -52,7 +61,12 @@ impl Stop<'_> {
     {
         matches!(
             self,
-            Stop::Refused(_) | Stop::Script(_) | Stop::StackFilter(_) | Stop::Stack(_)
+            Stop::Refused(_)
+                | Stop::Profile(_)
+                | Stop::Compile(_)
+                | Stop::Script(_)
+                | Stop::StackFilter(_)
+                | Stop::Stack(_)
         )
     }
 }
@@ -66,6 +80,8 @@ impl fmt::Display for Stop<'_> {
     fn fmt<W: fmt::Write>(&self, f: &mut fmt::Formatter<W>) -> fmt::Result {
         match self {
             Stop::Refused(refusal) => writeln!(f, "refused {refusal}"),
+            Stop::Profile(fault) => writeln!(f, "refused {fault}"),
+            Stop::Compile(fault) => writeln!(f, "refused {fault}"),
             Stop::Script(fault) => writeln!(f, "refused script {fault}"),
             Stop::StackFilter(refusal) => writeln!(f, "refused filter {refusal}"),
             Stop::Stack(fault) => writeln!(f, "refused filter {fault}"),
@@ -103,6 +119,34 @@ impl<'a> Stop<'a> {
         match refusal {
             Refusal::Code(CodeFault::Memory) => Stop::Memory,
             _ => Stop::StackFilter(refusal),
+        }
+    }
+}
+
+impl<'a> From<ProfileFault> for Stop<'a> {
+    ghost use Rattle.std.specs.Prelude.{◌≡◌};
+    ghost use Rattle.checker.specs.Stops.{of_profile_fault};
+
+    ghost from_gives = { λ fault stop. stop ≡ of_profile_fault fault };
+
+    fn from(fault: ProfileFault) -> Stop<'a> {
+        match fault {
+            ProfileFault::Memory => Stop::Memory,
+            _ => Stop::Profile(fault),
+        }
+    }
+}
+
+impl<'a> From<CompileFault> for Stop<'a> {
+    ghost use Rattle.std.specs.Prelude.{◌≡◌};
+    ghost use Rattle.checker.specs.Stops.{of_compile_fault};
+
+    ghost from_gives = { λ fault stop. stop ≡ of_compile_fault fault };
+
+    fn from(fault: CompileFault) -> Stop<'a> {
+        match fault {
+            CompileFault::Memory => Stop::Memory,
+            CompileFault::TooLong => Stop::Compile(fault),
         }
     }
 }
@@ -167,5 +211,15 @@ impl<'a> From<clap::Error> for Stop<'a> {
             clap::error::ErrorKind::OutOfMemory => Stop::Memory,
             _ => Stop::CommandLine(error),
         }
+    }
+}
+
+/// Why a file stops the program.
+pub(crate) fn stop_at(path: &str, fault: FileFault) -> Stop<'_>
+    ensures { IsOfFile path.now fault result }
+{
+    match fault {
+        FileFault::Memory => Stop::Memory,
+        _ => Stop::File(path, fault),
     }
 }

@@ -22,6 +22,21 @@ pub(crate) fn command<'a>(alloc: Global) -> Result<Command<'a>, AllocError> {
     let show = Command::new(alloc, "show")
         .about("Prints the instructions of a filter, sound or not")
         .arg(filter())?;
+    let compile = Command::new(alloc, "compile")
+        .about("Compiles a seccomp profile to a filter")
+        .arg(
+            Arg::new(alloc, "PROFILE")
+                .required(true)
+                .help("a profile, the JSON of OCI's linux.seccomp"),
+        )?
+        .arg(
+            Arg::new(alloc, "OUT")
+                .required(true)
+                .help("the filter file to write"),
+        )?;
+    let budget = Command::new(alloc, "budget")
+        .about("Says how many instructions a run of a filter takes at most")
+        .arg(filter())?;
     let run = Command::new(alloc, "run")
         .about("Runs a filter on a call")
         .arg(filter())?
@@ -66,9 +81,11 @@ pub(crate) fn command<'a>(alloc: Global) -> Result<Command<'a>, AllocError> {
                 .help("which attempt it is, from 0"),
         )?;
     Command::new(alloc, PROGRAM)
-        .about("Looks at seccomp filters, and runs them")
+        .about("Compiles seccomp profiles, looks at filters, and runs them")
         .subcommand_required(true)
+        .subcommand(compile)?
         .subcommand(verify)?
+        .subcommand(budget)?
         .subcommand(show)?
         .subcommand(run)?
         .subcommand(play)

@@ -1,7 +1,6 @@
 -- Putting an instruction in front of code that is built from its end.
 use Rattle.std.proofs.Common.{◌≡◌, ℕ, zero, suc, ◌+◌, ◌-◌, ◌<◌, ◌≤◌, List, [], ◌∷◌, ◌++◌, ◌⊎◌, Some, length, slice_get, refl, sym, ap, ◌∙◌, arith, inl, inr, subst, Result, Ok, Err, IfOk, OnOk, Bool, true, false, cond}
-use Rattle.std.proofs.lemmas.Option.{slice_get_within, slice_get-get_or, get_or_from_slice_get, same_Some}
-use Rattle.std.proofs.lemmas.List.{get_or_append_left}
+use Rattle.std.proofs.lemmas.Option.{same_Some}
 use Rattle.bpf_code.specs.declared.insn.Insn.{Insn}
 use Rattle.bpf_code.specs.declared.operation.Operation.TheVariants.{ReturnK}
 use Rattle.bpf_code.specs.declared.operation.Operation.{Operation}

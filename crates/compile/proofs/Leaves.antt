@@ -1,6 +1,6 @@
 -- What the entries of a profile decide of one number, as chains.
-use Rattle.std.proofs.Common.{◌≡◌, ℕ, zero, suc, ◌+◌, ◌-◌, ◌*◌, ◌<◌, ◌≤◌, ◌&&◌, Bool, true, false, cond, List, [], ◌∷◌, ◌++◌, Option, Some, None, length, refl, sym, ap, ◌∙◌, subst, arith, add-one, drop, take, get_or}
-use Rattle.std.proofs.lemmas.List.{take_more, drop_all}
+use Rattle.std.proofs.Common.{◌≡◌, ℕ, zero, suc, ◌+◌, ◌-◌, ◌*◌, ◌<◌, ◌≤◌, ◌&&◌, Bool, true, false, cond, List, [], ◌∷◌, ◌++◌, Option, Some, None, length, refl, sym, ap, ◌∙◌, subst, arith, drop, take, get_or}
+use Rattle.std.proofs.lemmas.List.{take_more}
 use Rattle.std.proofs.Math.Seq.{drop-cons}
 use Rattle.std.proofs.lemmas.List.Elements.{All-get_or}
 use Rattle.bpf_code.specs.declared.insn.Insn.{Insn}
@@ -17,11 +17,10 @@ use Rattle.oci_profile.specs.Decision.{value_of}
 use Rattle.oci_profile.specs.Meaning.{all_of, all_hold, names, decision_of, chosen}
 use Rattle.compile.specs.declared.chain.Known.{Known}
 use Rattle.compile.specs.declared.chain.Chain.{Chain}
-use Rattle.compile.specs.Backward.{GivesAlways, Keeps}
+use Rattle.compile.specs.Backward.{Keeps}
 use Rattle.compile.specs.Bounds.{IsBare, AreBare}
 use Rattle.compile.specs.Chains.{LinkGives, Stands, owed}
 use Rattle.compile.specs.Sizes.{added_of, steps_of}
-use Rattle.compile.proofs.Building.{gives_more}
 use Rattle.compile.proofs.Words.{GivesAlways-more}
 
 none_hold : (conds : List Cond) (call : SysCall) → length conds ≡ 0 → all_of conds call ≡ true

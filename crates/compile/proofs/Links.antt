@@ -1,11 +1,10 @@
 -- One entry in front of those that a number leads to.
-use Rattle.std.proofs.Common.{◌≡◌, ◌≢◌, ℕ, zero, suc, ◌+◌, ◌-◌, ◌*◌, ◌<◌, ◌≤◌, ◌==◌, ◌&&◌, Bool, true, false, cond, List, [], ◌∷◌, Option, Some, None, length, refl, sym, ap, ◌∙◌, subst, arith, add-one, drop, get_or}
+use Rattle.std.proofs.Common.{◌≡◌, ℕ, ◌+◌, ◌-◌, ◌*◌, ◌<◌, ◌≤◌, ◌==◌, ◌&&◌, Bool, true, false, cond, List, [], ◌∷◌, Option, Some, length, refl, sym, ap, ◌∙◌, subst, arith, add-one, drop, get_or}
 use Rattle.bpf_code.specs.declared.insn.Insn.{Insn}
 use Rattle.call_data.specs.declared.sys_call.SysCall.{SysCall}
 use Rattle.compile.specs.declared.chain.Known.{Known}
 use Rattle.compile.specs.Backward.{Gives, GivesAlways, Keeps, data_word}
-use Rattle.compile.specs.Chains.{LinkGives, Stands, owed}
-use Rattle.call_data.specs.CallData.{IsCall}
+use Rattle.compile.specs.Chains.{LinkGives}
 use Rattle.oci_profile.specs.declared.conditions.Cond.{Cond}
 use Rattle.oci_profile.specs.declared.conditions.Op.{Op}
 use Rattle.oci_profile.specs.declared.profile.Entry.{Entry}
@@ -15,7 +14,7 @@ use Rattle.oci_profile.specs.Meaning.{holds_on, all_of, all_hold, compares}
 use Rattle.std.proofs.Math.Seq.{drop-cons}
 use Rattle.std.proofs.lemmas.List.{drop_all}
 use Rattle.compile.proofs.Building.{gives_more}
-use Rattle.compile.proofs.Words.{GivesAlways-more, by_test, both_give, at_front}
+use Rattle.compile.proofs.Words.{GivesAlways-more, by_test, both_give}
 
 pub settled : (code new : List Insn) (call : SysCall) (link : Option Known) (known : Known) (place value most : ℕ) → link ≡ Some known → length code - 1 ≡ place
     → ((a v m : ℕ) → Gives code call (length code - 1) (data_word call (16 + 8 * known.index)) v m → Gives new call (length new - 1) a v (m + 1))

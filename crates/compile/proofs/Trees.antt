@@ -1,5 +1,5 @@
 -- A range of numbers, and the tree over ranges, as code.
-use Rattle.std.proofs.Common.{◌≡◌, ◌≢◌, ℕ, zero, suc, ◌+◌, ◌-◌, ◌*◌, ◌/◌, ◌^◌, ◌<◌, ◌≤◌, ◌==◌, ◌⊎◌, inl, inr, Bool, true, false, cond, List, [], ◌∷◌, length, refl, sym, ap, ◌∙◌, subst, arith}
+use Rattle.std.proofs.Common.{◌≡◌, ◌≢◌, ℕ, zero, suc, ◌+◌, ◌-◌, ◌*◌, ◌^◌, ◌<◌, ◌≤◌, ◌==◌, inl, inr, Bool, true, false, cond, List, [], ◌∷◌, length, refl, sym, ap, ◌∙◌, subst, arith}
 use Rattle.std.specs.Prelude.{slice_index, nat_le}
 use Rattle.std.proofs.Math.Nat.{pow-suc}
 use Rattle.std.proofs.lemmas.Bool.{cases_lt, cases_eq, eq-eqb}
@@ -13,11 +13,9 @@ use Rattle.oci_profile.specs.declared.profile.Profile.{Profile}
 use Rattle.oci_profile.specs.Meaning.{chosen}
 use Rattle.compile.specs.Backward.{Gives, GivesAlways, Keeps}
 use Rattle.compile.specs.Bounds.{IsBare, AreBare}
-use Rattle.compile.specs.Ranges.{IsBetween, AreSplit}
-use Rattle.compile.specs.Sizes.{IsEnough, steps_of, added_of, range_size, split_size}
+use Rattle.compile.specs.Ranges.{IsBetween}
+use Rattle.compile.specs.Sizes.{IsEnough, steps_of, added_of, range_size}
 use Rattle.compile.proofs.Building.{gives_more}
-use Rattle.compile.proofs.Leaves.{steps_some}
-use Rattle.compile.proofs.Scanning.{same_size}
 
 bare_steps : (entries : List Entry) → AreBare entries → steps_of entries ≡ 1
 bare_steps [] bare = refl

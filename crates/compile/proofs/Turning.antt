@@ -1,8 +1,7 @@
 -- Code that was built from its end, turned round, is a sound filter that gives what was built.
-use Rattle.std.proofs.Common.{◌≡◌, ℕ, zero, suc, ◌+◌, ◌-◌, ◌<◌, ◌≤◌, List, [], ◌∷◌, Some, length, slice_get, get_or, reverse, refl, sym, ap, subst, ◌∙◌, arith, add-one, cond, ◌==◌}
-use Rattle.std.proofs.lemmas.Option.{slice_get_within, slice_get-get_or, get_or_from_slice_get, same_Some}
+use Rattle.std.proofs.Common.{◌≡◌, ℕ, suc, ◌+◌, ◌-◌, ◌<◌, ◌≤◌, List, Some, length, slice_get, get_or, reverse, refl, sym, ap, subst, ◌∙◌, arith}
+use Rattle.std.proofs.lemmas.Option.{slice_get_within, slice_get-get_or, get_or_from_slice_get}
 use Rattle.std.proofs.lemmas.List.{get_or-reverse, length-reverse}
-use Rattle.std.specs.Prelude.{nat_lt, nat_le, bit_and}
 use Rattle.bpf_code.specs.declared.insn.Insn.{Insn}
 use Rattle.bpf_code.specs.declared.operation.Operation.{Operation}
 use Rattle.bpf_code.specs.declared.operation.Operation.TheVariants.{LoadImmediate, LoadData, AndK, JumpEqualK, JumpGreaterK, JumpGreaterOrEqualK, Jump, ReturnK}
@@ -11,7 +10,7 @@ use Rattle.bpf_code.specs.declared.flow.Scratch.TheVariants.{Loads}
 use Rattle.bpf_code.specs.declared.limits.TheConstants.{MAX_INSNS}
 use Rattle.bpf_code.specs.Flow.{flow_of, scratch_of}
 use Rattle.call_data.specs.declared.sys_call.SysCall.{SysCall}
-use Rattle.bpf_verify.specs.Sound.{KeepsNumber, KeepsTargets, KeepsRules, IsSound}
+use Rattle.bpf_verify.specs.Sound.{KeepsNumber, KeepsTargets, IsSound}
 use Rattle.bpf_machine.specs.Machine.{State, Step, Executes, start}
 use Rattle.bpf_machine.specs.Machine.Next.{Goes, Ends}
 use Rattle.bpf_machine.specs.Runs.{Reaches, Runs}

@@ -1,5 +1,5 @@
 -- A profile that is light enough has a filter that is short enough.
-use Rattle.std.proofs.Common.{◌≡◌, ℕ, zero, suc, ◌+◌, ◌*◌, ◌^◌, ◌<◌, ◌≤◌, ◌==◌, ◌⊎◌, inl, inr, Bool, true, false, cond, List, [], ◌∷◌, length, refl, sym, ap, ◌∙◌, subst, arith}
+use Rattle.std.proofs.Common.{◌≡◌, ℕ, zero, suc, ◌+◌, ◌*◌, ◌^◌, ◌≤◌, ◌==◌, inl, inr, Bool, true, false, cond, List, [], ◌∷◌, length, refl, ap, ◌∙◌, arith}
 use Rattle.std.specs.Prelude.{◌||◌, sum_by}
 use Rattle.std.specs.List.{list_any}
 use Rattle.std.proofs.Math.Nat.{pow-suc}
@@ -13,7 +13,6 @@ use Rattle.oci_profile.specs.Entries.{AreEntries, IsFit}
 use Rattle.oci_profile.specs.Meaning.{names, entry_weight, weight}
 use Rattle.compile.specs.Bounds.{named, named_below}
 use Rattle.compile.specs.Sizes.{added_of, added_below}
-use Rattle.compile.proofs.Scanning.{named_below-suc, added_below-suc}
 
 -- how many numbers below this one stand in a list, each counted once
 once_in : List ℕ → ℕ → ℕ

@@ -4,3 +4,4 @@ pub mod Tests
 pub mod Chains
 pub mod Sizes
 pub mod Ranges
+pub mod FaultText

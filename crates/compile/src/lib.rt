@@ -1,15 +1,26 @@
 //! Compiles seccomp profiles to classic BPF filters: OCI runtime-spec 1.1, config-linux, seccomp.
+//!
+//! A filter's value is what its profile says, `specs/Meaning.antt` of `oci_profile`, at every call. Code is
+//! built from its end, where a place stays as it is while more is put in front (`code.rt`): first a number's
+//! entries (`leaf.rt`), in tests of 32-bit halves (`halves.rt`), then a balanced tree over ranges of numbers
+//! that are treated alike (`tree.rt`), then the test of the architecture (`compiler.rt`).
 #![tactic(auto)]
 
 mod chain;
 mod code;
 mod compiler;
 mod condition;
+#[cfg(test)]
+mod drawn_tests;
 mod fault;
+#[cfg(test)]
+mod figure_tests;
 mod halves;
 mod leaf;
 mod ranges;
 mod singles;
+#[cfg(test)]
+mod tests;
 mod tree;
 mod weight;
 

@@ -38,6 +38,15 @@ fn range_leaf(
     code.jump(Test::Equal, single, hit, miss)
 }
 
+/// The place between two that leaves as many on both sides, or one more on the second.
+fn half_way(from: usize, to: usize) -> usize
+    requires { from + 1 < to }
+    ensures inside { (from < result) × (result < to) }
+    ensures half { (result - from ≤ to - result) × (to - result ≤ result - from + 1) }
+{
+    from + (to - from) / 2
+}
+
 /// The tree over these ranges, the number being in A.
 pub(crate) fn tree(
     code: &mut Code,
@@ -64,7 +73,7 @@ pub(crate) fn tree(
     if to - from == 1 {
         return range_leaf(code, profile, starts[from], singles[from]);
     }
-    let middle = from + (to - from) / 2;
+    let middle = half_way(from, to);
     let low = tree(code, profile, starts, singles, from, middle)?;
     let high = tree(code, profile, starts, singles, middle, to)?;
     let miss = code.near(low, REACH - 1)?;

@@ -7,8 +7,10 @@ use Rattle.bpf_verify.specs.declared.fault.Fault.{Fault}
 use Rattle.bpf_verify.specs.declared.fault.Fault.TheVariants as fault
 use Rattle.bpf_verify.specs.declared.refusal.Refusal.{Refusal}
 use Rattle.bpf_verify.specs.declared.refusal.Refusal.TheVariants.{Code, Filter}
+use Rattle.oci_profile.specs.declared.faults.ProfileFault.{ProfileFault}
+use Rattle.oci_profile.specs.declared.faults.ProfileFault.TheVariants as profile
 use Rattle.motchidu_c.specs.declared.status.Status.{Status}
-use Rattle.motchidu_c.specs.declared.status.Status.TheVariants.{Accepted, Length, TooLong, BadCode, Empty, BadOffset, BadJump, BadWord, BadShift, ZeroDivisor, NoFinalReturn, Unstored, Memory, Lengths}
+use Rattle.motchidu_c.specs.declared.status.Status.TheVariants.{Accepted, Length, TooLong, BadCode, Empty, BadOffset, BadJump, BadWord, BadShift, ZeroDivisor, NoFinalReturn, Unstored, Memory, Lengths, NotJson, NotObject, Missing, WrongType, UnknownAction, UnknownOp, BadIndex, EmptyNames, RepeatedIndex, ErrnoNotAllowed, ErrnoTooLarge, UnknownCall, Notify, TooLarge, TooHeavy, NoRoom}
 
 abbrev pub number_of : Status → ℕ
 number_of Accepted = 0
@@ -25,6 +27,22 @@ number_of NoFinalReturn = 10
 number_of Unstored = 11
 number_of Memory = 12
 number_of Lengths = 13
+number_of NotJson = 14
+number_of NotObject = 15
+number_of Missing = 16
+number_of WrongType = 17
+number_of UnknownAction = 18
+number_of UnknownOp = 19
+number_of BadIndex = 20
+number_of EmptyNames = 21
+number_of RepeatedIndex = 22
+number_of ErrnoNotAllowed = 23
+number_of ErrnoTooLarge = 24
+number_of UnknownCall = 25
+number_of Notify = 26
+number_of TooLarge = 27
+number_of TooHeavy = 28
+number_of NoRoom = 29
 
 -- the status of a fault of the text
 abbrev pub status_of_text : CodeFault → Status
@@ -44,6 +62,24 @@ status_of_code (fault.BadShift at) = BadShift
 status_of_code (fault.ZeroDivisor at) = ZeroDivisor
 status_of_code fault.NoFinalReturn = NoFinalReturn
 status_of_code (fault.Unstored at) = Unstored
+
+-- the status of a fault of a profile
+abbrev pub status_of_profile : ProfileFault → Status
+status_of_profile profile.NotJson = NotJson
+status_of_profile profile.NotObject = NotObject
+status_of_profile profile.Missing = Missing
+status_of_profile profile.WrongType = WrongType
+status_of_profile profile.UnknownAction = UnknownAction
+status_of_profile profile.UnknownOp = UnknownOp
+status_of_profile profile.BadIndex = BadIndex
+status_of_profile profile.EmptyNames = EmptyNames
+status_of_profile profile.RepeatedIndex = RepeatedIndex
+status_of_profile profile.ErrnoNotAllowed = ErrnoNotAllowed
+status_of_profile profile.ErrnoTooLarge = ErrnoTooLarge
+status_of_profile profile.UnknownCall = UnknownCall
+status_of_profile profile.Notify = Notify
+status_of_profile profile.TooLarge = TooLarge
+status_of_profile profile.Memory = Memory
 
 abbrev pub status_of : Refusal → Status
 status_of (Code fault) = status_of_text fault

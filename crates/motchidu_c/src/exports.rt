@@ -6,6 +6,7 @@ ghost use Rattle.bpf_code.specs.declared.limits.TheConstants.{MAX_INSNS};
 ghost use Rattle.bpf_verify.specs.declared.fault.Fault.{Fault};
 ghost use Rattle.bpf_verify.specs.declared.refusal.Refusal.{Refusal};
 ghost use Rattle.bpf_verify.specs.Faults.{IsFirstFault};
+ghost use Rattle.bpf_verify.specs.Longest.{IsLongest};
 ghost use Rattle.bpf_verify.specs.Refused.{IsRefused, IsTextOf};
 ghost use Rattle.bpf_verify.specs.Sound.{IsSound};
 ghost use Rattle.motchidu_c.specs.declared.status.Status.TheVariants.{Accepted, Memory, Lengths};
@@ -15,7 +16,7 @@ ghost use Rattle.motchidu_c.specs.Status.{number_of, place_or, status_of, status
 use crate::calls::{have_room, run_each};
 use crate::refusal::{place_of, status_of};
 use crate::status::Status;
-use bpf_verify::filter_of;
+use bpf_verify::{Refusal, filter_of};
 use std::alloc::Global;
 
 /// Checks a filter. What is told of a refused one is its first fault, and `at` is set where that has
@@ -38,12 +39,7 @@ pub extern "C" fn motchidu_verify(alloc: Global, filter: &[u8], at: &mut usize) 
 {
     match filter_of(alloc, filter) {
         Ok(_) => Status::Accepted.number(),
-        Err(refusal) => {
-            if let Some(place) = place_of(refusal) {
-                *at = place;
-            }
-            status_of(refusal).number()
-        }
+        Err(refusal) => tell(refusal, at),
     }
 }
 
@@ -88,4 +84,48 @@ pub extern "C" fn motchidu_run_all(
         }
         Err(refusal) => status_of(refusal).number(),
     }
+}
+
+/// Checks a filter, and says how many instructions a run of it takes at most, whatever the call: as many
+/// as the longest way through it has. What is told of a refused one is its first fault, as by
+/// `motchidu_verify`.
+#[unsafe(no_mangle)]
+pub extern "C" fn motchidu_longest(
+    alloc: Global,
+    filter: &[u8],
+    longest: &mut u32,
+    at: &mut usize,
+) -> u32
+    ensures longest { result ≡ number_of Accepted → (code : List Insn) × IsTextOf filter.now code × IsSound code
+        × IsLongest code longest.new }
+    ensures longest_kept { result ≢ number_of Accepted → longest.new ≡ longest.old }
+    ensures kept { result ≡ number_of Accepted → at.new ≡ at.old }
+    ensures refused { result ≢ number_of Accepted → (refusal : Refusal) × IsRefused filter.now refusal
+        × (result ≡ number_of (status_of refusal)) × (at.new ≡ place_or refusal at.old) }
+
+    // As of `motchidu_verify`.
+    ensures told { (fault : CodeFault) → HasFault filter.now fault → result ≡ number_of (status_of_text fault) }
+    ensures accepts { (code : List Insn) → IsTextOf filter.now code → IsSound code
+        → result ≢ number_of Memory → result ≡ number_of Accepted }
+    ensures first { (code : List Insn) (fault : Fault) → IsTextOf filter.now code → length code ≤ MAX_INSNS → IsFirstFault code fault
+        → result ≢ number_of Memory → result ≡ number_of (status_of_code fault) }
+{
+    match filter_of(alloc, filter) {
+        Ok(filter) => {
+            *longest = filter.longest();
+            Status::Accepted.number()
+        }
+        Err(refusal) => tell(refusal, at),
+    }
+}
+
+/// What is told of a refused filter: its fault, and the place of that if it has one.
+fn tell(refusal: Refusal, at: &mut usize) -> u32
+    ensures number { result ≡ number_of (status_of refusal) }
+    ensures place { at.new ≡ place_or refusal at.old }
+{
+    if let Some(place) = place_of(refusal) {
+        *at = place;
+    }
+    status_of(refusal).number()
 }

@@ -1,13 +1,16 @@
-//! The checker and the machine of seccomp filters for C: the static library of `include/motchidu.h`.
+//! The compiler, the checker and the machine of seccomp filters for C: the static library of
+//! `include/motchidu.h`.
 //!
 //! Each export calls the crates below and states their clauses again. A `Status` is what an export
 //! answers, as a number; which faults it stands for says `specs/Status.antt`. A caller from C owes what the header says of its pointers.
 #![tactic(auto)]
 
 mod calls;
+mod compiling;
 mod exports;
 mod refusal;
 mod status;
 
-pub use exports::{motchidu_run_all, motchidu_verify};
+pub use compiling::motchidu_compile;
+pub use exports::{motchidu_longest, motchidu_run_all, motchidu_verify};
 pub use status::Status;

@@ -32,6 +32,38 @@ pub enum Status {
     Memory = 12,
     /// The lengths of the calls, the values and the steps don't agree.
     Lengths = 13,
+    /// The text is no JSON.
+    NotJson = 14,
+    /// It is no object.
+    NotObject = 15,
+    /// A field that has to be there is not.
+    Missing = 16,
+    /// A field is of another kind.
+    WrongType = 17,
+    /// No action has this name.
+    UnknownAction = 18,
+    /// No operator has this name.
+    UnknownOp = 19,
+    /// No call has an argument with this index.
+    BadIndex = 20,
+    /// An entry names no call.
+    EmptyNames = 21,
+    /// An entry has two conditions on one argument.
+    RepeatedIndex = 22,
+    /// An errno is given for an action that takes none.
+    ErrnoNotAllowed = 23,
+    /// An errno is above what its action takes.
+    ErrnoTooLarge = 24,
+    /// An entry that is stricter than the default names a call that is not in the table.
+    UnknownCall = 25,
+    /// The action SCMP_ACT_NOTIFY, for which there is no listener.
+    Notify = 26,
+    /// A text of more than 262,144 bytes.
+    TooLarge = 27,
+    /// The profile has more entries, names and conditions than one filter is made for.
+    TooHeavy = 28,
+    /// The filter is longer than the room for it.
+    NoRoom = 29,
 }
 
 impl Status {

@@ -1,6 +1,6 @@
-use Rattle.std.proofs.Common.{◌≡◌, ℕ, ◌+◌, ◌*◌, ◌==◌, ◌≤◌, arith, List, Some, cond}
+use Rattle.std.proofs.Common.{◌+◌, ◌*◌, ◌==◌, arith, List, cond}
 use Rattle.bpf_code.specs.declared.insn.Insn.{Insn}
-use Rattle.compile.specs.Backward.{Gives, GivesAlways, data_word}
+use Rattle.compile.specs.Backward.{data_word}
 use Rattle.compile.specs.declared.chain.Known.{Known}
 use Rattle.compile.proofs.Words.{at_front, GivesAlways-more}
 use Rattle.compile.proofs.Links.{check_shared, miss_shared, picks}

@@ -1,6 +1,5 @@
-use Rattle.std.proofs.Common.{◌≡◌, ℕ, ◌+◌, ◌*◌, ◌==◌, arith, List, Bool, cond, false}
+use Rattle.std.proofs.Common.{◌+◌, ◌*◌}
 use Rattle.std.specs.Prelude.{slice_index}
-use Rattle.bpf_code.specs.declared.insn.Insn.{Insn}
 use Rattle.compile.specs.Backward.{data_word}
 use Rattle.compile.proofs.Words.{equal_words}
 use Rattle.compile.proofs.Links.{linked}

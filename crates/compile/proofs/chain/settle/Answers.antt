@@ -1,11 +1,10 @@
-use Rattle.std.proofs.Common.{◌≡◌, ℕ, ◌+◌, ◌-◌, ◌*◌, length, arith, subst, Some, Option}
-use Rattle.std.proofs.lemmas.Result.{on_ok_weaker, IfOk-weaker}
-use Rattle.compile.specs.Backward.{GivesAlways, data_word}
+use Rattle.std.proofs.Common.{◌≡◌, ℕ, ◌-◌, length, arith, subst, Some, Option}
+use Rattle.std.proofs.lemmas.Result.{on_ok_weaker}
+use Rattle.compile.specs.Backward.{GivesAlways}
 use Rattle.compile.specs.Chains.{LinkGives, Stands}
 use Rattle.compile.specs.declared.chain.Known.{Known}
 use Rattle.call_data.specs.declared.sys_call.SysCall.{SysCall}
 use Rattle.compile.proofs.Building.{front_is}
-use Rattle.compile.proofs.Words.{at_front}
 use Rattle.compile.proofs.Links.{settled}
 use Rattle.compile.proofs.chain.settle.Goals as goal
 

@@ -1,5 +1,4 @@
-use Rattle.std.proofs.Common.{◌≡◌, ℕ, ◌+◌, ◌-◌, ◌*◌, ◌≤◌, ◌<◌, List, length, sym, subst, arith}
-use Rattle.std.specs.Prelude.{slice_index}
+use Rattle.std.proofs.Common.{ℕ, ◌+◌, ◌-◌, ◌*◌, ◌<◌, List, length, subst, arith}
 use Rattle.bpf_code.specs.declared.insn.Insn.{Insn}
 use Rattle.oci_profile.specs.declared.decision.Decision.TheVariants.{KillProcess}
 use Rattle.oci_profile.specs.declared.profile.Profile.{Profile}

@@ -1,9 +1,9 @@
-use Rattle.std.proofs.Common.{◌≡◌, ℕ, ◌∙◌, ap, sym}
+use Rattle.std.proofs.Common.{ℕ, ◌∙◌, ap, sym}
 use Rattle.std.proofs.lemmas.Result.{on_ok_weaker}
 use Rattle.std.specs.Prelude.{slice_index}
 use Rattle.oci_profile.specs.declared.conditions.Op.{Op}
 use Rattle.oci_profile.specs.declared.conditions.Op.TheVariants.{NotEqual, Less, LessOrEqual, Equal, GreaterOrEqual, Greater, MaskedEqual}
-use Rattle.oci_profile.specs.Meaning.{compares, holds_on}
+use Rattle.oci_profile.specs.Meaning.{compares}
 use Rattle.compile.proofs.Words.{by_test, by_opposite, less_opposite, at_most_opposite}
 use Rattle.compile.proofs.condition.test_condition.Goals as goal
 

@@ -1,6 +1,6 @@
-use Rattle.std.proofs.Common.{◌≡◌, ℕ, ◌+◌, ◌-◌, ◌*◌, ◌<◌, ◌≤◌, length, refl, sym, ap, ◌∙◌, arith}
+use Rattle.std.proofs.Common.{ℕ, ◌+◌, ◌-◌, length, arith}
 use Rattle.std.proofs.lemmas.Result.{on_ok_weaker}
-use Rattle.compile.specs.Backward.{GivesAlways, data_word}
+use Rattle.compile.specs.Backward.{data_word}
 use Rattle.compile.proofs.Building.{gives_more}
 use Rattle.std.specs.Prelude.{bit_and}
 use Rattle.compile.proofs.halves.test_bits.Goals as goal

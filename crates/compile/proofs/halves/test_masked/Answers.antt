@@ -1,13 +1,9 @@
-use Rattle.std.proofs.Common.{◌≡◌, ℕ, ◌+◌, ◌-◌, ◌*◌, ◌<◌, ◌≤◌, ◌==◌, Bool, false, true, cond, List, length, refl, sym, ap, ◌∙◌, arith, subst}
+use Rattle.std.proofs.Common.{ℕ, ◌+◌, ◌-◌, ◌*◌, ◌==◌, List, length, arith}
 use Rattle.std.proofs.lemmas.Result.{on_ok_weaker}
-use Rattle.std.specs.Prelude.{bit_and, slice_index, nat_lt}
+use Rattle.std.specs.Prelude.{bit_and, slice_index}
 use Rattle.bpf_code.specs.declared.insn.Insn.{Insn}
-use Rattle.call_data.specs.declared.sys_call.SysCall.{SysCall}
-use Rattle.compile.specs.Backward.{Gives, GivesAlways, data_word}
-use Rattle.compile.specs.Tests.{holds_of}
-use Rattle.compile.specs.declared.code.Test.TheVariants.{Equal}
-use Rattle.compile.proofs.Building.{gives_more}
-use Rattle.compile.proofs.Words.{GivesAlways-more, at_front, by_test, both_give, either_gives, turns_to, equal_words, order_words, from_word, masked_words, masked_low, masked_high}
+use Rattle.compile.specs.Backward.{data_word}
+use Rattle.compile.proofs.Words.{GivesAlways-more, at_front, by_test, both_give, masked_words, masked_low, masked_high}
 use Rattle.compile.proofs.halves.test_masked.Goals as goal
 
 pub returns-then-with_high-eq0-clause-gives : goal.returns-then-with_high-eq0-clause-gives

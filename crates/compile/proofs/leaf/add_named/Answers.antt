@@ -1,4 +1,4 @@
-use Rattle.std.proofs.Common.{◌≡◌, ◌+◌, ◌*◌, ◌∙◌, length, sym, arith}
+use Rattle.std.proofs.Common.{◌+◌, ◌*◌, ◌∙◌, length, sym, arith}
 use Rattle.compile.proofs.Leaves.{unnamed_link}
 use Rattle.compile.proofs.leaf.add_named.Goals as goal
 

@@ -1,4 +1,4 @@
-use Rattle.std.proofs.Common.{◌≡◌, ℕ, ◌∙◌, sym, ap}
+use Rattle.std.proofs.Common.{◌∙◌, sym, ap}
 use Rattle.std.proofs.lemmas.Option.{IfSome_then}
 use Rattle.oci_profile.specs.Decision.{value_of}
 use Rattle.oci_profile.specs.Meaning.{decision_of}

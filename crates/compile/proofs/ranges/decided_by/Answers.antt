@@ -1,4 +1,4 @@
-use Rattle.std.proofs.Common.{◌≡◌, ◌∙◌, sym, ap, refl}
+use Rattle.std.proofs.Common.{◌∙◌, sym, ap, refl}
 use Rattle.oci_profile.specs.Decision.{value_of}
 use Rattle.compile.proofs.Deciding.{decision_here, decision_behind, named_here, named_behind, not_both}
 use Rattle.compile.proofs.ranges.decided_by.Goals as goal

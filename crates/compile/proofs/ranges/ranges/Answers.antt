@@ -1,4 +1,4 @@
-use Rattle.std.proofs.Common.{◌≡◌, ◌≢◌, ℕ, ◌+◌, ◌++◌, [], ◌∷◌, List, Option, ◌∙◌, refl, sym, ap, subst, arith, Vec, Global}
+use Rattle.std.proofs.Common.{ℕ, ◌+◌, ◌++◌, [], ◌∷◌, List, ◌∙◌, refl, sym, ap, subst, arith, Vec, Global}
 use Rattle.sys_table.specs.declared.table.TheConstants.{NUMBER_LIMIT}
 use Rattle.compile.proofs.Scanning.{Scan, IsSaid, scan_start, scan_same, scan_push, scan_end, end_few, end_short, alike_value}
 use Rattle.compile.proofs.ranges.ranges.Goals as goal

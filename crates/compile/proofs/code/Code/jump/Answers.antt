@@ -1,10 +1,7 @@
-use Rattle.std.proofs.Common.{◌≡◌, ℕ, ◌+◌, ◌-◌, ◌<◌, ◌≤◌, length, refl, sym, ap, ◌∙◌, arith}
-use Rattle.std.proofs.lemmas.Result.{on_ok_weaker, IfOk-weaker}
+use Rattle.std.proofs.Common.{ℕ, ◌-◌, arith}
+use Rattle.std.proofs.lemmas.Result.{on_ok_weaker}
 use Rattle.bpf_code.specs.declared.insn.Insn.{Insn}
-use Rattle.bpf_code.specs.declared.operation.Operation.TheVariants.{ReturnK, Jump}
-use Rattle.call_data.specs.declared.sys_call.SysCall.{SysCall}
-use Rattle.compile.specs.Backward.{Gives}
-use Rattle.compile.proofs.Building.{put_gives, put_return, return_gives, gives_more, copy_gives, at_is, jump_gives}
+use Rattle.compile.proofs.Building.{jump_gives}
 use Rattle.compile.proofs.code.Code.jump.Goals as goal
 
 pub returns-clause-gives : goal.returns-clause-gives

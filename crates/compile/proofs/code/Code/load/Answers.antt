@@ -1,11 +1,8 @@
-use Rattle.std.proofs.Common.{◌≡◌, ℕ, ◌+◌, ◌-◌, ◌<◌, ◌≤◌, length, refl, sym, ap, ◌∙◌, arith}
-use Rattle.std.proofs.lemmas.Result.{on_ok_weaker, IfOk-weaker}
+use Rattle.std.proofs.Common.{◌-◌, length, refl, arith}
+use Rattle.std.proofs.lemmas.Result.{on_ok_weaker}
 use Rattle.bpf_code.specs.declared.insn.Insn.{Insn}
-use Rattle.call_data.specs.declared.sys_call.SysCall.{SysCall}
-use Rattle.compile.specs.Backward.{Gives}
-use Rattle.compile.proofs.Building.{front_gives, put_return, return_gives, gives_more, copy_gives, at_is}
-use Rattle.bpf_code.specs.declared.operation.Operation.TheVariants.{LoadData, AndK}
-use Rattle.std.specs.Prelude.{bit_and}
+use Rattle.compile.proofs.Building.{front_gives}
+use Rattle.bpf_code.specs.declared.operation.Operation.TheVariants.{LoadData}
 use Rattle.compile.specs.Backward.{data_word}
 use Rattle.compile.proofs.code.Code.load.Goals as goal
 

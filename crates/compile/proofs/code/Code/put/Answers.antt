@@ -1,6 +1,3 @@
-use Rattle.std.proofs.Common.{◌≡◌, ◌++◌, [], ◌∷◌, sym, ◌∙◌, subst, List}
-use Rattle.bpf_code.specs.declared.insn.Insn.{Insn}
-use Rattle.compile.specs.Backward.{Keeps, Puts}
 use Rattle.compile.proofs.Building.{puts_pushed}
 use Rattle.compile.proofs.code.Code.put.Goals as goal
 

@@ -1,10 +1,10 @@
-use Rattle.std.proofs.Common.{◌≡◌, ℕ, ◌+◌, ◌-◌, ◌<◌, ◌≤◌, length, refl, sym, ap, ◌∙◌, arith}
-use Rattle.std.proofs.lemmas.Result.{on_ok_weaker, IfOk-weaker}
+use Rattle.std.proofs.Common.{ℕ, length, refl, arith}
+use Rattle.std.proofs.lemmas.Result.{on_ok_weaker}
 use Rattle.bpf_code.specs.declared.insn.Insn.{Insn}
 use Rattle.call_data.specs.declared.sys_call.SysCall.{SysCall}
 use Rattle.bpf_code.specs.declared.operation.Operation.TheVariants.{ReturnK}
 use Rattle.compile.specs.Backward.{Gives}
-use Rattle.compile.proofs.Building.{put_gives, put_return, return_gives, gives_more, copy_gives, at_is}
+use Rattle.compile.proofs.Building.{put_return, return_gives, at_is}
 use Rattle.compile.proofs.code.Code.value.Goals as goal
 
 pub returns-in-Some-clause-gives : goal.returns-in-Some-clause-gives
