@@ -1,5 +1,5 @@
 -- Seccomp profiles while a text is read: this project's own.
-use Rattle.std.specs.Prelude.{ℕ, List, IsTrue, Option, Some, None}
+use Rattle.std.specs.Prelude.{IsTrue, Option, Some, None}
 use Rattle.manifest.specs.declared.profiles.ProfileText.{ProfileText}
 use Rattle.manifest.specs.declared.profiles.ProfileText.TheVariants as read
 use Rattle.manifest.specs.declared.profiles.SeccompProfile.{SeccompProfile}

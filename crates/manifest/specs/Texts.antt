@@ -2,7 +2,7 @@
 -- IDs": RFC 1123 label names for namespaces and containers, DNS subdomain names for pods (where one label
 -- may begin or end with a dash, or have no byte: this project's own). The rules for uids and for paths are
 -- this project's own.
-use Rattle.std.specs.Prelude.{ℕ, ◌==◌, ◌+◌, ◌-◌, List, length, codes, Bool, not, ◌&&◌, ◌||◌, nat_le, slice_index}
+use Rattle.std.specs.Prelude.{ℕ, ◌==◌, ◌-◌, List, length, codes, Bool, not, ◌&&◌, ◌||◌, nat_le, slice_index}
 use Rattle.std.specs.List.{list_all, list_any, slice_split}
 use Rattle.std.specs.Str.{bytes_eq}
 

@@ -5,19 +5,29 @@
 #![tactic(auto)]
 
 mod containers;
+mod contexts;
 mod faults;
+mod fields;
+mod head_texts;
+mod heads;
 mod labels;
+mod laws;
 mod paths;
 mod pod_names;
+mod pods;
 mod profiles;
+mod reader;
 mod rules;
 mod uids;
 
 pub use containers::{Container, Containers, MAX_CONTAINERS};
 pub use faults::PodFault;
 pub use labels::Label;
+pub use laws::constants_are_as_stated;
 pub use paths::DescendingPath;
 pub use pod_names::PodName;
+pub use pods::Pod;
 pub use profiles::SeccompProfile;
+pub use reader::read;
 pub use rules::{is_descending, is_label, is_pod_name, is_uid};
 pub use uids::Uid;

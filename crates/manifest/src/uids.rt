@@ -1,6 +1,7 @@
 ghost use Rattle.std.specs.Prelude.{◌≡◌, IfOk, Some, None, Ok, IsTrue, false, nat_eq, if◌then◌else◌};
 ghost use Rattle.std.specs.Cmp.{partial_equiv_from_equiv};
 ghost use Rattle.std.specs.Cmp.Lexicographic.{pointwise, nat_list_eq_equiv};
+ghost use Rattle.std.specs.String.{string_bytes};
 ghost use Rattle.manifest.specs.Texts as rule;
 
 use crate::rules::is_uid;
@@ -44,8 +45,14 @@ impl Uid {
         requires { IsTrue (rule.is_uid text.now) }
         ensures { IfOk result (λ uid. uid ≡ text.now) }
     {
-        let text = String::from_str(alloc, text)?;
-        Ok(Uid { text })
+        Ok(Uid::owned(String::from_str(alloc, text)?))
+    }
+
+    pub(crate) fn owned(text: String) -> Uid
+        requires { IsTrue (rule.is_uid (string_bytes text)) }
+        ensures { result ≡ string_bytes text }
+    {
+        Uid { text }
     }
 
     /// The text, lent.
