@@ -6,6 +6,8 @@
 
 mod containers;
 mod contexts;
+#[cfg(test)]
+mod fault_tests;
 mod faults;
 mod fields;
 mod head_texts;
@@ -18,6 +20,8 @@ mod pods;
 mod profiles;
 mod reader;
 mod rules;
+#[cfg(test)]
+mod tests;
 mod uids;
 
 pub use containers::{Container, Containers, MAX_CONTAINERS};
