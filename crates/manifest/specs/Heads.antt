@@ -1,0 +1,36 @@
+-- What is read of a manifest before its containers, in groups: this project's own.
+use Rattle.std.specs.Prelude.{ℕ, List, ◌++◌, codes, Bool, Option}
+use Rattle.serde_json.specs.Data.{Data}
+use Rattle.lifecycle.specs.declared.policy.RestartPolicy.{RestartPolicy}
+use Rattle.manifest.specs.declared.profiles.SeccompProfile.{SeccompProfile}
+
+-- what `metadata` says
+pub record Identity : Type 0 where
+  pub namespace : List ℕ
+  pub name : List ℕ
+  pub uid : List ℕ
+
+-- what `spec` says of the pod as a whole
+pub record Terms : Type 0 where
+  pub policy : RestartPolicy
+  pub grace : ℕ
+  pub profile : Option SeccompProfile
+
+-- the lists of containers as they stand there
+pub record Lists : Type 0 where
+  pub inits : List Data
+  pub others : List Data
+
+pub record Head : Type 0 where
+  pub identity : Identity
+  pub terms : Terms
+  pub lists : Lists
+
+-- what a container's `securityContext` says
+pub record Context : Type 0 where
+  pub privileged : Bool
+  pub profile : Option SeccompProfile
+
+-- the uid where none is given: the namespace, a dot and the name
+abbrev pub default_uid : List ℕ → List ℕ → List ℕ
+default_uid namespace name = namespace ++ codes "." ++ name

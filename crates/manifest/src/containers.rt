@@ -1,0 +1,106 @@
+ghost use Rattle.std.specs.Prelude.{◌≡◌, ◌<◌, IfOk, length};
+ghost use Rattle.manifest.specs.Containers.{AreContainers, ContainerList};
+
+use crate::labels::Label;
+use crate::paths::DescendingPath;
+use crate::profiles::{SeccompProfile, copied};
+use std::alloc::{AllocError, Global};
+use std::marker::Model;
+
+/// How many containers a pod may have, init ones included.
+pub const MAX_CONTAINERS: usize = 16;
+
+/// A container of a pod.
+#[derive(Debug, Drop)]
+pub struct Container {
+    pub name: Label,
+    /// The file of its script, relative to the node's folder of scripts.
+    pub image: DescendingPath,
+    /// No profile is put on a privileged container.
+    pub privileged: bool,
+    /// Its own `seccompProfile`, which goes before the pod's.
+    pub profile: Option<SeccompProfile>,
+}
+
+impl Container {
+    /// The same container once more.
+    pub fn try_clone(&self, alloc: Global) -> Result<Container, AllocError>
+        ensures { IfOk result (λ copy. copy ≡ self.now) }
+    {
+        let name = self.name.try_clone(alloc)?;
+        let image = self.image.try_clone(alloc)?;
+        let profile = copied(alloc, &self.profile)?;
+        Ok(Container {
+            name,
+            image,
+            privileged: self.privileged,
+            profile,
+        })
+    }
+}
+
+/// The containers of a pod, init ones first: 1 to [`MAX_CONTAINERS`], no two of one name, and at least one
+/// that is no init container.
+#[derive(Debug, Drop)]
+pub struct Containers {
+    list: Vec<Container>,
+    inits: usize,
+}
+
+impl Model for Containers {
+    ghost use Rattle.manifest.specs.Containers.{AreContainers, ContainerList};
+
+    ghost Value = { ContainerList };
+
+    ghost view = { λ c. record { all = c.list.items; inits = c.inits } };
+
+    ghost invariant = { λ c. AreContainers c.list.items c.inits };
+}
+
+impl Containers {
+    /// The containers of a list, the first `inits` of which are init containers.
+    pub fn new(list: Vec<Container>, inits: usize) -> Containers
+        requires { AreContainers list.items inits }
+        ensures { result ≡ record { all = list.items; inits = inits } }
+    {
+        Containers { list, inits }
+    }
+
+    /// The containers, init ones first, lent.
+    pub fn as_slice(&self) -> &[Container]
+        ensures value { result.now ≡ self.now.all }
+        ensures fit { AreContainers self.now.all self.now.inits }
+    {
+        self.list.as_slice()
+    }
+
+    /// How many of them are init containers.
+    pub fn inits(&self) -> usize
+        ensures value { result ≡ self.now.inits }
+        ensures fit { AreContainers self.now.all self.now.inits }
+    {
+        self.inits
+    }
+
+    /// The same containers once more.
+    pub fn try_clone(&self, alloc: Global) -> Result<Containers, AllocError>
+        ensures { IfOk result (λ copy. copy ≡ self.now) }
+    {
+        let list = copies(alloc, self.list.as_slice())?;
+        Ok(Containers {
+            list,
+            inits: self.inits,
+        })
+    }
+}
+
+fn copies(alloc: Global, containers: &[Container]) -> Result<Vec<Container>, AllocError>
+    ensures { IfOk result (λ copies. copies.items ≡ containers.now) }
+{
+    let mut copies = Vec::new(alloc);
+    for container in containers {
+        let copy = container.try_clone(alloc)?;
+        copies.push(copy)?;
+    }
+    Ok(copies)
+}

@@ -1,0 +1,54 @@
+ghost use Rattle.std.specs.Prelude.{◌≡◌, IfOk, option_map};
+ghost use Rattle.serde_json.specs.View.{view};
+ghost use Rattle.json_tree.specs.Reading.{as_read};
+ghost use Rattle.manifest.specs.ContextSeen.{context_seen};
+ghost use Rattle.manifest.specs.Profiles.{HasFitPath};
+ghost use Rattle.manifest.specs.Reading.{context_of, settings_in, settings_within};
+
+use crate::faults::PodFault;
+use crate::fields::profile_in;
+use crate::profiles::ProfileText;
+use json_tree::{optional_flag, optional_object};
+use serde_json::Value;
+
+// What a container's `securityContext` says.
+#[derive(Clone, Copy)]
+pub(crate) struct ContextText<'v> {
+    pub(crate) privileged: bool,
+    pub(crate) profile: Option<ProfileText<'v>>,
+}
+
+#[tactic(auto, unfolding(crate::specs::Reading::context_of))]
+pub(crate) fn context(tree: &Value) -> Result<ContextText<'_>, PodFault>
+    ensures value { as_read context_seen result ≡ context_of (view tree.now) }
+    ensures fit { IfOk result (λ context. HasFitPath context.profile) }
+{
+    settings_within(optional_object(tree, "securityContext")?)
+}
+
+fn settings_within<'v>(context: Option<&'v Value>) -> Result<ContextText<'v>, PodFault>
+    ensures value { as_read context_seen result
+        ≡ settings_within (option_map (λ v. view v.now) context.entry) }
+    ensures fit { IfOk result (λ context. HasFitPath context.profile) }
+{
+    match context {
+        Some(context) => settings(context),
+        None => Ok(ContextText {
+            privileged: false,
+            profile: None,
+        }),
+    }
+}
+
+#[tactic(auto, unfolding(crate::specs::Reading::settings_in))]
+fn settings(context: &Value) -> Result<ContextText<'_>, PodFault>
+    ensures value { as_read context_seen result ≡ settings_in (view context.now) }
+    ensures fit { IfOk result (λ context. HasFitPath context.profile) }
+{
+    let privileged = optional_flag(context, "privileged")?.unwrap_or(false);
+    let profile = profile_in(context)?;
+    Ok(ContextText {
+        privileged,
+        profile,
+    })
+}

@@ -1,0 +1,8 @@
+ghost use Rattle.std.specs.Prelude.{◌≡◌};
+ghost use Rattle.manifest.specs.declared.containers.TheConstants.{MAX_CONTAINERS};
+
+/// What the constants of this crate are.
+pub fn constants_are_as_stated()
+    // This project's own.
+    ensures limit { MAX_CONTAINERS ≡ 16 }
+{}

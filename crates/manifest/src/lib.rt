@@ -1,0 +1,37 @@
+//! Manifests of pods: the parts of a Kubernetes 1.27 `v1` `Pod` that this project runs.
+//!
+//! A text that was found to be a name, a uid or a path has a type of its own, so it is judged once. Which
+//! trees are which pods stands in `specs/Pod.antt`, and which fault is found first in `specs/Reading.antt`.
+#![tactic(auto)]
+
+mod containers;
+mod contexts;
+#[cfg(test)]
+mod fault_tests;
+mod faults;
+mod fields;
+mod head_texts;
+mod heads;
+mod labels;
+mod laws;
+mod paths;
+mod pod_names;
+mod pods;
+mod profiles;
+mod reader;
+mod rules;
+#[cfg(test)]
+mod tests;
+mod uids;
+
+pub use containers::{Container, Containers, MAX_CONTAINERS};
+pub use faults::PodFault;
+pub use labels::Label;
+pub use laws::constants_are_as_stated;
+pub use paths::DescendingPath;
+pub use pod_names::PodName;
+pub use pods::Pod;
+pub use profiles::SeccompProfile;
+pub use reader::read;
+pub use rules::{is_descending, is_label, is_pod_name, is_uid};
+pub use uids::Uid;

@@ -1,0 +1,45 @@
+ghost use Rattle.std.specs.Prelude.{◌≡◌, IfOk};
+
+use crate::containers::Containers;
+use crate::labels::Label;
+use crate::pod_names::PodName;
+use crate::profiles::{SeccompProfile, copied};
+use crate::uids::Uid;
+use lifecycle::RestartPolicy;
+use std::alloc::{AllocError, Global};
+
+/// A pod, as its manifest describes it.
+#[derive(Debug, Drop)]
+pub struct Pod {
+    pub uid: Uid,
+    pub namespace: Label,
+    pub name: PodName,
+    pub policy: RestartPolicy,
+    /// How many seconds its containers have to end by themselves.
+    pub grace: u64,
+    /// The `seccompProfile` of those containers that have none.
+    pub profile: Option<SeccompProfile>,
+    pub containers: Containers,
+}
+
+impl Pod {
+    /// The same pod once more.
+    pub fn try_clone(&self, alloc: Global) -> Result<Pod, AllocError>
+        ensures { IfOk result (λ copy. copy ≡ self.now) }
+    {
+        let uid = self.uid.try_clone(alloc)?;
+        let namespace = self.namespace.try_clone(alloc)?;
+        let name = self.name.try_clone(alloc)?;
+        let profile = copied(alloc, &self.profile)?;
+        let containers = self.containers.try_clone(alloc)?;
+        Ok(Pod {
+            uid,
+            namespace,
+            name,
+            policy: self.policy,
+            grace: self.grace,
+            profile,
+            containers,
+        })
+    }
+}

@@ -1,0 +1,71 @@
+ghost use Rattle.std.specs.Prelude.{◌≡◌, IfOk, option_map};
+ghost use Rattle.manifest.specs.Profiles.{HasFitPath, profile_seen};
+
+use crate::paths::DescendingPath;
+use std::alloc::{AllocError, Global};
+
+/// A `seccompProfile` (Kubernetes 1.27, `SeccompProfile` of the API reference).
+#[derive(Debug, Drop, PartialEq, Eq)]
+pub enum SeccompProfile {
+    /// The profile of the runtime.
+    RuntimeDefault,
+    /// The profile in this file, relative to the node's folder of profiles.
+    Localhost(DescendingPath),
+    /// No profile.
+    Unconfined,
+}
+
+impl SeccompProfile {
+    /// The same profile once more.
+    pub fn try_clone(&self, alloc: Global) -> Result<SeccompProfile, AllocError>
+        ensures { IfOk result (λ profile. profile ≡ self.now) }
+    {
+        match self {
+            SeccompProfile::RuntimeDefault => Ok(SeccompProfile::RuntimeDefault),
+            SeccompProfile::Localhost(path) => Ok(SeccompProfile::Localhost(path.try_clone(
+                alloc,
+            )?)),
+            SeccompProfile::Unconfined => Ok(SeccompProfile::Unconfined),
+        }
+    }
+}
+
+// The profile of a field that may be left out, once more.
+pub(crate) fn copied(
+    alloc: Global,
+    profile: &Option<SeccompProfile>,
+) -> Result<Option<SeccompProfile>, AllocError>
+    ensures { IfOk result (λ copy. copy ≡ profile.now) }
+{
+    match profile {
+        Some(profile) => Ok(Some(profile.try_clone(alloc)?)),
+        None => Ok(None),
+    }
+}
+
+// A profile as it stands in a text that is being read.
+#[derive(Clone, Copy)]
+pub(crate) enum ProfileText<'v> {
+    RuntimeDefault,
+    Localhost(&'v str),
+    Unconfined,
+}
+
+// The profile that was read.
+pub(crate) fn kept(
+    alloc: Global,
+    read: Option<ProfileText<'_>>,
+) -> Result<Option<SeccompProfile>, AllocError>
+    requires { HasFitPath read }
+    ensures { IfOk result (λ profile. profile ≡ option_map profile_seen read.entry) }
+{
+    match read {
+        Some(ProfileText::RuntimeDefault) => Ok(Some(SeccompProfile::RuntimeDefault)),
+        Some(ProfileText::Localhost(path)) => {
+            let path = DescendingPath::copied(alloc, path)?;
+            Ok(Some(SeccompProfile::Localhost(path)))
+        }
+        Some(ProfileText::Unconfined) => Ok(Some(SeccompProfile::Unconfined)),
+        None => Ok(None),
+    }
+}

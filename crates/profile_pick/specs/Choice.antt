@@ -1,0 +1,30 @@
+-- Which seccomp profile a container gets. Kubernetes 1.27: `PodSecurityContext` and `SecurityContext` of the API
+-- reference (a container's `seccompProfile` goes before the pod's), and the kubelet's `seccompDefault`, for
+-- containers of which nothing is said. That a privileged container has none is how runtimes take the kubelet's
+-- request for one.
+use Rattle.std.specs.Prelude.{Bool, true, false, if◌then◌else◌, Option, Some, None}
+use Rattle.manifest.specs.declared.containers.Container.{Container}
+use Rattle.manifest.specs.declared.profiles.SeccompProfile.{SeccompProfile}
+use Rattle.manifest.specs.declared.profiles.SeccompProfile.TheVariants.{RuntimeDefault, Localhost, Unconfined}
+use Rattle.profile_pick.specs.declared.choice.Choice.{Choice}
+use Rattle.profile_pick.specs.declared.choice.Choice.TheVariants as choice
+
+-- what a container gets of which nothing is said
+abbrev pub node_default : Bool → SeccompProfile
+node_default true = RuntimeDefault
+node_default false = Unconfined
+
+-- the container's own, else the pod's, else the node's
+abbrev pub first_said : Option SeccompProfile → Option SeccompProfile → Bool → SeccompProfile
+first_said (Some own) of_pod seccomp_default = own
+first_said None (Some of_pod) seccomp_default = of_pod
+first_said None None seccomp_default = node_default seccomp_default
+
+abbrev pub choice_of : Option SeccompProfile → Container → Bool → SeccompProfile
+choice_of of_pod container seccomp_default = if container.privileged then Unconfined else first_said container.profile of_pod seccomp_default
+
+-- the choice, its path as what it is
+abbrev pub choice_seen : Choice → SeccompProfile
+choice_seen choice.RuntimeDefault = RuntimeDefault
+choice_seen (choice.Localhost path) = Localhost path.now
+choice_seen choice.Unconfined = Unconfined
