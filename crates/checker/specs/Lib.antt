@@ -4,6 +4,8 @@ pub mod FileText
 pub mod LineText
 pub mod Numbers
 pub mod Outcome
+pub mod PickText
+pub mod PickedText
 pub mod Played
 pub mod Plays
 pub mod StopText

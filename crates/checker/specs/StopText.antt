@@ -3,17 +3,19 @@
 use Rattle.std.specs.Prelude.{ℕ, List, [], ◌++◌, codes, Option, Some, None}
 use Rattle.bpf_verify.specs.RefusalText.{refusal_text}
 use Rattle.compile.specs.FaultText.{fault_text as compile_fault_text}
+use Rattle.manifest.specs.Faults.{fault_text as pod_fault_text}
 use Rattle.oci_profile.specs.Faults.{fault_text as profile_fault_text}
 use Rattle.script.specs.FaultText.{fault_text as script_fault_text}
 use Rattle.verdict.specs.FaultText.{fault_text as stack_fault_text}
 use Rattle.checker.specs.FileText.{fault_text as file_fault_text}
 use Rattle.checker.specs.declared.stop.Stop.{Stop}
-use Rattle.checker.specs.declared.stop.Stop.TheVariants.{Refused, Profile, Compile, Script, StackFilter, Stack, CommandLine, BadNumber, File, Unwritten, Memory}
+use Rattle.checker.specs.declared.stop.Stop.TheVariants.{Refused, Profile, Compile, Manifest, Script, StackFilter, Stack, CommandLine, BadNumber, File, Unwritten, Memory}
 
 abbrev pub stop_text : Stop → Option (List ℕ)
 stop_text (Refused refusal) = Some (codes "refused " ++ refusal_text refusal ++ codes "\n")
 stop_text (Profile fault) = Some (codes "refused " ++ profile_fault_text fault ++ codes "\n")
 stop_text (Compile fault) = Some (codes "refused " ++ compile_fault_text fault ++ codes "\n")
+stop_text (Manifest fault) = Some (codes "refused " ++ pod_fault_text fault ++ codes "\n")
 stop_text (Script fault) = Some (codes "refused script " ++ script_fault_text fault ++ codes "\n")
 stop_text (StackFilter refusal) = Some (codes "refused filter " ++ refusal_text refusal ++ codes "\n")
 stop_text (Stack fault) = Some (codes "refused filter " ++ stack_fault_text fault ++ codes "\n")

@@ -13,6 +13,8 @@ use Rattle.clap.specs.declared.error.Error.{Error}
 use Rattle.clap.specs.declared.error.kind.ErrorKind.TheVariants as kind
 use Rattle.compile.specs.declared.fault.CompileFault.{CompileFault}
 use Rattle.compile.specs.declared.fault.CompileFault.TheVariants as compile
+use Rattle.manifest.specs.declared.faults.PodFault.{PodFault}
+use Rattle.manifest.specs.declared.faults.PodFault.TheVariants as pod
 use Rattle.oci_profile.specs.declared.faults.ProfileFault.{ProfileFault}
 use Rattle.oci_profile.specs.declared.faults.ProfileFault.TheVariants as profile
 use Rattle.script.specs.declared.faults.ScriptFault.{ScriptFault}
@@ -40,6 +42,11 @@ abbrev pub of_compile_fault : CompileFault → Stop
 of_compile_fault compile.Memory = why.Memory
 of_compile_fault fault = why.Compile fault
 
+-- the manifest is refused
+abbrev pub of_pod_fault : PodFault → Stop
+of_pod_fault pod.Memory = why.Memory
+of_pod_fault fault = why.Manifest fault
+
 -- the script is refused
 abbrev pub of_script_fault : ScriptFault → Stop
 of_script_fault script.Memory = why.Memory
@@ -66,6 +73,7 @@ abbrev pub status_of : Stop → ℕ
 status_of (why.Refused refusal) = 1
 status_of (why.Profile fault) = 1
 status_of (why.Compile fault) = 1
+status_of (why.Manifest fault) = 1
 status_of (why.Script fault) = 1
 status_of (why.StackFilter refusal) = 1
 status_of (why.Stack fault) = 1
@@ -80,6 +88,7 @@ abbrev pub is_refusal : Stop → Bool
 is_refusal (why.Refused refusal) = true
 is_refusal (why.Profile fault) = true
 is_refusal (why.Compile fault) = true
+is_refusal (why.Manifest fault) = true
 is_refusal (why.Script fault) = true
 is_refusal (why.StackFilter refusal) = true
 is_refusal (why.Stack fault) = true

@@ -16,6 +16,9 @@ mod laws;
 mod line;
 mod number;
 #[cfg(test)]
+mod pick_tests;
+mod picked;
+#[cfg(test)]
 mod play_tests;
 mod playing;
 mod seccheck;

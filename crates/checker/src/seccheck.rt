@@ -1,6 +1,7 @@
 use crate::file::{read_file, write_file};
 use crate::judging::judge;
 use crate::line::{accepted, compiled, judged_line, longest, outcome_lines};
+use crate::picked::picked_lines;
 use crate::playing::play;
 use crate::show::code_lines;
 use crate::stop::{Stop, stop_at};
@@ -13,7 +14,8 @@ use std::io::{self, Write};
 use std::rt::Files;
 use verdict::Stack;
 
-/// The program `seccheck`: compiles profiles, looks at filters, runs them, and plays scripts under them. `words` are the
+/// The program `seccheck`: compiles profiles, looks at filters, runs them, plays scripts under them, and
+/// picks the profiles of pods. `words` are the
 /// command line's, the program's name first. The answer is the program's status: 0 done, 1 input
 /// refused, 2 command line refused, 3 file fault, 4 out of memory. What can't be written counts as a
 /// file fault.
@@ -64,6 +66,10 @@ fn text_of<'a, R: Files + AllocGlobal>(rt: &R, words: &'a [String]) -> Result<St
             let attempt = attempt_at(matches).map_err(Stop::BadNumber)?;
             let filters = matches.get_strs("FILTER").unwrap_or(&[]);
             play_text(rt, word_at(matches, "SCRIPT"), filters, attempt)
+        }
+        Some(("pick", matches)) => {
+            let seccomp_default = matches.get_flag("seccomp-default");
+            pick_text(rt, word_at(matches, "MANIFEST"), seccomp_default)
         }
         _ => Err(
             command
@@ -128,6 +134,17 @@ fn play_text<'a, R: Files + AllocGlobal>(
     let stack = stack_at(rt, filters)?;
     let outcome = play(rt.alloc(), script, stack, attempt)?;
     Ok(outcome_lines(rt.alloc(), &outcome)?)
+}
+
+/// The profile of each container of a pod.
+fn pick_text<'a, R: Files + AllocGlobal>(
+    rt: &R,
+    path: &'a str,
+    seccomp_default: bool,
+) -> Result<String, Stop<'a>> {
+    let bytes = bytes_at(rt, path)?;
+    let pod = manifest::read(rt.alloc(), &bytes)?;
+    Ok(picked_lines(rt.alloc(), &pod, seccomp_default)?)
 }
 
 /// The stack of the filters in these files, the oldest one first. Each is read, judged and added before

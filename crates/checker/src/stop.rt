@@ -4,6 +4,7 @@ use crate::file::FileFault;
 use bpf_code::CodeFault;
 use bpf_verify::{Filter, Refusal};
 use compile::CompileFault;
+use manifest::PodFault;
 use oci_profile::ProfileFault;
 use script::ScriptFault;
 use std::alloc::{AllocError, AllocFailed};
@@ -19,6 +20,8 @@ pub(crate) enum Stop<'a> {
     Profile(ProfileFault),
     /// The profile is not compiled.
     Compile(CompileFault),
+    /// The manifest is refused.
+    Manifest(PodFault),
     /// The script is refused.
     Script(ScriptFault),
     /// A filter of a stack is refused.
@@ -46,7 +49,7 @@ impl Stop<'_> {
         ensures { result ≡ status_of self.now }
     {
         match self {
-            Stop::Refused(_) | Stop::Profile(_) | Stop::Compile(_) => 1,
+            Stop::Refused(_) | Stop::Profile(_) | Stop::Compile(_) | Stop::Manifest(_) => 1,
             Stop::Script(_) | Stop::StackFilter(_) | Stop::Stack(_) => 1,
             Stop::CommandLine(_) | Stop::BadNumber(_) => 2,
             Stop::File(_, _) | Stop::Unwritten => 3,
@@ -64,6 +67,7 @@ impl Stop<'_> {
             Stop::Refused(_)
                 | Stop::Profile(_)
                 | Stop::Compile(_)
+                | Stop::Manifest(_)
                 | Stop::Script(_)
                 | Stop::StackFilter(_)
                 | Stop::Stack(_)
@@ -82,6 +86,7 @@ impl fmt::Display for Stop<'_> {
             Stop::Refused(refusal) => writeln!(f, "refused {refusal}"),
             Stop::Profile(fault) => writeln!(f, "refused {fault}"),
             Stop::Compile(fault) => writeln!(f, "refused {fault}"),
+            Stop::Manifest(fault) => writeln!(f, "refused {fault}"),
             Stop::Script(fault) => writeln!(f, "refused script {fault}"),
             Stop::StackFilter(refusal) => writeln!(f, "refused filter {refusal}"),
             Stop::Stack(fault) => writeln!(f, "refused filter {fault}"),
@@ -147,6 +152,20 @@ impl<'a> From<CompileFault> for Stop<'a> {
         match fault {
             CompileFault::Memory => Stop::Memory,
             CompileFault::TooLong => Stop::Compile(fault),
+        }
+    }
+}
+
+impl<'a> From<PodFault> for Stop<'a> {
+    ghost use Rattle.std.specs.Prelude.{◌≡◌};
+    ghost use Rattle.checker.specs.Stops.{of_pod_fault};
+
+    ghost from_gives = { λ fault stop. stop ≡ of_pod_fault fault };
+
+    fn from(fault: PodFault) -> Stop<'a> {
+        match fault {
+            PodFault::Memory => Stop::Memory,
+            _ => Stop::Manifest(fault),
         }
     }
 }

@@ -5,7 +5,7 @@ ghost use Rattle.checker.specs.Words.{attempt_in, call_in, word_in};
 
 use crate::call_words::{call, word_or};
 use call_data::SysCall;
-use clap::{Arg, ArgMatches, Command};
+use clap::{Arg, ArgAction, ArgMatches, Command};
 use std::alloc::{AllocError, Global};
 
 /// The program's name.
@@ -13,82 +13,94 @@ pub(crate) const PROGRAM: &str = "seccheck";
 
 /// The command line of `seccheck`.
 pub(crate) fn command<'a>(alloc: Global) -> Result<Command<'a>, AllocError> {
-    let filter = || Arg::new(alloc, "FILTER")
-        .required(true)
-        .help("a filter file");
-    let verify = Command::new(alloc, "verify")
-        .about("Says whether a filter is sound")
-        .arg(filter())?;
-    let show = Command::new(alloc, "show")
-        .about("Prints the instructions of a filter, sound or not")
-        .arg(filter())?;
-    let compile = Command::new(alloc, "compile")
+    Command::new(alloc, PROGRAM)
+        .about("Compiles seccomp profiles, looks at filters, and runs them")
+        .subcommand_required(true)
+        .subcommand(compile(alloc)?)?
+        .subcommand(of_filter(alloc, "verify", "Says whether a filter is sound")?)?
+        .subcommand(of_filter(
+            alloc,
+            "budget",
+            "Says how many instructions a run of a filter takes at most",
+        )?)?
+        .subcommand(of_filter(
+            alloc,
+            "show",
+            "Prints the instructions of a filter, sound or not",
+        )?)?
+        .subcommand(run(alloc)?)?
+        .subcommand(play(alloc)?)?
+        .subcommand(pick(alloc)?)
+}
+
+fn compile<'a>(alloc: Global) -> Result<Command<'a>, AllocError> {
+    Command::new(alloc, "compile")
         .about("Compiles a seccomp profile to a filter")
-        .arg(
-            Arg::new(alloc, "PROFILE")
-                .required(true)
-                .help("a profile, the JSON of OCI's linux.seccomp"),
-        )?
-        .arg(
-            Arg::new(alloc, "OUT")
-                .required(true)
-                .help("the filter file to write"),
-        )?;
-    let budget = Command::new(alloc, "budget")
-        .about("Says how many instructions a run of a filter takes at most")
-        .arg(filter())?;
-    let run = Command::new(alloc, "run")
+        .arg(given(
+            alloc,
+            "PROFILE",
+            "a profile, the JSON of OCI's linux.seccomp",
+        ))?
+        .arg(given(alloc, "OUT", "the filter file to write"))
+}
+
+/// A command on one filter.
+fn of_filter<'a>(
+    alloc: Global,
+    name: &'static str,
+    about: &'static str,
+) -> Result<Command<'a>, AllocError> {
+    Command::new(alloc, name)
+        .about(about)
+        .arg(given(alloc, "FILTER", "a filter file"))
+}
+
+fn run<'a>(alloc: Global) -> Result<Command<'a>, AllocError> {
+    Command::new(alloc, "run")
         .about("Runs a filter on a call")
-        .arg(filter())?
-        .arg(
-            Arg::new(alloc, "NR")
-                .required(true)
-                .help("the call's number"),
-        )?
+        .arg(given(alloc, "FILTER", "a filter file"))?
+        .arg(given(alloc, "NR", "the call's number"))?
         .arg(
             Arg::new(alloc, "ARG")
                 .num_args(0..=6)
                 .help("its arguments, the rest are 0"),
         )?
-        .arg(
-            Arg::new(alloc, "arch")
-                .long("arch")
-                .value_name("A")
-                .help("its architecture"),
-        )?
-        .arg(
-            Arg::new(alloc, "ip")
-                .long("ip")
-                .value_name("I")
-                .help("its instruction pointer"),
-        )?;
-    let play = Command::new(alloc, "play")
+        .arg(option(alloc, "arch", "A", "its architecture"))?
+        .arg(option(alloc, "ip", "I", "its instruction pointer"))
+}
+
+fn play<'a>(alloc: Global) -> Result<Command<'a>, AllocError> {
+    Command::new(alloc, "play")
         .about("Plays a container's script under filters, and prints its record")
-        .arg(
-            Arg::new(alloc, "SCRIPT")
-                .required(true)
-                .help("a script file"),
-        )?
+        .arg(given(alloc, "SCRIPT", "a script file"))?
         .arg(
             Arg::new(alloc, "FILTER")
                 .num_args(0..)
                 .help("filter files, the oldest one first"),
         )?
+        .arg(option(alloc, "attempt", "K", "which attempt it is, from 0"))
+}
+
+fn pick<'a>(alloc: Global) -> Result<Command<'a>, AllocError> {
+    Command::new(alloc, "pick")
+        .about("Says which seccomp profile each container of a pod gets")
+        .arg(given(alloc, "MANIFEST", "a pod's manifest, in JSON"))?
         .arg(
-            Arg::new(alloc, "attempt")
-                .long("attempt")
-                .value_name("K")
-                .help("which attempt it is, from 0"),
-        )?;
-    Command::new(alloc, PROGRAM)
-        .about("Compiles seccomp profiles, looks at filters, and runs them")
-        .subcommand_required(true)
-        .subcommand(compile)?
-        .subcommand(verify)?
-        .subcommand(budget)?
-        .subcommand(show)?
-        .subcommand(run)?
-        .subcommand(play)
+            Arg::new(alloc, "seccomp-default")
+                .long("seccomp-default")
+                .action(ArgAction::SetTrue)
+                .help("on a node whose seccomp default is on"),
+        )
+}
+
+/// A word that has to be there.
+fn given<'a>(alloc: Global, id: &'static str, help: &'static str) -> Arg<'a> {
+    Arg::new(alloc, id).required(true).help(help)
+}
+
+/// An option with a value.
+fn option<'a>(alloc: Global, id: &'static str, value: &'static str, help: &'static str) -> Arg<'a> {
+    Arg::new(alloc, id).long(id).value_name(value).help(help)
 }
 
 /// The call that the command line of `run` writes.
