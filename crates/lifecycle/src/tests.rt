@@ -90,6 +90,32 @@ fn track_of(rt: &impl AllocGlobal, init: bool, came: Came) -> Result<Track, Allo
     })
 }
 
+fn add_tracks(
+    rt: &impl AllocGlobal,
+    tracks: &mut Vec<Track>,
+    init: bool,
+    came: &[Came],
+) -> Result<(), AllocError> {
+    for came in came {
+        tracks.push(track_of(rt, init, *came)?)?;
+    }
+    Ok(())
+}
+
+fn states_of(
+    rt: &impl AllocGlobal,
+    tracks: &[Track],
+    policy: RestartPolicy,
+) -> Result<String, AllocError> {
+    let mut text = String::new(rt.alloc());
+    for track in tracks {
+        let state: State = track.state(policy);
+        let name = format!(in rt.alloc(); "{state} ")?;
+        text.push_str(name.as_str())?;
+    }
+    Ok(text)
+}
+
 // Init containers, the others, the policy, whether a call was lost, and the phase with the states.
 #[test]
 fn phases(rt: HostRuntime) -> Result<(), Fail> {
@@ -187,19 +213,11 @@ fn phases(rt: HostRuntime) -> Result<(), Fail> {
     ];
     for (inits, others, policy, lost, want) in cases {
         let mut tracks = Vec::new(rt.alloc());
-        for &came in inits {
-            tracks.push(track_of(&rt, true, came)?)?;
-        }
-        for &came in others {
-            tracks.push(track_of(&rt, false, came)?)?;
-        }
+        add_tracks(&rt, &mut tracks, true, inits)?;
+        add_tracks(&rt, &mut tracks, false, others)?;
         let now: Phase = phase(&tracks, policy, lost);
-        let mut text = format!(in rt.alloc(); "{now} ")?;
-        for track in &tracks {
-            let state: State = track.state(policy);
-            let name = format!(in rt.alloc(); "{state} ")?;
-            text.push_str(name.as_str())?;
-        }
+        let states = states_of(&rt, &tracks, policy)?;
+        let text = format!(in rt.alloc(); "{now} {states}")?;
         assert_eq!(rt; text.as_str(), want);
     }
     Ok(())
