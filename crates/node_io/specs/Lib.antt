@@ -1,0 +1,5 @@
+pub mod Counts
+pub mod FaultText
+pub mod Held
+pub mod Disk
+pub mod Tape
