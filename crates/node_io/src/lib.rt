@@ -9,10 +9,13 @@ mod faults;
 mod files;
 mod memory_files;
 mod memory_wire;
+mod reading;
+mod system_files;
 mod wire;
 
 pub use faults::FileFault;
 pub use files::Files;
 pub use memory_files::{MemoryFiles, StoredFile};
 pub use memory_wire::MemoryWire;
+pub use system_files::SystemFiles;
 pub use wire::{Wire, WireFault};
