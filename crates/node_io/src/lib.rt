@@ -10,12 +10,16 @@ mod files;
 mod memory_files;
 mod memory_wire;
 mod reading;
+mod stream_wire;
 mod system_files;
+#[cfg(test)]
+mod tests;
 mod wire;
 
 pub use faults::FileFault;
 pub use files::Files;
 pub use memory_files::{MemoryFiles, StoredFile};
 pub use memory_wire::MemoryWire;
+pub use stream_wire::StreamWire;
 pub use system_files::SystemFiles;
 pub use wire::{Wire, WireFault};
