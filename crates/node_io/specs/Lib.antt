@@ -3,3 +3,4 @@ pub mod FaultText
 pub mod Held
 pub mod Disk
 pub mod Tape
+pub mod System

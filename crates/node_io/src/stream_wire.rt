@@ -1,8 +1,9 @@
-ghost use Rattle.std.specs.Prelude.{◌≤◌};
+ghost use Rattle.std.specs.Prelude.{◌≡◌, ◌≤◌};
 ghost use Rattle.node_io.specs.Counts.{HasRisen};
 
 use crate::wire::{Wire, WireFault};
 use std::io::{Read, Write};
+use std::marker::Model;
 
 /// A wire over a stream of the system, such as a connected `UnixStream`. A call that is interrupted
 /// counts as a failure, and so does a write that moves nothing.
@@ -12,9 +13,20 @@ pub struct StreamWire<S> {
     failures: u64,
 }
 
+// It is seen as the count of its failures.
+impl<S> Model for StreamWire<S> {
+    ghost use Rattle.std.specs.Prelude.{ℕ};
+
+    ghost Value = { ℕ };
+
+    ghost view = { λ w. w.failures };
+}
+
 impl<S: Read + Write> StreamWire<S> {
     /// The wire over this stream.
-    pub fn new(stream: S) -> StreamWire<S> {
+    pub fn new(stream: S) -> StreamWire<S>
+        ensures { result ≡ 0 }
+    {
         StreamWire {
             stream,
             failures: 0,
@@ -23,8 +35,8 @@ impl<S: Read + Write> StreamWire<S> {
 
     // Counts a failure, and tells it.
     fn fault(&mut self) -> WireFault
-        ensures risen { HasRisen self.old.failures self.new.failures }
-        ensures counted { self.old.failures ≤ self.new.failures }
+        ensures risen { HasRisen self.old self.new }
+        ensures counted { self.old ≤ self.new }
     {
         self.failures = self.failures.saturating_add(1);
         WireFault
@@ -32,7 +44,7 @@ impl<S: Read + Write> StreamWire<S> {
 }
 
 impl<S: Read + Write> Wire for StreamWire<S> {
-    ghost failed = { λ w. w.failures };
+    ghost failed = { λ w. w };
 
     fn read(&mut self, buf: &mut [u8]) -> Result<usize, WireFault> {
         match self.stream.read(buf) {

@@ -1,9 +1,11 @@
-ghost use Rattle.std.specs.Prelude.{◌≤◌, IfOk, length};
+ghost use Rattle.std.specs.Prelude.{◌≡◌, ◌==◌, ◌≤◌, true, false, Err, IfOk, length, slice_index};
+ghost use Rattle.node_io.specs.System.{climbs, descends};
 
 use crate::faults::FileFault;
 use crate::files::Files;
 use crate::reading::read_all;
 use std::io::{self, ErrorKind};
+use std::marker::Model;
 use std::{fs, rt};
 
 /// The regular files of the system, by paths from a folder. A folder, a device or a pipe is not read: it
@@ -15,9 +17,20 @@ pub struct SystemFiles<'a, R> {
     failures: u64,
 }
 
+impl<'a, R> Model for SystemFiles<'a, R> {
+    ghost use Rattle.std.specs.Prelude.{is_some};
+    ghost use Rattle.node_io.specs.System.{System};
+
+    ghost Value = { System };
+
+    ghost view = { λ s. record { bounded = is_some s.folder; failures = s.failures } };
+}
+
 impl<'a, R: rt::Files + AllocGlobal> SystemFiles<'a, R> {
     /// Those below a folder: a path that is empty, absolute or has a part `..` leads to none.
-    pub fn within(rt: &'a R, folder: &'a str) -> SystemFiles<'a, R> {
+    pub fn within(rt: &'a R, folder: &'a str) -> SystemFiles<'a, R>
+        ensures { result ≡ record { bounded = true; failures = 0 } }
+    {
         SystemFiles {
             rt,
             folder: Some(folder),
@@ -26,7 +39,9 @@ impl<'a, R: rt::Files + AllocGlobal> SystemFiles<'a, R> {
     }
 
     /// All of them, by any path, from the folder that the process runs in.
-    pub fn anywhere(rt: &'a R) -> SystemFiles<'a, R> {
+    pub fn anywhere(rt: &'a R) -> SystemFiles<'a, R>
+        ensures { result ≡ record { bounded = false; failures = 0 } }
+    {
         SystemFiles {
             rt,
             folder: None,
@@ -36,6 +51,7 @@ impl<'a, R: rt::Files + AllocGlobal> SystemFiles<'a, R> {
 
     fn look_up(&self, path: &str, limit: u64) -> Result<Vec<u8>, FileFault>
         ensures within { IfOk result (λ bytes. length bytes.items ≤ limit) }
+        ensures outside { self.now.bounded ≡ true → descends path.now ≡ false → result ≡ Err FileFault.NotFound }
     {
         let Some(folder) = self.folder else {
             return read_regular(self.rt, path, limit);
@@ -49,8 +65,26 @@ impl<'a, R: rt::Files + AllocGlobal> SystemFiles<'a, R> {
 }
 
 // Whether a path leads to something below where it starts.
-fn descends(path: &str) -> bool {
-    !path.is_empty() && !path.starts_with('/') && !path.split('/').any(|part| part == "..")
+fn descends(path: &str) -> bool
+    ensures { result ≡ descends path.now }
+{
+    !path.is_empty() && !is_rooted(path.as_bytes()) && !climbs(path)
+}
+
+fn is_rooted(path: &[u8]) -> bool
+    ensures { result ≡ (slice_index path.now 0 == 47) }
+{
+    match path {
+        [first, ..] => *first == b'/',
+        [] => false,
+    }
+}
+
+#[tactic(auto, unfolding(crate::specs::System::climbs))]
+fn climbs(path: &str) -> bool
+    ensures { result ≡ climbs path.now }
+{
+    path.split('/').any(|part| part == "..")
 }
 
 fn read_regular<R: rt::Files + AllocGlobal>(
@@ -80,9 +114,27 @@ fn fault_of(error: io::Error) -> FileFault {
 }
 
 impl<'a, R: rt::Files + AllocGlobal> Files for SystemFiles<'a, R> {
+    ghost use Rattle.std.specs.Prelude.{◌≡◌, ◌<◌, ◌≤◌, true, false, None, Some, Err, IfOk, IfErr, IsSomeAnd, length};
+    ghost use Rattle.node_io.specs.Counts.{HasRisen};
+    ghost use Rattle.node_io.specs.Held.{Tells};
+    ghost use Rattle.node_io.specs.System.{descends};
+
     ghost failed = { λ s. s.failures };
 
-    fn read(&mut self, path: &str, limit: u64) -> Result<Vec<u8>, FileFault> {
+    fn read(&mut self, path: &str, limit: u64) -> Result<Vec<u8>, FileFault>
+        // No path leads out of the folder.
+        ensures outside { self.old.bounded ≡ true → descends path.now ≡ false → result ≡ Err FileFault.NotFound }
+        ensures bounded { self.new.bounded ≡ self.old.bounded }
+
+        // What each device promises. What the system holds is not known, so the first three say nothing.
+        ensures bytes { IfOk result (λ bytes. Tells None path.now (λ found. found ≡ Some bytes.items)) }
+        ensures not_found { IfErr result (λ fault. fault ≡ FileFault.NotFound → Tells None path.now (λ found. found ≡ None)) }
+        ensures too_large { IfErr result (λ fault. fault ≡ FileFault.TooLarge
+            → Tells None path.now (λ found. IsSomeAnd found (λ bytes. limit < length bytes))) }
+        ensures within { IfOk result (λ bytes. length bytes.items ≤ limit) }
+        ensures failed { IfErr result (λ fault. fault ≡ FileFault.Failed → HasRisen self.old.failures self.new.failures) }
+        ensures counted { self.old.failures ≤ self.new.failures }
+    {
         let read = self.look_up(path, limit);
         if let Err(FileFault::Failed) = read {
             self.failures = self.failures.saturating_add(1);
@@ -90,7 +142,9 @@ impl<'a, R: rt::Files + AllocGlobal> Files for SystemFiles<'a, R> {
         read
     }
 
-    fn failures(&self) -> u64 {
+    fn failures(&self) -> u64
+        ensures { result ≡ self.now.failures }
+    {
         self.failures
     }
 }
