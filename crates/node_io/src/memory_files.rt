@@ -107,7 +107,7 @@ impl Files for MemoryFiles {
     ghost failed = { λ m. m.failures };
 
     fn read(&mut self, path: &str, limit: u64) -> Result<Vec<u8>, FileFault>
-        // Which fault it is, and that behind none but those only memory can be wanting.
+        // Which fault it is, and that any other is Memory.
         ensures fault { IfSome (fault_of self.old path.now limit) (λ fault. result ≡ Err fault) }
         ensures memory { IfErr result (λ fault. fault ≢ FileFault.Memory → fault_of self.old path.now limit ≡ Some fault) }
         ensures after { self.new ≡ after_read self.old }
