@@ -1,1 +1,5 @@
 pub mod Restart
+pub mod BackOff
+pub mod Tracks
+pub mod Phases
+pub mod Names

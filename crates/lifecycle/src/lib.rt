@@ -1,9 +1,29 @@
 //! How the runs of a container bear on what comes next: the pod lifecycle of the Kubernetes 1.27
 //! documentation.
 //!
-//! Nothing here looks at a clock. Moments are whole seconds, handed in.
+//! Nothing here looks at a clock. Moments are whole seconds, handed in, and no sum of them passes the
+//! greatest one. Lists of runs are oldest first.
 #![tactic(auto)]
 
+mod back_off;
+mod laws;
+mod phases;
 mod policy;
+mod rules;
+mod runs;
+mod state;
+#[cfg(test)]
+mod tests;
+mod track;
 
+pub use back_off::ready_at;
+pub use laws::{
+    back_off_counts_from_the_last_long_run, finished_init_stays_finished,
+    init_containers_alone_succeed,
+};
+pub use phases::Phase;
 pub use policy::{RestartPolicy, may_restart};
+pub use rules::phase;
+pub use runs::{PastRun, Runs};
+pub use state::State;
+pub use track::{Stage, Track};

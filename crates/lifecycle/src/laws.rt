@@ -1,0 +1,27 @@
+ghost use Rattle.std.specs.Prelude.{◌≡◌, ◌<◌, ◌≤◌, ◌+◌, ◌++◌, ◌∷◌, List, Bool, true, false, length};
+ghost use Rattle.std.specs.List.{All};
+ghost use Rattle.lifecycle.specs.declared.policy.RestartPolicy.{RestartPolicy};
+ghost use Rattle.lifecycle.specs.declared.track.Track.{Track};
+ghost use Rattle.lifecycle.specs.declared.phases.Phase.{Phase};
+ghost use Rattle.lifecycle.specs.BackOff.{Run, lasted, row_of};
+ghost use Rattle.lifecycle.specs.Phases.{has_failed_init, phase_of};
+ghost use Rattle.lifecycle.specs.Restart.{may_restart};
+
+/// An init container that succeeded is never started again, whatever the policy.
+pub fn finished_init_stays_finished()
+    ensures { (policy : RestartPolicy) → may_restart policy true 0 ≡ false }
+{}
+
+/// What the back-off counts: the latest run of ten minutes or more and those behind it, or all runs where
+/// none lasted so long.
+pub fn back_off_counts_from_the_last_long_run()
+    ensures long { (earlier later : List Run) (run : Run) → 600 ≤ lasted run → All (λ after. lasted after < 600) later
+        → row_of (earlier ++ run ∷ later) ≡ length later + 1 }
+    ensures none_long { (runs : List Run) → All (λ run. lasted run < 600) runs → row_of runs ≡ length runs }
+{}
+
+/// A pod with no other containers than init containers has succeeded, unless one of them failed.
+pub fn init_containers_alone_succeed()
+    ensures { (policy : RestartPolicy) (lost : Bool) (tracks : List Track) → All (λ track. track.init ≡ true) tracks
+        → has_failed_init policy tracks ≡ false → phase_of policy lost tracks ≡ Phase.Succeeded }
+{}

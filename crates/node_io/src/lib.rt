@@ -1,0 +1,25 @@
+//! What a node reads and writes: files, and wires to a peer, each as a trait with a count of the failures
+//! of its device.
+//!
+//! A device's fault is told only where that count rose in the call. Devices over memory say what they
+//! hold, so that contracts of what is built on them can speak of bytes; real ones don't.
+#![tactic(auto)]
+
+mod faults;
+mod files;
+mod memory_files;
+mod memory_wire;
+mod reading;
+mod stream_wire;
+mod system_files;
+#[cfg(test)]
+mod tests;
+mod wire;
+
+pub use faults::FileFault;
+pub use files::Files;
+pub use memory_files::{MemoryFiles, StoredFile};
+pub use memory_wire::MemoryWire;
+pub use stream_wire::StreamWire;
+pub use system_files::SystemFiles;
+pub use wire::{Wire, WireFault};

@@ -1,0 +1,37 @@
+ghost use Rattle.std.specs.Prelude.{◌≡◌, ◌≤◌, IfOk, length};
+ghost use Rattle.node_io.specs.Held.{AreAll};
+
+use crate::faults::FileFault;
+use std::alloc::Global;
+use std::io::Read;
+
+// How much is asked for at once.
+const PIECE: usize = 4096;
+
+// All the bytes that are left, if they are no more than the limit. A read that is interrupted fails, as
+// any other that does. Each read but the last gives a byte at least, so that one more read than the limit
+// has bytes shows that there are too many.
+pub(crate) fn read_all<S: Read>(
+    alloc: Global,
+    source: &mut S,
+    limit: u64,
+) -> Result<Vec<u8>, FileFault>
+    ensures all { IfOk result (λ bytes. AreAll (S.remaining source.old) bytes.items) }
+    ensures within { IfOk result (λ bytes. length bytes.items ≤ limit) }
+{
+    let mut bytes = Vec::new(alloc);
+    let mut piece = [0u8; PIECE];
+    for _ in 0..=limit {
+        let Ok(count) = source.read(&mut piece) else {
+            return Err(FileFault::Failed);
+        };
+        if count == 0 {
+            return Ok(bytes);
+        }
+        if count as u64 > limit - bytes.len() as u64 {
+            return Err(FileFault::TooLarge);
+        }
+        bytes.extend_from_slice(&piece[..count])?;
+    }
+    Err(FileFault::TooLarge)
+}
