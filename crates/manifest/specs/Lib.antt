@@ -6,4 +6,3 @@ pub mod Heads
 pub mod Pod
 pub mod Reading
 pub mod Seen
-pub mod ContextSeen

@@ -1,11 +1,12 @@
--- What the texts of a manifest that is being read stand for: this project's own.
+-- What is lent by the tree of a manifest stands for this: this project's own.
 use Rattle.std.specs.Prelude.{map, option_map, unwrap_or}
 use Rattle.serde_json.specs.View.{view}
-use Rattle.manifest.specs.declared.head_texts.IdentityText.{IdentityText}
-use Rattle.manifest.specs.declared.head_texts.TermsText.{TermsText}
-use Rattle.manifest.specs.declared.head_texts.ListsText.{ListsText}
-use Rattle.manifest.specs.declared.head_texts.HeadText.{HeadText}
-use Rattle.manifest.specs.Heads.{Head, Identity, Lists, Terms, default_uid}
+use Rattle.manifest.specs.declared.lent.ContextText.{ContextText}
+use Rattle.manifest.specs.declared.lent.IdentityText.{IdentityText}
+use Rattle.manifest.specs.declared.lent.TermsText.{TermsText}
+use Rattle.manifest.specs.declared.lent.ListsText.{ListsText}
+use Rattle.manifest.specs.declared.lent.HeadText.{HeadText}
+use Rattle.manifest.specs.Heads.{Context, Head, Identity, Lists, Terms, default_uid}
 use Rattle.manifest.specs.Profiles.{profile_seen}
 
 abbrev pub identity_seen : IdentityText → Identity
@@ -23,3 +24,6 @@ lists_seen l = record { inits = map view l.inits.now; others = map view l.others
 
 abbrev pub head_seen : HeadText → Head
 head_seen h = record { identity = identity_seen h.identity; terms = terms_seen h.terms; lists = lists_seen h.lists }
+
+abbrev pub context_seen : ContextText → Context
+context_seen c = record { privileged = c.privileged; profile = option_map profile_seen c.profile }

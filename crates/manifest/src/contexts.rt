@@ -1,22 +1,17 @@
 ghost use Rattle.std.specs.Prelude.{◌≡◌, IfOk, option_map};
 ghost use Rattle.serde_json.specs.View.{view};
 ghost use Rattle.json_tree.specs.Reading.{as_read};
-ghost use Rattle.manifest.specs.ContextSeen.{context_seen};
+ghost use Rattle.manifest.specs.Seen.{context_seen};
 ghost use Rattle.manifest.specs.Profiles.{HasFitPath};
 ghost use Rattle.manifest.specs.Reading.{context_of, settings_in, settings_within};
 
 use crate::faults::PodFault;
 use crate::fields::profile_in;
-use crate::profiles::ProfileText;
+use crate::lent::ContextText;
 use json_tree::{optional_flag, optional_object};
 use serde_json::Value;
 
-// What a container's `securityContext` says.
-#[derive(Clone, Copy)]
-pub(crate) struct ContextText<'v> {
-    pub(crate) privileged: bool,
-    pub(crate) profile: Option<ProfileText<'v>>,
-}
+// A container's `securityContext`. Nothing is allocated.
 
 #[tactic(auto, unfolding(crate::specs::Reading::context_of))]
 pub(crate) fn context(tree: &Value) -> Result<ContextText<'_>, PodFault>

@@ -11,7 +11,7 @@ ghost use Rattle.manifest.specs.Texts as rule;
 use crate::containers::MAX_CONTAINERS;
 use crate::faults::PodFault;
 use crate::fields::{pod_name, profile_within, says};
-use crate::head_texts::{HeadText, IdentityText, ListsText, TermsText};
+use crate::lent::{HeadText, IdentityText, ListsText, TermsText};
 use crate::profiles::ProfileText;
 use crate::rules::{is_label, is_uid};
 use json_tree::{

@@ -7,6 +7,8 @@ use crate::profiles::ProfileText;
 use lifecycle::RestartPolicy;
 use serde_json::Value;
 
+// What is read of a manifest, lent by its tree.
+
 // What `metadata` says.
 #[derive(Clone, Copy)]
 pub(crate) struct IdentityText<'v> {
@@ -40,4 +42,11 @@ pub(crate) struct HeadText<'v> {
     pub(crate) identity: IdentityText<'v>,
     pub(crate) terms: TermsText<'v>,
     pub(crate) lists: ListsText<'v>,
+}
+
+// What a container's `securityContext` says.
+#[derive(Clone, Copy)]
+pub(crate) struct ContextText<'v> {
+    pub(crate) privileged: bool,
+    pub(crate) profile: Option<ProfileText<'v>>,
 }
