@@ -1,6 +1,5 @@
 pub mod ArrowText
 pub mod CallWords
-pub mod FileText
 pub mod LineText
 pub mod Numbers
 pub mod Outcome

@@ -7,7 +7,7 @@ use Rattle.manifest.specs.Faults.{fault_text as pod_fault_text}
 use Rattle.oci_profile.specs.Faults.{fault_text as profile_fault_text}
 use Rattle.script.specs.FaultText.{fault_text as script_fault_text}
 use Rattle.verdict.specs.FaultText.{fault_text as stack_fault_text}
-use Rattle.checker.specs.FileText.{fault_text as file_fault_text}
+use Rattle.node_io.specs.FaultText.{fault_text as file_fault_text}
 use Rattle.checker.specs.declared.stop.Stop.{Stop}
 use Rattle.checker.specs.declared.stop.Stop.TheVariants.{Refused, Profile, Compile, Manifest, Script, StackFilter, Stack, CommandLine, BadNumber, File, Unwritten, Memory}
 

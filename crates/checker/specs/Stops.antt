@@ -3,8 +3,8 @@
 use Rattle.std.specs.Prelude.{◌≡◌, ◌≢◌, ℕ, List, Bool, true, false}
 use Rattle.bpf_verify.specs.declared.refusal.Refusal.{Refusal}
 use Rattle.bpf_verify.specs.declared.refusal.Refusal.TheVariants.{Code}
-use Rattle.checker.specs.declared.file.FileFault.{FileFault}
-use Rattle.checker.specs.declared.file.FileFault.TheVariants as file
+use Rattle.node_io.specs.declared.faults.FileFault.{FileFault}
+use Rattle.node_io.specs.declared.faults.FileFault.TheVariants as file
 use Rattle.checker.specs.declared.stop.Stop.{Stop}
 use Rattle.checker.specs.declared.stop.Stop.TheVariants as why
 use Rattle.bpf_code.specs.declared.fault.CodeFault.TheVariants as code

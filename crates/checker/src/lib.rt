@@ -1,4 +1,5 @@
-//! What `seccheck` does: judges calls by filters, shows filters, and plays scripts under them.
+//! What `seccheck` does: compiles profiles, judges calls by filters, shows filters, plays scripts
+//! under them, and picks the profiles of pods.
 //!
 //! The functions are generic over the runtime and over the writers for standard output and standard
 //! error, so that tests run them over memory. What is printed is made by functions of `line`, `show`
@@ -29,7 +30,7 @@ mod stop;
 mod tests;
 mod words;
 
-pub use file::{FileFault, MAX_FILE_BYTES};
+pub use file::MAX_FILE_BYTES;
 pub use judging::{Judged, judge};
 pub use laws::constants_are_as_stated;
 pub use playing::{Outcome, play};

@@ -1,4 +1,4 @@
-use crate::file::{read_file, write_file};
+use crate::file::{MAX_FILE_BYTES, write_file};
 use crate::judging::judge;
 use crate::line::{accepted, compiled, judged_line, longest, outcome_lines};
 use crate::picked::picked_lines;
@@ -10,16 +10,16 @@ use bpf_verify::{Filter, Refusal, filter_of};
 use call_data::SysCall;
 use clap::error::ErrorKind;
 use compile::compile;
+use node_io::{Files, SystemFiles};
 use std::io::{self, Write};
-use std::rt::Files;
+use std::rt;
 use verdict::Stack;
 
 /// The program `seccheck`: compiles profiles, looks at filters, runs them, plays scripts under them, and
-/// picks the profiles of pods. `words` are the
-/// command line's, the program's name first. The answer is the program's status: 0 done, 1 input
-/// refused, 2 command line refused, 3 file fault, 4 out of memory. What can't be written counts as a
-/// file fault.
-pub fn seccheck_run<R: Files + AllocGlobal, O: Write, E: Write>(
+/// picks the profiles of pods. `words` are the command line's, the program's name first. The answer is
+/// the program's status: 0 done, 1 input refused, 2 command line refused, 3 file fault, 4 out of memory.
+/// What can't be written counts as a file fault.
+pub fn seccheck_run<R: rt::Files + AllocGlobal, O: Write, E: Write>(
     rt: &R,
     words: &[String],
     out: &mut O,
@@ -48,7 +48,7 @@ fn tell<O: Write, E: Write>(stop: &Stop, out: &mut O, err: &mut E) -> io::Result
 }
 
 /// What the program prints where nothing stops it.
-fn text_of<'a, R: Files + AllocGlobal>(rt: &R, words: &'a [String]) -> Result<String, Stop<'a>> {
+fn text_of<'a, R: rt::Files + AllocGlobal>(rt: &R, words: &'a [String]) -> Result<String, Stop<'a>> {
     let mut command = command(rt.alloc())?;
     let matches = command.try_get_matches_from_mut(words)?;
     match matches.subcommand() {
@@ -80,7 +80,7 @@ fn text_of<'a, R: Files + AllocGlobal>(rt: &R, words: &'a [String]) -> Result<St
 }
 
 /// That the profile was compiled and its filter written. The file is opened once there is a filter.
-fn compile_text<'a, R: Files + AllocGlobal>(
+fn compile_text<'a, R: rt::Files + AllocGlobal>(
     rt: &R,
     profile: &'a str,
     out: &'a str,
@@ -94,26 +94,26 @@ fn compile_text<'a, R: Files + AllocGlobal>(
 }
 
 /// How many instructions a run of the filter takes at most.
-fn budget_text<'a, R: Files + AllocGlobal>(rt: &R, path: &'a str) -> Result<String, Stop<'a>> {
+fn budget_text<'a, R: rt::Files + AllocGlobal>(rt: &R, path: &'a str) -> Result<String, Stop<'a>> {
     let filter = filter_at(rt, path)?;
     Ok(longest(rt.alloc(), filter.longest())?)
 }
 
 /// That the filter is accepted.
-fn verify_text<'a, R: Files + AllocGlobal>(rt: &R, path: &'a str) -> Result<String, Stop<'a>> {
+fn verify_text<'a, R: rt::Files + AllocGlobal>(rt: &R, path: &'a str) -> Result<String, Stop<'a>> {
     let filter = filter_at(rt, path)?;
     Ok(accepted(rt.alloc(), filter.len())?)
 }
 
 /// The instructions of a file that is a list of them.
-fn show_text<'a, R: Files + AllocGlobal>(rt: &R, path: &'a str) -> Result<String, Stop<'a>> {
+fn show_text<'a, R: rt::Files + AllocGlobal>(rt: &R, path: &'a str) -> Result<String, Stop<'a>> {
     let bytes = bytes_at(rt, path)?;
     let code = bpf_code::read(rt.alloc(), &bytes).map_err(Refusal::Code)?;
     Ok(code_lines(rt.alloc(), &code)?)
 }
 
 /// What the filter says of the call.
-fn run_text<'a, R: Files + AllocGlobal>(
+fn run_text<'a, R: rt::Files + AllocGlobal>(
     rt: &R,
     path: &'a str,
     call: SysCall,
@@ -123,7 +123,7 @@ fn run_text<'a, R: Files + AllocGlobal>(
 }
 
 /// The record of a script that is played under the filters, and the code with which it ends.
-fn play_text<'a, R: Files + AllocGlobal>(
+fn play_text<'a, R: rt::Files + AllocGlobal>(
     rt: &R,
     script: &'a str,
     filters: &[&'a str],
@@ -137,7 +137,7 @@ fn play_text<'a, R: Files + AllocGlobal>(
 }
 
 /// The profile of each container of a pod.
-fn pick_text<'a, R: Files + AllocGlobal>(
+fn pick_text<'a, R: rt::Files + AllocGlobal>(
     rt: &R,
     path: &'a str,
     seccomp_default: bool,
@@ -149,7 +149,7 @@ fn pick_text<'a, R: Files + AllocGlobal>(
 
 /// The stack of the filters in these files, the oldest one first. Each is read, judged and added before
 /// the next one is read.
-fn stack_at<'a, R: Files + AllocGlobal>(rt: &R, paths: &[&'a str]) -> Result<Stack, Stop<'a>> {
+fn stack_at<'a, R: rt::Files + AllocGlobal>(rt: &R, paths: &[&'a str]) -> Result<Stack, Stop<'a>> {
     let mut stack = Stack::new(rt.alloc());
     for path in paths {
         let bytes = bytes_at(rt, path)?;
@@ -162,12 +162,14 @@ fn stack_at<'a, R: Files + AllocGlobal>(rt: &R, paths: &[&'a str]) -> Result<Sta
 }
 
 /// The filter in a file.
-fn filter_at<'a, R: Files + AllocGlobal>(rt: &R, path: &'a str) -> Result<Filter, Stop<'a>> {
+fn filter_at<'a, R: rt::Files + AllocGlobal>(rt: &R, path: &'a str) -> Result<Filter, Stop<'a>> {
     let bytes = bytes_at(rt, path)?;
     Ok(filter_of(rt.alloc(), &bytes)?)
 }
 
 /// The bytes of a file.
-fn bytes_at<'a, R: Files + AllocGlobal>(rt: &R, path: &'a str) -> Result<Vec<u8>, Stop<'a>> {
-    read_file(rt, path).map_err(|fault| stop_at(path, fault))
+fn bytes_at<'a, R: rt::Files + AllocGlobal>(rt: &R, path: &'a str) -> Result<Vec<u8>, Stop<'a>> {
+    SystemFiles::anywhere(rt)
+        .read(path, MAX_FILE_BYTES)
+        .map_err(|fault| stop_at(path, fault))
 }

@@ -1,10 +1,10 @@
 ghost use Rattle.checker.specs.Stops.{IsOfFile};
 
-use crate::file::FileFault;
 use bpf_code::CodeFault;
 use bpf_verify::{Filter, Refusal};
 use compile::CompileFault;
 use manifest::PodFault;
+use node_io::FileFault;
 use oci_profile::ProfileFault;
 use script::ScriptFault;
 use std::alloc::{AllocError, AllocFailed};
