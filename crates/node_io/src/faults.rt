@@ -11,7 +11,7 @@ pub enum FileFault {
     TooLarge,
     /// The device failed, or what is there is no regular file.
     Failed,
-    /// A growth was refused.
+    /// A growth was refused, or the system had no memory to open the file.
     Memory,
 }
 

@@ -109,6 +109,7 @@ fn read_regular<R: rt::Files + AllocGlobal>(
 fn fault_of(error: io::Error) -> FileFault {
     match error.kind() {
         ErrorKind::NotFound => FileFault::NotFound,
+        ErrorKind::OutOfMemory => FileFault::Memory,
         _ => FileFault::Failed,
     }
 }
