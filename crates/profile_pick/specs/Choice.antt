@@ -1,7 +1,6 @@
--- Which seccomp profile a container gets. Kubernetes 1.27: `PodSecurityContext` and `SecurityContext` of the API
--- reference (a container's `seccompProfile` goes before the pod's), and the kubelet's `seccompDefault`, for
--- containers of which nothing is said. That a privileged container has none is how runtimes take the kubelet's
--- request for one.
+-- Which seccomp profile a container gets. Kubernetes 1.27, "Restrict a Container's Syscalls with seccomp": privileged
+-- containers always run as Unconfined, and on a node whose kubelet has `seccompDefault` RuntimeDefault is what those
+-- get of which nothing is said. API reference, `SecurityContext`: a container's `seccompProfile` goes before the pod's.
 use Rattle.std.specs.Prelude.{Bool, true, false, if◌then◌else◌, Option, Some, None}
 use Rattle.manifest.specs.declared.containers.Container.{Container}
 use Rattle.manifest.specs.declared.profiles.SeccompProfile.{SeccompProfile}
