@@ -7,6 +7,8 @@ use Rattle.bpf_verify.specs.declared.fault.Fault.{Fault}
 use Rattle.bpf_verify.specs.declared.fault.Fault.TheVariants as fault
 use Rattle.bpf_verify.specs.declared.refusal.Refusal.{Refusal}
 use Rattle.bpf_verify.specs.declared.refusal.Refusal.TheVariants.{Code, Filter}
+use Rattle.compile.specs.declared.fault.CompileFault.{CompileFault}
+use Rattle.compile.specs.declared.fault.CompileFault.TheVariants as compiler
 use Rattle.oci_profile.specs.declared.faults.ProfileFault.{ProfileFault}
 use Rattle.oci_profile.specs.declared.faults.ProfileFault.TheVariants as profile
 use Rattle.motchidu_c.specs.declared.status.Status.{Status}
@@ -80,6 +82,11 @@ status_of_profile profile.UnknownCall = UnknownCall
 status_of_profile profile.Notify = Notify
 status_of_profile profile.TooLarge = TooLarge
 status_of_profile profile.Memory = Memory
+
+-- why a profile is not compiled
+abbrev pub status_of_compile : CompileFault → Status
+status_of_compile compiler.TooLong = TooHeavy
+status_of_compile compiler.Memory = Memory
 
 abbrev pub status_of : Refusal → Status
 status_of (Code fault) = status_of_text fault

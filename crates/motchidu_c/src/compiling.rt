@@ -8,7 +8,7 @@ ghost use Rattle.oci_profile.specs.Profile.{ReadsProfile};
 ghost use Rattle.oci_profile.specs.Reading.{first_fault};
 ghost use Rattle.motchidu_c.specs.declared.status.Status.TheVariants.{Accepted, Memory, NoRoom, TooHeavy, TooLarge};
 ghost use Rattle.motchidu_c.specs.Compiled.{IsCompiled, IsFilterOfText, NeedsRoom};
-ghost use Rattle.motchidu_c.specs.Status.{number_of, status_of_profile};
+ghost use Rattle.motchidu_c.specs.Status.{number_of, status_of_compile, status_of_profile};
 
 use crate::status::Status;
 use bpf_code::write;
@@ -73,8 +73,7 @@ fn bytes_of(alloc: Global, text: &[u8]) -> Result<Vec<u8>, Status>
     };
     let filter = match compile(alloc, &profile) {
         Ok(filter) => filter,
-        Err(CompileFault::TooLong) => return Err(Status::TooHeavy),
-        Err(CompileFault::Memory) => return Err(Status::Memory),
+        Err(fault) => return Err(status_of_compile(fault)),
     };
     match write(alloc, filter.insns()) {
         Ok(bytes) => Ok(bytes),
@@ -110,5 +109,15 @@ fn status_of_profile(fault: ProfileFault) -> Status
         ProfileFault::Notify => Status::Notify,
         ProfileFault::TooLarge => Status::TooLarge,
         ProfileFault::Memory => Status::Memory,
+    }
+}
+
+/// What a fault of the compiler is for C.
+fn status_of_compile(fault: CompileFault) -> Status
+    ensures { result ≡ status_of_compile fault }
+{
+    match fault {
+        CompileFault::TooLong => Status::TooHeavy,
+        CompileFault::Memory => Status::Memory,
     }
 }

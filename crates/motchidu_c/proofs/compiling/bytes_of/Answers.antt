@@ -1,8 +1,11 @@
-use Rattle.std.proofs.Common.{◌≡◌, ◌≢◌, ◌<◌, ◌∙◌, Err, ap, arith}
+use Rattle.std.proofs.Common.{◌≡◌, ◌≢◌, ◌<◌, ◌∙◌, Err, ap, arith, refl}
 use Rattle.bpf_code.specs.declared.limits.TheConstants.{MAX_INSNS}
+use Rattle.compile.specs.declared.fault.CompileFault.{CompileFault}
+use Rattle.compile.specs.declared.fault.CompileFault.TheVariants as compiler
+use Rattle.compile.specs.declared.fault.CompileFault.TheVariants.{TooLong}
 use Rattle.oci_profile.specs.declared.faults.ProfileFault.TheVariants.{Memory}
 use Rattle.oci_profile.specs.Meaning.{weight}
-use Rattle.motchidu_c.specs.Status.{status_of_profile}
+use Rattle.motchidu_c.specs.Status.{status_of_compile, status_of_profile}
 use Rattle.motchidu_c.proofs.compiling.bytes_of.Goals as goal
 
 pub returns-in-Err-clause-first : goal.returns-in-Err-clause-first
@@ -24,12 +27,20 @@ returns-in-Err-clause-accepts c p reads light enough =
     let never = c.in-Err.ensures.only p reads not_memory in
     absurd cc
 
-pub returns-in-Err-TooLong-clause-accepts : goal.returns-in-Err-TooLong-clause-accepts
-returns-in-Err-TooLong-clause-accepts c p reads light enough =
+-- a fault of the compiler is one of two
+neither : (fault : CompileFault) → fault ≢ TooLong → fault ≢ compiler.Memory → ⊥
+neither TooLong not_long not_memory = not_long refl
+neither compiler.Memory not_long not_memory = not_memory refl
+
+pub returns-in-Err-compile-clause-accepts : goal.returns-in-Err-compile-clause-accepts
+returns-in-Err-compile-clause-accepts c p reads light enough =
     let read = c.in-Ok.ensures.only p reads in
     let same : p ≡ c.in-Ok.profile = cc in
-    let heavy : MAX_INSNS < weight c.in-Ok.profile = c.in-Err-TooLong.ensures.long.0 (ap Err c.in-Err-TooLong.field-0-is) in
-    absurd (omega (arith, heavy, light, ap weight same))
+    let not_memory : c.in-Err-compile.fault ≢ compiler.Memory = λ e. enough (ap Err (c.status_of_compile.ensures ∙ ap status_of_compile e)) in
+    let not_long : c.in-Err-compile.fault ≢ TooLong = λ e.
+    let heavy : MAX_INSNS < weight c.in-Ok.profile = c.in-Err-compile.ensures.long.0 (ap Err e) in
+    absurd (omega (arith, heavy, light, ap weight same)) in
+    absurd (neither c.in-Err-compile.fault not_long not_memory)
 
 pub returns-in-Ok-write-clause-heavy : goal.returns-in-Ok-write-clause-heavy
 returns-in-Ok-write-clause-heavy c p reads heavy enough =
