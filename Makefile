@@ -1,8 +1,8 @@
 # make test: the gate, which proves every crate from nothing, tries the must-fail edits, and runs the
 # tests, the stored runs and the examples in C. make times: the processor seconds that the last gate
 # spent, crate by crate. make planted [CRATE=..]: more wrong bodies, which the gate leaves out. make demo:
-# a profile is compiled, a verified filter judges a call, and a script is played under another. make lib: the C library, proved,
-# and its header, in out/c. make install PREFIX=..: the proved programs in PREFIX/bin, the library in
+# a profile is compiled, a verified filter judges a call, a script is played under another, and the profiles of a
+# pod's containers are picked. make lib: the C library, proved, and its header, in out/c. make install PREFIX=..: the proved programs in PREFIX/bin, the library in
 # PREFIX/lib and PREFIX/include. make bench: the machine and the compiler beside others. make kernel
 # [COUNT=..]: the running kernel beside the library.
 
@@ -28,7 +28,8 @@ demo:
 	@echo "demo: built without waiting for the proofs; 'make test' proves what it runs"
 	@cd crates/seccheck && rt try --data x86_64_only.bpf=$(EXAMPLES)/x86_64_only.bpf \
 	  --data no_ptrace.bpf=$(EXAMPLES)/no_ptrace.bpf --data tries_ptrace.json=$(EXAMPLES)/tries_ptrace.json \
-	  --data no_ptrace.json=$(EXAMPLES)/no_ptrace.json --cases $(EXAMPLES)/demo
+	  --data no_ptrace.json=$(EXAMPLES)/no_ptrace.json --data two_profiles.json=$(EXAMPLES)/two_profiles.json \
+	  --cases $(EXAMPLES)/demo
 
 lib:
 	@cd crates/motchidu_c && rt lib

@@ -1,6 +1,6 @@
 #!/bin/bash
-# What make test runs: the gate (rt ci), the program with no memory, and the examples in C over the
-# library. Each says what it counted, and the last line has the sum of all.
+# What make test runs: the gate (rt ci), the program with no memory and with a pipe, and the examples in C
+# over the library. Each says what it counted, and the last line has the sum of all.
 set -u
 cd "$(dirname "$0")/.."
 said=$(mktemp)
@@ -28,6 +28,7 @@ c_examples() {
 
 part "rt ci" tools/gate_times.py out/gate_times rt ci
 part "memory" tools/no_memory.sh
+part "pipe" tools/pipe.sh
 part "C examples" c_examples
 echo "$all_passed passed, $all_failed failed"
 [ $all_failed = 0 ]

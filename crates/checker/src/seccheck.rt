@@ -48,7 +48,10 @@ fn tell<O: Write, E: Write>(stop: &Stop, out: &mut O, err: &mut E) -> io::Result
 }
 
 /// What the program prints where nothing stops it.
-fn text_of<'a, R: rt::Files + AllocGlobal>(rt: &R, words: &'a [String]) -> Result<String, Stop<'a>> {
+fn text_of<'a, R: rt::Files + AllocGlobal>(
+    rt: &R,
+    words: &'a [String],
+) -> Result<String, Stop<'a>> {
     let mut command = command(rt.alloc())?;
     let matches = command.try_get_matches_from_mut(words)?;
     match matches.subcommand() {

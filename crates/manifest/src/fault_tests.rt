@@ -106,6 +106,7 @@ fn names(rt: HostRuntime) {
 #[test]
 fn specs(rt: HostRuntime) {
     let cases = [
+        ("{}", PodFault::Missing),
         ("{\"restartPolicy\":1}", PodFault::WrongType),
         ("{\"restartPolicy\":\"never\"}", PodFault::WrongType),
         (
@@ -131,6 +132,10 @@ fn specs(rt: HostRuntime) {
         ),
         (
             "{\"securityContext\":{\"seccompProfile\":{\"type\":null}}}",
+            PodFault::WrongType,
+        ),
+        (
+            "{\"securityContext\":{\"seccompProfile\":{\"type\":1}}}",
             PodFault::WrongType,
         ),
         (
@@ -188,6 +193,7 @@ fn containers_at_fault(rt: HostRuntime) {
         ("null", PodFault::WrongType),
         ("{}", PodFault::Missing),
         ("{\"name\":null}", PodFault::WrongType),
+        ("{\"name\":1}", PodFault::WrongType),
         ("{\"name\":\"a.b\"}", PodFault::BadName),
         ("{\"name\":\"main\"}", PodFault::RepeatedName),
         ("{\"name\":\"main\",\"image\":1}", PodFault::RepeatedName),
@@ -208,6 +214,10 @@ fn containers_at_fault(rt: HostRuntime) {
         (
             "{\"name\":\"b\",\"image\":\"x\",\"securityContext\":{\"privileged\":true,\"seccompProfile\":{}}}",
             PodFault::Missing,
+        ),
+        (
+            "{\"name\":\"b\",\"image\":\"x\",\"securityContext\":{\"seccompProfile\":1}}",
+            PodFault::WrongType,
         ),
     ];
     for (container, fault) in cases {

@@ -68,6 +68,31 @@ fn what_is_given(rt: HostRuntime) {
     }
 }
 
+// What may be left out and is null is left out.
+#[test]
+fn nulls(rt: HostRuntime) {
+    let specs = [
+        "\"restartPolicy\":null,\"terminationGracePeriodSeconds\":null,\"securityContext\":null,
+        \"initContainers\":null,\"containers\":[{\"name\":\"a\",\"image\":\"x\",\"securityContext\":null}]",
+        "\"securityContext\":{\"seccompProfile\":null},\"containers\":[{\"name\":\"a\",\"image\":\"x\",
+        \"securityContext\":{\"privileged\":null,\"seccompProfile\":null}}]",
+    ];
+    for spec in specs {
+        let text = format!(in rt.alloc();
+            "{{\"apiVersion\":\"v1\",\"kind\":\"Pod\",\"metadata\":{{\"name\":\"p\"}},\"spec\":{{{spec}}}}}"
+        );
+        let text = text.expect(&rt, "memory");
+        let pod = read(rt.alloc(), text.as_bytes()).expect(&rt, "a pod");
+        assert_eq!(rt; pod.policy, RestartPolicy::Always);
+        assert_eq!(rt; pod.grace, 30);
+        assert_eq!(rt; pod.containers.inits(), 0);
+        assert!(rt; pod.profile.is_none());
+        for container in pod.containers.as_slice() {
+            assert!(rt; !container.privileged && container.profile.is_none());
+        }
+    }
+}
+
 // The four pods of the documentation's tutorial on seccomp, Kubernetes 1.27.
 fn tutorial(alloc: Global, name: &str, profile: &str) -> Result<String, AllocError> {
     format!(in alloc;
