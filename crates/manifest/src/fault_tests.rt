@@ -242,6 +242,91 @@ fn containers_at_fault(rt: HostRuntime) {
     }
 }
 
+fn joined(
+    alloc: Global,
+    before: &str,
+    one: &str,
+    other: &str,
+    after: &str,
+) -> Result<String, AllocError> {
+    format!(in alloc; "{before}{one},{other}{after}")
+}
+
+// Fields at fault in the order in which they are judged, each group within a text that has no fault before
+// them. Of a key that stands twice the last value counts.
+const GROUPS: [(&str, &[(&str, PodFault)], &str); 4] = [
+    (
+        "{\"apiVersion\":\"v1\",\"kind\":\"Pod\",\"metadata\":{\"name\":\"p\"},\"spec\":{},",
+        &[
+            ("\"apiVersion\":2", PodFault::WrongType),
+            ("\"kind\":\"pod\"", PodFault::WrongType),
+            ("\"metadata\":{}", PodFault::Missing),
+            ("\"spec\":1", PodFault::WrongType),
+        ],
+        "}",
+    ),
+    (
+        "{\"apiVersion\":\"v1\",\"kind\":\"Pod\",\"metadata\":{\"name\":\"p\",",
+        &[
+            ("\"name\":\"P\"", PodFault::BadName),
+            ("\"namespace\":1", PodFault::WrongType),
+            ("\"uid\":\"\"", PodFault::BadName),
+        ],
+        "},\"spec\":{}}",
+    ),
+    (
+        "{\"apiVersion\":\"v1\",\"kind\":\"Pod\",\"metadata\":{\"name\":\"p\"},\"spec\":{",
+        &[
+            ("\"restartPolicy\":1", PodFault::WrongType),
+            (
+                "\"securityContext\":{\"seccompProfile\":{\"type\":\"x\"}}",
+                PodFault::BadProfile,
+            ),
+            ("\"initContainers\":{}", PodFault::WrongType),
+            ("\"containers\":[]", PodFault::Missing),
+        ],
+        "}}",
+    ),
+    (
+        "{\"apiVersion\":\"v1\",\"kind\":\"Pod\",\"metadata\":{\"name\":\"p\"},
+        \"spec\":{\"containers\":[{\"name\":\"a\",\"image\":\"x\",",
+        &[
+            ("\"name\":\"A\"", PodFault::BadName),
+            ("\"image\":1", PodFault::WrongType),
+            (
+                "\"securityContext\":{\"seccompProfile\":{}}",
+                PodFault::Missing,
+            ),
+        ],
+        "}]}}",
+    ),
+];
+
+// Of two faults the one that is judged first is told, in whichever order they stand in the text.
+#[test]
+fn pairs(rt: HostRuntime) {
+    for (before, fields, after) in GROUPS {
+        for (place, (one, fault)) in fields.iter().enumerate() {
+            for (later, (other, _)) in fields.iter().enumerate() {
+                if place < later {
+                    let text = joined(rt.alloc(), before, one, other, after).expect(&rt, "memory");
+                    assert_eq!(rt;
+                        read(rt.alloc(), text.as_bytes()).err(),
+                        Some(*fault),
+                        "{text}"
+                    );
+                    let text = joined(rt.alloc(), before, other, one, after).expect(&rt, "memory");
+                    assert_eq!(rt;
+                        read(rt.alloc(), text.as_bytes()).err(),
+                        Some(*fault),
+                        "{text}"
+                    );
+                }
+            }
+        }
+    }
+}
+
 fn many(alloc: Global, inits: usize, others: usize) -> Result<String, AllocError> {
     let mut spec = String::from_str(alloc, "{\"initContainers\":[")?;
     for place in 0..inits {
