@@ -60,7 +60,7 @@ operation_of-code ReturnA = refl
 operation_of-code MoveToX = refl
 operation_of-code MoveToA = refl
 
-code_small : (op : Operation) → code_of op < 256
+pub code_small : (op : Operation) → code_of op < 256
 code_small LoadImmediate = lit< tt
 code_small LoadData = lit< tt
 code_small LoadWord = lit< tt

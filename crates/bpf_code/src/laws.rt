@@ -1,9 +1,10 @@
-ghost use Rattle.std.specs.Prelude.{◌≡◌, ◌*◌, ◌≤◌, List, length};
+ghost use Rattle.std.specs.Prelude.{◌≡◌, ◌*◌, ◌<◌, ◌≤◌, ◌^◌, List, length};
 ghost use Rattle.std.specs.List.{AllByRecursion};
 ghost use Rattle.bpf_code.specs.declared.insn.Insn.{Insn};
 ghost use Rattle.bpf_code.specs.declared.fault.CodeFault.{CodeFault};
 ghost use Rattle.bpf_code.specs.declared.limits.TheConstants.{DATA_LEN, MAX_BYTES, MAX_INSNS, SCRATCH_WORDS};
-ghost use Rattle.bpf_code.specs.Code.{Fits, bytes_of_code};
+ghost use Rattle.bpf_code.specs.declared.operation.Operation.{Operation};
+ghost use Rattle.bpf_code.specs.Code.{Fits, bytes_of_code, code_of};
 ghost use Rattle.bpf_code.specs.Reading.{HasFault};
 
 use crate::insn::Insn;
@@ -22,6 +23,11 @@ pub fn numbers_fit(insn: Insn)
 {
     let _ = insn;
 }
+
+/// Each code of the table is a byte.
+pub fn codes_are_small()
+    ensures { (op : Operation) → code_of op < 2 ^ 8 }
+{}
 
 /// What the constants of this crate are, in the standards' own numbers.
 pub fn constants_are_as_stated()

@@ -18,7 +18,7 @@ mod writer;
 pub use fault::CodeFault;
 pub use flow::{Flow, Scratch};
 pub use insn::Insn;
-pub use laws::{constants_are_as_stated, numbers_fit, written_is_read};
+pub use laws::{codes_are_small, constants_are_as_stated, numbers_fit, written_is_read};
 pub use limits::{DATA_LEN, MAX_BYTES, MAX_INSNS, SCRATCH_WORDS};
 pub use operation::Operation;
 pub use reader::read;

@@ -1,4 +1,4 @@
 pub mod Digits
-pub mod Follows
+pub mod Plays
 pub mod Lines
 pub mod Numerals

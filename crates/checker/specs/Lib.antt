@@ -2,13 +2,11 @@ pub mod ArrowText
 pub mod CallWords
 pub mod LineText
 pub mod Numbers
-pub mod Outcome
 pub mod PickText
 pub mod PickedText
-pub mod Played
-pub mod Plays
 pub mod StopText
 pub mod ShownText
 pub mod Stops
 pub mod Texts
 pub mod Words
+pub mod Playing

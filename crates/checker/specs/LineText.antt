@@ -2,8 +2,8 @@
 use Rattle.std.specs.Prelude.{ℕ, List, ◌++◌, codes, Bool, true, false}
 use Rattle.std.specs.Fmt.{decimal}
 use Rattle.action.specs.Verdict.{name_of}
-use Rattle.checker.specs.declared.steps.Entry.{Entry}
-use Rattle.checker.specs.Outcome.{Outcome}
+use Rattle.runtime_cell.specs.declared.calls.Entry.{Entry}
+use Rattle.runtime_cell.specs.Outcome.{Outcome}
 use Rattle.checker.specs.Texts.{lines_text}
 
 abbrev pub outcome_text : Bool → List ℕ

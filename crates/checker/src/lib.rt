@@ -3,12 +3,11 @@
 //!
 //! The functions are generic over the runtime and over the writers for standard output and standard
 //! error, so that tests run them over memory. What is printed is made by functions of `line`, `show`
-//! and `stop`, whose texts stand in `specs/`. `cell` plays a script under a stack of filters, one step
-//! at a time; it prints nothing.
+//! and `stop`, whose texts stand in `specs/`. `playing` plays the cell of a script to its end; it prints
+//! nothing.
 #![tactic(auto)]
 
 mod call_words;
-mod cell;
 #[cfg(test)]
 mod compile_tests;
 mod file;
@@ -24,7 +23,6 @@ mod play_tests;
 mod playing;
 mod seccheck;
 mod show;
-mod steps;
 mod stop;
 #[cfg(test)]
 mod tests;
@@ -35,4 +33,3 @@ pub use judging::{Judged, judge};
 pub use laws::constants_are_as_stated;
 pub use playing::{Outcome, play};
 pub use seccheck::seccheck_run;
-pub use steps::{Entry, KILLED};

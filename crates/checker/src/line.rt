@@ -4,7 +4,7 @@ ghost use Rattle.checker.specs.Texts.{accepted_text, compiled_text, judged_text,
 
 use crate::judging::Judged;
 use crate::playing::Outcome;
-use crate::steps::Entry;
+use runtime_cell::Entry;
 use std::alloc::{AllocError, Global};
 use std::fmt;
 

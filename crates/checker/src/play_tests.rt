@@ -124,6 +124,52 @@ fn stacks_of_filters(rt: HostRuntime) -> Result<(), Fail> {
     Ok(())
 }
 
+// A filter that a script adds judges what comes after it; one for which the stack has no place is not added.
+#[test]
+fn scripts_that_add_filters(rt: HostRuntime) -> Result<(), Fail> {
+    let adds = b"{\"steps\":[{\"call\":\"getpid\"},
+        {\"install\":[[32,0,0,0],[21,0,1,39],[6,0,0,327693],[6,0,0,2147418112]]},
+        {\"call\":\"getpid\",\"onError\":7},{\"exit\":0}]}";
+    let adds = file_of(&rt, "adds", adds)?;
+    let (_status, out, _err) = seccheck(&rt, "play FILE", adds.as_str())?;
+    assert_eq!(rt;
+        out.as_str(),
+        "0 39 ALLOW 0 performed\n1 317 ALLOW 0 performed\n2 39 ERRNO 13 denied\nexit 7\n"
+    );
+
+    let profile =
+        b"{\"defaultAction\":\"SCMP_ACT_ALLOW\",\"syscalls\":[{\"names\":[\"seccomp\"],\"action\":\"SCMP_ACT_ERRNO\"}]}";
+    let profile = file_of(&rt, "no_seccomp", profile)?;
+    let filter = file_of(&rt, "no_seccomp_filter", b"")?;
+    let line = format!(in rt.alloc(); "compile {profile} {filter}")?;
+    assert_eq!(rt; seccheck(&rt, line.as_str(), "")?.0, 0);
+    let line = format!(in rt.alloc(); "play {adds} {filter}")?;
+    let (_status, out, _err) = seccheck(&rt, line.as_str(), "")?;
+    assert_eq!(rt;
+        out.as_str(),
+        "0 39 ALLOW 0 performed\n1 317 ERRNO 1 denied\n2 39 ALLOW 0 performed\nexit 0\n"
+    );
+
+    let script = b"{\"steps\":[{\"install\":[[6,0,0,0]],\"onError\":9},{\"exit\":0}]}";
+    let script = file_of(&rt, "no_place", script)?;
+    let longest = file_of(&rt, "longest_below", &loads(&rt, 0, 4095)?)?;
+    let last = file_of(&rt, "last_below", &loads(&rt, 0, 4067)?)?;
+    let mut line = format!(in rt.alloc(); "play {script}")?;
+    for _ in 0..7 {
+        line.push_str(" FILE")?;
+    }
+    line.push_str(" ")?;
+    line.push_str(last.as_str())?;
+    let (_status, out, _err) = seccheck(&rt, line.as_str(), longest.as_str())?;
+    assert_eq!(rt; out.as_str(), "0 317 ALLOW 0 performed\nexit 9\n");
+
+    let script = file_of(&rt, "no_insns_added", b"{\"steps\":[{\"install\":[]}]}")?;
+    let (status, out, _err) = seccheck(&rt, "play FILE", script.as_str())?;
+    assert_eq!(rt; out.as_str(), "refused script BadFilter\n");
+    assert_eq!(rt; status, 1);
+    Ok(())
+}
+
 #[test]
 fn what_play_refuses(rt: HostRuntime) -> Result<(), Fail> {
     let script = file_of(&rt, "good", b"{\"steps\":[{\"exit\":0}]}")?;

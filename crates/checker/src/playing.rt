@@ -1,26 +1,29 @@
-ghost use Rattle.std.specs.Prelude.{◌≡◌, IfOk, Some};
-ghost use Rattle.checker.specs.Played.{IsOfSameMaking, IsOutcome};
+ghost use Rattle.std.specs.Prelude.{◌≡◌, [], IfOk, false};
+ghost use Rattle.runtime_cell.specs.Cell.{FollowsScript};
+ghost use Rattle.runtime_cell.specs.declared.cell.State.{State};
+ghost use Rattle.runtime_cell.specs.Outcome.{IsOutcome};
+ghost use Rattle.checker.specs.Playing.{IsPlaying};
 
-use crate::cell::Cell;
-use crate::steps::Entry;
+use runtime_cell::{Cell, Entry};
 use script::Script;
 use std::alloc::{AllocError, Global};
 use std::marker::Model;
 use verdict::Stack;
 
-/// What came of a script: its judged calls, in order, and the code with which it ended.
+/// What came of a script: its judged calls, in order, the filters that it added, and the code with which
+/// it ended.
 #[derive(Drop)]
 pub struct Outcome {
-    entries: Vec<Entry>,
+    cell: Cell,
     code: u8,
 }
 
 impl Model for Outcome {
-    ghost use Rattle.checker.specs.Outcome.{Outcome};
+    ghost use Rattle.runtime_cell.specs.Outcome.{Outcome};
 
     ghost Value = { Outcome };
 
-    ghost view = { λ o. record { entries = o.entries.items; code = o.code } };
+    ghost view = { λ o. record { entries = o.cell.entries; added = o.cell.added; code = o.code } };
 }
 
 impl Outcome {
@@ -28,7 +31,7 @@ impl Outcome {
     pub fn entries(&self) -> &[Entry]
         ensures { result.now ≡ self.now.entries }
     {
-        self.entries.as_slice()
+        self.cell.record()
     }
 
     /// The code with which the script ended.
@@ -40,27 +43,26 @@ impl Outcome {
 }
 
 /// Plays the script under the stack of filters, from its first step to its end. A call is performed
-/// exactly where the filters together allow it.
+/// exactly where the filters, and those that the script added before, together allow it.
 pub fn play(
     alloc: Global,
     script: Script,
     stack: Stack,
     attempt: u32,
 ) -> Result<Outcome, AllocError>
-    ensures { IfOk result (IsOutcome script stack attempt) }
+    ensures { IfOk result (IsOutcome stack.filters attempt script []) }
 {
     let mut cell = Cell::playing(alloc, script, stack, attempt)?;
     let code = play_out(&mut cell);
-    Ok(Outcome {
-        entries: cell.into_record(),
-        code,
-    })
+    Ok(Outcome { cell, code })
 }
 
 /// Plays a cell's script to its end, and gives the code with which it ended.
 fn play_out(cell: &mut Cell) -> u8
-    ensures kept { IsOfSameMaking cell.old cell.new }
-    ensures ends { cell.new.exit ≡ Some result }
+    requires { IsPlaying cell.old.state }
+    ensures kept { cell.new.making ≡ cell.old.making }
+    ensures ends { cell.new.state ≡ State.Exited result false }
+    ensures follows { FollowsScript cell.new }
 {
     loop {
         if let Some(code) = cell.exit() {

@@ -55,6 +55,15 @@ wholes_is_value (string s) ns h = refl
 wholes_is_value (array ds) ns h = refl
 wholes_is_value (an_object ms) ns h = refl
 
+pub list_is_value : (d : Data) (items : List Data) → list d ≡ Some items → value d ≡ Some d
+unfolding list
+list_is_value null items h = absurd cc
+list_is_value (boolean b) items h = refl
+list_is_value (number n) items h = refl
+list_is_value (string s) items h = refl
+list_is_value (array ds) items h = refl
+list_is_value (an_object ms) items h = refl
+
 pub word_no_text : (d : Data) (n : ℕ) → word d ≡ Some n → text d ≡ None
 unfolding word whole
 word_no_text null n h = refl

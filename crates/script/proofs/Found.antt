@@ -3,26 +3,29 @@ use Rattle.std.proofs.Common.{◌≡◌, ◌⊎◌, inl, inr, ℕ, ◌<◌, List
 use Rattle.std.specs.Prelude.{IfOk}
 use Rattle.std.specs.List.{list_all}
 use Rattle.std.proofs.lemmas.Bool.{eqb-false, ltb-false}
+use Rattle.bpf_code.specs.declared.insn.Insn.{Insn}
 use Rattle.serde_json.specs.Data.{Data}
 use Rattle.serde_json.specs.Find.{get}
 use Rattle.json_tree.specs.declared.faults.FieldFault.{FieldFault}
-use Rattle.json_tree.specs.Tree.{has, list, object, text, tree_of, value, whole, wholes, word}
+use Rattle.json_tree.specs.Tree.{each, has, list, object, text, tree_of, value, whole, wholes, word}
 use Rattle.json_tree.specs.declared.faults.TextFault.TheVariants.{NotJson}
-use Rattle.json_tree.specs.Reading.{or_else, refuse_if, if_there, in_order, as_fault, required, optional, document, Gives, HasField, MayHaveField}
+use Rattle.json_tree.specs.Reading.{or_else, refuse_if, if_there, in_order, as_fault, as_read, required, optional, document, Both, HasField, MayHaveField}
 use Rattle.json_tree.proofs.Loops.{bind_ok, then_ok}
-use Rattle.json_tree.proofs.Fields.{or_else_ok, refuse_if_ok, as_fault_ok, required_found, optional_found, in_order_found}
+use Rattle.json_tree.proofs.Fields.{or_else_ok, refuse_if_ok, as_fault_ok, required_found, optional_found}
 use Rattle.json_tree.proofs.Values.{value_same, object_same, has_not}
 use Rattle.script.proofs.Six.{has_args}
 use Rattle.script.specs.declared.faults.ScriptFault.{ScriptFault}
-use Rattle.script.specs.declared.faults.ScriptFault.TheVariants.{Missing, WrongType, UnknownCall, TooMany, BadCode, Memory}
+use Rattle.script.specs.declared.faults.ScriptFault.TheVariants.{Missing, WrongType, UnknownCall, TooMany, BadCode}
 use Rattle.script.specs.declared.scripts.Step.{Step}
-use Rattle.script.specs.declared.scripts.Step.TheVariants.{Call, Exit, ExitByAttempt}
+use Rattle.script.specs.declared.scripts.Step.TheVariants.{Call, Exit, ExitByAttempt, Install}
 use Rattle.script.specs.declared.scripts.TheConstants.{MAX_STEPS}
 use Rattle.script.specs.declared.fields.CallFields.{CallFields}
 use Rattle.script.specs.declared.reader.StepKind.{StepKind}
 use Rattle.script.specs.declared.reader.StepKind.TheVariants as kind
-use Rattle.script.specs.Script.{number_of_name, code, IsCall, HasArgs, HasArch, HasIp, HasCallFields, Says, IsStep, IsScript, ReadsScript}
-use Rattle.script.specs.Reading.{fault_of_field, fault_of_text, here, items_of, code_of, codes_of, number_of, call_of, args_of, arch_of, ip_of, on_error_of, call_fields_of, exit_of, exit_by_attempt_of, the_kind, kind_of, call_step_of, exit_step_of, exit_by_attempt_step_of, step_of_kind, step_of, script_of, reading_of}
+use Rattle.script.specs.declared.install.Row.{Row}
+use Rattle.script.specs.Script.{number_of_name, code, row, rows, IsCall, HasArgs, HasArch, HasIp, HasCallFields, Says, SpellsFilter, IsStep, IsScript, ReadsScript}
+use Rattle.script.specs.Reading.{fault_of_field, fault_of_text, here, items_of, code_of, codes_of, number_of, call_of, args_of, arch_of, ip_of, on_error_of, call_fields_of, exit_of, exit_by_attempt_of, rows_of, the_kind, kind_of, call_step_of, exit_step_of, exit_by_attempt_step_of, install_step_of, step_of_kind, step_of, text_items, StepText, IsReadAs, GivesSteps}
+use Rattle.script.specs.Reading.StepText.{Whole, Installs}
 
 here_ok : {A : Type 0} (r : Result A FieldFault) (x : A) → here r ≡ Ok x → r ≡ Ok x
 here_ok r x h = as_fault_ok fault_of_field r x h
@@ -125,25 +128,34 @@ exit_found tree ends h =
     let field = required_found whole (codes "exit") tree given.0 (here_ok (required whole (codes "exit") tree) given.0 given.1) in
     (field.0, field.1, code_found field.0 given.0 ends field.2 given.2)
 
-abbrev FlagsAre : Bool → Bool → Bool → StepKind → Type 0
-FlagsAre call exit by_attempt kind.Call = (exit ≡ false) × (by_attempt ≡ false)
-FlagsAre call exit by_attempt kind.Exit = (call ≡ false) × (by_attempt ≡ false)
-FlagsAre call exit by_attempt kind.ExitByAttempt = (call ≡ false) × (exit ≡ false)
+abbrev FlagsAre : Bool → Bool → Bool → Bool → StepKind → Type 0
+FlagsAre call exit by_attempt install kind.Call = (exit ≡ false) × (by_attempt ≡ false) × (install ≡ false)
+FlagsAre call exit by_attempt install kind.Exit = (call ≡ false) × (by_attempt ≡ false) × (install ≡ false)
+FlagsAre call exit by_attempt install kind.ExitByAttempt = (call ≡ false) × (exit ≡ false) × (install ≡ false)
+FlagsAre call exit by_attempt install kind.Install = (call ≡ false) × (exit ≡ false) × (by_attempt ≡ false)
 
-the_kind_found : (call exit by_attempt : Bool) (is : StepKind) → the_kind call exit by_attempt ≡ Ok is → FlagsAre call exit by_attempt is
-the_kind_found true false false kind.Call h = (refl, refl)
-the_kind_found false true false kind.Exit h = (refl, refl)
-the_kind_found false false true kind.ExitByAttempt h = (refl, refl)
-the_kind_found _ _ _ _ h = absurd cc
+the_kind_found : (call exit by_attempt install : Bool) (is : StepKind) → the_kind call exit by_attempt install ≡ Ok is → FlagsAre call exit by_attempt install is
+the_kind_found true false false false kind.Call h = (refl, refl, refl)
+the_kind_found false true false false kind.Exit h = (refl, refl, refl)
+the_kind_found false false true false kind.ExitByAttempt h = (refl, refl, refl)
+the_kind_found false false false true kind.Install h = (refl, refl, refl)
+the_kind_found _ _ _ _ _ h = absurd cc
 
-kind_found : (tree : Data) (is : StepKind) → kind_of tree ≡ Ok is → FlagsAre (has (codes "call") tree) (has (codes "exit") tree) (has (codes "exitByAttempt") tree) is
+kind_found : (tree : Data) (is : StepKind) → kind_of tree ≡ Ok is → FlagsAre (has (codes "call") tree) (has (codes "exit") tree) (has (codes "exitByAttempt") tree) (has (codes "install") tree) is
 unfolding kind_of
-kind_found tree is h = the_kind_found (has (codes "call") tree) (has (codes "exit") tree) (has (codes "exitByAttempt") tree) is h
+kind_found tree is h = the_kind_found (has (codes "call") tree) (has (codes "exit") tree) (has (codes "exitByAttempt") tree) (has (codes "install") tree) is h
 
-says_found : (tree : Data) (is : StepKind) (step : Step) → kind_of tree ≡ Ok is → step_of_kind is tree ≡ Ok step → Says tree step
-unfolding call_step_of exit_step_of exit_by_attempt_step_of exit_by_attempt_of
-says_found tree kind.Call step alone h =
-    let flags = kind_found tree kind.Call alone in
+whole_ok : (r : Result Step ScriptFault) (text : StepText) (step : Step) → as_read Whole r ≡ Ok text → IsReadAs text step → r ≡ Ok step
+whole_ok (Ok known) (Whole other) step h is =
+    let same : known ≡ other = cc in
+    ap Ok (same ∙ sym is)
+whole_ok (Ok known) (Installs numbers on_error) step h is = absurd cc
+whole_ok (Err fault) text step h is = absurd cc
+
+call_says : (tree : Data) (step : Step) → FlagsAre (has (codes "call") tree) (has (codes "exit") tree) (has (codes "exitByAttempt") tree) (has (codes "install") tree) kind.Call
+    → call_step_of tree ≡ Ok step → Says tree step
+unfolding call_step_of
+call_says tree step flags h =
     let nr = bind_ok (call_of tree) _ _ h in
     let fields = bind_ok (call_fields_of tree) _ _ nr.2 in
     let call = call_found tree nr.0 nr.1 in
@@ -151,25 +163,33 @@ says_found tree kind.Call step alone h =
     subst (Says tree) is (record {
       no_exit = has_not (codes "exit") tree flags.0;
       no_exit_by_attempt = has_not (codes "exitByAttempt") tree flags.1;
+      no_install = has_not (codes "install") tree flags.2;
       named = call.0;
       there = call.1;
       number = call.2;
       fields = call_fields_found tree fields.0 fields.1;
     })
-says_found tree kind.Exit step alone h =
-    let flags = kind_found tree kind.Exit alone in
+
+exit_says : (tree : Data) (step : Step) → FlagsAre (has (codes "call") tree) (has (codes "exit") tree) (has (codes "exitByAttempt") tree) (has (codes "install") tree) kind.Exit
+    → exit_step_of tree ≡ Ok step → Says tree step
+unfolding exit_step_of
+exit_says tree step flags h =
     let beside = bind_ok (call_fields_of tree) _ _ h in
     let ends = bind_ok (exit_of tree) _ _ beside.2 in
     let is : Exit ends.0 ≡ step = cc in
     subst (Says tree) is (record {
       no_call = has_not (codes "call") tree flags.0;
       no_exit_by_attempt = has_not (codes "exitByAttempt") tree flags.1;
+      no_install = has_not (codes "install") tree flags.2;
       beside = beside.0;
       fields = call_fields_found tree beside.0 beside.1;
       exit = exit_found tree ends.0 ends.1;
     })
-says_found tree kind.ExitByAttempt step alone h =
-    let flags = kind_found tree kind.ExitByAttempt alone in
+
+exit_by_attempt_says : (tree : Data) (step : Step) → FlagsAre (has (codes "call") tree) (has (codes "exit") tree) (has (codes "exitByAttempt") tree) (has (codes "install") tree) kind.ExitByAttempt
+    → exit_by_attempt_step_of tree ≡ Ok step → Says tree step
+unfolding exit_by_attempt_step_of exit_by_attempt_of
+exit_by_attempt_says tree step flags h =
     let beside = bind_ok (call_fields_of tree) _ _ h in
     let ends = bind_ok (exit_by_attempt_of tree) _ _ beside.2 in
     let given = bind_ok (here (required wholes (codes "exitByAttempt") tree)) _ _ ends.1 in
@@ -178,6 +198,7 @@ says_found tree kind.ExitByAttempt step alone h =
     subst (Says tree) is (record {
       no_call = has_not (codes "call") tree flags.0;
       no_exit = has_not (codes "exit") tree flags.1;
+      no_install = has_not (codes "install") tree flags.2;
       beside = beside.0;
       fields = call_fields_found tree beside.0 beside.1;
       numbers = required_found wholes (codes "exitByAttempt") tree given.0 (here_ok (required wholes (codes "exitByAttempt") tree) given.0 given.1);
@@ -185,43 +206,78 @@ says_found tree kind.ExitByAttempt step alone h =
       small = all.1;
     })
 
-step_found : (item : Data) (step : Step) → step_of item ≡ Ok step → IsStep item step
+installs_same : (numbers : List Row) (on_error : Option ℕ) (text : StepText) (step : Step) → Installs numbers on_error ≡ text → IsReadAs text step
+    → (filter : List Insn) × SpellsFilter numbers filter × (step ≡ Install filter on_error)
+installs_same numbers on_error text step same is = subst (λ t. IsReadAs t step) (sym same) is
+
+rows_found : (tree : Data) (numbers : List Row) → rows_of tree ≡ Ok numbers → HasField rows (codes "install") tree numbers
+unfolding rows_of rows
+rows_found tree numbers h =
+    let items = bind_ok (here (required list (codes "install") tree)) _ _ h in
+    let field = required_found list (codes "install") tree items.0 (here_ok (required list (codes "install") tree) items.0 items.1) in
+    (field.0, field.1, rw field.2 (or_else_ok WrongType (each row items.0) numbers items.2))
+
+install_says : (tree : Data) (text : StepText) (step : Step) → FlagsAre (has (codes "call") tree) (has (codes "exit") tree) (has (codes "exitByAttempt") tree) (has (codes "install") tree) kind.Install
+    → install_step_of tree ≡ Ok text → IsReadAs text step → Says tree step
+unfolding install_step_of
+install_says tree text step flags h read =
+    let beside = bind_ok (call_fields_of tree) _ _ h in
+    let numbers = bind_ok (rows_of tree) _ _ beside.2 in
+    let same : Installs numbers.0 beside.0.on_error ≡ text = cc in
+    let is = installs_same numbers.0 beside.0.on_error text step same read in
+    subst (Says tree) (sym is.2) (record {
+      no_call = has_not (codes "call") tree flags.0;
+      no_exit = has_not (codes "exit") tree flags.1;
+      no_exit_by_attempt = has_not (codes "exitByAttempt") tree flags.2;
+      beside = beside.0;
+      fields = call_fields_found tree beside.0 beside.1;
+      ends = refl;
+      numbers = numbers.0;
+      there = rows_found tree numbers.0 numbers.1;
+      spelled = is.1;
+    })
+
+says_found : (tree : Data) (is : StepKind) (text : StepText) (step : Step) → kind_of tree ≡ Ok is → step_of_kind is tree ≡ Ok text → IsReadAs text step → Says tree step
+says_found tree kind.Call text step alone h read = call_says tree step (kind_found tree kind.Call alone) (whole_ok (call_step_of tree) text step h read)
+says_found tree kind.Exit text step alone h read = exit_says tree step (kind_found tree kind.Exit alone) (whole_ok (exit_step_of tree) text step h read)
+says_found tree kind.ExitByAttempt text step alone h read = exit_by_attempt_says tree step (kind_found tree kind.ExitByAttempt alone) (whole_ok (exit_by_attempt_step_of tree) text step h read)
+says_found tree kind.Install text step alone h read = install_says tree text step (kind_found tree kind.Install alone) h read
+
+-- what is read of a tree, its filter judged, is a step
+pub step_found : (item : Data) (text : StepText) (step : Step) → step_of item ≡ Ok text → IsReadAs text step → IsStep item step
 unfolding step_of
-step_found item step h =
+step_found item text step h read =
     let tree = bind_ok (or_else WrongType (object item)) _ _ h in
     let is_object : object item ≡ Some tree.0 = or_else_ok WrongType (object item) tree.0 tree.1 in
     let same : tree.0 ≡ item = sym (object_same item tree.0 is_object) in
     let is = bind_ok (kind_of tree.0) _ _ tree.2 in
-    (is_object ∙ ap Some same, subst (λ t. Says t step) same (says_found tree.0 is.0 step is.1 is.2))
+    (is_object ∙ ap Some same, subst (λ t. Says t step) same (says_found tree.0 is.0 text step is.1 is.2 read))
 
-ok_same : (x y : List Data) (r : Result (List Data) ScriptFault) → r ≡ Ok x → r ≡ Ok y → x ≡ y
-ok_same x y r one other = cc
-
-script_found : (whole_tree : Data) (steps : List Step) → script_of whole_tree ≡ Ok steps → IsScript whole_tree steps
-unfolding script_of items_of
-script_found whole_tree steps h =
-    let all = bind_ok (items_of whole_tree) _ _ h in
-    let tree = bind_ok (or_else WrongType (object whole_tree)) _ _ all.1 in
+items_found : (whole_tree : Data) (steps : List Step) (items : List Data) → items_of whole_tree ≡ Ok items → Both IsStep items steps → IsScript whole_tree steps
+unfolding items_of
+items_found whole_tree steps given all each =
+    let tree = bind_ok (or_else WrongType (object whole_tree)) _ _ all in
     let is_object : object whole_tree ≡ Some tree.0 = or_else_ok WrongType (object whole_tree) tree.0 tree.1 in
     let same : tree.0 ≡ whole_tree = sym (object_same whole_tree tree.0 is_object) in
     let items = bind_ok (here (required list (codes "steps") tree.0)) _ _ tree.2 in
     let few = then_ok (refuse_if (ltb MAX_STEPS (length items.0)) TooMany) _ _ items.2 in
     let there = required_found list (codes "steps") tree.0 items.0 (here_ok (required list (codes "steps") tree.0) items.0 items.1) in
+    let is : items.0 ≡ given = cc in
     record {
       an_object = is_object ∙ ap Some same;
       items = items.0;
       there = subst (λ t. HasField list (codes "steps") t items.0) same there;
       few = ltb-false MAX_STEPS (length items.0) (refuse_if_ok (ltb MAX_STEPS (length items.0)) TooMany few.0 few.1);
-      each = in_order_found step_of IsStep step_found items.0 steps (ap (in_order step_of) (ok_same items.0 all.0 (Ok items.0) refl few.2) ∙ all.2);
+      each = subst (λ ds. Both IsStep ds steps) (sym is) each;
     }
 
-reading_found : (bytes : List ℕ) (steps : List Step) → reading_of bytes ≡ Ok steps → ReadsScript bytes steps
-unfolding reading_of document
-reading_found bytes steps h =
+reading_found : (bytes : List ℕ) (steps : List Step) (items : List Data) → text_items bytes ≡ Ok items → Both IsStep items steps → ReadsScript bytes steps
+unfolding text_items document
+reading_found bytes steps items h each =
     let tree = bind_ok (as_fault fault_of_text (document bytes)) _ _ h in
-    (tree.0, or_else_ok NotJson (tree_of bytes) tree.0 (as_fault_ok fault_of_text (document bytes) tree.0 tree.1), script_found tree.0 steps tree.2)
+    (tree.0, or_else_ok NotJson (tree_of bytes) tree.0 (as_fault_ok fault_of_text (document bytes) tree.0 tree.1), items_found tree.0 steps items tree.2 each)
 
 -- what is given is the text's script
-pub found : (bytes : List ℕ) (result : Result (List Step) ScriptFault) → Gives Memory (λ steps. steps) result (reading_of bytes) → IfOk result (ReadsScript bytes)
-found bytes (Ok steps) h = reading_found bytes steps h
+pub found : (bytes : List ℕ) (result : Result (List Step) ScriptFault) → GivesSteps result (text_items bytes) → IfOk result (ReadsScript bytes)
+found bytes (Ok steps) h = reading_found bytes steps h.0 h.1 h.2
 found bytes (Err fault) h = tt

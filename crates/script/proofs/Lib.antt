@@ -1,3 +1,5 @@
+pub mod Rows
 pub mod Six
 pub mod Found
 pub mod Only
+pub mod First

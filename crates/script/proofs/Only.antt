@@ -3,23 +3,26 @@ use Rattle.std.proofs.Common.{◌≡◌, inl, inr, ℕ, ◌<◌, List, [], ◌�
 use Rattle.std.specs.List.{list_all}
 use Rattle.std.proofs.Math.Dec.{eqb-suc-zero}
 use Rattle.std.proofs.lemmas.Bool.{le-ltb}
+use Rattle.bpf_code.specs.declared.insn.Insn.{Insn}
 use Rattle.serde_json.specs.Data.{Data}
 use Rattle.serde_json.specs.Find.{get}
-use Rattle.json_tree.specs.Tree.{has, list, value, whole, wholes, word}
-use Rattle.json_tree.specs.Reading.{if_there, in_order, document, HasField, MayHaveField}
+use Rattle.json_tree.specs.Tree.{each, has, list, value, whole, wholes, word}
+use Rattle.json_tree.specs.Reading.{if_there, in_order, as_read, document, Both, HasField, MayHaveField}
 use Rattle.json_tree.proofs.Items.{and_then_some}
-use Rattle.json_tree.proofs.Fields.{required_only, optional_only, in_order_only}
-use Rattle.json_tree.proofs.Values.{word_no_text, whole_is_value, word_is_value, text_is_value, wholes_is_value, not_there, is_there}
+use Rattle.json_tree.proofs.Fields.{required_only, optional_only}
+use Rattle.json_tree.proofs.Values.{word_no_text, whole_is_value, word_is_value, text_is_value, wholes_is_value, list_is_value, not_there, is_there}
 use Rattle.call_data.specs.declared.sys_call.SysCall.{SysCall}
 use Rattle.script.proofs.Six.{args_only}
 use Rattle.script.specs.declared.faults.ScriptFault.TheVariants.{BadCode}
 use Rattle.script.specs.declared.scripts.Step.{Step}
-use Rattle.script.specs.declared.scripts.Step.TheVariants.{Call, Exit, ExitByAttempt}
+use Rattle.script.specs.declared.scripts.Step.TheVariants.{Call, Exit, ExitByAttempt, Install}
 use Rattle.script.specs.declared.scripts.TheConstants.{MAX_STEPS}
 use Rattle.script.specs.declared.fields.CallFields.{CallFields}
+use Rattle.script.specs.declared.install.Row.{Row}
 use Rattle.script.specs.declared.reader.StepKind.TheVariants as kind
-use Rattle.script.specs.Script.{code, IsCall, HasArch, HasIp, HasCallFields, IsCallStep, IsExitStep, IsExitByAttemptStep, IsStep, IsScript, ReadsScript}
-use Rattle.script.specs.Reading.{code_of, codes_of, call_of, arch_of, ip_of, on_error_of, call_fields_of, exit_of, exit_by_attempt_of, kind_of, call_step_of, exit_step_of, exit_by_attempt_step_of, step_of, items_of, script_of, reading_of}
+use Rattle.script.specs.Script.{code, row, rows, IsCall, HasArch, HasIp, HasCallFields, IsCallStep, IsExitStep, IsExitByAttemptStep, IsInstallStep, IsStep, ReadsScript}
+use Rattle.script.specs.Reading.{code_of, codes_of, call_of, arch_of, ip_of, on_error_of, call_fields_of, exit_of, exit_by_attempt_of, rows_of, kind_of, call_step_of, exit_step_of, exit_by_attempt_step_of, install_step_of, step_of, items_of, text_items, StepText, IsReadAs}
+use Rattle.script.specs.Reading.StepText.{Whole, Installs}
 
 code_same : (small : Bool) (n m : ℕ) → cond small (Some n) None ≡ Some m → cond small (Ok n) (Err BadCode) ≡ Ok m
 code_same true n m h = cc
@@ -92,18 +95,24 @@ call_is_there tree named nr there (inr name) = is_there (codes "call") tree name
 
 call_kind : (tree : Data) (call : SysCall) (on_error : Option ℕ) → IsCallStep tree call on_error → kind_of tree ≡ Ok kind.Call
 unfolding kind_of
-call_kind tree call on_error h = rw (call_is_there tree h.named call.nr h.there h.number, not_there (codes "exit") tree h.no_exit, not_there (codes "exitByAttempt") tree h.no_exit_by_attempt) refl
+call_kind tree call on_error h = rw (call_is_there tree h.named call.nr h.there h.number, not_there (codes "exit") tree h.no_exit, not_there (codes "exitByAttempt") tree h.no_exit_by_attempt, not_there (codes "install") tree h.no_install) refl
 
 exit_kind : (tree : Data) (ends : ℕ) → IsExitStep tree ends → kind_of tree ≡ Ok kind.Exit
 unfolding kind_of
 exit_kind tree ends h =
     let given = code_only h.exit.0 ends h.exit.2 in
-    rw (not_there (codes "call") tree h.no_call, is_there (codes "exit") tree h.exit.0 h.exit.1 (whole_is_value h.exit.0 given.0 given.1), not_there (codes "exitByAttempt") tree h.no_exit_by_attempt) refl
+    rw (not_there (codes "call") tree h.no_call, is_there (codes "exit") tree h.exit.0 h.exit.1 (whole_is_value h.exit.0 given.0 given.1), not_there (codes "exitByAttempt") tree h.no_exit_by_attempt, not_there (codes "install") tree h.no_install) refl
 
 exit_by_attempt_kind : (tree : Data) (ends : List ℕ) → IsExitByAttemptStep tree ends → kind_of tree ≡ Ok kind.ExitByAttempt
 unfolding kind_of
 exit_by_attempt_kind tree ends h =
-    rw (not_there (codes "call") tree h.no_call, not_there (codes "exit") tree h.no_exit, is_there (codes "exitByAttempt") tree h.numbers.0 h.numbers.1 (wholes_is_value h.numbers.0 ends h.numbers.2)) refl
+    rw (not_there (codes "call") tree h.no_call, not_there (codes "exit") tree h.no_exit, is_there (codes "exitByAttempt") tree h.numbers.0 h.numbers.1 (wholes_is_value h.numbers.0 ends h.numbers.2), not_there (codes "install") tree h.no_install) refl
+
+install_kind : (tree : Data) (filter : List Insn) (on_error : Option ℕ) → IsInstallStep tree filter on_error → kind_of tree ≡ Ok kind.Install
+unfolding kind_of rows
+install_kind tree filter on_error h =
+    let items = and_then_some (each row) (list h.there.0) h.numbers h.there.2 in
+    rw (not_there (codes "call") tree h.no_call, not_there (codes "exit") tree h.no_exit, not_there (codes "exitByAttempt") tree h.no_exit_by_attempt, is_there (codes "install") tree h.there.0 h.there.1 (list_is_value h.there.0 items.0 items.1)) refl
 
 call_step_only : (tree : Data) (call : SysCall) (on_error : Option ℕ) → IsCallStep tree call on_error → call_step_of tree ≡ Ok (Call call on_error)
 unfolding call_step_of
@@ -119,17 +128,29 @@ exit_by_attempt_step_only : (tree : Data) (ends : List ℕ) → IsExitByAttemptS
 unfolding exit_by_attempt_step_of
 exit_by_attempt_step_only tree ends h = rw (call_fields_only tree h.beside h.fields, exit_by_attempt_only tree ends h.numbers h.some h.small) refl
 
-step_only : (item : Data) (step : Step) → IsStep item step → step_of item ≡ Ok step
+rows_only : (tree : Data) (numbers : List Row) → HasField rows (codes "install") tree numbers → rows_of tree ≡ Ok numbers
+unfolding rows_of rows
+rows_only tree numbers h =
+    let items = and_then_some (each row) (list h.0) numbers h.2 in
+    rw (required_only list (codes "install") tree items.0 (h.0, h.1, items.1), items.2) refl
+
+install_step_only : (tree : Data) (filter : List Insn) (on_error : Option ℕ) (h : IsInstallStep tree filter on_error) → install_step_of tree ≡ Ok (Installs h.numbers on_error)
+unfolding install_step_of
+install_step_only tree filter on_error h =
+    rw (call_fields_only tree h.beside h.fields, rows_only tree h.numbers h.there) (ap (λ (e : Option ℕ). Ok (Installs h.numbers e)) (sym h.ends))
+
+-- a step of a tree is what is read of it, its filter judged
+pub step_only : (item : Data) (step : Step) → IsStep item step → (text : StepText) × (step_of item ≡ Ok text) × IsReadAs text step
 unfolding step_of
-step_only item (Call call on_error) h = rw (h.0, call_kind item call on_error h.1) (call_step_only item call on_error h.1)
-step_only item (Exit ends) h = rw (h.0, exit_kind item ends h.1) (exit_step_only item ends h.1)
-step_only item (ExitByAttempt ends) h = rw (h.0, exit_by_attempt_kind item ends h.1) (exit_by_attempt_step_only item ends h.1)
+step_only item (Call call on_error) h = (Whole (Call call on_error), rw (h.0, call_kind item call on_error h.1) (ap (as_read Whole) (call_step_only item call on_error h.1)), refl)
+step_only item (Exit ends) h = (Whole (Exit ends), rw (h.0, exit_kind item ends h.1) (ap (as_read Whole) (exit_step_only item ends h.1)), refl)
+step_only item (ExitByAttempt ends) h = (Whole (ExitByAttempt ends), rw (h.0, exit_by_attempt_kind item ends h.1) (ap (as_read Whole) (exit_by_attempt_step_only item ends h.1)), refl)
+step_only item (Install filter on_error) h =
+    (Installs h.1.numbers on_error, rw (h.0, install_kind item filter on_error h.1) (install_step_only item filter on_error h.1), (filter, h.1.spelled, refl))
 
-script_only : (tree : Data) (steps : List Step) → IsScript tree steps → script_of tree ≡ Ok steps
-unfolding script_of items_of
-script_only tree steps h = rw (h.an_object, required_only list (codes "steps") tree h.items h.there, le-ltb MAX_STEPS (length h.items) h.few) (in_order_only step_of IsStep step_only h.items steps h.each)
-
--- a text's script is read
-pub only : (bytes : List ℕ) (steps : List Step) → ReadsScript bytes steps → reading_of bytes ≡ Ok steps
-unfolding reading_of document
-only bytes steps h = rw h.1 (script_only h.0 steps h.2)
+-- the items of a text's script
+pub items_only : (bytes : List ℕ) (steps : List Step) → ReadsScript bytes steps → (items : List Data) × (text_items bytes ≡ Ok items) × Both IsStep items steps
+unfolding text_items items_of document
+items_only bytes steps h =
+    let s = h.2 in
+    (s.items, rw (h.1, s.an_object, required_only list (codes "steps") h.0 s.items s.there, le-ltb MAX_STEPS (length s.items) s.few) refl, s.each)

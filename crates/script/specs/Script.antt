@@ -1,17 +1,21 @@
 -- Scripts as JSON trees, this project's own format: docs/SEMANTICS.md, "Scripts". Which tree is which
 -- script, field by field; nothing here knows of an order in which the fields are read.
 use Rattle.std.specs.Prelude.{◌≡◌, ◌⊎◌, ℕ, ◌<◌, ◌≤◌, List, [], ◌∷◌, length, codes, slice_index, nat_le, if◌then◌else◌, IsTrue, Option, Some, None, unwrap_or, option_and_then}
-use Rattle.std.specs.List.{list_all}
+use Rattle.std.specs.List.{AllByRecursion, list_all}
 use Rattle.serde_json.specs.Data.{Data}
 use Rattle.serde_json.specs.Find.{get}
-use Rattle.json_tree.specs.Tree.{tree_of, member, list, object, text, whole, wholes, word}
+use Rattle.json_tree.specs.Tree.{tree_of, each, member, list, object, text, whole, wholes, word}
 use Rattle.json_tree.specs.Reading.{HasField, MayHaveField, Both}
+use Rattle.bpf_code.specs.declared.insn.Insn.{Insn}
+use Rattle.bpf_code.specs.Code.{Fits, Spells}
+use Rattle.bpf_verify.specs.Sound.{IsSound}
 use Rattle.sys_table.specs.SysTable.{number_of}
 use Rattle.call_data.specs.declared.sys_call.SysCall.{SysCall}
 use Rattle.script.specs.declared.scripts.Step.{Step}
-use Rattle.script.specs.declared.scripts.Step.TheVariants.{Call, Exit, ExitByAttempt}
+use Rattle.script.specs.declared.scripts.Step.TheVariants.{Call, Exit, ExitByAttempt, Install}
 use Rattle.script.specs.declared.scripts.TheConstants.{MAX_STEPS}
 use Rattle.script.specs.declared.fields.CallFields.{CallFields}
+use Rattle.script.specs.declared.install.Row.{Row}
 use Rattle.call_data.specs.declared.sys_call.TheConstants.{NATIVE_ARCH}
 
 -- the number of the call with this name in the call table
@@ -53,9 +57,32 @@ pub record HasCallFields (tree : Data) (fields : CallFields) : Type 0 where
   pub ip : HasIp tree fields.ip
   pub on_error : MayHaveField code (codes "onError") tree fields.on_error
 
+abbrev pub row_in : List ℕ → Option Row
+row_in (code ∷ jt ∷ jf ∷ k ∷ []) = Some (record { code = code; jt = jt; jf = jf; k = k })
+row_in _ = None
+
+-- a list of four whole numbers: a code, jt, jf and k
+unfoldable pub row : Data → Option Row
+row tree = option_and_then row_in (wholes tree)
+
+-- a list of such lists
+unfoldable pub rows : Data → Option (List Row)
+rows tree = option_and_then (each row) (list tree)
+
+-- the numbers are an instruction's, and have room in it
+pub record IsSpelled (row : Row) (insn : Insn) : Type 0 where
+  pub spells : Spells insn row.code row.jt row.jf row.k
+  pub fits : Fits insn
+
+-- the rows are a filter, instruction by instruction, and it is sound
+pub record SpellsFilter (rows : List Row) (filter : List Insn) : Type 0 where
+  pub each : Both IsSpelled rows filter
+  pub sound : IsSound filter
+
 pub record IsCallStep (tree : Data) (call : SysCall) (on_error : Option ℕ) : Type 0 where
   pub no_exit : member (codes "exit") tree ≡ None
   pub no_exit_by_attempt : member (codes "exitByAttempt") tree ≡ None
+  pub no_install : member (codes "install") tree ≡ None
   pub named : Data
   pub there : get (codes "call") tree ≡ Some named
   pub number : IsCall named call.nr
@@ -64,6 +91,7 @@ pub record IsCallStep (tree : Data) (call : SysCall) (on_error : Option ℕ) : T
 pub record IsExitStep (tree : Data) (ends : ℕ) : Type 0 where
   pub no_call : member (codes "call") tree ≡ None
   pub no_exit_by_attempt : member (codes "exitByAttempt") tree ≡ None
+  pub no_install : member (codes "install") tree ≡ None
   pub beside : CallFields
   pub fields : HasCallFields tree beside
   pub exit : HasField code (codes "exit") tree ends
@@ -71,16 +99,29 @@ pub record IsExitStep (tree : Data) (ends : ℕ) : Type 0 where
 pub record IsExitByAttemptStep (tree : Data) (ends : List ℕ) : Type 0 where
   pub no_call : member (codes "call") tree ≡ None
   pub no_exit : member (codes "exit") tree ≡ None
+  pub no_install : member (codes "install") tree ≡ None
   pub beside : CallFields
   pub fields : HasCallFields tree beside
   pub numbers : HasField wholes (codes "exitByAttempt") tree ends
   pub some : 0 < length ends
   pub small : IsTrue (list_all (λ n. nat_le n 255) ends)
 
+pub record IsInstallStep (tree : Data) (filter : List Insn) (on_error : Option ℕ) : Type 0 where
+  pub no_call : member (codes "call") tree ≡ None
+  pub no_exit : member (codes "exit") tree ≡ None
+  pub no_exit_by_attempt : member (codes "exitByAttempt") tree ≡ None
+  pub beside : CallFields
+  pub fields : HasCallFields tree beside
+  pub ends : on_error ≡ beside.on_error
+  pub numbers : List Row
+  pub there : HasField rows (codes "install") tree numbers
+  pub spelled : SpellsFilter numbers filter
+
 abbrev pub Says : Data → Step → Type 0
 Says tree (Call call on_error) = IsCallStep tree call on_error
 Says tree (Exit ends) = IsExitStep tree ends
 Says tree (ExitByAttempt ends) = IsExitByAttemptStep tree ends
+Says tree (Install filter on_error) = IsInstallStep tree filter on_error
 
 abbrev pub IsStep : Data → Step → Type 0
 IsStep tree step = (object tree ≡ Some tree) × Says tree step
@@ -91,6 +132,14 @@ pub record IsScript (tree : Data) (steps : List Step) : Type 0 where
   pub there : HasField list (codes "steps") tree items
   pub few : length items ≤ MAX_STEPS
   pub each : Both IsStep items steps
+
+-- what a step installs is sound
+abbrev pub IsSoundStep : Step → Type 0
+IsSoundStep (Install filter on_error) = IsSound filter
+IsSoundStep _ = Unit {0}
+
+abbrev pub HasSoundFilters : List Step → Type 0
+HasSoundFilters steps = AllByRecursion IsSoundStep steps
 
 -- the text is this script
 abbrev pub ReadsScript : List ℕ → List Step → Type 0

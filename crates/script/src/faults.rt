@@ -21,6 +21,8 @@ pub enum ScriptFault {
     TooMany,
     /// A code is above 255.
     BadCode,
+    /// What is to be installed is no sound filter.
+    BadFilter,
     /// A growth was refused.
     Memory,
 }
@@ -40,6 +42,7 @@ impl fmt::Display for ScriptFault {
             ScriptFault::UnknownCall => "UnknownCall",
             ScriptFault::TooMany => "TooMany",
             ScriptFault::BadCode => "BadCode",
+            ScriptFault::BadFilter => "BadFilter",
             ScriptFault::Memory => "Memory",
         })
     }

@@ -1,11 +1,12 @@
 //! Scripts: what a container of this project does, step by step, read from JSON.
 //!
-//! A step makes a system call, or ends the script with a code. Which trees are which scripts stands
+//! A step makes a system call, installs a filter, or ends the script with a code. Which trees are which scripts stands
 //! in `specs/Script.antt`, and which fault is found first in `specs/Reading.antt`.
 #![tactic(auto)]
 
 mod faults;
 mod fields;
+mod install;
 mod laws;
 mod reader;
 mod scripts;

@@ -1,15 +1,17 @@
-ghost use Rattle.std.specs.Prelude.{◌≡◌, ◌≢◌, ◌≤◌, List, Err, IfOk, IfErr, length, map};
+ghost use Rattle.std.specs.Prelude.{◌≡◌, ◌≢◌, ◌≤◌, List, Ok, Err, IfOk, IfErr, length, map};
 ghost use Rattle.serde_json.specs.View.{view};
-ghost use Rattle.json_tree.specs.Reading.{Gives, as_read, in_order};
+ghost use Rattle.json_tree.specs.Reading.{Both, Gives, as_read};
 ghost use Rattle.script.specs.declared.faults.ScriptFault.{ScriptFault};
 ghost use Rattle.script.specs.declared.scripts.Step.{Step};
 ghost use Rattle.script.specs.declared.scripts.TheConstants.{MAX_STEPS};
-ghost use Rattle.script.specs.Script.{ReadsScript};
-ghost use Rattle.script.specs.Reading.{call_step_of, exit_by_attempt_step_of, exit_step_of, first_fault, items_of, kind_of, reading_of, script_of, step_of};
+ghost use Rattle.script.specs.Script.{IsStep, ReadsScript};
+ghost use Rattle.script.specs.Reading.{GivesStep, GivesSteps, IsFirstFault, IsFirstOfSteps, call_step_of, exit_by_attempt_step_of, exit_step_of, install_step_of, items_of, kind_of, step_of, text_items};
 
 use crate::faults::ScriptFault;
 use crate::fields::{call, call_fields, exit, exit_by_attempt};
+use crate::install::{filter, rows};
 use crate::scripts::{MAX_STEPS, Script, Step};
+use bpf_code::written_is_read;
 use call_data::SysCall;
 use json_tree::{has, object, required_list};
 use serde_json::Value;
@@ -20,6 +22,7 @@ pub(crate) enum StepKind {
     Call,
     Exit,
     ExitByAttempt,
+    Install,
 }
 
 /// The script of a text, or its first fault: of the text, then of the steps in order, and of the
@@ -33,25 +36,25 @@ pub fn read(alloc: Global, bytes: &[u8]) -> Result<Script, ScriptFault>
     ensures only { (steps : List Step) → ReadsScript bytes.now steps
         → Gives ScriptFault.Memory (λ script. script) result (Ok steps) }
 
-    // A text that is read has no fault, and one that is refused has this first.
-    ensures no_fault { IfOk result (λ _. first_fault bytes.now ≡ None) }
-    ensures first { IfErr result (λ fault. fault ≢ ScriptFault.Memory
-        → first_fault bytes.now ≡ Some fault) }
+    // A text that is refused has this fault first, and one that has a first fault is refused for it.
+    ensures first { IfErr result (λ fault. fault ≢ ScriptFault.Memory → IsFirstFault bytes.now fault) }
+    ensures told { (fault : ScriptFault) → IsFirstFault bytes.now fault
+        → Gives ScriptFault.Memory (λ script. script) result (Err fault) }
 {
+    written_is_read();
     reading(alloc, bytes)
 }
 
-#[tactic(auto, unfolding(crate::specs::Reading::reading_of))]
+#[tactic(auto, unfolding(crate::specs::Reading::text_items))]
 fn reading(alloc: Global, bytes: &[u8]) -> Result<Script, ScriptFault>
-    ensures { Gives ScriptFault.Memory (λ s. s) result (reading_of bytes.now) }
+    ensures { GivesSteps result (text_items bytes.now) }
 {
     let tree = json_tree::read(alloc, bytes)?;
     script(alloc, &tree)
 }
 
-#[tactic(auto, unfolding(crate::specs::Reading::script_of), using(json_tree::proofs::Loops::length_in_order))]
 fn script(alloc: Global, tree: &Value) -> Result<Script, ScriptFault>
-    ensures value { Gives ScriptFault.Memory (λ s. s) result (script_of (view tree.now)) }
+    ensures value { GivesSteps result (items_of (view tree.now)) }
 
     // What is found before a step is looked at is told, whether there is memory or not.
     ensures told { (fault : ScriptFault) → items_of (view tree.now) ≡ Err fault → result ≡ Err fault }
@@ -75,9 +78,10 @@ fn items(tree: &Value) -> Result<&[Value], ScriptFault>
     Ok(items)
 }
 
-#[tactic(auto, using(json_tree::proofs::Loops::in_order_more, json_tree::proofs::Loops::in_order_stops))]
+#[tactic(auto, using(crate::proofs::First::steps_more, crate::proofs::First::first_here))]
 fn steps(alloc: Global, items: &[Value]) -> Result<Vec<Step>, ScriptFault>
-    ensures { Gives ScriptFault.Memory (λ v. v.items) result (in_order step_of (map view items.now)) }
+    ensures found { IfOk result (λ steps. Both IsStep (map view items.now) steps.items) }
+    ensures first { IfErr result (λ fault. fault ≢ ScriptFault.Memory → IsFirstOfSteps (map view items.now) fault) }
 {
     let mut steps = Vec::new(alloc);
     for item in items {
@@ -88,13 +92,14 @@ fn steps(alloc: Global, items: &[Value]) -> Result<Vec<Step>, ScriptFault>
 
 #[tactic(auto, unfolding(crate::specs::Reading::step_of))]
 fn step(alloc: Global, item: &Value) -> Result<Step, ScriptFault>
-    ensures { Gives ScriptFault.Memory (λ s. s) result (step_of (view item.now)) }
+    ensures { GivesStep result (step_of (view item.now)) }
 {
     let tree = object(item).ok_or(ScriptFault::WrongType)?;
     match kind(tree)? {
         StepKind::Call => call_step(tree),
         StepKind::Exit => exit_step(tree),
         StepKind::ExitByAttempt => exit_by_attempt_step(alloc, tree),
+        StepKind::Install => install_step(alloc, tree),
     }
 }
 
@@ -106,11 +111,13 @@ fn kind(tree: &Value) -> Result<StepKind, ScriptFault>
         has(tree, "call"),
         has(tree, "exit"),
         has(tree, "exitByAttempt"),
+        has(tree, "install"),
     ) {
-        (true, false, false) => Ok(StepKind::Call),
-        (false, true, false) => Ok(StepKind::Exit),
-        (false, false, true) => Ok(StepKind::ExitByAttempt),
-        (false, false, false) => Err(ScriptFault::Missing),
+        (true, false, false, false) => Ok(StepKind::Call),
+        (false, true, false, false) => Ok(StepKind::Exit),
+        (false, false, true, false) => Ok(StepKind::ExitByAttempt),
+        (false, false, false, true) => Ok(StepKind::Install),
+        (false, false, false, false) => Err(ScriptFault::Missing),
         _ => Err(ScriptFault::WrongType),
     }
 }
@@ -148,4 +155,17 @@ fn exit_by_attempt_step(alloc: Global, tree: &Value) -> Result<Step, ScriptFault
 {
     let _beside = call_fields(tree)?;
     Ok(Step::ExitByAttempt(exit_by_attempt(alloc, tree)?))
+}
+
+#[tactic(auto, unfolding(crate::specs::Reading::install_step_of))]
+fn install_step(alloc: Global, tree: &Value) -> Result<Step, ScriptFault>
+    ensures { GivesStep result (install_step_of (view tree.now)) }
+{
+    let beside = call_fields(tree)?;
+    let items = rows(tree)?;
+    let filter = filter(alloc, items)?;
+    Ok(Step::Install {
+        filter,
+        on_error: beside.on_error,
+    })
 }

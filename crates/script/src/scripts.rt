@@ -1,5 +1,7 @@
 ghost use Rattle.std.specs.Prelude.{◌≡◌, ◌==◌, ◌<◌, ◌≤◌, length};
+ghost use Rattle.script.specs.Script.{HasSoundFilters};
 
+use bpf_verify::Filter;
 use call_data::SysCall;
 use std::marker::Model;
 
@@ -43,11 +45,20 @@ impl Codes {
 #[derive(Drop)]
 pub enum Step {
     /// Makes the call. If the call returns an errno, the script ends with this code, if there is one.
-    Call { call: SysCall, on_error: Option<u8> },
+    Call {
+        call: SysCall,
+        on_error: Option<u8>,
+    },
     /// Ends the script with the code.
     Exit(u8),
     /// Ends the script, at attempt k (from 0), with the k-th code, or the last if there are fewer.
     ExitByAttempt(Codes),
+    /// Makes the call seccomp(2) that installs the filter. If the call returns an errno, the script ends
+    /// with this code, if there is one.
+    Install {
+        filter: Filter,
+        on_error: Option<u8>,
+    },
 }
 
 /// The steps of a container, in order.
@@ -60,17 +71,19 @@ impl Model for Script {
     ghost use Rattle.std.specs.Prelude.{List, ◌≤◌, length};
     ghost use Rattle.script.specs.declared.scripts.Step.{Step};
     ghost use Rattle.script.specs.declared.scripts.TheConstants.{MAX_STEPS};
+    ghost use Rattle.script.specs.Script.{HasSoundFilters};
 
     ghost Value = { List Step };
 
     ghost view = { λ s. s.steps.items };
 
-    ghost invariant = { λ s. length s.steps.items ≤ MAX_STEPS };
+    ghost invariant = { λ s. (length s.steps.items ≤ MAX_STEPS) × HasSoundFilters s.steps.items };
 }
 
 impl Script {
     pub(crate) fn new(steps: Vec<Step>) -> Script
-        requires { length steps.items ≤ MAX_STEPS }
+        requires few { length steps.items ≤ MAX_STEPS }
+        requires sound { HasSoundFilters steps.items }
         ensures { result ≡ steps.items }
     {
         Script { steps }
@@ -80,6 +93,7 @@ impl Script {
     pub fn steps(&self) -> &[Step]
         ensures value { result.now ≡ self.now }
         ensures bounded { length self.now ≤ MAX_STEPS }
+        ensures sound { HasSoundFilters self.now }
     {
         self.steps.as_slice()
     }

@@ -37,6 +37,35 @@ fn steps(rt: HostRuntime) {
             Step::Call { .. } => assert!(rt; false, "another code"),
             Step::Exit(code) => assert_eq!(rt; (place, *code), (2, 3)),
             Step::ExitByAttempt(codes) => assert_eq!(rt; codes.as_slice(), [1, 255, 0].as_slice()),
+            Step::Install { .. } => assert!(rt; false, "no filter is installed"),
+        }
+    }
+}
+
+#[test]
+fn a_filter_is_read(rt: HostRuntime) {
+    let text =
+        b"{\"steps\":[{\"onError\":9,\"arch\":1,\"install\":[[32,0,0,4],[21,0,1,3221225534],[6,255,255,4294967295],[6,0,0,0]]}]}";
+    let script = read(rt.alloc(), text).expect(&rt, "a script");
+    for step in script.steps() {
+        match step {
+            Step::Install {
+                filter,
+                on_error: Some(9),
+            } => {
+                assert_eq!(rt; filter.len(), 4);
+                for (place, insn) in filter.insns().iter().enumerate() {
+                    let bytes = insn.to_bytes();
+                    let want = [
+                        [0x20, 0, 0, 0, 4, 0, 0, 0],
+                        [0x15, 0, 0, 1, 0x3e, 0, 0, 0xc0],
+                        [0x06, 0, 255, 255, 255, 255, 255, 255],
+                        [0x06, 0, 0, 0, 0, 0, 0, 0u8],
+                    ];
+                    assert_eq!(rt; bytes, want[place % 4], "{place}");
+                }
+            }
+            _ => assert!(rt; false, "a filter is installed"),
         }
     }
 }
@@ -108,6 +137,44 @@ fn faults(rt: HostRuntime) {
         ("{\"exitByAttempt\":[]}", ScriptFault::Missing),
         ("{\"exitByAttempt\":[0,256]}", ScriptFault::BadCode),
         ("{\"exitByAttempt\":[256,-1]}", ScriptFault::WrongType),
+        ("{\"install\":[]}", ScriptFault::BadFilter),
+        ("{\"install\":null}", ScriptFault::Missing),
+        ("{\"install\":{}}", ScriptFault::WrongType),
+        ("{\"install\":[6,0,0,0]}", ScriptFault::WrongType),
+        ("{\"install\":[[6,0,0]]}", ScriptFault::WrongType),
+        ("{\"install\":[[6,0,0,0,0]]}", ScriptFault::WrongType),
+        ("{\"install\":[[6,0,0,-1]]}", ScriptFault::WrongType),
+        ("{\"install\":[[6,0,0,\"0\"]]}", ScriptFault::WrongType),
+        // The whole list is typed before an instruction is judged.
+        (
+            "{\"install\":[[8,0,0,0],[6,0,0,null]]}",
+            ScriptFault::WrongType,
+        ),
+        (
+            "{\"install\":[[8,0,0,0],[6,0,0,0]]}",
+            ScriptFault::BadFilter,
+        ),
+        ("{\"install\":[[65542,0,0,0]]}", ScriptFault::BadFilter),
+        ("{\"install\":[[6,256,0,0]]}", ScriptFault::BadFilter),
+        ("{\"install\":[[6,0,256,0]]}", ScriptFault::BadFilter),
+        ("{\"install\":[[6,0,0,4294967296]]}", ScriptFault::BadFilter),
+        (
+            "{\"install\":[[32,0,0,64],[22,0,0,0]]}",
+            ScriptFault::BadFilter,
+        ),
+        (
+            "{\"install\":[[6,0,0,0]],\"onError\":256}",
+            ScriptFault::BadCode,
+        ),
+        (
+            "{\"install\":[[8,0,0,0]],\"args\":1}",
+            ScriptFault::WrongType,
+        ),
+        (
+            "{\"install\":[[6,0,0,0]],\"exit\":1}",
+            ScriptFault::WrongType,
+        ),
+        ("{\"install\":1,\"call\":1}", ScriptFault::WrongType),
     ];
     for (bad, fault) in cases {
         for place in 0..3 {

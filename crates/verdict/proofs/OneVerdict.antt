@@ -36,7 +36,7 @@ judged_on runs small stack (code ∷ rest) call best sound judged =
     subst P (append_assoc stack (code ∷ []) rest) (judged_on runs small (stack ++ code ∷ []) rest call more.0 (All-tail IsSound code rest sound) more.1)
 
 -- the values of a stack are its only ones
-values_one : ((code : List Insn) (call : SysCall) (value other steps count : ℕ) → Runs code call value steps → Runs code call other count → value ≡ other)
+pub values_one : ((code : List Insn) (call : SysCall) (value other steps count : ℕ) → Runs code call value steps → Runs code call other count → value ≡ other)
     → (stack : List (List Insn)) (call : SysCall) (values others : List ℕ) → HaveValues stack call values → HaveValues stack call others → values ≡ others
 values_one same [] call [] [] have had = refl
 values_one same [] call [] (o ∷ others) have had = absurd had

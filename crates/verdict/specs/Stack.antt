@@ -10,6 +10,11 @@ use Rattle.bpf_verify.specs.Sound.{IsSound}
 use Rattle.call_data.specs.declared.sys_call.SysCall.{SysCall}
 use Rattle.bpf_machine.specs.Runs.{Runs}
 
+-- a stack: its filters, the oldest one first, and for how many more it has room
+pub record Stacked : Type 0 where
+  pub filters : List (List Insn)
+  pub room : ℕ
+
 -- the values that the filters return on the call, in their order
 abbrev pub HaveValues : List (List Insn) → SysCall → List ℕ → Type 0
 HaveValues [] call [] = Unit {0}

@@ -1,5 +1,6 @@
-ghost use Rattle.std.specs.Prelude.{◌≡◌, List};
+ghost use Rattle.std.specs.Prelude.{◌≡◌, ◌≤◌, ◌++◌, List, IsTrue};
 ghost use Rattle.action.specs.declared.verdict.Verdict.{Verdict};
+ghost use Rattle.action.specs.Verdict.{performs_of, rank_of};
 ghost use Rattle.bpf_code.specs.declared.insn.Insn.{Insn};
 ghost use Rattle.call_data.specs.declared.sys_call.SysCall.{SysCall};
 ghost use Rattle.verdict.specs.declared.stack.TheConstants.{MAX_STACK_INSNS};
@@ -17,6 +18,18 @@ pub fn stacks_judge_every_call()
     ranks_are_an_order();
     runs_are_determined();
     sound_code_runs();
+}
+
+/// Filters that are added to a stack let no call pass that it stops alone.
+pub fn added_filters_widen_nothing()
+    ensures rank { (stack added : List (List Insn)) (call : SysCall) (alone together : Verdict)
+        → IsJudged stack call alone → IsJudged (stack ++ added) call together → rank_of together.action ≤ rank_of alone.action }
+    ensures performs { (stack added : List (List Insn)) (call : SysCall) (alone together : Verdict)
+        → IsJudged stack call alone → IsJudged (stack ++ added) call together
+        → IsTrue (performs_of together.action) → IsTrue (performs_of alone.action) }
+{
+    ranks_are_an_order();
+    runs_are_determined();
 }
 
 /// What the constant of this crate is, in the standard's own number.

@@ -1,5 +1,4 @@
-ghost use Rattle.std.specs.Prelude.{◌≡◌, ◌+◌, ◌<◌, ◌≤◌, ◌++◌, [], ◌∷◌, ℕ, List, OnOk, OnErr, IfErr, IsErrAnd, length};
-ghost use Rattle.bpf_code.specs.declared.insn.Insn.{Insn};
+ghost use Rattle.std.specs.Prelude.{◌≡◌, ◌+◌, ◌<◌, ◌≤◌, ◌++◌, [], ◌∷◌, OnOk, OnErr, IfErr, IsErrAnd, length, nat_le};
 ghost use Rattle.verdict.specs.declared.stack.TheConstants.{MAX_STACK_INSNS};
 ghost use Rattle.verdict.specs.Stack.{AllSound, IsJudged, counted};
 
@@ -7,7 +6,7 @@ use crate::judging::judge_all;
 use action::Verdict;
 use bpf_verify::Filter;
 use call_data::SysCall;
-use std::alloc::Global;
+use std::alloc::{AllocError, Global};
 use std::fmt;
 use std::marker::Model;
 use thiserror::Error;
@@ -48,9 +47,13 @@ pub struct Stack {
 }
 
 impl Model for Stack {
-    ghost Value = { List (List Insn) };
+    ghost use Rattle.std.specs.Prelude.{◌≡◌, ◌+◌, ◌-◌, ◌≤◌, length, vec_capacity};
+    ghost use Rattle.verdict.specs.declared.stack.TheConstants.{MAX_STACK_INSNS};
+    ghost use Rattle.verdict.specs.Stack.{AllSound, Stacked, counted};
 
-    ghost view = { λ s. s.filters.items };
+    ghost Value = { Stacked };
+
+    ghost view = { λ s. record { filters = s.filters.items; room = vec_capacity s.filters - length s.filters.items } };
 
     ghost invariant = { λ s. (s.taken ≡ counted s.filters.items) × (s.taken ≤ MAX_STACK_INSNS + 4)
         × AllSound s.filters.items };
@@ -59,7 +62,7 @@ impl Model for Stack {
 impl Stack {
     /// No filters.
     pub fn new(alloc: Global) -> Stack
-        ensures { result ≡ [] }
+        ensures { result.filters ≡ [] }
     {
         Stack {
             filters: Vec::new(alloc),
@@ -67,21 +70,45 @@ impl Stack {
         }
     }
 
-    /// Adds a filter as the newest one. A refused filter comes back, and the stack is as it was.
-    pub fn push(&mut self, filter: Filter) -> Result<(), (Filter, StackFault)>
-        ensures ok { OnOk result (self.new ≡ self.old ++ filter ∷ []) }
+    /// Makes room for so many more filters: pushing them takes no memory. Where a growth was refused, the
+    /// stack is as it was.
+    pub fn reserve(&mut self, additional: usize) -> Result<(), AllocError>
+        ensures same { self.new.filters ≡ self.old.filters }
+        ensures ok { OnOk result (additional ≤ self.new.room) }
         ensures err { OnErr result (self.new ≡ self.old) }
+        ensures kept { self.old.room ≤ self.new.room }
+        ensures refused { OnErr result (self.old.room < additional) }
+    {
+        self.filters.reserve(additional)
+    }
+
+    /// Whether the stack would not be too long with one more filter, this one.
+    pub fn has_place(&self, filter: &Filter) -> bool
+        ensures { result ≡ nat_le (length filter.now + counted self.now.filters) MAX_STACK_INSNS }
+    {
+        filter.insns().len() + self.taken <= MAX_STACK_INSNS
+    }
+
+    /// Adds a filter as the newest one. A refused filter comes back, and the filters are as they were.
+    pub fn push(&mut self, filter: Filter) -> Result<(), (Filter, StackFault)>
+        ensures ok { OnOk result (self.new.filters ≡ self.old.filters ++ filter ∷ []) }
+        ensures err { OnErr result (self.new.filters ≡ self.old.filters) }
         ensures back { IfErr result (λ refused. refused.0 ≡ filter) }
 
         // It is too long exactly where its length and what is counted for the others exceed the limit.
-        ensures too_many { IfErr result (λ refused. refused.1 ≡ StackFault.TooManyInsns → MAX_STACK_INSNS < length filter + counted self.old) }
-        ensures refused { MAX_STACK_INSNS < length filter + counted self.old
+        ensures too_many { IfErr result (λ refused. refused.1 ≡ StackFault.TooManyInsns → MAX_STACK_INSNS < length filter + counted self.old.filters) }
+        ensures refused { MAX_STACK_INSNS < length filter + counted self.old.filters
             → IsErrAnd result (λ refused. refused.1 ≡ StackFault.TooManyInsns) }
+
+        // Where there is room it takes no memory. A filter that is added takes the room of one.
+        ensures spared { IfErr result (λ refused. refused.1 ≡ StackFault.Memory → self.old.room ≡ 0) }
+        ensures room { OnOk result (self.old.room ≤ self.new.room + 1) }
+        ensures kept { OnErr result (self.old.room ≤ self.new.room) }
     {
-        let len = filter.insns().len();
-        if len + self.taken > MAX_STACK_INSNS {
+        if !self.has_place(&filter) {
             return Err((filter, StackFault::TooManyInsns));
         }
+        let len = filter.insns().len();
         match self.filters.push(filter) {
             Ok(()) => {
                 self.taken += len + 4;
@@ -93,15 +120,15 @@ impl Stack {
 
     /// The filters, the oldest one first.
     pub fn filters(&self) -> &[Filter]
-        ensures same { result.now ≡ self.now }
-        ensures sound { AllSound self.now }
+        ensures same { result.now ≡ self.now.filters }
+        ensures sound { AllSound self.now.filters }
     {
         self.filters.as_slice()
     }
 
     /// What the filters say of a call together. Every filter is run.
     pub fn judge(&self, call: &SysCall) -> Verdict
-        ensures { IsJudged self.now call.now result }
+        ensures { IsJudged self.now.filters call.now result }
     {
         judge_all(&self.filters, call)
     }

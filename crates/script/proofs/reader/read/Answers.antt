@@ -1,12 +1,12 @@
-use Rattle.std.proofs.Common.{subst}
-use Rattle.json_tree.specs.Reading.{Gives}
-use Rattle.script.specs.declared.faults.ScriptFault.TheVariants.{Memory}
 use Rattle.script.proofs.Found.{found}
-use Rattle.script.proofs.Only.{only}
+use Rattle.script.proofs.First.{only, told}
 use Rattle.script.proofs.reader.read.Goals as goal
 
 pub returns-clause-found : goal.returns-clause-found
-returns-clause-found c = found c.args.bytes.now c.reading.result c.reading.ensures
+returns-clause-found c = found c.args.bytes.now _ c.reading.ensures
 
 pub returns-clause-only : goal.returns-clause-only
-returns-clause-only c = λ steps is. subst (Gives Memory (λ script. script) c.reading.result) (only c.args.bytes.now steps is) c.reading.ensures
+returns-clause-only c = λ steps is. only c.written_is_read.ensures.alone c.args.bytes.now _ steps c.reading.ensures is
+
+pub returns-clause-told : goal.returns-clause-told
+returns-clause-told c = λ fault first. told c.args.bytes.now _ fault c.reading.ensures first

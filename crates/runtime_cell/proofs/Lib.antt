@@ -1,0 +1,4 @@
+pub mod Outcomes
+pub mod Follows
+pub mod Grows
+pub mod Kept

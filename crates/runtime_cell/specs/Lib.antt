@@ -1,0 +1,4 @@
+pub mod Outcome
+pub mod Cell
+pub mod Laws
+pub mod Keeps

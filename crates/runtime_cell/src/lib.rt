@@ -1,0 +1,24 @@
+//! The cell of a container: plays the script that stands for the container's program under its stack of
+//! seccomp filters, one step at a time, and keeps its record.
+//!
+//! A call is performed exactly where the filters that were installed at the cell's start, and those that
+//! its script added before, together allow it. What a script comes to stands in `specs/Outcome.antt`,
+//! what the type of a cell keeps in `specs/Cell.antt`, and what holds of every cell in `specs/Laws.antt`.
+#![tactic(auto)]
+
+mod acts;
+mod calls;
+mod cell;
+mod copies;
+mod label;
+mod laws;
+#[cfg(test)]
+mod tests;
+
+pub use calls::{ENOMEM, Entry, KILLED, SECCOMP, SET_MODE_FILTER, install_call};
+pub use cell::{Cell, Counts, Did, State};
+pub use label::{Label, Text};
+pub use laws::{
+    calls_are_judged_by_all_filters, cells_follow_their_scripts, cells_only_grow,
+    constants_are_as_stated, outcomes_are_determined,
+};
