@@ -1,0 +1,5 @@
+pub mod Names
+pub mod Requests
+pub mod Replies
+pub mod Written
+pub mod Tells

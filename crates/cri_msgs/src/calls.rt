@@ -1,0 +1,113 @@
+ghost use Rattle.std.specs.Prelude.{◌≡◌, IfOk};
+
+use crate::keys::Key;
+use manifest::{DescendingPath, SeccompProfile, Uid};
+use std::alloc::{AllocError, Global};
+
+/// What is asked of a runtime, by the names of CRI v1. A grace is a number of seconds.
+#[derive(Debug, Drop)]
+pub enum Call {
+    RunPodSandbox {
+        uid: Uid,
+    },
+    /// CRI's has no grace: this project's own.
+    StopPodSandbox {
+        uid: Uid,
+        grace: u64,
+    },
+    RemovePodSandbox {
+        uid: Uid,
+    },
+    CreateContainer {
+        key: Key,
+        /// The file of its script, relative to the runtime's folder of scripts.
+        image: DescendingPath,
+        /// The path of a Localhost profile is relative to the runtime's folder of profiles.
+        profile: SeccompProfile,
+    },
+    StartContainer {
+        key: Key,
+    },
+    StopContainer {
+        key: Key,
+        grace: u64,
+    },
+    RemoveContainer {
+        key: Key,
+    },
+    ContainerStatus {
+        key: Key,
+    },
+    ListContainers {
+        uid: Uid,
+    },
+    /// The statuses of all containers of a sandbox: this project's own, in version 2 alone.
+    ContainerStatuses {
+        uid: Uid,
+    },
+}
+
+impl Call {
+    /// The same call once more.
+    pub fn try_clone(&self, alloc: Global) -> Result<Call, AllocError>
+        ensures { IfOk result (λ copy. copy ≡ self.now) }
+    {
+        match self {
+            Call::RunPodSandbox { uid } => Ok(Call::RunPodSandbox {
+                uid: uid.try_clone(alloc)?,
+            }),
+            Call::StopPodSandbox { uid, grace } => Ok(Call::StopPodSandbox {
+                uid: uid.try_clone(alloc)?,
+                grace: *grace,
+            }),
+            Call::RemovePodSandbox { uid } => Ok(Call::RemovePodSandbox {
+                uid: uid.try_clone(alloc)?,
+            }),
+            Call::CreateContainer {
+                key,
+                image,
+                profile,
+            } => Ok(Call::CreateContainer {
+                key: key.try_clone(alloc)?,
+                image: image.try_clone(alloc)?,
+                profile: profile.try_clone(alloc)?,
+            }),
+            Call::StartContainer { key } => Ok(Call::StartContainer {
+                key: key.try_clone(alloc)?,
+            }),
+            Call::StopContainer { key, grace } => Ok(Call::StopContainer {
+                key: key.try_clone(alloc)?,
+                grace: *grace,
+            }),
+            Call::RemoveContainer { key } => Ok(Call::RemoveContainer {
+                key: key.try_clone(alloc)?,
+            }),
+            Call::ContainerStatus { key } => Ok(Call::ContainerStatus {
+                key: key.try_clone(alloc)?,
+            }),
+            Call::ListContainers { uid } => Ok(Call::ListContainers {
+                uid: uid.try_clone(alloc)?,
+            }),
+            Call::ContainerStatuses { uid } => Ok(Call::ContainerStatuses {
+                uid: uid.try_clone(alloc)?,
+            }),
+        }
+    }
+}
+
+/// A call with its number.
+#[derive(Debug, Drop)]
+pub struct Request {
+    pub id: u64,
+    pub call: Call,
+}
+
+impl Request {
+    /// The same request once more.
+    pub fn try_clone(&self, alloc: Global) -> Result<Request, AllocError>
+        ensures { IfOk result (λ copy. copy ≡ self.now) }
+    {
+        let call = self.call.try_clone(alloc)?;
+        Ok(Request { id: self.id, call })
+    }
+}

@@ -1,0 +1,26 @@
+//! The messages that agent and runtime exchange: the calls of CRI v1 that this project has, and their
+//! answers, as JSON texts.
+//!
+//! The types keep the rules of the format: a uid, a name or a path that is none can't be held, an exit code
+//! stands only where a container has exited, and a list has at most [`MAX_LISTED`] entries. Which text is
+//! which message stands in `specs/Requests.antt` and `specs/Replies.antt`, how a message is written in
+//! `specs/Written.antt`.
+#![tactic(auto)]
+
+mod calls;
+mod faults;
+mod keys;
+mod lists;
+mod refusals;
+mod replies;
+mod states;
+mod version;
+
+pub use calls::{Call, Request};
+pub use faults::MessageFault;
+pub use keys::{ContainerMetadata, Key};
+pub use lists::{ListedContainer, ListedStatus, Listing, MAX_LISTED, Statuses};
+pub use refusals::Refusal;
+pub use replies::{Answer, Reply};
+pub use states::{ContainerState, State, Status};
+pub use version::Version;
