@@ -3,3 +3,4 @@ pub mod Requests
 pub mod Replies
 pub mod Written
 pub mod Tells
+pub mod Reading

@@ -1,8 +1,8 @@
 -- Replies as JSON trees, field by field: this project's own, over the answers of CRI v1.
-use Rattle.std.specs.Prelude.{◌≡◌, ◌≤◌, ℕ, List, length, nat_lt, if◌then◌else◌, codes, Option, Some, None, option_and_then}
+use Rattle.std.specs.Prelude.{◌≡◌, ◌<◌, ◌≤◌, ℕ, List, length, codes, Some, None}
 use Rattle.serde_json.specs.Data.{Data}
 use Rattle.json_tree.specs.Tree.{tree_of, list, member, object, text, whole}
-use Rattle.json_tree.specs.Reading.{Both, HasField, MayHaveField}
+use Rattle.json_tree.specs.Reading.{Both, HasField}
 use Rattle.cri_msgs.specs.declared.lists.ListedContainer.{ListedContainer}
 use Rattle.cri_msgs.specs.declared.lists.ListedStatus.{ListedStatus}
 use Rattle.cri_msgs.specs.declared.lists.TheConstants.{MAX_LISTED}
@@ -17,18 +17,14 @@ use Rattle.cri_msgs.specs.declared.version.Version.TheVariants.{V2}
 use Rattle.cri_msgs.specs.Names.{kind_of, refusal_number, state_name, version_number}
 use Rattle.cri_msgs.specs.Requests.{HasContainer}
 
--- a whole number up to 255
-unfoldable pub exit_code : Data → Option ℕ
-exit_code tree = option_and_then (λ n. if nat_lt n 256 then Some n else None) (whole tree)
-
 abbrev pub Lacks : List ℕ → Data → Type 0
 Lacks key tree = member key tree ≡ None
 
--- "exit" is a code where the container has exited, and null or not there where it has not
+-- "exit" is a code, up to 255, where the container has exited, and null or not there where it has not
 abbrev pub HasExit : Data → State → Type 0
 HasExit tree Created = Lacks (codes "exit") tree
 HasExit tree Running = Lacks (codes "exit") tree
-HasExit tree (Exited code) = HasField exit_code (codes "exit") tree code
+HasExit tree (Exited code) = HasField whole (codes "exit") tree code × (code < 256)
 
 pub record HasStatus (tree : Data) (status : Status) : Type 0 where
   pub state : HasField text (codes "state") tree (state_name (kind_of status.state))
@@ -49,14 +45,14 @@ pub record IsListedStatus (tree : Data) (listed : ListedStatus) : Type 0 where
 -- a list of so many of these
 pub record HasList {A : Type 0} (IsItem : Data → A → Type 0) (key : List ℕ) (tree : Data) (items : List A) : Type 0 where
   pub trees : List Data
-  pub there : MayHaveField list key tree (Some trees)
+  pub there : HasField list key tree trees
   pub few : length trees ≤ MAX_LISTED
   pub each : Both IsItem trees items
 
 -- which members "ok" has: the first of "container", "containers", "state" and "statuses" says what it is
 abbrev pub IsOk : Version → Data → Answer → Type 0
 IsOk version ok (answer.Refused refusal) = ⊥
-IsOk version ok (answer.Container id) = MayHaveField whole (codes "container") ok (Some id)
+IsOk version ok (answer.Container id) = HasField whole (codes "container") ok id
 IsOk version ok (answer.List items) = Lacks (codes "container") ok × HasList IsListed (codes "containers") ok items
 IsOk version ok (answer.Status status) = Lacks (codes "container") ok × Lacks (codes "containers") ok × HasStatus ok status
 IsOk version ok (answer.Statuses items) = Lacks (codes "container") ok × Lacks (codes "containers") ok × Lacks (codes "state") ok
@@ -65,7 +61,7 @@ IsOk version ok answer.Done = Lacks (codes "container") ok × Lacks (codes "cont
 
 -- "refused" decides where it is there
 abbrev pub HasAnswer : Version → Data → Answer → Type 0
-HasAnswer version tree (answer.Refused refusal) = MayHaveField whole (codes "refused") tree (Some (refusal_number refusal))
+HasAnswer version tree (answer.Refused refusal) = HasField whole (codes "refused") tree (refusal_number refusal)
 HasAnswer version tree said = Lacks (codes "refused") tree × ((ok : Data) × HasField object (codes "ok") tree ok × IsOk version ok said)
 
 pub record IsReply (version : Version) (tree : Data) (reply : Reply) : Type 0 where

@@ -1,6 +1,16 @@
-ghost use Rattle.std.specs.Prelude.{◌≡◌, IfOk};
+ghost use Rattle.std.specs.Prelude.{◌≡◌, ◌≢◌, IfOk, IfErr, Ok};
+ghost use Rattle.json_tree.specs.Reading.{Gives};
+ghost use Rattle.cri_msgs.specs.declared.calls.Request.{Request};
+ghost use Rattle.cri_msgs.specs.declared.faults.MessageFault.{MessageFault};
+ghost use Rattle.cri_msgs.specs.Reading.{request_reading};
+ghost use Rattle.cri_msgs.specs.Requests.{ReadsRequest, number_of};
 
+use crate::faults::MessageFault;
+use crate::fields::message_fault;
 use crate::keys::Key;
+use crate::request_reader::request;
+use crate::version::Version;
+use json_tree::TextFault;
 use manifest::{DescendingPath, SeccompProfile, Uid};
 use std::alloc::{AllocError, Global};
 
@@ -103,11 +113,38 @@ pub struct Request {
 }
 
 impl Request {
+    /// The request in the text of a frame of this version. A text that is none is told with its number.
+    pub fn read(alloc: Global, version: Version, bytes: &[u8]) -> Result<Request, MessageFault>
+        // What is read is the text's request.
+        ensures found { IfOk result (λ request. ReadsRequest version bytes.now request) }
+
+        // What is a request is read, unless memory runs out.
+        ensures only { (request : Request) → ReadsRequest version bytes.now request
+            → Gives MessageFault.Memory (λ r. r) result (Ok request) }
+
+        // Any other text is told with its number.
+        ensures refused { IfErr result (λ fault. fault ≢ MessageFault.Memory
+            → fault ≡ MessageFault.NoMessage (number_of bytes.now)) }
+    {
+        reading(alloc, version, bytes)
+    }
+
     /// The same request once more.
     pub fn try_clone(&self, alloc: Global) -> Result<Request, AllocError>
         ensures { IfOk result (λ copy. copy ≡ self.now) }
     {
         let call = self.call.try_clone(alloc)?;
         Ok(Request { id: self.id, call })
+    }
+}
+
+#[tactic(auto, unfolding(json_tree::specs::Reading::document))]
+fn reading(alloc: Global, version: Version, bytes: &[u8]) -> Result<Request, MessageFault>
+    ensures { Gives MessageFault.Memory (λ r. r) result (request_reading version bytes.now) }
+{
+    match json_tree::read(alloc, bytes) {
+        Ok(tree) => request(alloc, version, &tree).map_err(|fault| message_fault(fault, &tree)),
+        Err(TextFault::NotJson) => Err(MessageFault::NoMessage(0)),
+        Err(TextFault::Memory) => Err(MessageFault::Memory),
     }
 }

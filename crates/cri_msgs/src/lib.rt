@@ -9,10 +9,14 @@
 
 mod calls;
 mod faults;
+mod fields;
 mod keys;
 mod lists;
+mod names;
 mod refusals;
 mod replies;
+mod reply_reader;
+mod request_reader;
 mod states;
 mod version;
 

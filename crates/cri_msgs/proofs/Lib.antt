@@ -1,0 +1,4 @@
+pub mod Found
+pub mod Only
+pub mod Messages
+pub mod Requests
