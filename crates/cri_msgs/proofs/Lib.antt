@@ -1,4 +1,7 @@
 pub mod Found
 pub mod Only
 pub mod Messages
-pub mod Requests
+pub mod ReadRequest
+pub mod FoundReply
+pub mod OnlyReply
+pub mod ReadReply

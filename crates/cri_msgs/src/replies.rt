@@ -1,8 +1,19 @@
-ghost use Rattle.std.specs.Prelude.{◌≡◌, IfOk};
+ghost use Rattle.std.specs.Prelude.{◌≡◌, ◌≢◌, IfOk, IfErr, Ok};
+ghost use Rattle.json_tree.specs.Reading.{Gives};
+ghost use Rattle.cri_msgs.specs.declared.faults.MessageFault.{MessageFault};
+ghost use Rattle.cri_msgs.specs.declared.replies.Reply.{Reply};
+ghost use Rattle.cri_msgs.specs.Reading.{reply_reading};
+ghost use Rattle.cri_msgs.specs.Replies.{ReadsReply};
+ghost use Rattle.cri_msgs.specs.Requests.{number_of};
 
+use crate::faults::MessageFault;
+use crate::fields::message_fault;
 use crate::lists::{Listing, Statuses};
 use crate::refusals::Refusal;
+use crate::reply_reader::reply;
 use crate::states::Status;
+use crate::version::Version;
+use json_tree::TextFault;
 use std::alloc::{AllocError, Global};
 
 /// What a runtime answers.
@@ -44,6 +55,22 @@ pub struct Reply {
 }
 
 impl Reply {
+    /// The reply in the text of a frame of this version. A text that is none is told with its number.
+    pub fn read(alloc: Global, version: Version, bytes: &[u8]) -> Result<Reply, MessageFault>
+        // What is read is the text's reply.
+        ensures found { IfOk result (λ reply. ReadsReply version bytes.now reply) }
+
+        // What is a reply is read, unless memory runs out.
+        ensures only { (reply : Reply) → ReadsReply version bytes.now reply
+            → Gives MessageFault.Memory (λ r. r) result (Ok reply) }
+
+        // Any other text is told with its number.
+        ensures refused { IfErr result (λ fault. fault ≢ MessageFault.Memory
+            → fault ≡ MessageFault.NoMessage (number_of bytes.now)) }
+    {
+        reading(alloc, version, bytes)
+    }
+
     /// The same reply once more.
     pub fn try_clone(&self, alloc: Global) -> Result<Reply, AllocError>
         ensures { IfOk result (λ copy. copy ≡ self.now) }
@@ -53,5 +80,16 @@ impl Reply {
             id: self.id,
             answer,
         })
+    }
+}
+
+#[tactic(auto, unfolding(json_tree::specs::Reading::document))]
+fn reading(alloc: Global, version: Version, bytes: &[u8]) -> Result<Reply, MessageFault>
+    ensures { Gives MessageFault.Memory (λ r. r) result (reply_reading version bytes.now) }
+{
+    match json_tree::read(alloc, bytes) {
+        Ok(tree) => reply(alloc, version, &tree).map_err(|fault| message_fault(fault, &tree)),
+        Err(TextFault::NotJson) => Err(MessageFault::NoMessage(0)),
+        Err(TextFault::Memory) => Err(MessageFault::Memory),
     }
 }

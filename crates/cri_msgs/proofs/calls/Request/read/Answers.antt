@@ -1,7 +1,7 @@
 use Rattle.std.proofs.Common.{subst}
 use Rattle.json_tree.specs.Reading.{Gives}
 use Rattle.cri_msgs.specs.declared.faults.MessageFault.TheVariants.{Memory}
-use Rattle.cri_msgs.proofs.Requests.{found, only}
+use Rattle.cri_msgs.proofs.ReadRequest.{found, only}
 use Rattle.cri_msgs.proofs.calls.Request.read.Goals as goal
 
 pub returns-clause-found : goal.returns-clause-found
