@@ -5,3 +5,4 @@ pub mod ReadRequest
 pub mod FoundReply
 pub mod OnlyReply
 pub mod ReadReply
+pub mod WrittenRequest

@@ -4,3 +4,4 @@ pub mod Replies
 pub mod Written
 pub mod Tells
 pub mod Reading
+pub mod Fits

@@ -42,9 +42,9 @@ uid_tree version id name uid = object (
     member (codes "id") (whole_number id) (
     member (codes "uid") (string uid) (version_last version))))
 
-abbrev pub uid_grace_tree : Version → ℕ → List ℕ → List ℕ → ℕ → Data
-uid_grace_tree version id name uid grace = object (
-    member (codes "call") (string name) (
+abbrev pub uid_grace_tree : Version → ℕ → List ℕ → ℕ → Data
+uid_grace_tree version id uid grace = object (
+    member (codes "call") (string (codes "StopPodSandbox")) (
     member (codes "grace") (whole_number grace) (
     member (codes "id") (whole_number id) (
     member (codes "uid") (string uid) (version_last version)))))
@@ -58,10 +58,10 @@ key_tree version id name key = object (
     member (codes "name") (string key.container.name) (
     member (codes "uid") (string key.uid) (version_last version))))))
 
-abbrev pub key_grace_tree : Version → ℕ → List ℕ → Key → ℕ → Data
-key_grace_tree version id name key grace = object (
+abbrev pub key_grace_tree : Version → ℕ → Key → ℕ → Data
+key_grace_tree version id key grace = object (
     member (codes "attempt") (whole_number key.container.attempt) (
-    member (codes "call") (string name) (
+    member (codes "call") (string (codes "StopContainer")) (
     member (codes "grace") (whole_number grace) (
     member (codes "id") (whole_number id) (
     member (codes "name") (string key.container.name) (
@@ -79,11 +79,11 @@ create_tree version id key image profile = object (
 
 unfoldable pub call_tree : Version → ℕ → Call → Data
 call_tree version id (call.RunPodSandbox uid) = uid_tree version id (codes "RunPodSandbox") uid
-call_tree version id (call.StopPodSandbox uid grace) = uid_grace_tree version id (codes "StopPodSandbox") uid grace
+call_tree version id (call.StopPodSandbox uid grace) = uid_grace_tree version id uid grace
 call_tree version id (call.RemovePodSandbox uid) = uid_tree version id (codes "RemovePodSandbox") uid
 call_tree version id (call.CreateContainer key image profile) = create_tree version id key image profile
 call_tree version id (call.StartContainer key) = key_tree version id (codes "StartContainer") key
-call_tree version id (call.StopContainer key grace) = key_grace_tree version id (codes "StopContainer") key grace
+call_tree version id (call.StopContainer key grace) = key_grace_tree version id key grace
 call_tree version id (call.RemoveContainer key) = key_tree version id (codes "RemoveContainer") key
 call_tree version id (call.ContainerStatus key) = key_tree version id (codes "ContainerStatus") key
 call_tree version id (call.ListContainers uid) = uid_tree version id (codes "ListContainers") uid

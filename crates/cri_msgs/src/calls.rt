@@ -3,12 +3,14 @@ ghost use Rattle.json_tree.specs.Reading.{Gives};
 ghost use Rattle.cri_msgs.specs.declared.calls.Request.{Request};
 ghost use Rattle.cri_msgs.specs.declared.faults.MessageFault.{MessageFault};
 ghost use Rattle.cri_msgs.specs.Reading.{request_reading};
-ghost use Rattle.cri_msgs.specs.Requests.{ReadsRequest, number_of};
+ghost use Rattle.cri_msgs.specs.Requests.{HasCall, ReadsRequest, number_of};
+ghost use Rattle.cri_msgs.specs.Written.{request_text};
 
 use crate::faults::MessageFault;
 use crate::fields::message_fault;
 use crate::keys::Key;
 use crate::request_reader::request;
+use crate::request_writer::call_tree;
 use crate::version::Version;
 use json_tree::TextFault;
 use manifest::{DescendingPath, SeccompProfile, Uid};
@@ -127,6 +129,20 @@ impl Request {
             → fault ≡ MessageFault.NoMessage (number_of bytes.now)) }
     {
         reading(alloc, version, bytes)
+    }
+
+    /// The text of the request in a frame of this version: compact JSON, keys in the order of their bytes.
+    /// Version 1 has no ContainerStatuses, so what is written of it then reads as no message.
+    #[tactic(auto, using(crate::proofs::WrittenRequest::no_float))]
+    pub fn write(&self, alloc: Global, version: Version) -> Result<Vec<u8>, AllocError>
+        ensures text { IfOk result (λ bytes. bytes.items ≡ request_text version self.now) }
+
+        // What is written reads as this request.
+        ensures reads { HasCall version self.now.call
+            → IfOk result (λ bytes. ReadsRequest version bytes.items self.now) }
+    {
+        let tree = call_tree(alloc, version, self.id, &self.call)?;
+        tree.to_vec(alloc)
     }
 
     /// The same request once more.

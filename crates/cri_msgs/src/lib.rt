@@ -17,6 +17,7 @@ mod refusals;
 mod replies;
 mod reply_reader;
 mod request_reader;
+mod request_writer;
 mod states;
 mod version;
 
