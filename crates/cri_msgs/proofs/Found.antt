@@ -24,7 +24,7 @@ use Rattle.cri_msgs.specs.declared.version.Version.{Version}
 use Rattle.cri_msgs.specs.declared.version.Version.TheVariants.{V1, V2}
 use Rattle.cri_msgs.specs.Names.{call_name, version_number}
 use Rattle.cri_msgs.specs.Reading.{fitting, container_of, key_of, without_path, with_path, profile_named, profile_in, profile_of, call_named, by_uid, by_key, stop_pod_of, create_of, stop_of, call_by, numbered, call_of, request_of}
-use Rattle.cri_msgs.specs.Requests.{HasUid, HasContainer, HasKey, HasImage, IsProfile, HasProfile, HasFields, HasCall, IsRequest}
+use Rattle.cri_msgs.specs.Requests.{HasUid, HasContainer, HasKey, HasImage, IsProfile, HasProfile, HasFields, IsCallOf, IsRequest}
 
 same_bytes : (one other : List ℕ) → bytes_eq one other ≡ true → one ≡ other
 same_bytes one other h = (bytes_eq-Decides one other).0 h
@@ -138,7 +138,7 @@ name_found found which h =
 
 -- what a call has in this version
 abbrev IsCall : Version → Data → List ℕ → Call → Type 0
-IsCall version tree called c = (called ≡ call_name c) × HasCall version c × HasFields tree c
+IsCall version tree called c = (called ≡ call_name c) × IsCallOf version c × HasFields tree c
 
 uid_found : (P : Call → Type 0) (make : List ℕ → Call) (tree : Data) → ((uid : List ℕ) → HasUid tree uid → P (make uid)) → (c : Call) → by_uid make tree ≡ Ok c → P c
 unfolding by_uid

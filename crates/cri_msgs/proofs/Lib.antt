@@ -6,3 +6,5 @@ pub mod FoundReply
 pub mod OnlyReply
 pub mod ReadReply
 pub mod WrittenRequest
+pub mod Entries
+pub mod WrittenReply

@@ -18,7 +18,7 @@ use Rattle.cri_msgs.specs.declared.names.CallName.TheVariants as name
 use Rattle.cri_msgs.specs.declared.version.Version.{Version}
 use Rattle.cri_msgs.specs.Names.{call_name, version_number}
 use Rattle.cri_msgs.specs.Reading.{fitting, container_of, key_of, profile_named, profile_in, profile_of, call_named, by_uid, by_key, stop_pod_of, create_of, stop_of, call_by, numbered, call_of, request_of}
-use Rattle.cri_msgs.specs.Requests.{HasUid, HasContainer, HasKey, HasProfile, HasFields, HasCall, IsRequest}
+use Rattle.cri_msgs.specs.Requests.{HasUid, HasContainer, HasKey, HasProfile, HasFields, IsCallOf, IsRequest}
 
 fitting_only : (test : List ℕ → Bool) (key : List ℕ) (tree : Data) (x : List ℕ) → HasField text key tree x → test x ≡ true → fitting test key tree ≡ Ok x
 unfolding fitting
@@ -80,7 +80,7 @@ by_key_only : (make : Key → Call) (tree : Data) (key : Key) → HasKey tree ke
 unfolding by_key
 by_key_only make tree key h = rw (key_only tree key h) refl
 
-by_only : (version : Version) (tree : Data) (c : Call) → HasCall version c → HasFields tree c → call_by version (name_of c) tree ≡ Ok c
+by_only : (version : Version) (tree : Data) (c : Call) → IsCallOf version c → HasFields tree c → call_by version (name_of c) tree ≡ Ok c
 unfolding stop_pod_of create_of stop_of
 by_only version tree (call.RunPodSandbox uid) v h = by_uid_only call.RunPodSandbox tree uid h
 by_only version tree (call.StopPodSandbox uid grace) v h = rw (fitting_only is_uid (codes "uid") tree uid h.0.0 h.0.1, required_only whole (codes "grace") tree grace h.1) refl

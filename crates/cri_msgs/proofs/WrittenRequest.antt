@@ -22,7 +22,7 @@ use Rattle.cri_msgs.specs.declared.keys.Key.{Key}
 use Rattle.cri_msgs.specs.declared.version.Version.{Version}
 use Rattle.cri_msgs.specs.Fits.{FitsContainer, FitsUid, FitsKey, FitsProfile, FitsCall}
 use Rattle.cri_msgs.specs.Names.{call_name, version_number}
-use Rattle.cri_msgs.specs.Requests.{HasUid, HasContainer, HasKey, IsProfile, HasFields, HasCall, IsRequest, ReadsRequest}
+use Rattle.cri_msgs.specs.Requests.{HasUid, HasContainer, HasKey, IsProfile, HasFields, IsCallOf, IsRequest, ReadsRequest}
 use Rattle.cri_msgs.specs.Written.{whole_number, profile_tree, uid_tree, uid_grace_tree, key_tree, key_grace_tree, create_tree, call_tree}
 
 pub has_text : (key : List ℕ) (tree : Data) (x : List ℕ) → get key tree ≡ Some (string x) → HasField text key tree x
@@ -125,7 +125,7 @@ head_is version id (call.ContainerStatus key) = record { v = refl; id_there = re
 head_is version id (call.ListContainers uid) = record { v = refl; id_there = refl; call_there = refl; whole_numbers = refl }
 head_is version id (call.ContainerStatuses uid) = record { v = refl; id_there = refl; call_there = refl; whole_numbers = refl }
 
-request_is : (version : Version) (request : Request) → FitsCall request.call → HasCall version request.call → IsRequest version (call_tree version request.id request.call) request
+request_is : (version : Version) (request : Request) → FitsCall request.call → IsCallOf version request.call → IsRequest version (call_tree version request.id request.call) request
 request_is version request fits known =
     let head = head_is version request.id request.call in
     let tree = call_tree version request.id request.call in
@@ -157,7 +157,7 @@ shallow version id (call.ContainerStatuses uid) = omega arith
 
 -- what is written of a request reads as it
 pub reads : (version : Version) (request : Request) (tree : Data) (r : Result (Vec ℕ Global) AllocError) → tree ≡ call_tree version request.id request.call → FitsCall request.call → IfOk r (λ b. IsUtf8 b.items)
-    → IfOk r (λ b. depth tree ≤ max_depth → read b.items ≡ Some tree) → HasCall version request.call → IfOk r (λ b. ReadsRequest version b.items request)
+    → IfOk r (λ b. depth tree ≤ max_depth → read b.items ≡ Some tree) → IsCallOf version request.call → IfOk r (λ b. ReadsRequest version b.items request)
 reads version request tree (Err e) is fits utf8 back known = tt
 reads version request tree (Ok bytes) is fits utf8 back known =
     let levels : depth tree ≤ max_depth = rw is (omega (arith, shallow version request.id request.call)) in

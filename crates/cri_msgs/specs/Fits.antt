@@ -1,5 +1,6 @@
 -- What the types of a message keep of its texts and numbers: this project's own.
-use Rattle.std.specs.Prelude.{◌<◌, ◌^◌, ℕ, List, IsTrue}
+use Rattle.std.specs.Prelude.{◌<◌, ◌≤◌, ◌^◌, ℕ, List, length, IsTrue}
+use Rattle.std.specs.List.{AllByRecursion}
 use Rattle.manifest.specs.declared.profiles.SeccompProfile.{SeccompProfile}
 use Rattle.manifest.specs.declared.profiles.SeccompProfile.TheVariants.{RuntimeDefault, Localhost, Unconfined}
 use Rattle.manifest.specs.Texts.{is_descending, is_label, is_uid}
@@ -7,6 +8,11 @@ use Rattle.cri_msgs.specs.declared.calls.Call.{Call}
 use Rattle.cri_msgs.specs.declared.calls.Call.TheVariants.{RunPodSandbox, StopPodSandbox, RemovePodSandbox, CreateContainer, StartContainer, StopContainer, RemoveContainer, ContainerStatus, ListContainers, ContainerStatuses}
 use Rattle.cri_msgs.specs.declared.keys.ContainerMetadata.{ContainerMetadata}
 use Rattle.cri_msgs.specs.declared.keys.Key.{Key}
+use Rattle.cri_msgs.specs.declared.lists.ListedContainer.{ListedContainer}
+use Rattle.cri_msgs.specs.declared.lists.ListedStatus.{ListedStatus}
+use Rattle.cri_msgs.specs.declared.lists.TheConstants.{MAX_LISTED}
+use Rattle.cri_msgs.specs.declared.replies.Answer.{Answer}
+use Rattle.cri_msgs.specs.declared.replies.Answer.TheVariants as answer
 use Rattle.cri_msgs.specs.declared.states.State.{State}
 use Rattle.cri_msgs.specs.declared.states.State.TheVariants.{Created, Running, Exited}
 
@@ -36,3 +42,27 @@ FitsCall (RemoveContainer key) = FitsKey key
 FitsCall (ContainerStatus key) = FitsKey key
 FitsCall (ListContainers uid) = FitsUid uid
 FitsCall (ContainerStatuses uid) = FitsUid uid
+
+abbrev pub FitsState : State → Type 0
+FitsState Created = Unit {0}
+FitsState Running = Unit {0}
+FitsState (Exited code) = code < 256
+
+abbrev pub FitsListed : ListedContainer → Type 0
+FitsListed listed = FitsContainer listed.container
+
+pub record FitsListedStatus (listed : ListedStatus) : Type 0 where
+  pub container : FitsContainer listed.container
+  pub state : FitsState listed.status.state
+
+pub record FitsList {A : Type 0} (Fits : A → Type 0) (items : List A) : Type 0 where
+  pub few : length items ≤ MAX_LISTED
+  pub each : AllByRecursion Fits items
+
+abbrev pub FitsAnswer : Answer → Type 0
+FitsAnswer (answer.Refused refusal) = Unit {0}
+FitsAnswer answer.Done = Unit {0}
+FitsAnswer (answer.Container id) = Unit {0}
+FitsAnswer (answer.Status status) = FitsState status.state
+FitsAnswer (answer.List items) = FitsList FitsListed items
+FitsAnswer (answer.Statuses items) = FitsList FitsListedStatus items

@@ -49,6 +49,11 @@ pub record HasList {A : Type 0} (IsItem : Data → A → Type 0) (key : List ℕ
   pub few : length trees ≤ MAX_LISTED
   pub each : Both IsItem trees items
 
+-- version 1 has no statuses
+abbrev pub IsAnswerOf : Version → Answer → Type 0
+IsAnswerOf version (answer.Statuses items) = version ≡ V2
+IsAnswerOf version said = Unit {0}
+
 -- which members "ok" has: the first of "container", "containers", "state" and "statuses" says what it is
 abbrev pub IsOk : Version → Data → Answer → Type 0
 IsOk version ok (answer.Refused refusal) = ⊥

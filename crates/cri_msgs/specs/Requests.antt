@@ -61,15 +61,15 @@ HasFields tree (ListContainers uid) = HasUid tree uid
 HasFields tree (ContainerStatuses uid) = HasUid tree uid
 
 -- version 1 has no ContainerStatuses
-abbrev pub HasCall : Version → Call → Type 0
-HasCall version (ContainerStatuses uid) = version ≡ V2
-HasCall version call = Unit {0}
+abbrev pub IsCallOf : Version → Call → Type 0
+IsCallOf version (ContainerStatuses uid) = version ≡ V2
+IsCallOf version call = Unit {0}
 
 pub record IsRequest (version : Version) (tree : Data) (request : Request) : Type 0 where
   pub v : HasField whole (codes "v") tree (version_number version)
   pub id : HasField whole (codes "id") tree request.id
   pub call : HasField text (codes "call") tree (call_name request.call)
-  pub in_version : HasCall version request.call
+  pub in_version : IsCallOf version request.call
   pub fields : HasFields tree request.call
 
 -- the text of a frame of this version is this request

@@ -3,7 +3,7 @@ ghost use Rattle.json_tree.specs.Reading.{Gives};
 ghost use Rattle.cri_msgs.specs.declared.calls.Request.{Request};
 ghost use Rattle.cri_msgs.specs.declared.faults.MessageFault.{MessageFault};
 ghost use Rattle.cri_msgs.specs.Reading.{request_reading};
-ghost use Rattle.cri_msgs.specs.Requests.{HasCall, ReadsRequest, number_of};
+ghost use Rattle.cri_msgs.specs.Requests.{IsCallOf, ReadsRequest, number_of};
 ghost use Rattle.cri_msgs.specs.Written.{request_text};
 
 use crate::faults::MessageFault;
@@ -138,7 +138,7 @@ impl Request {
         ensures text { IfOk result (λ bytes. bytes.items ≡ request_text version self.now) }
 
         // What is written reads as this request.
-        ensures reads { HasCall version self.now.call
+        ensures reads { IsCallOf version self.now.call
             → IfOk result (λ bytes. ReadsRequest version bytes.items self.now) }
     {
         let tree = call_tree(alloc, version, self.id, &self.call)?;

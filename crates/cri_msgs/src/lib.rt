@@ -16,6 +16,7 @@ mod names;
 mod refusals;
 mod replies;
 mod reply_reader;
+mod reply_writer;
 mod request_reader;
 mod request_writer;
 mod states;

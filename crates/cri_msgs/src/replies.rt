@@ -3,14 +3,16 @@ ghost use Rattle.json_tree.specs.Reading.{Gives};
 ghost use Rattle.cri_msgs.specs.declared.faults.MessageFault.{MessageFault};
 ghost use Rattle.cri_msgs.specs.declared.replies.Reply.{Reply};
 ghost use Rattle.cri_msgs.specs.Reading.{reply_reading};
-ghost use Rattle.cri_msgs.specs.Replies.{ReadsReply};
+ghost use Rattle.cri_msgs.specs.Replies.{IsAnswerOf, ReadsReply};
 ghost use Rattle.cri_msgs.specs.Requests.{number_of};
+ghost use Rattle.cri_msgs.specs.Written.{reply_text};
 
 use crate::faults::MessageFault;
 use crate::fields::message_fault;
 use crate::lists::{Listing, Statuses};
 use crate::refusals::Refusal;
 use crate::reply_reader::reply;
+use crate::reply_writer::answer_tree;
 use crate::states::Status;
 use crate::version::Version;
 use json_tree::TextFault;
@@ -69,6 +71,20 @@ impl Reply {
             → fault ≡ MessageFault.NoMessage (number_of bytes.now)) }
     {
         reading(alloc, version, bytes)
+    }
+
+    /// The text of the reply in a frame of this version: compact JSON, keys in the order of their bytes.
+    /// Version 1 has no statuses, so what is written of them then reads as no message.
+    #[tactic(auto, using(crate::proofs::WrittenReply::no_float))]
+    pub fn write(&self, alloc: Global, version: Version) -> Result<Vec<u8>, AllocError>
+        ensures text { IfOk result (λ bytes. bytes.items ≡ reply_text version self.now) }
+
+        // What is written reads as this reply.
+        ensures reads { IsAnswerOf version self.now.answer
+            → IfOk result (λ bytes. ReadsReply version bytes.items self.now) }
+    {
+        let tree = answer_tree(alloc, version, self.id, &self.answer)?;
+        tree.to_vec(alloc)
     }
 
     /// The same reply once more.
