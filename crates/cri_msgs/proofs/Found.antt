@@ -95,8 +95,7 @@ unfolding profile_of profile_in
 profile_found tree profile h =
     let found = bind_ok (required object (codes "profile") tree) _ _ h in
     let type = bind_ok (required text (codes "type") found.0) _ _ found.2 in
-    let path = bind_ok (optional text (codes "path") found.0) _ _ type.2 in
-    (
+    let path = bind_ok (optional text (codes "path") found.0) _ _ type.2 in (
       found.0,
       required_found object (codes "profile") tree found.0 found.1,
       record {

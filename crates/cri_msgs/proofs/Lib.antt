@@ -8,3 +8,4 @@ pub mod ReadReply
 pub mod WrittenRequest
 pub mod Entries
 pub mod WrittenReply
+pub mod Exits

@@ -98,14 +98,13 @@ listing_is version items fits =
 
 statuses_are : (version : Version) (items : List ListedStatus) → FitsList FitsListedStatus items → version ≡ V2 → IsOk version (list_tree (codes "statuses") listed_status_tree items) (answer.Statuses items)
 unfolding serde_json_on_literals member
-statuses_are version items fits known =
-    (
-      refl,
-      refl,
-      refl,
-      list_is FitsListedStatus listed_status_tree IsListedStatus listed_status_is (codes "statuses") (list_tree (codes "statuses") listed_status_tree items) items fits refl,
-      known,
-    )
+statuses_are version items fits known = (
+  refl,
+  refl,
+  refl,
+  list_is FitsListedStatus listed_status_tree IsListedStatus listed_status_is (codes "statuses") (list_tree (codes "statuses") listed_status_tree items) items fits refl,
+  known,
+)
 
 -- what each reply has
 record HasHead (version : Version) (id : ℕ) (tree : Data) : Type 0 where

@@ -83,8 +83,7 @@ stop_is version id key grace fits =
 create_is : (version : Version) (id : ℕ) (key : Key) (image : List ℕ) (profile : SeccompProfile) → FitsCall (call.CreateContainer key image profile) → HasFields (create_tree version id key image profile) (call.CreateContainer key image profile)
 unfolding serde_json_on_literals
 create_is version id key image profile fits =
-    let tree = create_tree version id key image profile in
-    (
+    let tree = create_tree version id key image profile in (
       has_key tree key fits.0 refl refl refl,
       (has_text (codes "image") tree image refl, fits.1),
       (profile_tree profile, (profile_tree profile, refl, profile_object profile), profile_is profile fits.2),

@@ -20,3 +20,7 @@ abbrev pub TellsExit : Call → Answer → Key → ℕ → Type 0
 TellsExit (ContainerStatus asked) (Status status) key code = (asked ≡ key) × (status.state ≡ Exited code)
 TellsExit (ContainerStatuses uid) (Statuses listed) key code = (uid ≡ key.uid) × Any (IsExitOf key.container code) listed
 TellsExit call answer key code = ⊥
+
+-- it is not that container's, or has not exited
+unfoldable pub IsSilentOn : ContainerMetadata → ListedStatus → Type 0
+IsSilentOn container listed = (code : ℕ) → IsExitOf container code listed → ⊥

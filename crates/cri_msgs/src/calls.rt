@@ -1,4 +1,4 @@
-ghost use Rattle.std.specs.Prelude.{◌≡◌, ◌≢◌, IfOk, IfErr, Ok};
+ghost use Rattle.std.specs.Prelude.{◌≡◌, ◌≢◌, ◌↔◌, IfOk, IfErr, IsTrue, Ok};
 ghost use Rattle.json_tree.specs.Reading.{Gives};
 ghost use Rattle.cri_msgs.specs.declared.calls.Request.{Request};
 ghost use Rattle.cri_msgs.specs.declared.faults.MessageFault.{MessageFault};
@@ -8,7 +8,7 @@ ghost use Rattle.cri_msgs.specs.Written.{request_text};
 
 use crate::faults::MessageFault;
 use crate::fields::message_fault;
-use crate::keys::Key;
+use crate::keys::{Key, same_profile};
 use crate::request_reader::request;
 use crate::request_writer::call_tree;
 use crate::version::Version;
@@ -60,6 +60,42 @@ pub enum Call {
 }
 
 impl Call {
+    /// Whether both are the same call.
+    pub fn same(&self, other: &Call) -> bool
+        ensures { IsTrue result ↔ (self.now ≡ other.now) }
+    {
+        match (self, other) {
+            (Call::RunPodSandbox { uid: a }, Call::RunPodSandbox { uid: b })
+            | (Call::RemovePodSandbox { uid: a }, Call::RemovePodSandbox { uid: b })
+            | (Call::ListContainers { uid: a }, Call::ListContainers { uid: b })
+            | (Call::ContainerStatuses { uid: a }, Call::ContainerStatuses { uid: b }) => {
+                a.as_str() == b.as_str()
+            }
+            (
+                Call::StopPodSandbox { uid: a, grace: g },
+                Call::StopPodSandbox { uid: b, grace: h },
+            ) => { *g == *h && a.as_str() == b.as_str() }
+            (
+                Call::CreateContainer {
+                    key: a,
+                    image: i,
+                    profile: p,
+                },
+                Call::CreateContainer {
+                    key: b,
+                    image: j,
+                    profile: q,
+                },
+            ) => a.same(b) && i.as_str() == j.as_str() && same_profile(p, q),
+            (Call::StopContainer { key: a, grace: g }, Call::StopContainer { key: b, grace: h }) =>
+                { *g == *h && a.same(b) }
+            (Call::StartContainer { key: a }, Call::StartContainer { key: b })
+            | (Call::RemoveContainer { key: a }, Call::RemoveContainer { key: b })
+            | (Call::ContainerStatus { key: a }, Call::ContainerStatus { key: b }) => a.same(b),
+            _ => false,
+        }
+    }
+
     /// The same call once more.
     pub fn try_clone(&self, alloc: Global) -> Result<Call, AllocError>
         ensures { IfOk result (λ copy. copy ≡ self.now) }
@@ -115,6 +151,13 @@ pub struct Request {
 }
 
 impl Request {
+    /// Whether both are the same request.
+    pub fn same(&self, other: &Request) -> bool
+        ensures { IsTrue result ↔ (self.now ≡ other.now) }
+    {
+        self.id == other.id && self.call.same(&other.call)
+    }
+
     /// The request in the text of a frame of this version. A text that is none is told with its number.
     pub fn read(alloc: Global, version: Version, bytes: &[u8]) -> Result<Request, MessageFault>
         // What is read is the text's request.

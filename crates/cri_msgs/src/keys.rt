@@ -1,6 +1,6 @@
 ghost use Rattle.std.specs.Prelude.{◌≡◌, ◌↔◌, IfOk, IsTrue};
 
-use manifest::{Label, Uid};
+use manifest::{Label, SeccompProfile, Uid};
 use std::alloc::{AllocError, Global};
 
 /// One attempt at running a container of a sandbox, as `ContainerMetadata` of CRI v1 names it.
@@ -53,5 +53,19 @@ impl Key {
         let uid = self.uid.try_clone(alloc)?;
         let container = self.container.try_clone(alloc)?;
         Ok(Key { uid, container })
+    }
+}
+
+/// Whether both are the same profile.
+pub fn same_profile(profile: &SeccompProfile, other: &SeccompProfile) -> bool
+    ensures { IsTrue result ↔ (profile.now ≡ other.now) }
+{
+    match (profile, other) {
+        (SeccompProfile::RuntimeDefault, SeccompProfile::RuntimeDefault)
+        | (SeccompProfile::Unconfined, SeccompProfile::Unconfined) => true,
+        (SeccompProfile::Localhost(path), SeccompProfile::Localhost(file)) => {
+            path.as_str() == file.as_str()
+        }
+        _ => false,
     }
 }

@@ -20,11 +20,12 @@ mod reply_writer;
 mod request_reader;
 mod request_writer;
 mod states;
+mod tells;
 mod version;
 
 pub use calls::{Call, Request};
 pub use faults::MessageFault;
-pub use keys::{ContainerMetadata, Key};
+pub use keys::{ContainerMetadata, Key, same_profile};
 pub use lists::{ListedContainer, ListedStatus, Listing, MAX_LISTED, Statuses};
 pub use refusals::Refusal;
 pub use replies::{Answer, Reply};

@@ -1,4 +1,4 @@
-ghost use Rattle.std.specs.Prelude.{◌≡◌, ◌≤◌, IfOk, length};
+ghost use Rattle.std.specs.Prelude.{◌≡◌, ◌↔◌, ◌≤◌, IfOk, IsTrue, length};
 ghost use Rattle.cri_msgs.specs.declared.lists.TheConstants.{MAX_LISTED};
 
 use crate::keys::ContainerMetadata;
@@ -24,6 +24,13 @@ pub struct ListedStatus {
 }
 
 impl ListedContainer {
+    /// Whether both tell the same.
+    pub fn same(&self, other: &ListedContainer) -> bool
+        ensures { IsTrue result ↔ (self.now ≡ other.now) }
+    {
+        self.state == other.state && self.container.same(&other.container)
+    }
+
     /// The same once more.
     pub fn try_clone(&self, alloc: Global) -> Result<ListedContainer, AllocError>
         ensures { IfOk result (λ copy. copy ≡ self.now) }
@@ -37,6 +44,13 @@ impl ListedContainer {
 }
 
 impl ListedStatus {
+    /// Whether both tell the same.
+    pub fn same(&self, other: &ListedStatus) -> bool
+        ensures { IsTrue result ↔ (self.now ≡ other.now) }
+    {
+        self.status.same(&other.status) && self.container.same(&other.container)
+    }
+
     /// The same once more.
     pub fn try_clone(&self, alloc: Global) -> Result<ListedStatus, AllocError>
         ensures { IfOk result (λ copy. copy ≡ self.now) }
@@ -68,6 +82,13 @@ impl Model for Listing {
 }
 
 impl Listing {
+    /// Whether both list the same.
+    pub fn same(&self, other: &Listing) -> bool
+        ensures { IsTrue result ↔ (self.now ≡ other.now) }
+    {
+        same_listed(self.list.as_slice(), other.list.as_slice())
+    }
+
     /// The containers of a list.
     pub fn new(list: Vec<ListedContainer>) -> Listing
         requires { length list.items ≤ MAX_LISTED }
@@ -112,6 +133,13 @@ impl Model for Statuses {
 }
 
 impl Statuses {
+    /// Whether both list the same.
+    pub fn same(&self, other: &Statuses) -> bool
+        ensures { IsTrue result ↔ (self.now ≡ other.now) }
+    {
+        same_statuses(self.list.as_slice(), other.list.as_slice())
+    }
+
     /// The statuses of a list.
     pub fn new(list: Vec<ListedStatus>) -> Statuses
         requires { length list.items ≤ MAX_LISTED }
@@ -160,4 +188,34 @@ fn status_copies(alloc: Global, list: &[ListedStatus]) -> Result<Vec<ListedStatu
         copies.push(copy)?;
     }
     Ok(copies)
+}
+
+#[tactic(auto, using(crate::proofs::Entries::same_more, crate::proofs::Entries::same_stops, crate::proofs::Entries::same_ends))]
+fn same_listed(list: &[ListedContainer], others: &[ListedContainer]) -> bool
+    ensures { IsTrue result ↔ (list.now ≡ others.now) }
+{
+    if list.len() != others.len() {
+        return false;
+    }
+    for place in 0..list.len() {
+        if !list[place].same(&others[place]) {
+            return false;
+        }
+    }
+    true
+}
+
+#[tactic(auto, using(crate::proofs::Entries::same_more, crate::proofs::Entries::same_stops, crate::proofs::Entries::same_ends))]
+fn same_statuses(list: &[ListedStatus], others: &[ListedStatus]) -> bool
+    ensures { IsTrue result ↔ (list.now ≡ others.now) }
+{
+    if list.len() != others.len() {
+        return false;
+    }
+    for place in 0..list.len() {
+        if !list[place].same(&others[place]) {
+            return false;
+        }
+    }
+    true
 }

@@ -1,4 +1,4 @@
-ghost use Rattle.std.specs.Prelude.{◌≡◌, ◌≢◌, IfOk, IfErr, Ok};
+ghost use Rattle.std.specs.Prelude.{◌≡◌, ◌≢◌, ◌↔◌, IfOk, IfErr, IsTrue, Ok};
 ghost use Rattle.json_tree.specs.Reading.{Gives};
 ghost use Rattle.cri_msgs.specs.declared.faults.MessageFault.{MessageFault};
 ghost use Rattle.cri_msgs.specs.declared.replies.Reply.{Reply};
@@ -34,6 +34,21 @@ pub enum Answer {
 }
 
 impl Answer {
+    /// Whether both are the same answer.
+    pub fn same(&self, other: &Answer) -> bool
+        ensures { IsTrue result ↔ (self.now ≡ other.now) }
+    {
+        match (self, other) {
+            (Answer::Refused(refusal), Answer::Refused(another)) => *refusal == *another,
+            (Answer::Done, Answer::Done) => true,
+            (Answer::Container(id), Answer::Container(another)) => *id == *another,
+            (Answer::Status(status), Answer::Status(another)) => status.same(another),
+            (Answer::List(list), Answer::List(another)) => list.same(another),
+            (Answer::Statuses(list), Answer::Statuses(another)) => list.same(another),
+            _ => false,
+        }
+    }
+
     /// The same answer once more.
     pub fn try_clone(&self, alloc: Global) -> Result<Answer, AllocError>
         ensures { IfOk result (λ copy. copy ≡ self.now) }
@@ -57,6 +72,13 @@ pub struct Reply {
 }
 
 impl Reply {
+    /// Whether both are the same reply.
+    pub fn same(&self, other: &Reply) -> bool
+        ensures { IsTrue result ↔ (self.now ≡ other.now) }
+    {
+        self.id == other.id && self.answer.same(&other.answer)
+    }
+
     /// The reply in the text of a frame of this version. A text that is none is told with its number.
     pub fn read(alloc: Global, version: Version, bytes: &[u8]) -> Result<Reply, MessageFault>
         // What is read is the text's reply.

@@ -11,9 +11,7 @@ use crate::names::{kind_named, refusal_numbered};
 use crate::replies::{Answer, Reply};
 use crate::states::{ContainerState, State, Status};
 use crate::version::Version;
-use json_tree::{
-    FieldFault, has, required_list, required_object, required_text, required_whole,
-};
+use json_tree::{FieldFault, has, required_list, required_object, required_text, required_whole};
 use serde_json::Value;
 use std::alloc::Global;
 

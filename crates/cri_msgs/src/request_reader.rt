@@ -15,11 +15,7 @@ use std::alloc::Global;
 // Requests, read of their trees.
 
 #[tactic(auto, unfolding(crate::specs::Reading::request_of))]
-pub(crate) fn request(
-    alloc: Global,
-    version: Version,
-    tree: &Value,
-) -> Result<Request, FieldFault>
+pub(crate) fn request(alloc: Global, version: Version, tree: &Value) -> Result<Request, FieldFault>
     ensures { Gives FieldFault.Memory (λ r. r) result (request_of version (view tree.now)) }
 {
     let id = numbered(version, tree)?;
@@ -46,18 +42,32 @@ fn call_by(
     ensures { Gives FieldFault.Memory (λ c. c) result (call_by version name (view tree.now)) }
 {
     match name {
-        CallName::RunPodSandbox => Ok(Call::RunPodSandbox { uid: uid(alloc, tree)? }),
+        CallName::RunPodSandbox => Ok(Call::RunPodSandbox {
+            uid: uid(alloc, tree)?,
+        }),
         CallName::StopPodSandbox => stop_pod(alloc, tree),
-        CallName::RemovePodSandbox => Ok(Call::RemovePodSandbox { uid: uid(alloc, tree)? }),
+        CallName::RemovePodSandbox => Ok(Call::RemovePodSandbox {
+            uid: uid(alloc, tree)?,
+        }),
         CallName::CreateContainer => create(alloc, tree),
-        CallName::StartContainer => Ok(Call::StartContainer { key: key(alloc, tree)? }),
+        CallName::StartContainer => Ok(Call::StartContainer {
+            key: key(alloc, tree)?,
+        }),
         CallName::StopContainer => stop(alloc, tree),
-        CallName::RemoveContainer => Ok(Call::RemoveContainer { key: key(alloc, tree)? }),
-        CallName::ContainerStatus => Ok(Call::ContainerStatus { key: key(alloc, tree)? }),
-        CallName::ListContainers => Ok(Call::ListContainers { uid: uid(alloc, tree)? }),
+        CallName::RemoveContainer => Ok(Call::RemoveContainer {
+            key: key(alloc, tree)?,
+        }),
+        CallName::ContainerStatus => Ok(Call::ContainerStatus {
+            key: key(alloc, tree)?,
+        }),
+        CallName::ListContainers => Ok(Call::ListContainers {
+            uid: uid(alloc, tree)?,
+        }),
         CallName::ContainerStatuses => match version {
             Version::V1 => Err(FieldFault::WrongType),
-            Version::V2 => Ok(Call::ContainerStatuses { uid: uid(alloc, tree)? }),
+            Version::V2 => Ok(Call::ContainerStatuses {
+                uid: uid(alloc, tree)?,
+            }),
         },
     }
 }
