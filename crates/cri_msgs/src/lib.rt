@@ -21,6 +21,8 @@ mod request_reader;
 mod request_writer;
 mod states;
 mod tells;
+#[cfg(test)]
+mod tests;
 mod version;
 
 pub use calls::{Call, Request};
