@@ -9,3 +9,5 @@ pub mod WrittenRequest
 pub mod Entries
 pub mod WrittenReply
 pub mod Exits
+pub mod Sizes
+pub mod SizesOfMessages

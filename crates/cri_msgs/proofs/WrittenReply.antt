@@ -26,7 +26,7 @@ use Rattle.cri_msgs.specs.declared.states.State.TheVariants.{Created, Running, E
 use Rattle.cri_msgs.specs.declared.states.Status.{Status}
 use Rattle.cri_msgs.specs.declared.version.Version.{Version}
 use Rattle.cri_msgs.specs.declared.version.Version.TheVariants.{V2}
-use Rattle.cri_msgs.specs.Fits.{FitsAnswer, FitsList, FitsListed, FitsListedStatus, FitsState}
+use Rattle.cri_msgs.specs.Fits.{FitsAnswer, FitsList, FitsListed, FitsListedStatus, FitsState, FitsStatus}
 use Rattle.cri_msgs.specs.Names.{kind_of, refusal_number, state_name, version_number}
 use Rattle.cri_msgs.specs.Replies.{HasExit, HasStatus, IsListed, IsListedStatus, HasList, IsAnswerOf, IsOk, HasAnswer, IsReply, ReadsReply}
 use Rattle.cri_msgs.specs.Written.{whole_number, exit_tree, status_tree, listed_tree, listed_status_tree, list_tree, refused_tree, ok_tree, answer_tree}
@@ -38,11 +38,11 @@ has_exit tree Created fits is = rw is refl
 has_exit tree Running fits is = rw is refl
 has_exit tree (Exited code) fits is = (has_whole (codes "exit") tree code is, fits)
 
-status_is : (tree : Data) (status : Status) → FitsState status.state → get (codes "state") tree ≡ Some (string (state_name (kind_of status.state))) → get (codes "exit") tree ≡ Some (exit_tree status.state)
+status_is : (tree : Data) (status : Status) → FitsStatus status → get (codes "state") tree ≡ Some (string (state_name (kind_of status.state))) → get (codes "exit") tree ≡ Some (exit_tree status.state)
     → get (codes "performed") tree ≡ Some (whole_number status.performed) → get (codes "denied") tree ≡ Some (whole_number status.denied) → HasStatus tree status
 status_is tree status fits state exit performed denied = record {
   state = has_text (codes "state") tree (state_name (kind_of status.state)) state;
-  exit = has_exit tree status.state fits exit;
+  exit = has_exit tree status.state fits.state exit;
   performed = has_whole (codes "performed") tree status.performed performed;
   denied = has_whole (codes "denied") tree status.denied denied;
 }
@@ -58,7 +58,7 @@ listed_status_is : (listed : ListedStatus) → FitsListedStatus listed → IsLis
 unfolding serde_json_on_literals
 listed_status_is listed fits = record {
   container = has_container (listed_status_tree listed) listed.container fits.container refl refl;
-  status = status_is (listed_status_tree listed) listed.status fits.state refl refl refl refl;
+  status = status_is (listed_status_tree listed) listed.status fits.status refl refl refl refl;
 }
 
 items_same : (ds : List Data) → items_list (items_of ds) ≡ ds
@@ -87,7 +87,7 @@ container_is : (version : Version) (id : ℕ) → IsOk version (an_object (a_mem
 unfolding serde_json_on_literals
 container_is version id = has_whole (codes "container") (an_object (a_member (codes "container") (whole_number id) no_members)) id refl
 
-status_ok : (version : Version) (status : Status) → FitsState status.state → IsOk version (status_tree status) (answer.Status status)
+status_ok : (version : Version) (status : Status) → FitsStatus status → IsOk version (status_tree status) (answer.Status status)
 unfolding serde_json_on_literals member
 status_ok version status fits = (refl, refl, status_is (status_tree status) status fits refl refl refl refl)
 

@@ -1,5 +1,5 @@
 -- The tree that is written of a request says that request.
-use Rattle.std.proofs.Common.{◌≡◌, ◌<◌, ◌≤◌, ◌^◌, ℕ, List, codes, true, false, Option, Some, None, Result, Ok, Err, Vec, Global, refl, sym, subst, arith}
+use Rattle.std.proofs.Common.{◌≡◌, ◌<◌, ◌≤◌, ◌^◌, ℕ, List, length, codes, true, false, Option, Some, None, Result, Ok, Err, Vec, Global, refl, sym, subst, arith}
 use Rattle.std.proofs.lemmas.Bool.{lt-ltb}
 use Rattle.std.specs.Prelude.{IfOk}
 use Rattle.std.specs.Str.{IsUtf8}
@@ -7,7 +7,7 @@ use Rattle.std.specs.declared.alloc.AllocError.{AllocError}
 use Rattle.serde_json.specs.Data.{Data, string, depth}
 use Rattle.serde_json.specs.Find.{get}
 use Rattle.serde_json.specs.Read.{max_depth, read}
-use Rattle.serde_json.specs.Written.{has_float}
+use Rattle.serde_json.specs.Written.{compact_text, has_float}
 use Rattle.serde_json.proofs.OnLiterals.{serde_json_on_literals}
 use Rattle.json_tree.specs.Tree.{member, object, text, whole, word}
 use Rattle.json_tree.specs.Reading.{HasField, MayHaveField}
@@ -19,8 +19,10 @@ use Rattle.cri_msgs.specs.declared.calls.Call.TheVariants as call
 use Rattle.cri_msgs.specs.declared.calls.Request.{Request}
 use Rattle.cri_msgs.specs.declared.keys.ContainerMetadata.{ContainerMetadata}
 use Rattle.cri_msgs.specs.declared.keys.Key.{Key}
+use Rattle.cri_msgs.specs.declared.version.TheConstants.{MAX_TEXT}
 use Rattle.cri_msgs.specs.declared.version.Version.{Version}
-use Rattle.cri_msgs.specs.Fits.{FitsContainer, FitsUid, FitsKey, FitsProfile, FitsCall}
+use Rattle.cri_msgs.proofs.SizesOfMessages.{not_empty, request_short}
+use Rattle.cri_msgs.specs.Fits.{FitsContainer, FitsUid, FitsKey, FitsProfile, FitsCall, IsSmall}
 use Rattle.cri_msgs.specs.Names.{call_name, version_number}
 use Rattle.cri_msgs.specs.Requests.{HasUid, HasContainer, HasKey, IsProfile, HasFields, IsCallOf, IsRequest, ReadsRequest}
 use Rattle.cri_msgs.specs.Written.{whole_number, profile_tree, uid_tree, uid_grace_tree, key_tree, key_grace_tree, create_tree, call_tree}
@@ -68,17 +70,17 @@ key_is : (version : Version) (id : ℕ) (name : List ℕ) (key : Key) → FitsKe
 unfolding serde_json_on_literals
 key_is version id name key fits = has_key (key_tree version id name key) key fits refl refl refl
 
-stop_pod_is : (version : Version) (id : ℕ) (uid : List ℕ) (grace : ℕ) → FitsUid uid → HasFields (uid_grace_tree version id uid grace) (call.StopPodSandbox uid grace)
+stop_pod_is : (version : Version) (id : ℕ) (uid : List ℕ) (grace : ℕ) → FitsUid uid × IsSmall grace → HasFields (uid_grace_tree version id uid grace) (call.StopPodSandbox uid grace)
 unfolding serde_json_on_literals
 stop_pod_is version id uid grace fits =
     let tree = uid_grace_tree version id uid grace in
-    (has_uid tree uid fits refl, has_whole (codes "grace") tree grace refl)
+    (has_uid tree uid fits.0 refl, has_whole (codes "grace") tree grace refl)
 
-stop_is : (version : Version) (id : ℕ) (key : Key) (grace : ℕ) → FitsKey key → HasFields (key_grace_tree version id key grace) (call.StopContainer key grace)
+stop_is : (version : Version) (id : ℕ) (key : Key) (grace : ℕ) → FitsKey key × IsSmall grace → HasFields (key_grace_tree version id key grace) (call.StopContainer key grace)
 unfolding serde_json_on_literals
 stop_is version id key grace fits =
     let tree = key_grace_tree version id key grace in
-    (has_key tree key fits refl refl refl, has_whole (codes "grace") tree grace refl)
+    (has_key tree key fits.0 refl refl refl, has_whole (codes "grace") tree grace refl)
 
 create_is : (version : Version) (id : ℕ) (key : Key) (image : List ℕ) (profile : SeccompProfile) → FitsCall (call.CreateContainer key image profile) → HasFields (create_tree version id key image profile) (call.CreateContainer key image profile)
 unfolding serde_json_on_literals
@@ -136,6 +138,9 @@ request_is version request fits known =
       fields = fields_are version request.id request.call fits;
     }
 
+some : (version : Version) (id : ℕ) (c : Call) → 0 < length (compact_text (call_tree version id c))
+some version id c = not_empty (codes "v") (call_tree version id c) _ (head_is version id c).v
+
 pub no_float : (version : Version) (id : ℕ) (c : Call) → has_float (call_tree version id c) ≡ false
 no_float version id c = (head_is version id c).whole_numbers
 
@@ -165,3 +170,16 @@ reads version request tree (Ok bytes) is fits utf8 back known =
       is = told bytes.items tree utf8 (back levels);
       says = subst (λ t. IsRequest version t request) (sym is) (request_is version request fits known);
     }
+
+-- the text fits into a frame
+pub some_bytes : (version : Version) (request : Request) (tree : Data) (r : Result (Vec ℕ Global) AllocError) → tree ≡ call_tree version request.id request.call
+    → IfOk r (λ b. has_float tree ≡ false → b.items ≡ compact_text tree) → IfOk r (λ b. 0 < length b.items)
+some_bytes version request tree (Err e) is text = tt
+some_bytes version request tree (Ok bytes) is text =
+    rw (text (rw is (no_float version request.id request.call)), is) (some version request.id request.call)
+
+pub few_bytes : (version : Version) (request : Request) (tree : Data) (r : Result (Vec ℕ Global) AllocError) → tree ≡ call_tree version request.id request.call → IsSmall request.id → FitsCall request.call
+    → IfOk r (λ b. has_float tree ≡ false → b.items ≡ compact_text tree) → IfOk r (λ b. length b.items ≤ MAX_TEXT)
+few_bytes version request tree (Err e) is small fits text = tt
+few_bytes version request tree (Ok bytes) is small fits text =
+    rw (text (rw is (no_float version request.id request.call)), is) (request_short version request.id request.call small fits)

@@ -14,7 +14,12 @@ use Rattle.cri_msgs.specs.declared.lists.TheConstants.{MAX_LISTED}
 use Rattle.cri_msgs.specs.declared.replies.Answer.{Answer}
 use Rattle.cri_msgs.specs.declared.replies.Answer.TheVariants as answer
 use Rattle.cri_msgs.specs.declared.states.State.{State}
+use Rattle.cri_msgs.specs.declared.states.Status.{Status}
 use Rattle.cri_msgs.specs.declared.states.State.TheVariants.{Created, Running, Exited}
+
+-- a number of 64 bits
+abbrev pub IsSmall : ℕ → Type 0
+IsSmall n = n < 2 ^ 64
 
 pub record FitsContainer (container : ContainerMetadata) : Type 0 where
   pub name : IsTrue (is_label container.name)
@@ -33,11 +38,11 @@ FitsProfile Unconfined = Unit {0}
 
 abbrev pub FitsCall : Call → Type 0
 FitsCall (RunPodSandbox uid) = FitsUid uid
-FitsCall (StopPodSandbox uid grace) = FitsUid uid
+FitsCall (StopPodSandbox uid grace) = FitsUid uid × IsSmall grace
 FitsCall (RemovePodSandbox uid) = FitsUid uid
 FitsCall (CreateContainer key image profile) = FitsKey key × IsTrue (is_descending image) × FitsProfile profile
 FitsCall (StartContainer key) = FitsKey key
-FitsCall (StopContainer key grace) = FitsKey key
+FitsCall (StopContainer key grace) = FitsKey key × IsSmall grace
 FitsCall (RemoveContainer key) = FitsKey key
 FitsCall (ContainerStatus key) = FitsKey key
 FitsCall (ListContainers uid) = FitsUid uid
@@ -48,12 +53,17 @@ FitsState Created = Unit {0}
 FitsState Running = Unit {0}
 FitsState (Exited code) = code < 256
 
+pub record FitsStatus (status : Status) : Type 0 where
+  pub state : FitsState status.state
+  pub performed : IsSmall status.performed
+  pub denied : IsSmall status.denied
+
 abbrev pub FitsListed : ListedContainer → Type 0
 FitsListed listed = FitsContainer listed.container
 
 pub record FitsListedStatus (listed : ListedStatus) : Type 0 where
   pub container : FitsContainer listed.container
-  pub state : FitsState listed.status.state
+  pub status : FitsStatus listed.status
 
 pub record FitsList {A : Type 0} (Fits : A → Type 0) (items : List A) : Type 0 where
   pub few : length items ≤ MAX_LISTED
@@ -62,7 +72,7 @@ pub record FitsList {A : Type 0} (Fits : A → Type 0) (items : List A) : Type 0
 abbrev pub FitsAnswer : Answer → Type 0
 FitsAnswer (answer.Refused refusal) = Unit {0}
 FitsAnswer answer.Done = Unit {0}
-FitsAnswer (answer.Container id) = Unit {0}
-FitsAnswer (answer.Status status) = FitsState status.state
+FitsAnswer (answer.Container id) = IsSmall id
+FitsAnswer (answer.Status status) = FitsStatus status
 FitsAnswer (answer.List items) = FitsList FitsListed items
 FitsAnswer (answer.Statuses items) = FitsList FitsListedStatus items

@@ -1,7 +1,8 @@
-ghost use Rattle.std.specs.Prelude.{◌≡◌, ◌≢◌, ◌↔◌, IfOk, IfErr, IsTrue, Ok};
+ghost use Rattle.std.specs.Prelude.{◌≡◌, ◌≢◌, ◌↔◌, ◌<◌, ◌≤◌, IfOk, IfErr, IsTrue, Ok, length};
 ghost use Rattle.json_tree.specs.Reading.{Gives};
 ghost use Rattle.cri_msgs.specs.declared.calls.Request.{Request};
 ghost use Rattle.cri_msgs.specs.declared.faults.MessageFault.{MessageFault};
+ghost use Rattle.cri_msgs.specs.declared.version.TheConstants.{MAX_TEXT};
 ghost use Rattle.cri_msgs.specs.Reading.{request_reading};
 ghost use Rattle.cri_msgs.specs.Requests.{IsCallOf, ReadsRequest, number_of};
 ghost use Rattle.cri_msgs.specs.Written.{request_text};
@@ -183,6 +184,10 @@ impl Request {
         // What is written reads as this request.
         ensures reads { IsCallOf version self.now.call
             → IfOk result (λ bytes. ReadsRequest version bytes.items self.now) }
+
+        // It fits into a frame.
+        ensures some { IfOk result (λ bytes. 0 < length bytes.items) }
+        ensures short { IfOk result (λ bytes. length bytes.items ≤ MAX_TEXT) }
     {
         let tree = call_tree(alloc, version, self.id, &self.call)?;
         tree.to_vec(alloc)

@@ -32,4 +32,4 @@ pub use lists::{ListedContainer, ListedStatus, Listing, MAX_LISTED, Statuses};
 pub use refusals::Refusal;
 pub use replies::{Answer, Reply};
 pub use states::{ContainerState, State, Status};
-pub use version::Version;
+pub use version::{MAX_TEXT, Version};

@@ -3,7 +3,7 @@ ghost use Rattle.std.specs.List.{AllByRecursion};
 ghost use Rattle.serde_json.specs.View.{view};
 ghost use Rattle.cri_msgs.specs.declared.lists.ListedContainer.{ListedContainer};
 ghost use Rattle.cri_msgs.specs.declared.lists.ListedStatus.{ListedStatus};
-ghost use Rattle.cri_msgs.specs.Fits.{FitsAnswer, FitsList, FitsListed, FitsListedStatus, FitsState};
+ghost use Rattle.cri_msgs.specs.Fits.{FitsAnswer, FitsList, FitsListed, FitsListedStatus, FitsState, FitsStatus, IsSmall};
 ghost use Rattle.cri_msgs.specs.Names.{state_name};
 ghost use Rattle.cri_msgs.specs.Written.{answer_tree, exit_tree, list_tree, listed_status_tree, listed_tree, ok_tree, refused_tree, status_tree};
 
@@ -25,6 +25,7 @@ pub(crate) fn answer_tree(
 ) -> Result<Value, AllocError>
     ensures tree { IfOk result (λ v. view v ≡ answer_tree version id answer.now) }
     ensures fit { IfOk result (λ _. FitsAnswer answer.now) }
+    ensures number { IfOk result (λ _. IsSmall id) }
 {
     match answer {
         Answer::Refused(refusal) => refused(alloc, version, id, refusal.number()),
@@ -70,7 +71,7 @@ fn exit(state: State) -> Value
 
 fn status_tree(alloc: Global, status: &Status) -> Result<Value, AllocError>
     ensures tree { IfOk result (λ v. view v ≡ status_tree status.now) }
-    ensures fit { IfOk result (λ _. FitsState status.now.state) }
+    ensures fit { IfOk result (λ _. FitsStatus status.now) }
 {
     json!(in alloc; {
         "denied": status.denied, "exit": exit(status.state), "performed": status.performed,

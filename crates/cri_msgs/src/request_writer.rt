@@ -1,7 +1,7 @@
 ghost use Rattle.std.specs.Prelude.{◌≡◌, IfOk, IsTrue};
 ghost use Rattle.serde_json.specs.View.{view};
 ghost use Rattle.manifest.specs.Texts.{is_descending};
-ghost use Rattle.cri_msgs.specs.Fits.{FitsCall, FitsKey, FitsProfile, FitsUid};
+ghost use Rattle.cri_msgs.specs.Fits.{FitsCall, FitsKey, FitsProfile, FitsUid, IsSmall};
 ghost use Rattle.cri_msgs.specs.Written.{call_tree, create_tree, key_grace_tree, key_tree, profile_tree, uid_grace_tree, uid_tree};
 
 use crate::calls::Call;
@@ -22,6 +22,7 @@ pub(crate) fn call_tree(
 ) -> Result<Value, AllocError>
     ensures tree { IfOk result (λ v. view v ≡ call_tree version id call.now) }
     ensures fit { IfOk result (λ _. FitsCall call.now) }
+    ensures number { IfOk result (λ _. IsSmall id) }
 {
     match call {
         Call::RunPodSandbox { uid } => by_uid(alloc, version, id, "RunPodSandbox", uid),
@@ -62,7 +63,7 @@ fn stop_pod(
     grace: u64,
 ) -> Result<Value, AllocError>
     ensures tree { IfOk result (λ v. view v ≡ uid_grace_tree version id uid.now grace) }
-    ensures fit { IfOk result (λ _. FitsUid uid.now) }
+    ensures fit { IfOk result (λ _. FitsUid uid.now × IsSmall grace) }
 {
     json!(in alloc; {
         "call": "StopPodSandbox", "grace": grace, "id": id, "uid": uid.as_str(), "v": version.number()
@@ -93,7 +94,7 @@ fn stop(
     grace: u64,
 ) -> Result<Value, AllocError>
     ensures tree { IfOk result (λ v. view v ≡ key_grace_tree version id key.now grace) }
-    ensures fit { IfOk result (λ _. FitsKey key.now) }
+    ensures fit { IfOk result (λ _. FitsKey key.now × IsSmall grace) }
 {
     json!(in alloc; {
         "attempt": key.container.attempt, "call": "StopContainer", "grace": grace, "id": id,
