@@ -11,3 +11,4 @@ pub mod WrittenReply
 pub mod Exits
 pub mod Sizes
 pub mod SizesOfMessages
+pub mod SizesOfReplies

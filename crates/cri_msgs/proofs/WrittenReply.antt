@@ -10,7 +10,7 @@ use Rattle.serde_json.specs.Data.{Data, Items, string, array, object as an_objec
 use Rattle.serde_json.specs.Find.{get}
 use Rattle.serde_json.specs.Read.{max_depth, read}
 use Rattle.serde_json.specs.View.{items_of}
-use Rattle.serde_json.specs.Written.{has_float, items_have_float}
+use Rattle.serde_json.specs.Written.{compact_text, has_float, items_have_float}
 use Rattle.serde_json.proofs.OnLiterals.{serde_json_on_literals}
 use Rattle.json_tree.specs.Tree.{items_list, list, member, object, text, whole}
 use Rattle.json_tree.specs.Reading.{Both, HasField}
@@ -24,12 +24,15 @@ use Rattle.cri_msgs.specs.declared.replies.Reply.{Reply}
 use Rattle.cri_msgs.specs.declared.states.State.{State}
 use Rattle.cri_msgs.specs.declared.states.State.TheVariants.{Created, Running, Exited}
 use Rattle.cri_msgs.specs.declared.states.Status.{Status}
+use Rattle.cri_msgs.specs.declared.version.TheConstants.{MAX_TEXT}
 use Rattle.cri_msgs.specs.declared.version.Version.{Version}
 use Rattle.cri_msgs.specs.declared.version.Version.TheVariants.{V2}
-use Rattle.cri_msgs.specs.Fits.{FitsAnswer, FitsList, FitsListed, FitsListedStatus, FitsState, FitsStatus}
+use Rattle.cri_msgs.specs.Fits.{FitsAnswer, FitsList, FitsListed, FitsListedStatus, FitsState, FitsStatus, IsSmall}
 use Rattle.cri_msgs.specs.Names.{kind_of, refusal_number, state_name, version_number}
 use Rattle.cri_msgs.specs.Replies.{HasExit, HasStatus, IsListed, IsListedStatus, HasList, IsAnswerOf, IsOk, HasAnswer, IsReply, ReadsReply}
 use Rattle.cri_msgs.specs.Written.{whole_number, exit_tree, status_tree, listed_tree, listed_status_tree, list_tree, refused_tree, ok_tree, answer_tree}
+use Rattle.cri_msgs.proofs.SizesOfMessages.{not_empty}
+use Rattle.cri_msgs.proofs.SizesOfReplies.{reply_short}
 use Rattle.cri_msgs.proofs.WrittenRequest.{has_text, has_whole, has_container}
 
 has_exit : (tree : Data) (state : State) → FitsState state → get (codes "exit") tree ≡ Some (exit_tree state) → HasExit tree state
@@ -217,3 +220,19 @@ reads version reply tree (Ok bytes) is fits utf8 back known =
       is = told bytes.items tree utf8 (back levels);
       says = subst (λ t. IsReply version t reply) (sym is) (reply_is version reply fits known);
     }
+
+some : (version : Version) (id : ℕ) (said : Answer) → 0 < length (compact_text (answer_tree version id said))
+some version id said = not_empty (codes "v") (answer_tree version id said) _ (head_is version id said).v
+
+-- the text fits into a frame
+pub some_bytes : (version : Version) (reply : Reply) (tree : Data) (r : Result (Vec ℕ Global) AllocError) → tree ≡ answer_tree version reply.id reply.answer
+    → IfOk r (λ b. has_float tree ≡ false → b.items ≡ compact_text tree) → IfOk r (λ b. 0 < length b.items)
+some_bytes version reply tree (Err e) is text = tt
+some_bytes version reply tree (Ok bytes) is text =
+    rw (text (rw is (no_float version reply.id reply.answer)), is) (some version reply.id reply.answer)
+
+pub few_bytes : (version : Version) (reply : Reply) (tree : Data) (r : Result (Vec ℕ Global) AllocError) → tree ≡ answer_tree version reply.id reply.answer → IsSmall reply.id → FitsAnswer reply.answer
+    → IfOk r (λ b. has_float tree ≡ false → b.items ≡ compact_text tree) → IfOk r (λ b. length b.items ≤ MAX_TEXT)
+few_bytes version reply tree (Err e) is small fits text = tt
+few_bytes version reply tree (Ok bytes) is small fits text =
+    rw (text (rw is (no_float version reply.id reply.answer)), is) (reply_short version reply.id reply.answer small fits)

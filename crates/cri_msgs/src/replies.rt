@@ -1,7 +1,8 @@
-ghost use Rattle.std.specs.Prelude.{◌≡◌, ◌≢◌, ◌↔◌, IfOk, IfErr, IsTrue, Ok};
+ghost use Rattle.std.specs.Prelude.{◌≡◌, ◌≢◌, ◌↔◌, ◌<◌, ◌≤◌, IfOk, IfErr, IsTrue, Ok, length};
 ghost use Rattle.json_tree.specs.Reading.{Gives};
 ghost use Rattle.cri_msgs.specs.declared.faults.MessageFault.{MessageFault};
 ghost use Rattle.cri_msgs.specs.declared.replies.Reply.{Reply};
+ghost use Rattle.cri_msgs.specs.declared.version.TheConstants.{MAX_TEXT};
 ghost use Rattle.cri_msgs.specs.Reading.{reply_reading};
 ghost use Rattle.cri_msgs.specs.Replies.{IsAnswerOf, ReadsReply};
 ghost use Rattle.cri_msgs.specs.Requests.{number_of};
@@ -104,6 +105,10 @@ impl Reply {
         // What is written reads as this reply.
         ensures reads { IsAnswerOf version self.now.answer
             → IfOk result (λ bytes. ReadsReply version bytes.items self.now) }
+
+        // It fits into a frame.
+        ensures some { IfOk result (λ bytes. 0 < length bytes.items) }
+        ensures short { IfOk result (λ bytes. length bytes.items ≤ MAX_TEXT) }
     {
         let tree = answer_tree(alloc, version, self.id, &self.answer)?;
         tree.to_vec(alloc)
