@@ -69,17 +69,17 @@ mutual
   items_text_size : (later : Bool) (ds : Items) → length (items_text later ds) ≤ items_size ds + 1
   items_text_size later no_items = omega arith
   items_text_size later (item d ds) =
-    omega (arith, comma_size later (compact_text d ++ items_text true ds), length-append (compact_text d) (items_text true ds), text_size d, items_text_size true ds)
+      omega (arith, comma_size later (compact_text d ++ items_text true ds), length-append (compact_text d) (items_text true ds), text_size d, items_text_size true ds)
 
   members_text_size : (later : Bool) (ms : Members) → length (members_text later ms) ≤ members_size ms + 1
   members_text_size later no_members = omega arith
   members_text_size later (member k d ms) =
-    omega (
-      arith,
-      comma_size later (compact_text (string k) ++ 58 ∷ (compact_text d ++ members_text true ms)),
-      length-append (compact_text (string k)) (58 ∷ (compact_text d ++ members_text true ms)),
-      length-append (compact_text d) (members_text true ms),
-      quoted_size k,
-      text_size d,
-      members_text_size true ms,
-    )
+      omega (
+        arith,
+        comma_size later (compact_text (string k) ++ 58 ∷ (compact_text d ++ members_text true ms)),
+        length-append (compact_text (string k)) (58 ∷ (compact_text d ++ members_text true ms)),
+        length-append (compact_text d) (members_text true ms),
+        quoted_size k,
+        text_size d,
+        members_text_size true ms,
+      )
