@@ -1,7 +1,7 @@
 ghost use Rattle.std.specs.Prelude.{◌≡◌, ◌↔◌, IfOk, IsTrue};
 ghost use Rattle.std.proofs.Common.{rules};
 ghost use Rattle.std.specs.Cmp.Rules.{comparing};
-ghost use Rattle.std.specs.Ordering.{as_partial_cmp};
+ghost use Rattle.std.specs.Ordering.{as_partial_cmp, eq_by_cmp};
 
 use manifest::{Label, SeccompProfile, Uid};
 use std::alloc::{AllocError, Global};
@@ -68,14 +68,14 @@ impl PartialOrd for ContainerMetadata {
 }
 
 impl PartialEq for ContainerMetadata {
-    ghost use Rattle.cri_msgs.specs.Order.{container_eq};
+    ghost use Rattle.cri_msgs.specs.Order.{container_cmp};
 
-    ghost eq = { container_eq };
+    ghost eq = { eq_by_cmp container_cmp };
 
     ghost laws = { Prim.search (comparing, rules) };
 
     fn eq(&self, other: &ContainerMetadata) -> bool {
-        self.same(other)
+        self.cmp(other) == Ordering::Equal
     }
 }
 
