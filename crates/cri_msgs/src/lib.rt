@@ -9,6 +9,8 @@
 
 mod calls;
 mod faults;
+#[cfg(test)]
+mod field_tests;
 mod fields;
 mod keys;
 mod laws;
@@ -22,6 +24,8 @@ mod request_reader;
 mod request_writer;
 mod states;
 mod tells;
+#[cfg(test)]
+mod test_texts;
 #[cfg(test)]
 mod tests;
 mod version;
