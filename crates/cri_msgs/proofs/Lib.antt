@@ -1,0 +1,14 @@
+pub mod Found
+pub mod Only
+pub mod Messages
+pub mod ReadRequest
+pub mod FoundReply
+pub mod OnlyReply
+pub mod ReadReply
+pub mod WrittenRequest
+pub mod Entries
+pub mod WrittenReply
+pub mod Exits
+pub mod Sizes
+pub mod SizesOfMessages
+pub mod SizesOfReplies

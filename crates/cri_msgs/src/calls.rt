@@ -1,0 +1,214 @@
+ghost use Rattle.std.specs.Prelude.{◌≡◌, ◌≢◌, ◌↔◌, ◌<◌, ◌≤◌, IfOk, IfErr, IsTrue, Ok, length};
+ghost use Rattle.json_tree.specs.Reading.{Gives};
+ghost use Rattle.cri_msgs.specs.declared.calls.Request.{Request};
+ghost use Rattle.cri_msgs.specs.declared.faults.MessageFault.{MessageFault};
+ghost use Rattle.cri_msgs.specs.declared.version.TheConstants.{MAX_TEXT};
+ghost use Rattle.cri_msgs.specs.Reading.{request_reading};
+ghost use Rattle.cri_msgs.specs.Requests.{IsCallOf, ReadsRequest, number_of};
+ghost use Rattle.cri_msgs.specs.Written.{request_text};
+
+use crate::faults::MessageFault;
+use crate::fields::message_fault;
+use crate::keys::{Key, same_profile};
+use crate::request_reader::request;
+use crate::request_writer::call_tree;
+use crate::version::Version;
+use json_tree::TextFault;
+use manifest::{DescendingPath, SeccompProfile, Uid};
+use std::alloc::{AllocError, Global};
+
+/// What is asked of a runtime, by the names of CRI v1. A grace is a number of seconds.
+#[derive(Debug, Drop)]
+pub enum Call {
+    RunPodSandbox {
+        uid: Uid,
+    },
+    /// CRI's has no grace: this project's own.
+    StopPodSandbox {
+        uid: Uid,
+        grace: u64,
+    },
+    RemovePodSandbox {
+        uid: Uid,
+    },
+    CreateContainer {
+        key: Key,
+        /// The file of its script, relative to the runtime's folder of scripts.
+        image: DescendingPath,
+        /// The path of a Localhost profile is relative to the runtime's folder of profiles.
+        profile: SeccompProfile,
+    },
+    StartContainer {
+        key: Key,
+    },
+    StopContainer {
+        key: Key,
+        grace: u64,
+    },
+    RemoveContainer {
+        key: Key,
+    },
+    ContainerStatus {
+        key: Key,
+    },
+    ListContainers {
+        uid: Uid,
+    },
+    /// The statuses of all containers of a sandbox: this project's own, in version 2 alone.
+    ContainerStatuses {
+        uid: Uid,
+    },
+}
+
+impl Call {
+    /// Whether both are the same call.
+    pub fn same(&self, other: &Call) -> bool
+        ensures { IsTrue result ↔ (self.now ≡ other.now) }
+    {
+        match (self, other) {
+            (Call::RunPodSandbox { uid: a }, Call::RunPodSandbox { uid: b })
+            | (Call::RemovePodSandbox { uid: a }, Call::RemovePodSandbox { uid: b })
+            | (Call::ListContainers { uid: a }, Call::ListContainers { uid: b })
+            | (Call::ContainerStatuses { uid: a }, Call::ContainerStatuses { uid: b }) => {
+                a.as_str() == b.as_str()
+            }
+            (
+                Call::StopPodSandbox { uid: a, grace: g },
+                Call::StopPodSandbox { uid: b, grace: h },
+            ) => { *g == *h && a.as_str() == b.as_str() }
+            (
+                Call::CreateContainer {
+                    key: a,
+                    image: i,
+                    profile: p,
+                },
+                Call::CreateContainer {
+                    key: b,
+                    image: j,
+                    profile: q,
+                },
+            ) => a.same(b) && i.as_str() == j.as_str() && same_profile(p, q),
+            (Call::StopContainer { key: a, grace: g }, Call::StopContainer { key: b, grace: h }) =>
+                { *g == *h && a.same(b) }
+            (Call::StartContainer { key: a }, Call::StartContainer { key: b })
+            | (Call::RemoveContainer { key: a }, Call::RemoveContainer { key: b })
+            | (Call::ContainerStatus { key: a }, Call::ContainerStatus { key: b }) => a.same(b),
+            _ => false,
+        }
+    }
+
+    /// The same call once more.
+    pub fn try_clone(&self, alloc: Global) -> Result<Call, AllocError>
+        ensures { IfOk result (λ copy. copy ≡ self.now) }
+    {
+        match self {
+            Call::RunPodSandbox { uid } => Ok(Call::RunPodSandbox {
+                uid: uid.try_clone(alloc)?,
+            }),
+            Call::StopPodSandbox { uid, grace } => Ok(Call::StopPodSandbox {
+                uid: uid.try_clone(alloc)?,
+                grace: *grace,
+            }),
+            Call::RemovePodSandbox { uid } => Ok(Call::RemovePodSandbox {
+                uid: uid.try_clone(alloc)?,
+            }),
+            Call::CreateContainer {
+                key,
+                image,
+                profile,
+            } => Ok(Call::CreateContainer {
+                key: key.try_clone(alloc)?,
+                image: image.try_clone(alloc)?,
+                profile: profile.try_clone(alloc)?,
+            }),
+            Call::StartContainer { key } => Ok(Call::StartContainer {
+                key: key.try_clone(alloc)?,
+            }),
+            Call::StopContainer { key, grace } => Ok(Call::StopContainer {
+                key: key.try_clone(alloc)?,
+                grace: *grace,
+            }),
+            Call::RemoveContainer { key } => Ok(Call::RemoveContainer {
+                key: key.try_clone(alloc)?,
+            }),
+            Call::ContainerStatus { key } => Ok(Call::ContainerStatus {
+                key: key.try_clone(alloc)?,
+            }),
+            Call::ListContainers { uid } => Ok(Call::ListContainers {
+                uid: uid.try_clone(alloc)?,
+            }),
+            Call::ContainerStatuses { uid } => Ok(Call::ContainerStatuses {
+                uid: uid.try_clone(alloc)?,
+            }),
+        }
+    }
+}
+
+/// A call with its number.
+#[derive(Debug, Drop)]
+pub struct Request {
+    pub id: u64,
+    pub call: Call,
+}
+
+impl Request {
+    /// Whether both are the same request.
+    pub fn same(&self, other: &Request) -> bool
+        ensures { IsTrue result ↔ (self.now ≡ other.now) }
+    {
+        self.id == other.id && self.call.same(&other.call)
+    }
+
+    /// The request in the text of a frame of this version. A text that is none is told with its number.
+    pub fn read(alloc: Global, version: Version, bytes: &[u8]) -> Result<Request, MessageFault>
+        // What is read is the text's request.
+        ensures found { IfOk result (λ request. ReadsRequest version bytes.now request) }
+
+        // What is a request is read, unless memory runs out.
+        ensures only { (request : Request) → ReadsRequest version bytes.now request
+            → Gives MessageFault.Memory (λ r. r) result (Ok request) }
+
+        // Any other text is told with its number.
+        ensures refused { IfErr result (λ fault. fault ≢ MessageFault.Memory
+            → fault ≡ MessageFault.NoMessage (number_of bytes.now)) }
+    {
+        reading(alloc, version, bytes)
+    }
+
+    /// The text of the request in a frame of this version: compact JSON, keys in the order of their bytes.
+    /// Version 1 has no ContainerStatuses, so what is written of it then reads as no message.
+    #[tactic(auto, using(crate::proofs::WrittenRequest::no_float))]
+    pub fn write(&self, alloc: Global, version: Version) -> Result<Vec<u8>, AllocError>
+        ensures text { IfOk result (λ bytes. bytes.items ≡ request_text version self.now) }
+
+        // What is written reads as this request.
+        ensures reads { IsCallOf version self.now.call
+            → IfOk result (λ bytes. ReadsRequest version bytes.items self.now) }
+
+        // It fits into a frame.
+        ensures some { IfOk result (λ bytes. 0 < length bytes.items) }
+        ensures short { IfOk result (λ bytes. length bytes.items ≤ MAX_TEXT) }
+    {
+        let tree = call_tree(alloc, version, self.id, &self.call)?;
+        tree.to_vec(alloc)
+    }
+
+    /// The same request once more.
+    pub fn try_clone(&self, alloc: Global) -> Result<Request, AllocError>
+        ensures { IfOk result (λ copy. copy ≡ self.now) }
+    {
+        let call = self.call.try_clone(alloc)?;
+        Ok(Request { id: self.id, call })
+    }
+}
+
+#[tactic(auto, unfolding(json_tree::specs::Reading::document))]
+fn reading(alloc: Global, version: Version, bytes: &[u8]) -> Result<Request, MessageFault>
+    ensures { Gives MessageFault.Memory (λ r. r) result (request_reading version bytes.now) }
+{
+    match json_tree::read(alloc, bytes) {
+        Ok(tree) => request(alloc, version, &tree).map_err(|fault| message_fault(fault, &tree)),
+        Err(TextFault::NotJson) => Err(MessageFault::NoMessage(0)),
+        Err(TextFault::Memory) => Err(MessageFault::Memory),
+    }
+}

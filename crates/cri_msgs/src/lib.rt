@@ -1,0 +1,41 @@
+//! The messages that agent and runtime exchange: the calls of CRI v1 that this project has, and their
+//! answers, as JSON texts.
+//!
+//! The types keep the rules of the format: a uid, a name or a path that is none can't be held, an exit code
+//! stands only where a container has exited, and a list has at most [`MAX_LISTED`] entries. Which text is
+//! which message stands in `specs/Requests.antt` and `specs/Replies.antt`, how a message is written in
+//! `specs/Written.antt`.
+#![tactic(auto)]
+
+mod calls;
+mod faults;
+#[cfg(test)]
+mod field_tests;
+mod fields;
+mod keys;
+mod laws;
+mod lists;
+mod names;
+mod refusals;
+mod replies;
+mod reply_reader;
+mod reply_writer;
+mod request_reader;
+mod request_writer;
+mod states;
+mod tells;
+#[cfg(test)]
+mod test_texts;
+#[cfg(test)]
+mod tests;
+mod version;
+
+pub use calls::{Call, Request};
+pub use faults::MessageFault;
+pub use keys::{ContainerMetadata, Key, same_profile};
+pub use laws::constants_are_as_stated;
+pub use lists::{ListedContainer, ListedStatus, Listing, MAX_LISTED, Statuses};
+pub use refusals::Refusal;
+pub use replies::{Answer, Reply};
+pub use states::{ContainerState, State, Status};
+pub use version::{MAX_TEXT, Version};

@@ -1,0 +1,72 @@
+use crate::*;
+use std::alloc::Global;
+
+// What tests of messages share. None owns two messages at once.
+
+// What is written of a request, if its copy is the same.
+fn written(alloc: Global, request: &Request, to: Version) -> Option<Vec<u8>> {
+    if is_copied(alloc, request) {
+        request.write(alloc, to).ok()
+    } else {
+        None
+    }
+}
+
+fn is_copied(alloc: Global, request: &Request) -> bool {
+    match request.try_clone(alloc) {
+        Ok(copy) => copy.same(request),
+        Err(_) => false,
+    }
+}
+
+pub(crate) fn request_again(alloc: Global, text: &str, to: Version) -> Option<Vec<u8>> {
+    match Request::read(alloc, Version::V2, text.as_bytes()) {
+        Ok(request) => written(alloc, &request, to),
+        Err(_) => None,
+    }
+}
+
+fn reply_written(alloc: Global, reply: &Reply, to: Version) -> Option<Vec<u8>> {
+    if is_reply_copied(alloc, reply) {
+        reply.write(alloc, to).ok()
+    } else {
+        None
+    }
+}
+
+fn is_reply_copied(alloc: Global, reply: &Reply) -> bool {
+    match reply.try_clone(alloc) {
+        Ok(copy) => copy.same(reply),
+        Err(_) => false,
+    }
+}
+
+pub(crate) fn reply_again(alloc: Global, text: &str, to: Version) -> Option<Vec<u8>> {
+    match Reply::read(alloc, Version::V2, text.as_bytes()) {
+        Ok(reply) => reply_written(alloc, &reply, to),
+        Err(_) => None,
+    }
+}
+
+pub(crate) fn is_request(alloc: Global, version: Version, text: &str) -> bool {
+    Request::read(alloc, version, text.as_bytes()).is_ok()
+}
+
+pub(crate) fn is_reply(alloc: Global, version: Version, text: &str) -> bool {
+    Reply::read(alloc, version, text.as_bytes()).is_ok()
+}
+
+pub(crate) fn is_text(written: Option<Vec<u8>>, text: &str) -> bool {
+    match written {
+        Some(bytes) => bytes.as_slice() == text.as_bytes(),
+        None => false,
+    }
+}
+
+pub(crate) fn request_fault(alloc: Global, text: &[u8]) -> Option<MessageFault> {
+    Request::read(alloc, Version::V2, text).err()
+}
+
+pub(crate) fn reply_fault(alloc: Global, text: &[u8]) -> Option<MessageFault> {
+    Reply::read(alloc, Version::V2, text).err()
+}
