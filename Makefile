@@ -28,7 +28,7 @@ demo:
 	@echo "demo: built without waiting for the proofs; 'make test' proves what it runs"
 	@cd crates/seccheck && rt try --data x86_64_only.bpf=$(EXAMPLES)/x86_64_only.bpf \
 	  --data no_ptrace.bpf=$(EXAMPLES)/no_ptrace.bpf --data tries_ptrace.json=$(EXAMPLES)/tries_ptrace.json \
-	  --data no_ptrace.json=$(EXAMPLES)/no_ptrace.json --data two_profiles.json=$(EXAMPLES)/two_profiles.json \
+	  --data adds_a_filter.json=$(EXAMPLES)/adds_a_filter.json --data no_ptrace.json=$(EXAMPLES)/no_ptrace.json --data two_profiles.json=$(EXAMPLES)/two_profiles.json \
 	  --cases $(EXAMPLES)/demo
 
 lib:
