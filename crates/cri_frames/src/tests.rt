@@ -1,9 +1,8 @@
 use crate::{Feed, FeedFault, frame_of};
 use cri_msgs::{MAX_TEXT, Version};
-use std::process::Abort;
-use std::test::Fail;
+use std::alloc::{AllocError, Global};
 
-// Requests and replies, each with its frame's four bytes.
+// Requests and replies, each behind its frame's four bytes.
 const FRAMES: [&str; 9] = [
     "\0\0\0\x30{\"call\":\"RunPodSandbox\",\"id\":1,\"uid\":\"u1\",\"v\":1}",
     "\0\0\0\x16{\"id\":1,\"ok\":{},\"v\":1}",
@@ -24,62 +23,112 @@ fn push(feed: &mut Feed, piece: &[u8]) -> Result<(), FeedFault> {
     }
 }
 
-// Takes what is whole, and adds its bytes as they were pushed.
-fn take_all(rt: &impl AllocGlobal, feed: &mut Feed, taken: &mut Vec<u8>) -> Result<u64, Fail> {
-    for count in 0..1_000_000 {
-        let Some((version, text)) = feed.take() else {
-            return Ok(count);
-        };
-        taken.push(match version {
-            Version::V1 => 0,
-            Version::V2 => 2,
-        })?;
-        let length = text.len() as u32;
-        let bytes = length.to_be_bytes();
-        taken.extend_from_slice(&bytes[1..])?;
-        taken.extend_from_slice(text.as_slice())?;
-    }
-    Ok(1_000_000)
+// Adds a frame's bytes as they were pushed.
+fn add(taken: &mut Vec<u8>, version: Version, text: &[u8]) -> Result<(), AllocError> {
+    let length = text.len() as u64;
+    taken.push(match version {
+        Version::V1 => 0,
+        Version::V2 => 2,
+    })?;
+    taken.extend_from_slice(&length.to_be_bytes()[5..])?;
+    taken.extend_from_slice(text)
 }
 
-fn frames_come_in_any_pieces(rt: &(impl AllocGlobal + Abort)) -> Result<(), Fail> {
-    let mut stream = Vec::new(rt.alloc());
+fn take_all(feed: &mut Feed, taken: &mut Vec<u8>) -> Result<(), AllocError> {
+    for _ in 0..1_000 {
+        match feed.take() {
+            Some((version, text)) => add(taken, version, text.as_slice())?,
+            None => return Ok(()),
+        }
+    }
+    Ok(())
+}
+
+// Pushes a piece and adds what is whole then.
+fn pass(feed: &mut Feed, piece: &[u8], taken: &mut Vec<u8>) -> bool {
+    push(feed, piece).is_ok() && take_all(feed, taken).is_ok()
+}
+
+fn all_frames(alloc: Global) -> Result<Vec<u8>, AllocError> {
+    let mut stream = Vec::new(alloc);
     for frame in FRAMES {
         stream.extend_from_slice(frame.as_bytes())?;
     }
+    Ok(stream)
+}
+
+// Whether a stream in pieces of so many bytes is taken as it is.
+fn is_passed(alloc: Global, stream: &[u8], size: usize) -> bool {
+    let mut feed = Feed::new(alloc);
+    let mut taken = Vec::new(alloc);
+    for piece in stream.chunks(size.max(1)) {
+        if !pass(&mut feed, piece, &mut taken) {
+            return false;
+        }
+    }
+    taken.as_slice() == stream
+}
+
+// Whether a frame that is cut there is taken with its second part, and nothing before.
+fn is_taken_whole(alloc: Global, frame: &[u8], cut: usize) -> bool {
+    let (front, back) = frame.split_at(cut.min(frame.len()));
+    let mut feed = Feed::new(alloc);
+    let mut early = Vec::new(alloc);
+    let mut taken = Vec::new(alloc);
+    pass(&mut feed, front, &mut early)
+        && pass(&mut feed, back, &mut taken)
+        && early.is_empty()
+        && taken.as_slice() == frame
+}
+
+// Behind a frame: what is answered to three bytes, to the fourth, and to none; and whether the frame alone is
+// taken then.
+fn answers(alloc: Global, head: u32) -> (bool, bool, bool, bool) {
+    let bytes = head.to_be_bytes();
+    let mut feed = Feed::new(alloc);
+    let mut taken = Vec::new(alloc);
+    let before = push(&mut feed, "\0\0\0\x02{}".as_bytes());
+    let third = push(&mut feed, &bytes[..3]);
+    let fourth = push(&mut feed, &bytes[3..]);
+    let again = push(&mut feed, &[]);
+    let is_taken = take_all(&mut feed, &mut taken).is_ok();
+    (
+        before.is_ok() && third.is_ok(),
+        fourth == Err(FeedFault::BadLength),
+        again == Err(FeedFault::BadLength),
+        is_taken && taken.as_slice() == "\0\0\0\x02{}".as_bytes(),
+    )
+}
+
+// Whether a frame of the greatest length is passed on, and its head.
+fn longest(alloc: Global) -> Option<(bool, u32)> {
+    let text = vec![in alloc; b'x'; MAX_TEXT].ok()?;
+    let frame = frame_of(alloc, Version::V2, text.as_slice()).ok()?;
+    let head = frame.first_chunk::<4>()?;
+    Some((
+        is_passed(alloc, frame.as_slice(), 4096),
+        u32::from_be_bytes(*head),
+    ))
+}
+
+// One function, as each test is proved with all that it calls.
+#[test]
+fn streams(rt: HostRuntime) {
+    let stream = all_frames(rt.alloc()).expect(&rt, "memory");
     for size in [1, 2, 3, 5, 48, 52, 100, 1000] {
-        let mut feed = Feed::new(rt.alloc());
-        let mut taken = Vec::new(rt.alloc());
-        let mut count: u64 = 0;
-        for piece in stream.as_slice().chunks(size) {
-            push(&mut feed, piece)?;
-            count = count.saturating_add(take_all(rt, &mut feed, &mut taken)?);
-        }
-        assert_eq!(rt; count, 9, "pieces of {size}");
-        assert_eq!(rt; taken.as_slice(), stream.as_slice(), "pieces of {size}");
+        assert!(rt;
+            is_passed(rt.alloc(), stream.as_slice(), size),
+            "pieces of {size}"
+        );
     }
-    Ok(())
-}
-
-// A frame that is cut anywhere is not there until the rest of it is.
-fn frames_are_taken_whole(rt: &(impl AllocGlobal + Abort)) -> Result<(), Fail> {
     for frame in FRAMES {
-        let frame = frame.as_bytes();
         for cut in 0..frame.len() {
-            let (front, back) = frame.split_at(cut);
-            let mut feed = Feed::new(rt.alloc());
-            let mut taken = Vec::new(rt.alloc());
-            push(&mut feed, front)?;
-            assert_eq!(rt; take_all(rt, &mut feed, &mut taken)?, 0, "cut at {cut}");
-            push(&mut feed, back)?;
-            assert_eq!(rt; take_all(rt, &mut feed, &mut taken)?, 1, "cut at {cut}");
-            assert_eq!(rt; taken.as_slice(), frame, "cut at {cut}");
+            assert!(rt;
+                is_taken_whole(rt.alloc(), frame.as_bytes(), cut),
+                "cut at {cut}"
+            );
         }
     }
-    Ok(())
-}
-
-fn heads_of_no_frame(rt: &(impl AllocGlobal + Abort)) -> Result<(), Fail> {
     let cases = [
         (0x0010_0001, true),
         (0x0300_0001, true),
@@ -94,49 +143,9 @@ fn heads_of_no_frame(rt: &(impl AllocGlobal + Abort)) -> Result<(), Fail> {
         (0x0000_0001, false),
         (0x0200_0001, false),
     ];
-    for (number, is_bad) in cases {
-        let number: u32 = number;
-        let head = number.to_be_bytes();
-        let want = if is_bad {
-            Err(FeedFault::BadLength)
-        } else {
-            Ok(())
-        };
-        let mut feed = Feed::new(rt.alloc());
-        let mut taken = Vec::new(rt.alloc());
-        push(&mut feed, "\0\0\0\x02{}".as_bytes())?;
-        // It is not judged before the fourth byte.
-        assert_eq!(rt; push(&mut feed, &head[..3]), Ok(()), "{number:08x}");
-        assert_eq!(rt; push(&mut feed, &head[3..]), want, "{number:08x}");
-        // It answers so again, takes in nothing more, and gives what came before.
-        assert_eq!(rt; push(&mut feed, &[]), want, "{number:08x}");
-        assert_eq!(rt; take_all(rt, &mut feed, &mut taken)?, 1, "{number:08x}");
-        assert_eq!(rt; push(&mut feed, &[]), want, "{number:08x}");
-        assert_eq!(rt; taken.as_slice(), "\0\0\0\x02{}".as_bytes(), "{number:08x}");
+    for (head, is_bad) in cases {
+        let found = answers(rt.alloc(), head);
+        assert!(rt; found == (true, is_bad, is_bad, true), "{head:08x}");
     }
-    Ok(())
-}
-
-fn the_longest_frame(rt: &(impl AllocGlobal + Abort)) -> Result<(), Fail> {
-    let text = vec![in rt.alloc(); b'x'; MAX_TEXT]?;
-    let frame = frame_of(rt.alloc(), Version::V2, text.as_slice())?;
-    assert_eq!(rt; &frame[..4], "\x02\x10\0\0".as_bytes());
-    let mut feed = Feed::new(rt.alloc());
-    for piece in frame.as_slice().chunks(4096) {
-        assert!(rt; feed.take().is_none());
-        push(&mut feed, piece)?;
-    }
-    let (version, taken) = feed.take().ok_or("a frame")?;
-    assert_eq!(rt; version, Version::V2);
-    assert_eq!(rt; taken.as_slice(), text.as_slice());
-    Ok(())
-}
-
-// One function, as each test is proved with all that it calls.
-#[test]
-fn streams(rt: HostRuntime) -> Result<(), Fail> {
-    frames_come_in_any_pieces(&rt)?;
-    frames_are_taken_whole(&rt)?;
-    heads_of_no_frame(&rt)?;
-    the_longest_frame(&rt)
+    assert!(rt; longest(rt.alloc()) == Some((true, 0x0210_0000)));
 }
