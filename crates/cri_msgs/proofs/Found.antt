@@ -4,7 +4,7 @@ use Rattle.std.specs.Str.{bytes_eq}
 use Rattle.std.proofs.lemmas.Slice.Eq.{bytes_eq-Decides}
 use Rattle.serde_json.specs.Data.{Data}
 use Rattle.json_tree.specs.Tree.{object, text, whole, word}
-use Rattle.json_tree.specs.Reading.{◌>>=◌, ◌>>◌, refuse_if, required, optional, HasField}
+use Rattle.json_tree.specs.Reading.{refuse_if, required, optional, HasField}
 use Rattle.json_tree.specs.declared.faults.FieldFault.TheVariants.{WrongType}
 use Rattle.json_tree.proofs.Loops.{bind_ok, then_ok}
 use Rattle.json_tree.proofs.Fields.{refuse_if_ok, required_found, optional_found}
@@ -24,7 +24,7 @@ use Rattle.cri_msgs.specs.declared.version.Version.{Version}
 use Rattle.cri_msgs.specs.declared.version.Version.TheVariants.{V1, V2}
 use Rattle.cri_msgs.specs.Names.{call_name, version_number}
 use Rattle.cri_msgs.specs.Reading.{fitting, container_of, key_of, without_path, with_path, profile_named, profile_in, profile_of, call_named, by_uid, by_key, stop_pod_of, create_of, stop_of, call_by, numbered, call_of, request_of}
-use Rattle.cri_msgs.specs.Requests.{HasUid, HasContainer, HasKey, HasImage, IsProfile, HasProfile, HasFields, IsCallOf, IsRequest}
+use Rattle.cri_msgs.specs.Requests.{HasUid, HasContainer, HasKey, HasProfile, HasFields, IsCallOf, IsRequest}
 
 same_bytes : (one other : List ℕ) → bytes_eq one other ≡ true → one ≡ other
 same_bytes one other h = (bytes_eq-Decides one other).0 h

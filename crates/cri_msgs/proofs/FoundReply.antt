@@ -1,10 +1,9 @@
 -- What is read of a reply is so: each reading, where it goes on, gives what the tree has.
-use Rattle.std.proofs.Common.{◌≡◌, ◌<◌, ◌≤◌, ℕ, eqb, eqb-true, ltb, List, length, not, codes, cond, Bool, true, false, Option, Some, None, Result, Ok, Err, refl, sym, subst, ◌∙◌}
+use Rattle.std.proofs.Common.{◌≡◌, ◌≤◌, ℕ, eqb-true, ltb, List, length, not, codes, cond, Bool, true, false, Result, Ok, refl, sym, subst}
 use Rattle.std.proofs.lemmas.Bool.{ltb-true, ltb-false}
-use Rattle.std.specs.Str.{bytes_eq}
 use Rattle.serde_json.specs.Data.{Data}
-use Rattle.json_tree.specs.Tree.{has, list, member, object, text, whole}
-use Rattle.json_tree.specs.Reading.{◌>>=◌, ◌>>◌, refuse_if, in_order, required, Both, HasField}
+use Rattle.json_tree.specs.Tree.{has, list, object, text, whole}
+use Rattle.json_tree.specs.Reading.{refuse_if, in_order, required, HasField}
 use Rattle.json_tree.specs.declared.faults.FieldFault.{FieldFault}
 use Rattle.json_tree.specs.declared.faults.FieldFault.TheVariants.{WrongType}
 use Rattle.json_tree.proofs.Loops.{bind_ok, then_ok}

@@ -1,5 +1,5 @@
 -- What is read of a text, over what is read of its tree.
-use Rattle.std.proofs.Common.{◌≡◌, ℕ, List, Option, Some, None, unwrap_or, option_and_then, Result, Ok, Err, refl}
+use Rattle.std.proofs.Common.{◌≡◌, ℕ, Option, Some, None, unwrap_or, option_and_then, Result, Ok, Err, refl}
 use Rattle.serde_json.specs.Data.{Data}
 use Rattle.json_tree.specs.Reading.{as_fault}
 use Rattle.json_tree.specs.declared.faults.FieldFault.{FieldFault}

@@ -1,5 +1,5 @@
 -- What is a request is read: where the tree has it, each reading goes on and gives it.
-use Rattle.std.proofs.Common.{◌≡◌, ℕ, List, codes, Bool, true, Option, Some, None, Result, Ok, refl, eq-eqb}
+use Rattle.std.proofs.Common.{◌≡◌, ℕ, List, codes, Bool, true, Option, Ok, refl, eq-eqb}
 use Rattle.serde_json.specs.Data.{Data}
 use Rattle.json_tree.specs.Tree.{object, text, whole, word}
 use Rattle.json_tree.specs.Reading.{HasField}

@@ -1,11 +1,9 @@
 -- What is a reply is read: where the tree has it, each reading goes on and gives it.
-use Rattle.std.proofs.Common.{◌≡◌, ◌≤◌, ℕ, List, length, codes, true, false, Option, Some, None, Result, Ok, refl, ap, ◌∙◌}
+use Rattle.std.proofs.Common.{◌≡◌, ◌≤◌, ℕ, List, length, codes, true, Some, Ok, refl}
 use Rattle.std.proofs.lemmas.Bool.{lt-ltb, le-ltb}
 use Rattle.serde_json.specs.Data.{Data}
-use Rattle.serde_json.specs.Find.{get}
-use Rattle.json_tree.specs.Tree.{has, list, member, object, text, value, whole}
-use Rattle.json_tree.specs.Reading.{in_order, required, Both, HasField}
-use Rattle.json_tree.specs.declared.faults.FieldFault.{FieldFault}
+use Rattle.json_tree.specs.Tree.{has, list, object, text, value, whole}
+use Rattle.json_tree.specs.Reading.{HasField}
 use Rattle.json_tree.proofs.Fields.{required_only, in_order_only}
 use Rattle.json_tree.proofs.Values.{not_there, is_there, whole_is_value, text_is_value}
 use Rattle.serde_json.specs.Data as json
@@ -24,8 +22,8 @@ use Rattle.cri_msgs.specs.declared.states.State.TheVariants.{Created, Running, E
 use Rattle.cri_msgs.specs.declared.states.Status.{Status}
 use Rattle.cri_msgs.specs.declared.version.Version.{Version}
 use Rattle.cri_msgs.specs.Names.{kind_of, refusal_number, state_name}
-use Rattle.cri_msgs.specs.Reading.{kind_named, kind_in, without_exit, with_exit, state_by, state_of, status_of, listed_of, listed_status_of, few, id_in, listing_in, status_in, statuses_in, ok_of, refusal_numbered, refused_in, ok_in, answer_of, numbered, reply_of}
-use Rattle.cri_msgs.specs.Replies.{Lacks, HasExit, HasStatus, IsListed, IsListedStatus, HasList, IsOk, HasAnswer, IsReply}
+use Rattle.cri_msgs.specs.Reading.{kind_named, kind_in, without_exit, with_exit, state_by, state_of, status_of, listed_of, listed_status_of, few, id_in, listing_in, status_in, statuses_in, ok_of, refusal_numbered, refused_in, ok_in, answer_of, reply_of}
+use Rattle.cri_msgs.specs.Replies.{Lacks, HasExit, HasStatus, IsListed, IsListedStatus, IsOk, HasAnswer, IsReply}
 use Rattle.cri_msgs.proofs.Only.{container_only, numbered_only}
 
 list_is_value : (d : Data) (items : List Data) → list d ≡ Some items → value d ≡ Some d

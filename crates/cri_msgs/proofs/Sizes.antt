@@ -1,5 +1,5 @@
 -- How long the text of a tree may be.
-use Rattle.std.proofs.Common.{◌≡◌, ℕ, ◌+◌, ◌*◌, ◌<◌, ◌≤◌, List, [], ◌∷◌, ◌++◌, length, length-append, Bool, true, false, cond, ltb, ◌&&◌, refl, arith}
+use Rattle.std.proofs.Common.{ℕ, ◌+◌, ◌*◌, ◌≤◌, List, [], ◌∷◌, ◌++◌, length, length-append, Bool, true, false, cond, arith}
 use Rattle.std.specs.List.{flat_map}
 use Rattle.serde_json.specs.Data.{Data, null, boolean, number, string, array, object, Items, no_items, item, Members, no_members, member}
 use Rattle.serde_json.specs.Written.{compact_text, comma_if, items_text, members_text, number_text}
@@ -69,17 +69,17 @@ mutual
   items_text_size : (later : Bool) (ds : Items) → length (items_text later ds) ≤ items_size ds + 1
   items_text_size later no_items = omega arith
   items_text_size later (item d ds) =
-    omega (arith, comma_size later (compact_text d ++ items_text true ds), length-append (compact_text d) (items_text true ds), text_size d, items_text_size true ds)
+      omega (arith, comma_size later (compact_text d ++ items_text true ds), length-append (compact_text d) (items_text true ds), text_size d, items_text_size true ds)
 
   members_text_size : (later : Bool) (ms : Members) → length (members_text later ms) ≤ members_size ms + 1
   members_text_size later no_members = omega arith
   members_text_size later (member k d ms) =
-    omega (
-      arith,
-      comma_size later (compact_text (string k) ++ 58 ∷ (compact_text d ++ members_text true ms)),
-      length-append (compact_text (string k)) (58 ∷ (compact_text d ++ members_text true ms)),
-      length-append (compact_text d) (members_text true ms),
-      quoted_size k,
-      text_size d,
-      members_text_size true ms,
-    )
+      omega (
+        arith,
+        comma_size later (compact_text (string k) ++ 58 ∷ (compact_text d ++ members_text true ms)),
+        length-append (compact_text (string k)) (58 ∷ (compact_text d ++ members_text true ms)),
+        length-append (compact_text d) (members_text true ms),
+        quoted_size k,
+        text_size d,
+        members_text_size true ms,
+      )

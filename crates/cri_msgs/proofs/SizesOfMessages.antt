@@ -1,13 +1,10 @@
 -- The text of a message fits into a frame.
-use Rattle.std.proofs.Common.{◌≡◌, ◌≢◌, ℕ, ◌+◌, ◌*◌, ◌<◌, ◌≤◌, ◌^◌, List, [], ◌∷◌, length, map, codes, ◌&&◌, Bool, true, false, Option, Some, None, Result, Ok, Err, Vec, Global, refl, sym, ap, subst, arith, cond, leb}
-use Rattle.std.specs.Prelude.{IfOk, decimal, IsTrue}
-use Rattle.std.specs.declared.alloc.AllocError.{AllocError}
-use Rattle.std.specs.List.{AllByRecursion, list_all}
+use Rattle.std.proofs.Common.{◌≡◌, ℕ, ◌<◌, ◌≤◌, ◌^◌, List, length, codes, ◌&&◌, Bool, true, false, Some, refl, arith, leb}
+use Rattle.std.specs.Prelude.{decimal, IsTrue}
 use Rattle.std.proofs.lemmas.Bool.{leb-true}
 use Rattle.std.proofs.lemmas.Fmt.{length-decimal-le}
 use Rattle.serde_json.specs.Data.{Data, null, boolean, number, string, array, object}
 use Rattle.serde_json.specs.Find.{get}
-use Rattle.serde_json.specs.View.{items_of}
 use Rattle.serde_json.specs.Written.{compact_text}
 use Rattle.manifest.specs.declared.profiles.SeccompProfile.{SeccompProfile}
 use Rattle.manifest.specs.declared.profiles.SeccompProfile.TheVariants.{RuntimeDefault, Localhost, Unconfined}
@@ -17,9 +14,9 @@ use Rattle.cri_msgs.specs.declared.calls.Call.TheVariants as call
 use Rattle.cri_msgs.specs.declared.keys.Key.{Key}
 use Rattle.cri_msgs.specs.declared.version.Version.{Version}
 use Rattle.cri_msgs.specs.declared.version.Version.TheVariants.{V1, V2}
-use Rattle.cri_msgs.specs.Fits.{FitsCall, FitsContainer, FitsKey, FitsProfile, FitsUid, IsSmall}
+use Rattle.cri_msgs.specs.Fits.{FitsCall, FitsKey, FitsProfile, FitsUid, IsSmall}
 use Rattle.cri_msgs.specs.Names.{version_number}
-use Rattle.cri_msgs.specs.Written.{whole_number, profile_tree, uid_tree, uid_grace_tree, key_tree, key_grace_tree, create_tree, call_tree}
+use Rattle.cri_msgs.specs.Written.{profile_tree, uid_tree, uid_grace_tree, key_tree, key_grace_tree, create_tree, call_tree}
 use Rattle.cri_msgs.proofs.Sizes.{size, text_size}
 
 pub is_first : (a b : Bool) → (a && b) ≡ true → a ≡ true

@@ -1,5 +1,5 @@
 -- The text of a reply fits into a frame.
-use Rattle.std.proofs.Common.{◌≡◌, ℕ, ◌+◌, ◌*◌, ◌<◌, ◌≤◌, ◌^◌, List, [], ◌∷◌, length, map, codes, refl, arith}
+use Rattle.std.proofs.Common.{ℕ, ◌*◌, ◌≤◌, List, [], ◌∷◌, length, map, codes, arith}
 use Rattle.std.specs.Prelude.{decimal}
 use Rattle.std.specs.List.{AllByRecursion}
 use Rattle.serde_json.specs.Data.{Data, object, no_members, member}
@@ -7,7 +7,6 @@ use Rattle.serde_json.specs.View.{items_of}
 use Rattle.serde_json.specs.Written.{compact_text}
 use Rattle.cri_msgs.specs.declared.lists.ListedContainer.{ListedContainer}
 use Rattle.cri_msgs.specs.declared.lists.ListedStatus.{ListedStatus}
-use Rattle.cri_msgs.specs.declared.lists.TheConstants.{MAX_LISTED}
 use Rattle.cri_msgs.specs.declared.refusals.Refusal.{Refusal}
 use Rattle.cri_msgs.specs.declared.refusals.Refusal.TheVariants as refusal
 use Rattle.cri_msgs.specs.declared.replies.Answer.{Answer}

@@ -1,12 +1,12 @@
 -- The tree that is written of a reply says that reply.
-use Rattle.std.proofs.Common.{◌≡◌, ◌<◌, ◌≤◌, ℕ, suc, max, List, [], ◌∷◌, length, map, codes, true, false, ◌||◌, Option, Some, None, Result, Ok, Err, Vec, Global, refl, sym, ap, subst, ◌∙◌, arith}
+use Rattle.std.proofs.Common.{◌≡◌, ◌<◌, ◌≤◌, ℕ, suc, List, [], ◌∷◌, length, map, codes, false, Some, None, Result, Ok, Err, Vec, Global, refl, sym, ap, subst, arith}
 use Rattle.std.specs.Prelude.{IfOk}
 use Rattle.std.specs.Str.{IsUtf8}
 use Rattle.std.specs.declared.alloc.AllocError.{AllocError}
 use Rattle.std.specs.List.{AllByRecursion}
 use Rattle.std.proofs.Math.Nat.{max-le}
 use Rattle.std.proofs.lemmas.List.{length-map}
-use Rattle.serde_json.specs.Data.{Data, Items, string, array, object as an_object, no_members, member as a_member, depth, items_depth}
+use Rattle.serde_json.specs.Data.{Data, string, array, object as an_object, no_members, member as a_member, depth, items_depth}
 use Rattle.serde_json.specs.Find.{get}
 use Rattle.serde_json.specs.Read.{max_depth, read}
 use Rattle.serde_json.specs.View.{items_of}
@@ -17,7 +17,6 @@ use Rattle.json_tree.specs.Reading.{Both, HasField}
 use Rattle.json_tree.proofs.Utf8.{told}
 use Rattle.cri_msgs.specs.declared.lists.ListedContainer.{ListedContainer}
 use Rattle.cri_msgs.specs.declared.lists.ListedStatus.{ListedStatus}
-use Rattle.cri_msgs.specs.declared.lists.TheConstants.{MAX_LISTED}
 use Rattle.cri_msgs.specs.declared.replies.Answer.{Answer}
 use Rattle.cri_msgs.specs.declared.replies.Answer.TheVariants as answer
 use Rattle.cri_msgs.specs.declared.replies.Reply.{Reply}

@@ -1,5 +1,5 @@
 -- The tree that is written of a request says that request.
-use Rattle.std.proofs.Common.{◌≡◌, ◌<◌, ◌≤◌, ◌^◌, ℕ, List, length, codes, true, false, Option, Some, None, Result, Ok, Err, Vec, Global, refl, sym, subst, arith}
+use Rattle.std.proofs.Common.{◌≡◌, ◌<◌, ◌≤◌, ◌^◌, ℕ, List, length, codes, false, Some, None, Result, Ok, Err, Vec, Global, refl, sym, subst, arith}
 use Rattle.std.proofs.lemmas.Bool.{lt-ltb}
 use Rattle.std.specs.Prelude.{IfOk}
 use Rattle.std.specs.Str.{IsUtf8}
@@ -10,7 +10,7 @@ use Rattle.serde_json.specs.Read.{max_depth, read}
 use Rattle.serde_json.specs.Written.{compact_text, has_float}
 use Rattle.serde_json.proofs.OnLiterals.{serde_json_on_literals}
 use Rattle.json_tree.specs.Tree.{member, object, text, whole, word}
-use Rattle.json_tree.specs.Reading.{HasField, MayHaveField}
+use Rattle.json_tree.specs.Reading.{HasField}
 use Rattle.json_tree.proofs.Utf8.{told}
 use Rattle.manifest.specs.declared.profiles.SeccompProfile.{SeccompProfile}
 use Rattle.manifest.specs.declared.profiles.SeccompProfile.TheVariants.{RuntimeDefault, Localhost, Unconfined}

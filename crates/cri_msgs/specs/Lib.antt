@@ -5,3 +5,4 @@ pub mod Written
 pub mod Tells
 pub mod Reading
 pub mod Fits
+pub mod Order

@@ -1,11 +1,10 @@
 -- Requests as JSON trees, field by field: this project's own, over the calls of CRI v1.
-use Rattle.std.specs.Prelude.{◌≡◌, ℕ, List, codes, IsTrue, Option, Some, None, option_and_then, unwrap_or}
+use Rattle.std.specs.Prelude.{◌≡◌, ℕ, List, codes, IsTrue, Option, Some, option_and_then, unwrap_or}
 use Rattle.serde_json.specs.Data.{Data}
 use Rattle.serde_json.specs.Find.{get}
-use Rattle.json_tree.specs.Tree.{tree_of, member, object, text, whole, word}
+use Rattle.json_tree.specs.Tree.{tree_of, object, text, whole, word}
 use Rattle.json_tree.specs.Reading.{HasField}
 use Rattle.manifest.specs.declared.profiles.SeccompProfile.{SeccompProfile}
-use Rattle.manifest.specs.declared.profiles.SeccompProfile.TheVariants.{RuntimeDefault, Localhost, Unconfined}
 use Rattle.manifest.specs.Pod.{IsWritten}
 use Rattle.manifest.specs.Texts.{is_descending, is_label, is_uid}
 use Rattle.json_tree.specs.Reading.{MayHaveField}
@@ -15,7 +14,7 @@ use Rattle.cri_msgs.specs.declared.calls.Request.{Request}
 use Rattle.cri_msgs.specs.declared.keys.ContainerMetadata.{ContainerMetadata}
 use Rattle.cri_msgs.specs.declared.keys.Key.{Key}
 use Rattle.cri_msgs.specs.declared.version.Version.{Version}
-use Rattle.cri_msgs.specs.declared.version.Version.TheVariants.{V1, V2}
+use Rattle.cri_msgs.specs.declared.version.Version.TheVariants.{V2}
 use Rattle.cri_msgs.specs.Names.{call_name, version_number}
 
 abbrev pub HasUid : Data → List ℕ → Type 0

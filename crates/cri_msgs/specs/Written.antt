@@ -1,6 +1,6 @@
 -- How a message is written: its tree, with the members of each object in the order of their keys' bytes, as
 -- compact JSON. This project's own.
-use Rattle.std.specs.Prelude.{ℕ, List, [], ◌∷◌, codes, map}
+use Rattle.std.specs.Prelude.{ℕ, List, codes, map}
 use Rattle.serde_json.specs.Data.{Data, null, number, unsigned, string, array, object, member, no_members, Members}
 use Rattle.serde_json.specs.View.{items_of}
 use Rattle.serde_json.specs.Written.{compact_text}
@@ -19,7 +19,7 @@ use Rattle.cri_msgs.specs.declared.states.State.{State}
 use Rattle.cri_msgs.specs.declared.states.State.TheVariants.{Created, Running, Exited}
 use Rattle.cri_msgs.specs.declared.states.Status.{Status}
 use Rattle.cri_msgs.specs.declared.version.Version.{Version}
-use Rattle.cri_msgs.specs.Names.{call_name, kind_of, refusal_number, state_name, version_number}
+use Rattle.cri_msgs.specs.Names.{kind_of, refusal_number, state_name, version_number}
 
 abbrev pub whole_number : ℕ → Data
 whole_number n = number (unsigned n)

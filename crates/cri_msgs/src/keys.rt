@@ -1,7 +1,11 @@
 ghost use Rattle.std.specs.Prelude.{◌≡◌, ◌↔◌, IfOk, IsTrue};
+ghost use Rattle.std.proofs.Common.{rules};
+ghost use Rattle.std.specs.Cmp.Rules.{comparing};
+ghost use Rattle.std.specs.Ordering.{as_partial_cmp, eq_by_cmp};
 
 use manifest::{Label, SeccompProfile, Uid};
 use std::alloc::{AllocError, Global};
+use std::cmp::Ordering;
 
 /// One attempt at running a container of a sandbox, as `ContainerMetadata` of CRI v1 names it.
 #[derive(Debug, Drop)]
@@ -29,6 +33,54 @@ impl ContainerMetadata {
             attempt: self.attempt,
         })
     }
+}
+
+/// By name, then by attempt.
+impl Ord for ContainerMetadata {
+    ghost use Rattle.cri_msgs.specs.Order.{container_cmp};
+
+    ghost cmp = { container_cmp };
+
+    ghost total = { Prim.search (comparing, rules) };
+
+    ghost matches_partial_cmp = { Prim.search (comparing, rules) };
+
+    ghost matches_eq = { Prim.search (comparing, rules) };
+
+    fn cmp(&self, other: &ContainerMetadata) -> Ordering {
+        self.name
+            .as_str()
+            .cmp(other.name.as_str())
+            .then(self.attempt.cmp(&other.attempt))
+    }
+}
+
+impl PartialOrd for ContainerMetadata {
+    ghost use Rattle.cri_msgs.specs.Order.{container_cmp};
+
+    ghost partial_cmp = { as_partial_cmp container_cmp };
+
+    ghost laws = { Prim.search (comparing, rules) };
+
+    fn partial_cmp(&self, other: &ContainerMetadata) -> Option<Ordering> {
+        Some(self.cmp(other))
+    }
+}
+
+impl PartialEq for ContainerMetadata {
+    ghost use Rattle.cri_msgs.specs.Order.{container_cmp};
+
+    ghost eq = { eq_by_cmp container_cmp };
+
+    ghost laws = { Prim.search (comparing, rules) };
+
+    fn eq(&self, other: &ContainerMetadata) -> bool {
+        self.cmp(other) == Ordering::Equal
+    }
+}
+
+impl Eq for ContainerMetadata {
+    ghost laws = { Prim.search (comparing, rules) };
 }
 
 /// What names a container on a node: the uid of its pod's sandbox, and the attempt in it.

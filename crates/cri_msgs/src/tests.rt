@@ -1,4 +1,5 @@
 use crate::*;
+use manifest::{Label, Uid};
 use std::alloc::{AllocError, Global};
 
 // A request of each call as it is written, without its version, and whether version 1 has it.
@@ -95,51 +96,109 @@ const REPLIES: [(&str, bool); 15] = [
     ),
 ];
 
-// Each text is read and written as it stands, and is no text of the other version.
+// What is written of a request, if its copy is the same.
+fn written(alloc: Global, request: &Request, to: Version) -> Option<Vec<u8>> {
+    if is_copied(alloc, request) {
+        request.write(alloc, to).ok()
+    } else {
+        None
+    }
+}
+
+fn is_copied(alloc: Global, request: &Request) -> bool {
+    match request.try_clone(alloc) {
+        Ok(copy) => copy.same(request),
+        Err(_) => false,
+    }
+}
+
+fn request_again(alloc: Global, text: &str, to: Version) -> Option<Vec<u8>> {
+    match Request::read(alloc, Version::V2, text.as_bytes()) {
+        Ok(request) => written(alloc, &request, to),
+        Err(_) => None,
+    }
+}
+
+fn reply_written(alloc: Global, reply: &Reply, to: Version) -> Option<Vec<u8>> {
+    if is_reply_copied(alloc, reply) {
+        reply.write(alloc, to).ok()
+    } else {
+        None
+    }
+}
+
+fn is_reply_copied(alloc: Global, reply: &Reply) -> bool {
+    match reply.try_clone(alloc) {
+        Ok(copy) => copy.same(reply),
+        Err(_) => false,
+    }
+}
+
+fn reply_again(alloc: Global, text: &str, to: Version) -> Option<Vec<u8>> {
+    match Reply::read(alloc, Version::V2, text.as_bytes()) {
+        Ok(reply) => reply_written(alloc, &reply, to),
+        Err(_) => None,
+    }
+}
+
+fn is_request(alloc: Global, version: Version, text: &str) -> bool {
+    Request::read(alloc, version, text.as_bytes()).is_ok()
+}
+
+fn is_reply(alloc: Global, version: Version, text: &str) -> bool {
+    Reply::read(alloc, version, text.as_bytes()).is_ok()
+}
+
+fn is_text(written: Option<Vec<u8>>, text: &str) -> bool {
+    match written {
+        Some(bytes) => bytes.as_slice() == text.as_bytes(),
+        None => false,
+    }
+}
+
+fn text_in(alloc: Global, head: &str, version: Version) -> Option<String> {
+    format!(in alloc; "{head}{}}}", version.number()).ok()
+}
+
+// Whether the text is written as it stands, also in version 1, whether version 1 reads that, and whether a
+// text of one version is one of the other.
+fn call_in_versions(alloc: Global, head: &str) -> Option<(bool, bool, bool, bool)> {
+    let first = text_in(alloc, head, Version::V1)?;
+    let text = text_in(alloc, head, Version::V2)?;
+    let same = request_again(alloc, text.as_str(), Version::V2);
+    let older = request_again(alloc, text.as_str(), Version::V1);
+    let other = is_request(alloc, Version::V1, text.as_str());
+    Some((
+        is_text(same, text.as_str()),
+        is_text(older, first.as_str()),
+        is_request(alloc, Version::V1, first.as_str()),
+        other || is_request(alloc, Version::V2, first.as_str()),
+    ))
+}
+
+fn reply_in_versions(alloc: Global, head: &str) -> Option<(bool, bool, bool, bool)> {
+    let first = text_in(alloc, head, Version::V1)?;
+    let text = text_in(alloc, head, Version::V2)?;
+    let same = reply_again(alloc, text.as_str(), Version::V2);
+    let older = reply_again(alloc, text.as_str(), Version::V1);
+    let other = is_reply(alloc, Version::V1, text.as_str());
+    Some((
+        is_text(same, text.as_str()),
+        is_text(older, first.as_str()),
+        is_reply(alloc, Version::V1, first.as_str()),
+        other || is_reply(alloc, Version::V2, first.as_str()),
+    ))
+}
+
 #[test]
 fn there_and_back(rt: HostRuntime) {
-    let alloc = rt.alloc();
     for (head, in_first) in CALLS {
-        let first = format!(in alloc; "{head}1}}").expect(&rt, "memory");
-        let text = format!(in alloc; "{head}2}}").expect(&rt, "memory");
-        let request = Request::read(alloc, Version::V2, text.as_bytes()).expect(&rt, head);
-        let copy = request.try_clone(alloc).expect(&rt, "memory");
-        assert!(rt; copy.same(&request), "{head}");
-        let written = copy.write(alloc, Version::V2).expect(&rt, "memory");
-        assert!(rt; written.as_slice() == text.as_bytes(), "{head}");
-        let written = copy.write(alloc, Version::V1).expect(&rt, "memory");
-        assert!(rt; written.as_slice() == first.as_bytes(), "{head}");
-        let read = Request::read(alloc, Version::V1, first.as_bytes());
-        assert_eq!(rt; read.is_ok(), in_first, "{head}");
-        assert!(rt;
-            Request::read(alloc, Version::V1, text.as_bytes()).is_err(),
-            "{head}"
-        );
-        assert!(rt;
-            Request::read(alloc, Version::V2, first.as_bytes()).is_err(),
-            "{head}"
-        );
+        let found = call_in_versions(rt.alloc(), head);
+        assert!(rt; found == Some((true, true, in_first, false)), "{head}");
     }
     for (head, in_first) in REPLIES {
-        let first = format!(in alloc; "{head}1}}").expect(&rt, "memory");
-        let text = format!(in alloc; "{head}2}}").expect(&rt, "memory");
-        let reply = Reply::read(alloc, Version::V2, text.as_bytes()).expect(&rt, head);
-        let copy = reply.try_clone(alloc).expect(&rt, "memory");
-        assert!(rt; copy.same(&reply), "{head}");
-        let written = copy.write(alloc, Version::V2).expect(&rt, "memory");
-        assert!(rt; written.as_slice() == text.as_bytes(), "{head}");
-        let written = copy.write(alloc, Version::V1).expect(&rt, "memory");
-        assert!(rt; written.as_slice() == first.as_bytes(), "{head}");
-        let read = Reply::read(alloc, Version::V1, first.as_bytes());
-        assert_eq!(rt; read.is_ok(), in_first, "{head}");
-        assert!(rt;
-            Reply::read(alloc, Version::V1, text.as_bytes()).is_err(),
-            "{head}"
-        );
-        assert!(rt;
-            Reply::read(alloc, Version::V2, first.as_bytes()).is_err(),
-            "{head}"
-        );
+        let found = reply_in_versions(rt.alloc(), head);
+        assert!(rt; found == Some((true, true, in_first, false)), "{head}");
     }
 }
 
@@ -259,20 +318,35 @@ fn each_field(rt: HostRuntime) {
     for (call, fields) in calls {
         let text = with(rt.alloc(), call, fields, "", "").expect(&rt, "memory");
         assert!(rt;
-            Request::read(rt.alloc(), Version::V2, text.as_bytes()).is_ok(),
+            is_request(rt.alloc(), Version::V2, text.as_str()),
             "{call}"
         );
         for (field, value) in bad {
             let text = with(rt.alloc(), call, fields, field, value).expect(&rt, "memory");
-            let fault = Request::read(rt.alloc(), Version::V2, text.as_bytes()).err();
             let want = if fields.has(field) {
                 Some(MessageFault::NoMessage(7))
             } else {
                 None
             };
-            assert_eq!(rt; fault, want, "{text}");
+            assert!(rt;
+                request_fault(rt.alloc(), text.as_bytes()) == want,
+                "{text}"
+            );
         }
     }
+}
+
+fn request_fault(alloc: Global, text: &[u8]) -> Option<MessageFault> {
+    Request::read(alloc, Version::V2, text).err()
+}
+
+fn reply_fault(alloc: Global, text: &[u8]) -> Option<MessageFault> {
+    Reply::read(alloc, Version::V2, text).err()
+}
+
+fn is_refused(alloc: Global, text: &[u8], id: u64) -> bool {
+    let refused = Some(MessageFault::NoMessage(id));
+    request_fault(alloc, text) == refused && reply_fault(alloc, text) == refused
 }
 
 // Texts that are no message, and the number that is told of them.
@@ -340,23 +414,26 @@ fn no_messages(rt: HostRuntime) {
         ),
     ];
     for (text, id) in cases {
-        let fault = Request::read(rt.alloc(), Version::V2, text.as_bytes()).err();
-        assert_eq!(rt; fault, Some(MessageFault::NoMessage(id)), "{text}");
-        let fault = Reply::read(rt.alloc(), Version::V2, text.as_bytes()).err();
-        assert_eq!(rt; fault, Some(MessageFault::NoMessage(id)), "{text}");
+        assert!(rt; is_refused(rt.alloc(), text.as_bytes(), id), "{text}");
     }
+    assert!(rt; is_refused(rt.alloc(), b"{\"id\":7,\"\xff\":1}", 0));
     let brackets = [b'['; 128];
-    let fault = Request::read(rt.alloc(), Version::V1, &brackets).err();
-    assert_eq!(rt; fault, Some(MessageFault::NoMessage(0)));
-    let fault = Reply::read(rt.alloc(), Version::V1, b"{\"id\":7,\"\xff\":1}").err();
-    assert_eq!(rt; fault, Some(MessageFault::NoMessage(0)));
-    assert_eq!(rt;
-        format!(in rt.alloc(); "{}", MessageFault::NoMessage(7)).is_ok(),
-        true
-    );
+    assert!(rt; is_refused(rt.alloc(), &brackets, 0));
 }
 
 const STATUS: &str = "\"performed\":1,\"denied\":2";
+
+fn says(alloc: Global, said: &str, want: &str) -> Option<bool> {
+    let text = format!(in alloc; "{{{said},\"v\":2,\"id\":5}}").ok()?;
+    if want.is_empty() {
+        return Some(reply_fault(alloc, text.as_bytes()) == Some(MessageFault::NoMessage(5)));
+    }
+    let wanted = format!(in alloc; "{{\"id\":5,{want},\"v\":2}}").ok()?;
+    Some(is_text(
+        reply_again(alloc, text.as_str(), Version::V2),
+        wanted.as_str(),
+    ))
+}
 
 // What the members of a reply say together: the text that is written of what was read, empty where it is no
 // message.
@@ -422,21 +499,57 @@ fn replies(rt: HostRuntime) {
         ),
     ];
     for (said, want) in cases {
-        let text = format!(in rt.alloc(); "{{{said},\"v\":2,\"id\":5}}").expect(&rt, "memory");
-        let read = Reply::read(rt.alloc(), Version::V2, text.as_bytes());
-        match read {
-            Ok(reply) => {
-                let wanted = format!(in rt.alloc(); "{{\"id\":5,{want},\"v\":2}}");
-                let wanted = wanted.expect(&rt, "memory");
-                let written = reply.write(rt.alloc(), Version::V2).expect(&rt, "memory");
-                assert!(rt; written.as_slice() == wanted.as_bytes(), "{said}");
-            }
-            Err(fault) => {
-                assert!(rt; want.is_empty(), "{said}");
-                assert_eq!(rt; fault, MessageFault::NoMessage(5), "{said}");
-            }
-        }
+        assert!(rt; says(rt.alloc(), said, want) == Some(true), "{said}");
     }
+}
+
+const ONE: &str =
+    "{\"call\":\"ContainerStatus\",\"id\":5,\"uid\":\"u1\",\"name\":\"main\",\"attempt\":1,\"v\":2}";
+
+const ALL: &str = "{\"call\":\"ContainerStatuses\",\"id\":5,\"uid\":\"u1\",\"v\":2}";
+
+fn exit_told(alloc: Global, text: &str, call: &Call, key: &Key) -> Option<Option<u8>> {
+    match Reply::read(alloc, Version::V2, text.as_bytes()) {
+        Ok(reply) => Some(reply.answer.exit_told(call, key)),
+        Err(_) => None,
+    }
+}
+
+fn key(alloc: Global) -> Option<Key> {
+    let uid = Uid::new(alloc, "u1").ok()??;
+    let name = Label::new(alloc, "main").ok()??;
+    Some(Key {
+        uid,
+        container: ContainerMetadata { name, attempt: 1 },
+    })
+}
+
+// The exit of attempt 1 that the text tells as a reply to this call.
+fn told_to(alloc: Global, text: &str, asked: &str) -> Option<Option<u8>> {
+    let key = key(alloc)?;
+    match Request::read(alloc, Version::V2, asked.as_bytes()) {
+        Ok(request) => exit_told(alloc, text, &request.call, &key),
+        Err(_) => None,
+    }
+}
+
+fn told(alloc: Global, text: &str) -> Option<(Option<u8>, Option<u8>)> {
+    Some((told_to(alloc, text, ONE)?, told_to(alloc, text, ALL)?))
+}
+
+fn told_of_one(alloc: Global, state: &str) -> Option<(Option<u8>, Option<u8>)> {
+    let text = format!(in alloc; "{{\"id\":5,\"v\":2,\"ok\":{{{STATUS},{state}}}}}").ok()?;
+    told(alloc, text.as_str())
+}
+
+fn told_of_all(alloc: Global, state: &str) -> Option<(Option<u8>, Option<u8>)> {
+    let text = format!(in alloc;
+        "{{\"id\":5,\"v\":2,\"ok\":{{\"statuses\":[\
+        {{\"name\":\"main\",\"attempt\":0,\"performed\":0,\"denied\":0,\"state\":\"EXITED\",\"exit\":9}},\
+        {{\"name\":\"main\",\"attempt\":1,{STATUS},{state}}}]}}}}"
+    )
+    .ok()?;
+    told(alloc, text.as_str())
 }
 
 // A status, as `ok` and as an item of `statuses`: what is told of it, or that it is no message.
@@ -463,37 +576,11 @@ fn statuses(rt: HostRuntime) {
         ("\"state\":\"CREATED\",\"denied\":null", false, None),
         ("\"state\":\"CREATED\",\"denied\":\"2\"", false, None),
     ];
-    let alloc = rt.alloc();
-    let asked =
-        b"{\"call\":\"ContainerStatus\",\"id\":5,\"uid\":\"u1\",\"name\":\"main\",\"attempt\":1,\"v\":2}";
-    let asked = Request::read(alloc, Version::V2, asked).expect(&rt, "a request");
-    let all = b"{\"call\":\"ContainerStatuses\",\"id\":5,\"uid\":\"u1\",\"v\":2}";
-    let all = Request::read(alloc, Version::V2, all).expect(&rt, "a request");
-    let Call::ContainerStatus { key } = &asked.call else {
-        panic!(rt; "another call");
-    };
     for (state, is_one, code) in cases {
-        let one = format!(in alloc; "{{\"id\":5,\"v\":2,\"ok\":{{{STATUS},{state}}}}}").expect(
-            &rt, "memory",
-        );
-        let read = Reply::read(alloc, Version::V2, one.as_bytes());
-        assert_eq!(rt; read.is_ok(), is_one, "{state}");
-        if let Ok(reply) = read {
-            assert_eq!(rt; reply.answer.exit_told(&asked.call, key), code, "{state}");
-            assert_eq!(rt; reply.answer.exit_told(&all.call, key), None, "{state}");
-        }
-        let listed = format!(in alloc;
-            "{{\"id\":5,\"v\":2,\"ok\":{{\"statuses\":[\
-            {{\"name\":\"main\",\"attempt\":0,\"performed\":0,\"denied\":0,\"state\":\"EXITED\",\"exit\":9}},\
-            {{\"name\":\"main\",\"attempt\":1,{STATUS},{state}}}]}}}}"
-        );
-        let listed = listed.expect(&rt, "memory");
-        let read = Reply::read(alloc, Version::V2, listed.as_bytes());
-        assert_eq!(rt; read.is_ok(), is_one, "{state}");
-        if let Ok(reply) = read {
-            assert_eq!(rt; reply.answer.exit_told(&all.call, key), code, "{state}");
-            assert_eq!(rt; reply.answer.exit_told(&asked.call, key), None, "{state}");
-        }
+        let one = if is_one { Some((code, None)) } else { None };
+        assert!(rt; told_of_one(rt.alloc(), state) == one, "{state}");
+        let all = if is_one { Some((None, code)) } else { None };
+        assert!(rt; told_of_all(rt.alloc(), state) == all, "{state}");
     }
 }
 
@@ -509,29 +596,34 @@ fn list_of(alloc: Global, count: usize) -> Result<String, AllocError> {
     Ok(text)
 }
 
+fn image_of(alloc: Global, count: usize) -> Result<String, AllocError> {
+    let mut path = String::from_str(alloc, "\"")?;
+    for _ in 0..count {
+        path.push_str("a")?;
+    }
+    path.push_str("\"")?;
+    with(
+        alloc,
+        "CreateContainer",
+        Fields::Create,
+        "image",
+        path.as_str(),
+    )
+}
+
 // The limits of lists and of paths, from both sides.
 #[test]
 fn limits(rt: HostRuntime) {
     for (count, fits) in [(1_024, true), (1_025, false)] {
         let text = list_of(rt.alloc(), count).expect(&rt, "memory");
-        let read = Reply::read(rt.alloc(), Version::V2, text.as_bytes());
-        assert_eq!(rt; read.is_ok(), fits, "{count}");
-    }
-    for (count, fits) in [(1_024, true), (1_025, false)] {
-        let mut path = String::from_str(rt.alloc(), "\"").expect(&rt, "memory");
-        for _ in 0..count {
-            path.push_str("a").expect(&rt, "memory");
-        }
-        path.push_str("\"").expect(&rt, "memory");
-        let text = with(
-            rt.alloc(),
-            "CreateContainer",
-            Fields::Create,
-            "image",
-            path.as_str(),
+        assert!(rt;
+            is_reply(rt.alloc(), Version::V2, text.as_str()) == fits,
+            "{count}"
         );
-        let text = text.expect(&rt, "memory");
-        let read = Request::read(rt.alloc(), Version::V2, text.as_bytes());
-        assert_eq!(rt; read.is_ok(), fits, "{count}");
+        let text = image_of(rt.alloc(), count).expect(&rt, "memory");
+        assert!(rt;
+            is_request(rt.alloc(), Version::V2, text.as_str()) == fits,
+            "{count}"
+        );
     }
 }
