@@ -1,0 +1,101 @@
+use crate::moving::Stop;
+use std::alloc::AllocError;
+use std::fmt;
+use thiserror::Error;
+
+/// Why a feed took no piece.
+#[derive(Clone, Copy, Debug, PartialEq, Eq, Error)]
+pub enum FeedFault {
+    /// Four bytes that stand where a frame begins are the head of none: their first byte is no version's, or
+    /// the length is 0 or above [`MAX_TEXT`](cri_msgs::MAX_TEXT).
+    BadLength,
+    /// A growth was refused.
+    Memory,
+}
+
+/// The fault's name.
+impl fmt::Display for FeedFault {
+    ghost use Rattle.std.specs.Prelude.{Some};
+    ghost use Rattle.cri_frames.specs.FaultText.{feed_fault_text};
+
+    ghost output = { λ fault. Some (feed_fault_text fault) };
+
+    fn fmt<W: fmt::Write>(&self, f: &mut fmt::Formatter<W>) -> fmt::Result {
+        f.write_str(match self {
+            FeedFault::BadLength => "BadLength",
+            FeedFault::Memory => "Memory",
+        })
+    }
+}
+
+impl From<AllocError> for FeedFault {
+    ghost use Rattle.std.specs.Prelude.{◌≡◌};
+    ghost use Rattle.cri_frames.specs.declared.faults.FeedFault.TheVariants.{Memory};
+
+    ghost from_gives = { λ _ fault. fault ≡ Memory };
+
+    fn from(_: AllocError) -> FeedFault {
+        FeedFault::Memory
+    }
+}
+
+/// Why a call came to no reply. Whatever it is, the wire is of no further use.
+#[derive(Clone, Copy, Debug, PartialEq, Eq, Error)]
+pub enum Lost {
+    /// A write failed, behind so many bytes of the request's frame.
+    WriteFailed(usize),
+    /// A read failed.
+    ReadFailed,
+    /// The input was at its end before a whole frame was read.
+    Ended,
+    /// What came is no frame of the request's version, or its text is no reply.
+    BadFrame,
+    /// It is a reply with another number than the request's.
+    WrongNumber,
+    /// A growth was refused.
+    Memory,
+}
+
+/// The fault's name, and the count behind `WriteFailed at`.
+impl fmt::Display for Lost {
+    ghost use Rattle.std.specs.Prelude.{Some};
+    ghost use Rattle.cri_frames.specs.FaultText.{lost_text};
+
+    ghost output = { λ lost. Some (lost_text lost) };
+
+    fn fmt<W: fmt::Write>(&self, f: &mut fmt::Formatter<W>) -> fmt::Result {
+        match self {
+            Lost::WriteFailed(count) => write!(f, "WriteFailed at {count}"),
+            Lost::ReadFailed => f.write_str("ReadFailed"),
+            Lost::Ended => f.write_str("Ended"),
+            Lost::BadFrame => f.write_str("BadFrame"),
+            Lost::WrongNumber => f.write_str("WrongNumber"),
+            Lost::Memory => f.write_str("Memory"),
+        }
+    }
+}
+
+impl From<AllocError> for Lost {
+    ghost use Rattle.std.specs.Prelude.{◌≡◌};
+    ghost use Rattle.cri_frames.specs.declared.faults.Lost.TheVariants.{Memory};
+
+    ghost from_gives = { λ _ lost. lost ≡ Memory };
+
+    fn from(_: AllocError) -> Lost {
+        Lost::Memory
+    }
+}
+
+impl From<Stop> for Lost {
+    ghost use Rattle.std.specs.Prelude.{◌≡◌};
+    ghost use Rattle.cri_frames.specs.Steps.{lost_by};
+
+    ghost from_gives = { λ stop lost. lost ≡ lost_by stop };
+
+    fn from(stop: Stop) -> Lost {
+        match stop {
+            Stop::Failed => Lost::ReadFailed,
+            Stop::Ended => Lost::Ended,
+        }
+    }
+}
