@@ -1,14 +1,16 @@
 # make test: the gate, which proves every crate from nothing, tries the must-fail edits, and runs the
 # tests, the stored runs and the examples in C. make times: the processor seconds that the last gate
 # spent, crate by crate. make planted [CRATE=..]: more wrong bodies, which the gate leaves out. make demo:
-# a profile is compiled, a verified filter judges a call, a script is played under another, and the profiles of a
-# pod's containers are picked. make lib: the C library, proved, and its header, in out/c. make install PREFIX=..: the proved programs in PREFIX/bin, the library in
-# PREFIX/lib and PREFIX/include. make bench: the machine and the compiler beside others. make kernel
-# [COUNT=..]: the running kernel beside the library.
+# a profile is compiled, a verified filter judges a call, scripts are played, one of which adds a filter, and
+# the profiles of a pod's containers are picked. make lib: the C library, proved, and its header, in out/c.
+# make install PREFIX=..: the proved programs in PREFIX/bin, the library in PREFIX/lib and PREFIX/include.
+# make bench [ENGINES=..]: the machine and the compiler beside others, and the profiles of the engines whose
+# Debian packages lie below ENGINES. make kernel [COUNT=..]: the running kernel beside the library.
 
 PREFIX ?= /usr/local
 PROGRAMS := seccheck
 COUNT ?= 100000
+ENGINES ?= /
 BENCH_FLAGS := -std=gnu11 -O2 -Wall -Wextra
 EXAMPLES := ../../examples
 
@@ -58,7 +60,7 @@ bench: lib
 	@tools/call_names.sh > out/bench/names.h
 	@seccomp=$$(printf '#if __has_include(<seccomp.h>)\n-lseccomp\n#endif\n' | $(CC) -E -P -x c -); \
 	  $(CC) $(BENCH_FLAGS) -Iout/c -Iout/bench bench/profiles.c out/c/libmotchidu.a $$seccomp -o out/bench/profiles
-	@out/bench/profiles
+	@out/bench/profiles $$(tools/engine_profiles.py out/bench/engines $(ENGINES))
 
 # What the running kernel does with drawn profiles, beside what the library says of COUNT calls.
 kernel: lib

@@ -1,6 +1,7 @@
 /* Filters of profiles, compiled by the library and by libseccomp (by its list and by its binary tree):
  * instructions, how many of them a call executes at most and on average over the numbers 0 to 450 with
- * arguments 0, and the time from profile to filter. The library reads its profiles as JSON in that time. */
+ * arguments 0, and the time from profile to filter. The library reads its profiles as JSON in that time.
+ * Profiles in files that are given are compiled by the library alone. */
 #define _GNU_SOURCE
 #include <linux/audit.h>
 #include <linux/seccomp.h>
@@ -184,7 +185,19 @@ static void rows(const char *profile) {
 #endif
 }
 
-int main(void) {
+static void file_row(const char *path) {
+    const char *name = strrchr(path, '/');
+    FILE *file = fopen(path, "rb");
+    if (!file) {
+        perror(path);
+        exit(1);
+    }
+    text_len = fread(text, 1, sizeof text, file);
+    fclose(file);
+    row(name ? name + 1 : path, "motchidu", 0);
+}
+
+int main(int argc, char **argv) {
     printf("| profile | compiler | instructions | executed at most | on average | to compile |\n|---|---|---|---|---|---|\n");
     runtime_default();
     rows("RuntimeDefault");
@@ -195,6 +208,8 @@ int main(void) {
         some_names(counts[i]);
         rows(profile);
     }
+    for (int i = 1; i < argc; i++)
+        file_row(argv[i]);
 #ifndef HAS_SECCOMP
     printf("libseccomp: skipped, this machine has no seccomp.h (Debian's libseccomp-dev)\n");
 #endif

@@ -6,3 +6,4 @@ pub mod Tells
 pub mod Reading
 pub mod Fits
 pub mod Order
+pub mod FaultText

@@ -2,17 +2,31 @@ ghost use Rattle.std.specs.Prelude.{◌≡◌};
 ghost use Rattle.cri_msgs.specs.declared.faults.MessageFault.TheVariants.{Memory};
 
 use std::alloc::{AllocError, AllocFailed};
+use std::fmt;
 use thiserror::Error;
 
 /// Why a text was not read as a message.
 #[derive(Clone, Copy, Debug, PartialEq, Eq, Error)]
 pub enum MessageFault {
     /// It is none. Its number is told, 0 where none can be read as a whole number.
-    #[error("NoMessage({0})")]
     NoMessage(u64),
     /// A growth was refused.
-    #[error("Memory")]
     Memory,
+}
+
+/// The fault's name, and the text's number behind `NoMessage`.
+impl fmt::Display for MessageFault {
+    ghost use Rattle.std.specs.Prelude.{Some};
+    ghost use Rattle.cri_msgs.specs.FaultText.{fault_text};
+
+    ghost output = { λ fault. Some (fault_text fault) };
+
+    fn fmt<W: fmt::Write>(&self, f: &mut fmt::Formatter<W>) -> fmt::Result {
+        match self {
+            MessageFault::NoMessage(id) => write!(f, "NoMessage {id}"),
+            MessageFault::Memory => f.write_str("Memory"),
+        }
+    }
 }
 
 impl From<AllocError> for MessageFault {
