@@ -1,0 +1,10 @@
+pub mod Fresh
+pub mod Offers
+pub mod Inits
+pub mod Creations
+pub mod Waits
+pub mod Places
+pub mod Exits
+pub mod Pasts
+pub mod Dues
+pub mod Uids

@@ -1,0 +1,117 @@
+-- What holds of every pod on a node: this project's own, over the order of init containers and restarts of
+-- Kubernetes 1.27, pod lifecycle. docs/SEMANTICS.md, "The agent: one pod".
+use Rattle.std.specs.Prelude.{◌≡◌, ℕ, ◌+◌, ◌<◌, ◌≤◌, true, List, Some, slice_get}
+use Rattle.std.specs.List.{All, AllByRecursion, Any}
+use Rattle.lifecycle.specs.BackOff.{Run, last_of, ready_at}
+use Rattle.lifecycle.specs.Restart.{may_restart}
+use Rattle.lifecycle.specs.Tracks.{is_succeeded}
+use Rattle.lifecycle.specs.declared.policy.RestartPolicy.{RestartPolicy}
+use Rattle.lifecycle.specs.declared.track.Stage.{Stage}
+use Rattle.lifecycle.specs.declared.track.Stage.TheVariants as stage
+use Rattle.lifecycle.specs.declared.track.Track.{Track}
+use Rattle.manifest.specs.declared.containers.Container.{Container}
+use Rattle.manifest.specs.declared.profiles.SeccompProfile.{SeccompProfile}
+use Rattle.profile_pick.specs.Choice.{choice_of}
+use Rattle.cri_msgs.specs.Tells.{TellsExit}
+use Rattle.cri_msgs.specs.declared.calls.Call.{Call}
+use Rattle.cri_msgs.specs.declared.calls.Call.TheVariants.{RunPodSandbox, StopPodSandbox, RemovePodSandbox, CreateContainer, StartContainer, StopContainer, RemoveContainer, ContainerStatus, ListContainers, ContainerStatuses}
+use Rattle.cri_msgs.specs.declared.keys.Key.{Key}
+use Rattle.cri_msgs.specs.declared.replies.Reply.{Reply}
+use Rattle.worker_pod.specs.declared.settings.Outcome.TheVariants.{Replied}
+use Rattle.worker_pod.specs.declared.wants.Pick.{Pick}
+use Rattle.worker_pod.specs.declared.wants.Want.{Want}
+use Rattle.worker_pod.specs.Next.{key_in}
+use Rattle.worker_pod.specs.Past.{Claimed, Kept}
+use Rattle.worker_pod.specs.Wants.{front_of, is_in_turn, turn_of}
+
+-- the pod that a call is about
+abbrev pub uid_of : Call → List ℕ
+uid_of (RunPodSandbox uid) = uid
+uid_of (StopPodSandbox uid grace) = uid
+uid_of (RemovePodSandbox uid) = uid
+uid_of (CreateContainer key image profile) = key.uid
+uid_of (StartContainer key) = key.uid
+uid_of (StopContainer key grace) = key.uid
+uid_of (RemoveContainer key) = key.uid
+uid_of (ContainerStatus key) = key.uid
+uid_of (ListContainers uid) = uid
+uid_of (ContainerStatuses uid) = uid
+
+-- the claims are of this pod
+abbrev pub AreOf : List ℕ → List Claimed → Type 0
+AreOf uid cs = AllByRecursion (λ (c : Claimed). uid_of c.request.call ≡ uid) cs
+
+-- the container ended for good, and its last run with code 0
+pub record EndedWell (policy : RestartPolicy) (track : Track) : Type 0 where
+  pub over : is_succeeded policy track ≡ true
+  pub run : Run
+  pub last : last_of track.runs ≡ Some run
+  pub zero : run.code ≡ 0
+
+-- attempt k ended and was removed, another may be, and its back-off is over
+pub record Follows (policy : RestartPolicy) (track : Track) (k now : ℕ) : Type 0 where
+  pub code : ℕ
+  pub stage : track.stage ≡ stage.Removed k code
+  pub may : may_restart policy track.init code ≡ true
+  pub ready : ready_at track.runs ≤ now
+
+-- an attempt at a container is made
+pub record Creation (kept : Kept) (now : ℕ) (key : Key) (image : List ℕ) (profile : SeccompProfile) : Type 0 where
+  pub place : ℕ
+  pub track : Track
+  pub container : Container
+  pub here : slice_get kept.tracks place ≡ Some track
+  pub named : slice_get kept.pod.containers.all place ≡ Some container
+  pub of_container : key ≡ key_in kept.pod container key.container.attempt
+  -- what is sent is what the manifest says
+  pub its_image : image ≡ container.image
+  pub its_profile : profile ≡ choice_of kept.pod.profile container kept.settings.seccomp_default
+  pub in_turn : is_in_turn (front_of kept.pod.policy kept.tracks) place track ≡ true
+  -- the init containers, for one of them those in front of it, have succeeded
+  pub in_order : (at : ℕ) (t : Track) → slice_get kept.tracks at ≡ Some t → t.init ≡ true → (track.init ≡ true → at < place) → EndedWell kept.pod.policy t
+  -- the first attempt is made where none was, any other one behind the one before
+  pub first : key.container.attempt ≡ 0 → track.stage ≡ stage.Absent
+  pub follows : (k : ℕ) → key.container.attempt ≡ k + 1 → Follows kept.pod.policy track k now
+
+-- a reply to this claim told the run's exit of that attempt, when the run was recorded
+pub record TellsRun (key : Key) (run : Run) (c : Claimed) : Type 0 where
+  pub reply : Reply
+  pub is : c.outcome ≡ Replied reply
+  pub number : reply.id ≡ c.request.id
+  pub tells : TellsExit c.request.call reply.answer key run.code
+  pub recorded : run.recorded ≡ c.moment
+
+abbrev pub key_named : List ℕ → List ℕ → ℕ → Key
+key_named uid name attempt = record { uid = uid; container = record { name = name; attempt = attempt } }
+
+abbrev pub Told : List ℕ → List Claimed → List ℕ → ℕ → Run → Type 0
+Told uid cs name k run = Any (TellsRun (key_named uid name k) run) cs
+
+-- attempt k has ended with this code
+abbrev pub HasEnded : ℕ → ℕ → Stage → Type 0
+HasEnded k code (stage.Exited attempt its) = (attempt ≡ k) × (its ≡ code)
+HasEnded k code (stage.Removed attempt its) = (attempt ≡ k) × (its ≡ code)
+HasEnded k code s = ⊥
+
+-- the last run is that of attempt k, with this code
+pub record LastRun (uid : List ℕ) (cs : List Claimed) (name : List ℕ) (track : Track) (k code : ℕ) : Type 0 where
+  pub run : Run
+  pub last : last_of track.runs ≡ Some run
+  pub with_code : run.code ≡ code
+  pub told : Told uid cs name k run
+
+-- what is held of a container's runs was told by replies to claims of its attempts
+pub record WasTold (uid : List ℕ) (cs : List Claimed) (name : List ℕ) (track : Track) : Type 0 where
+  pub ended : (k code : ℕ) → HasEnded k code track.stage → LastRun uid cs name track k code
+  pub runs : All (λ (run : Run). (k : ℕ) × Told uid cs name k run) track.runs
+
+-- the container's turn has come, and so has the moment from which on something is to be done for it
+abbrev pub IsDue : RestartPolicy → ℕ → ℕ → List Track → ℕ → Track → Type 0
+IsDue policy poll now tracks at track =
+    (want : Want) × (turn_of policy poll (front_of policy tracks) at track ≡ Some want) × (want.from ≤ now)
+
+-- of those that are due it was worked on longest ago, and is the first of equal ones
+abbrev pub WaitedLongest : RestartPolicy → ℕ → ℕ → List Track → Pick → Type 0
+WaitedLongest policy poll now tracks pick =
+    (at : ℕ) (track : Track) → slice_get tracks at ≡ Some track → IsDue policy poll now tracks at track
+    → (pick.worked ≤ track.worked) × (at < pick.at → pick.worked < track.worked)

@@ -1,0 +1,97 @@
+-- A pod's next request, and from which moment on it is due: this project's own. docs/SEMANTICS.md, "The
+-- agent: one pod".
+use Rattle.std.specs.Prelude.{ℕ, nat_le, max, Bool, true, false, if◌then◌else◌, Option, Some, None, slice_get}
+use Rattle.std.specs.Option.{option_map}
+use Rattle.lifecycle.specs.Phases.{phase_of}
+use Rattle.lifecycle.specs.declared.phases.Phase.{Phase}
+use Rattle.lifecycle.specs.declared.phases.Phase.TheVariants as phase
+use Rattle.manifest.specs.declared.containers.Container.{Container}
+use Rattle.manifest.specs.declared.pods.Pod.{Pod}
+use Rattle.profile_pick.specs.Choice.{choice_of}
+use Rattle.cri_msgs.specs.declared.calls.Call.{Call}
+use Rattle.cri_msgs.specs.declared.calls.Call.TheVariants.{RunPodSandbox, StopPodSandbox, RemovePodSandbox, CreateContainer, StartContainer, RemoveContainer, ContainerStatus}
+use Rattle.cri_msgs.specs.declared.calls.Request.{Request}
+use Rattle.cri_msgs.specs.declared.keys.Key.{Key}
+use Rattle.worker_pod.specs.declared.duty.Duty.{Duty}
+use Rattle.worker_pod.specs.declared.duty.Duty.TheVariants as duty
+use Rattle.worker_pod.specs.declared.sandbox.Sandbox.{Sandbox}
+use Rattle.worker_pod.specs.declared.sandbox.Sandbox.TheVariants as sandbox
+use Rattle.worker_pod.specs.declared.settings.Settings.{Settings}
+use Rattle.worker_pod.specs.declared.wants.Pick.{Pick}
+use Rattle.worker_pod.specs.declared.wants.Work.{Work}
+use Rattle.worker_pod.specs.declared.wants.Work.TheVariants.{Create, Start, Look, Clear}
+use Rattle.worker_pod.specs.Past.{Kept}
+use Rattle.worker_pod.specs.Wants.{chosen, soonest}
+
+abbrev pub phase_in : Kept → Phase
+phase_in kept = phase_of kept.pod.policy kept.lost kept.tracks
+
+-- a deleted pod's sandbox is stopped, and then removed
+abbrev pub unmaking : Sandbox → Duty
+unmaking sandbox.Stopped = duty.RemoveSandbox
+unmaking sandbox.Removed = duty.Nothing
+unmaking s = duty.StopSandbox
+
+abbrev pub making : Sandbox → Duty
+making sandbox.Ready = duty.Containers
+making s = duty.RunSandbox
+
+-- nothing is done for a pod that is over
+abbrev pub duty_in : Phase → Sandbox → Duty
+duty_in phase.Succeeded s = duty.Nothing
+duty_in phase.Failed s = duty.Nothing
+duty_in p s = making s
+
+-- what comes next
+abbrev pub duty_of : Kept → Duty
+duty_of kept = if kept.deleted then unmaking kept.sandbox else duty_in (phase_in kept) kept.sandbox
+
+-- from when on
+abbrev pub due_by : Kept → Duty → Option ℕ
+due_by kept duty.Nothing = None
+due_by kept duty.RunSandbox = Some kept.rest
+due_by kept duty.StopSandbox = Some kept.rest
+due_by kept duty.RemoveSandbox = Some kept.rest
+due_by kept duty.Containers = option_map (λ moment. max moment kept.rest) (soonest kept.pod.policy kept.settings.poll kept.tracks)
+
+abbrev pub due_of : Kept → Option ℕ
+due_of kept = due_by kept (duty_of kept)
+
+abbrev pub key_in : Pod → Container → ℕ → Key
+key_in pod container attempt = record { uid = pod.uid; container = record { name = container.name; attempt = attempt } }
+
+-- the call by which the work on the container is done
+abbrev pub call_of : Pod → Settings → Container → Work → Call
+call_of pod settings c (Create attempt) = CreateContainer (key_in pod c attempt) c.image (choice_of pod.profile c settings.seccomp_default)
+call_of pod settings c (Start attempt) = StartContainer (key_in pod c attempt)
+call_of pod settings c (Look attempt) = ContainerStatus (key_in pod c attempt)
+call_of pod settings c (Clear attempt) = RemoveContainer (key_in pod c attempt)
+
+abbrev pub call_by : Pod → Settings → Option Pick → Option Call
+call_by pod settings None = None
+call_by pod settings (Some pick) = option_map (λ c. call_of pod settings c pick.work) (slice_get pod.containers.all pick.at)
+
+abbrev pub next_by : Kept → ℕ → Duty → Option Call
+next_by kept now duty.Nothing = None
+next_by kept now duty.RunSandbox = Some (RunPodSandbox kept.pod.uid)
+next_by kept now duty.StopSandbox = Some (StopPodSandbox kept.pod.uid kept.pod.grace)
+next_by kept now duty.RemoveSandbox = Some (RemovePodSandbox kept.pod.uid)
+next_by kept now duty.Containers =
+    call_by kept.pod kept.settings (chosen kept.pod.policy kept.settings.poll now kept.tracks)
+
+-- the call that is due at this moment
+abbrev pub next_of : Kept → ℕ → Option Call
+next_of kept now = if nat_le kept.rest now then next_by kept now (duty_of kept) else None
+
+abbrev pub numbered : ℕ → Call → Request
+numbered number call = record { id = number; call = call }
+
+-- whether a moment has come
+abbrev pub has_come : Option ℕ → ℕ → Bool
+has_come None now = false
+has_come (Some moment) now = nat_le moment now
+
+-- the removal of its sandbox was answered
+abbrev pub is_gone : Sandbox → Bool
+is_gone sandbox.Removed = true
+is_gone s = false

@@ -1,0 +1,55 @@
+ghost use Rattle.std.specs.Prelude.{◌≡◌, ℕ, List, Some, slice_get, length, nat_lt};
+ghost use Rattle.std.specs.Option.{is_some};
+ghost use Rattle.lifecycle.specs.declared.policy.RestartPolicy.{RestartPolicy};
+ghost use Rattle.lifecycle.specs.declared.track.Track.{Track};
+ghost use Rattle.manifest.specs.declared.containers.Container.{Container};
+ghost use Rattle.manifest.specs.declared.pods.Pod.{Pod};
+ghost use Rattle.manifest.specs.declared.profiles.SeccompProfile.{SeccompProfile};
+ghost use Rattle.cri_msgs.specs.declared.calls.Call.{Call};
+ghost use Rattle.cri_msgs.specs.declared.keys.Key.{Key};
+ghost use Rattle.worker_pod.specs.declared.settings.Settings.{Settings};
+ghost use Rattle.worker_pod.specs.declared.wants.Pick.{Pick};
+ghost use Rattle.worker_pod.specs.Laws.{AreOf, Creation, WaitedLongest, WasTold, uid_of};
+ghost use Rattle.worker_pod.specs.Next.{due_of, has_come, next_of};
+ghost use Rattle.worker_pod.specs.Past.{Claimed, Kept, Past, held_of, read_off};
+ghost use Rattle.worker_pod.specs.Wants.{chosen};
+
+/// An attempt at a container is made as the manifest says, once the init containers in front have succeeded,
+/// and, behind an attempt that ended, where another may be and not before its back-off is over.
+pub fn creations_follow()
+    ensures { (kept : Kept) (now : ℕ) (key : Key) (image : List ℕ) (profile : SeccompProfile)
+        → next_of kept now ≡ Some (Call.CreateContainer key image profile) → Creation kept now key image profile }
+{}
+
+/// Each run that is held was told by a reply to a claim of that container's attempt.
+pub fn runs_were_told()
+    ensures { (settings : Settings) (pod : Pod) (claims : List Claimed) → AreOf pod.uid claims
+        → (at : ℕ) (track : Track) (container : Container)
+        → slice_get (read_off pod settings claims).tracks at ≡ Some track
+        → slice_get pod.containers.all at ≡ Some container → WasTold pod.uid claims container.name track }
+{}
+
+/// Each container of the manifest has its track, at its place.
+pub fn containers_have_tracks()
+    ensures count { (settings : Settings) (pod : Pod) (claims : List Claimed)
+        → length (read_off pod settings claims).tracks ≡ length pod.containers.all }
+    ensures inits { (settings : Settings) (pod : Pod) (claims : List Claimed) (at : ℕ) (track : Track)
+        → slice_get (read_off pod settings claims).tracks at ≡ Some track → track.init ≡ nat_lt at pod.containers.inits }
+{}
+
+/// A request is due from the moment on that is told.
+pub fn due_is_when_next_is()
+    ensures { (settings : Settings) (past : Past) (now : ℕ)
+        → is_some (next_of (held_of settings past) now) ≡ has_come (due_of (held_of settings past)) now }
+{}
+
+/// Of the containers that are due the one that was worked on longest ago is next.
+pub fn longest_waits_first()
+    ensures { (policy : RestartPolicy) (poll now : ℕ) (tracks : List Track) (pick : Pick)
+        → chosen policy poll now tracks ≡ Some pick → WaitedLongest policy poll now tracks pick }
+{}
+
+/// A pod's requests are about the pod.
+pub fn calls_are_of_the_pod()
+    ensures { (kept : Kept) (now : ℕ) (call : Call) → next_of kept now ≡ Some call → uid_of call ≡ kept.pod.uid }
+{}

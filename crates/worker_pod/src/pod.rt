@@ -1,0 +1,258 @@
+ghost use Rattle.std.specs.Prelude.{◌≡◌, ◌≤◌, IfOk, Ok, OnOk, OnErr, IsOk, Some, None, true, false, option_map};
+ghost use Rattle.worker_pod.specs.News.{is_exit, told};
+ghost use Rattle.worker_pod.specs.Next.{due_by, due_of, duty_of, is_gone, next_by, next_of, numbered, phase_in};
+ghost use Rattle.worker_pod.specs.Past.{Past, StandsFor, admitted, after, as_deleted, rest_at, start, with_claim, with_deleted};
+ghost use Rattle.worker_pod.specs.Wants.{chosen};
+
+use crate::calls::call_by;
+use crate::duty::{Duty, duty_in, unmaking};
+use crate::news::{News, told};
+use crate::sandbox::{Sandbox, sandbox_at};
+use crate::settings::{Outcome, REST, Settings};
+use crate::tracks::{fresh_tracks, tracks_ended};
+use crate::turns::{chosen, soonest};
+use cri_msgs::{Call, Request};
+use lifecycle::{Phase, Track, phase};
+use manifest::Pod;
+use std::alloc::{AllocError, Global};
+use std::marker::Model;
+
+/// A pod as it is seen from outside, lent.
+#[derive(Clone, Copy)]
+pub struct PodView<'p> {
+    pub pod: &'p Pod,
+    /// What became of its containers, init ones first, as they stand in the manifest.
+    pub tracks: &'p [Track],
+    pub phase: Phase,
+}
+
+/// A pod on a node, and what was told of it.
+#[derive(Drop)]
+pub struct PodState {
+    alloc: Global,
+    pod: Pod,
+    settings: Settings,
+    deleted: bool,
+    sandbox: Sandbox,
+    lost: bool,
+    rest: u64,
+    latest: u64,
+    worked: u64,
+    tracks: Vec<Track>,
+}
+
+impl Model for PodState {
+    ghost use Rattle.worker_pod.specs.Past.{Kept};
+    ghost use Rattle.worker_pod.specs.Tracks.{AllStartedBy};
+
+    ghost Value = { Kept };
+
+    ghost view = { λ s. record {
+      pod = s.pod;
+      settings = s.settings;
+      deleted = s.deleted;
+      sandbox = s.sandbox;
+      lost = s.lost;
+      rest = s.rest;
+      latest = s.latest;
+      worked = s.worked;
+      tracks = s.tracks.items;
+    } };
+
+    // What runs was not started later than the last claim ended.
+    ghost invariant = { λ s. AllStartedBy s.latest s.tracks.items };
+}
+
+impl PodState {
+    /// A pod that was just admitted.
+    #[tactic(auto, using(crate::proofs::Fresh::fresh_started))]
+    pub fn new(alloc: Global, pod: Pod, settings: Settings) -> Result<PodState, AllocError>
+        ensures start { IfOk result (λ state. state ≡ start pod settings) }
+        ensures past { IfOk result (λ state. StandsFor state (admitted pod)) }
+    {
+        let tracks = fresh_tracks(alloc, &pod.containers)?;
+        Ok(PodState {
+            alloc,
+            pod,
+            settings,
+            deleted: false,
+            sandbox: Sandbox::Absent,
+            lost: false,
+            rest: 0,
+            latest: 0,
+            worked: 0,
+            tracks,
+        })
+    }
+
+    /// Its manifest, its containers and its phase.
+    pub fn view(&self) -> PodView<'_>
+        ensures pod { result.pod.now ≡ self.now.pod }
+        ensures tracks { result.tracks.now ≡ self.now.tracks }
+        ensures phase { result.phase ≡ phase_in self.now }
+    {
+        PodView {
+            pod: &self.pod,
+            tracks: self.tracks.as_slice(),
+            phase: self.phase(),
+        }
+    }
+
+    fn phase(&self) -> Phase
+        ensures { result ≡ phase_in self.now }
+    {
+        phase(self.tracks.as_slice(), self.pod.policy, self.lost)
+    }
+
+    /// The number of the last claim of the pod that ended, 0 for none.
+    pub fn worked(&self) -> u64
+        ensures { result ≡ self.now.worked }
+    {
+        self.worked
+    }
+
+    /// Marks the pod as deleted: from now on its sandbox is stopped, and then removed.
+    pub fn delete(&mut self)
+        ensures deleted { self.new ≡ with_deleted self.old true }
+        ensures past { (past : Past) → StandsFor self.old past → StandsFor self.new (as_deleted past) }
+    {
+        self.deleted = true;
+    }
+
+    /// Whether the removal of its sandbox was answered.
+    pub fn gone(&self) -> bool
+        ensures { result ≡ is_gone self.now.sandbox }
+    {
+        self.sandbox.is_gone()
+    }
+
+    /// From which moment on a request is due, in seconds, if one is without a further claim.
+    pub fn due(&self) -> Option<u64>
+        ensures { result ≡ due_of self.now }
+    {
+        self.due_by(self.duty())
+    }
+
+    fn due_by(&self, duty: Duty) -> Option<u64>
+        ensures { result ≡ due_by self.now duty }
+    {
+        match duty {
+            Duty::Nothing => None,
+            Duty::RunSandbox | Duty::StopSandbox | Duty::RemoveSandbox => Some(self.rest),
+            Duty::Containers => self.containers_due(),
+        }
+    }
+
+    fn containers_due(&self) -> Option<u64>
+        ensures { result ≡ due_by self.now Duty.Containers }
+    {
+        soonest(self.pod.policy, self.settings.poll, self.tracks.as_slice()).map(
+            |moment| moment.max(self.rest),
+        )
+    }
+
+    fn duty(&self) -> Duty
+        ensures { result ≡ duty_of self.now }
+    {
+        if self.deleted {
+            unmaking(self.sandbox)
+        } else {
+            duty_in(self.phase(), self.sandbox)
+        }
+    }
+
+    /// The request that is due at this moment, with this number, if one is.
+    pub fn next(&self, now: u64, number: u64) -> Result<Option<Request>, AllocError>
+        ensures next { IfOk result (λ next. next ≡ option_map (numbered number) (next_of self.now now)) }
+
+        // Where none is due, no memory is taken.
+        ensures none { next_of self.now now ≡ None → result ≡ Ok None }
+    {
+        match self.next_call(now)? {
+            Some(call) => Ok(Some(Request { id: number, call })),
+            None => Ok(None),
+        }
+    }
+
+    fn next_call(&self, now: u64) -> Result<Option<Call>, AllocError>
+        ensures next { IfOk result (λ next. next ≡ next_of self.now now) }
+        ensures none { next_of self.now now ≡ None → result ≡ Ok None }
+    {
+        if self.rest <= now {
+            self.call_for(now, self.duty())
+        } else {
+            Ok(None)
+        }
+    }
+
+    fn call_for(&self, now: u64, duty: Duty) -> Result<Option<Call>, AllocError>
+        ensures next { IfOk result (λ next. next ≡ next_by self.now now duty) }
+        ensures none { next_by self.now now duty ≡ None → result ≡ Ok None }
+    {
+        match duty {
+            Duty::Nothing => Ok(None),
+            Duty::RunSandbox => Ok(Some(Call::RunPodSandbox {
+                uid: self.pod.uid.try_clone(self.alloc)?,
+            })),
+            Duty::StopSandbox => Ok(Some(Call::StopPodSandbox {
+                uid: self.pod.uid.try_clone(self.alloc)?,
+                grace: self.pod.grace,
+            })),
+            Duty::RemoveSandbox => Ok(Some(Call::RemovePodSandbox {
+                uid: self.pod.uid.try_clone(self.alloc)?,
+            })),
+            Duty::Containers => self.container_call(now),
+        }
+    }
+
+    fn container_call(&self, now: u64) -> Result<Option<Call>, AllocError>
+        ensures next { IfOk result (λ next. next ≡ next_by self.now now Duty.Containers) }
+        ensures none { next_by self.now now Duty.Containers ≡ None → result ≡ Ok None }
+    {
+        let chosen = chosen(
+            self.pod.policy,
+            self.settings.poll,
+            now,
+            self.tracks.as_slice(),
+        );
+        call_by(self.alloc, &self.pod, self.settings, chosen)
+    }
+
+    /// The claim of this request ends at this moment, in seconds. Where there is no memory to record an exit
+    /// that was told, nothing changes.
+    pub fn ended(&mut self, now: u64, request: &Request, outcome: Outcome) -> Result<(), AllocError>
+        requires { self.old.latest ≤ now }
+        ensures ok { OnOk result (self.new ≡ after now request.now (told request.now outcome) self.old) }
+        ensures past { OnOk result ((past : Past) → StandsFor self.old past
+            → StandsFor self.new (with_claim past (record { moment = now; request = request.now; outcome = outcome }))) }
+        ensures err { OnErr result (self.new ≡ self.old) }
+
+        // Only the record of an exit takes memory.
+        ensures free { is_exit (told request.now outcome) ≡ false → IsOk result }
+        ensures abandoned { outcome ≡ Outcome.Abandoned → IsOk result }
+    {
+        let news = told(request, &outcome);
+        tracks_ended(
+            self.pod.containers.as_slice(),
+            self.tracks.as_mut_slice(),
+            now,
+            request,
+            news,
+        )?;
+        self.sandbox = sandbox_at(news, self.sandbox);
+        self.lost = news.is_lost();
+        self.rest = rest_at(now, news);
+        self.latest = now;
+        self.worked = request.id;
+        Ok(())
+    }
+}
+
+fn rest_at(now: u64, news: News) -> u64
+    ensures { result ≡ rest_at now news }
+{
+    match news {
+        News::Lost | News::Refused => now.saturating_add(REST),
+        _ => 0,
+    }
+}

@@ -1,0 +1,43 @@
+ghost use Rattle.std.specs.Prelude.{◌≡◌, IfOk};
+
+use cri_msgs::Reply;
+use std::alloc::{AllocError, Global};
+
+// How many seconds a pod rests after a refusal, a loss or an abandoned claim.
+pub(crate) const REST: u64 = 10;
+
+// The attempt behind which there is none.
+pub(crate) const LAST_ATTEMPT: u32 = 4_294_967_295;
+
+/// What a node's agent goes by.
+#[derive(Clone, Copy, Debug, PartialEq, Eq)]
+pub struct Settings {
+    /// Whether a container for which no profile is given gets the profile of the runtime.
+    pub seccomp_default: bool,
+    /// How many seconds after the status of a container was reported it is asked for again.
+    pub poll: u64,
+}
+
+/// How a claim ended.
+#[derive(Debug, Drop)]
+pub enum Outcome {
+    /// The request was sent, and this came back.
+    Replied(Reply),
+    /// No reply came, and nobody knows whether the request was carried out.
+    Lost,
+    /// The worker gave the claim up.
+    Abandoned,
+}
+
+impl Outcome {
+    /// The same outcome once more.
+    pub fn try_clone(&self, alloc: Global) -> Result<Outcome, AllocError>
+        ensures { IfOk result (λ copy. copy ≡ self.now) }
+    {
+        match self {
+            Outcome::Replied(reply) => Ok(Outcome::Replied(reply.try_clone(alloc)?)),
+            Outcome::Lost => Ok(Outcome::Lost),
+            Outcome::Abandoned => Ok(Outcome::Abandoned),
+        }
+    }
+}

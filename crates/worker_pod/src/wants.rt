@@ -1,0 +1,94 @@
+ghost use Rattle.std.specs.Prelude.{◌≡◌, ◌<◌, ◌≤◌, IfSome, length};
+ghost use Rattle.lifecycle.specs.BackOff.{ready_at};
+ghost use Rattle.worker_pod.specs.Wants.{again, look_from, want_of};
+
+use crate::settings::LAST_ATTEMPT;
+use lifecycle::{PastRun, RestartPolicy, Stage, Track, may_restart, ready_at};
+
+// What is done for a container, at one of its attempts.
+#[derive(Clone, Copy)]
+pub(crate) enum Work {
+    Create(u32),
+    Start(u32),
+    // Its status is asked for.
+    Look(u32),
+    // It is removed, to make room for the next attempt.
+    Clear(u32),
+}
+
+// What is to be done for a container, and from which moment on.
+#[derive(Clone, Copy)]
+pub(crate) struct Want {
+    pub(crate) from: u64,
+    pub(crate) work: Work,
+}
+
+// The container that is worked on, by its place, and the number of the last claim that did.
+#[derive(Clone, Copy)]
+pub(crate) struct Pick {
+    pub(crate) at: usize,
+    pub(crate) worked: u64,
+    pub(crate) work: Work,
+}
+
+fn look_from(poll: u64, polled: Option<u64>) -> u64
+    ensures { result ≡ look_from poll polled }
+{
+    match polled {
+        None => 0,
+        Some(polled) => polled.saturating_add(poll),
+    }
+}
+
+// A container that never ran has no back-off.
+fn ready_from(runs: &[PastRun]) -> u64
+    ensures { result ≡ ready_at runs.now }
+{
+    if runs.is_empty() { 0 } else { ready_at(runs) }
+}
+
+// From when on there may be another attempt behind one that ended with this code.
+fn again(policy: RestartPolicy, track: &Track, attempt: u32, code: u8) -> Option<u64>
+    ensures value { result ≡ again policy track.now attempt code }
+    ensures more { IfSome result (λ _. attempt < LAST_ATTEMPT) }
+{
+    if may_restart(policy, track.init, code) && attempt < LAST_ATTEMPT {
+        Some(ready_from(track.runs.as_slice()))
+    } else {
+        None
+    }
+}
+
+pub(crate) fn want_of(policy: RestartPolicy, poll: u64, track: &Track) -> Option<Want>
+    ensures { result ≡ want_of policy poll track.now }
+{
+    match track.stage {
+        Stage::Absent => Some(Want {
+            from: 0,
+            work: Work::Create(0),
+        }),
+        Stage::Made { attempt } => Some(Want {
+            from: 0,
+            work: Work::Start(attempt),
+        }),
+        Stage::Running {
+            attempt,
+            polled,
+            ..
+        } => Some(Want {
+            from: look_from(poll, polled),
+            work: Work::Look(attempt),
+        }),
+        Stage::Exited { attempt, code } => again(policy, track, attempt, code).map(|from| Want {
+            from,
+            work: Work::Clear(attempt),
+        }),
+        Stage::Removed { attempt, code } => {
+            let from = again(policy, track, attempt, code)?;
+            Some(Want {
+                from,
+                work: Work::Create(attempt + 1),
+            })
+        }
+    }
+}
