@@ -4,6 +4,7 @@ ghost use Rattle.serde_json.specs.View.{members_view, view};
 ghost use Rattle.manifest.specs.declared.profiles.SeccompProfile.TheVariants.{Localhost};
 ghost use Rattle.manifest.specs.Texts.{is_descending};
 ghost use Rattle.cri_msgs.specs.Fits.{FitsCall, FitsKey, FitsProfile, FitsUid, IsSmall};
+ghost use Rattle.cri_msgs.specs.Names.{version_number};
 ghost use Rattle.cri_msgs.specs.Written.{call_tree, create_tree, key_grace_tree, key_tree, profile_tree, uid_grace_tree, uid_tree, version_last, whole_number};
 
 use crate::calls::Call;
@@ -46,17 +47,20 @@ pub(crate) fn call_tree(
 }
 
 // What each request has.
-fn head(alloc: Global, version: Version, id: u64, call: &str) -> Result<Object, AllocError>
+fn with_head(object: Object, version: Version, id: u64, call: &str) -> Result<Object, AllocError>
     ensures { IfOk result (λ o. members_view o.members.entries
-        ≡ member (codes "call") (string call.now) (member (codes "id") (whole_number id) (version_last version))) }
+        ≡ put (codes "v") (whole_number (version_number version))
+        (put (codes "id") (whole_number id)
+        (put (codes "call") (string call.now) (members_view object.members.entries)))) }
 {
-    Object::new(alloc)
+    let object = object
         .text("call", call)?
         .whole("id", id)?
-        .whole("v", version.number())
+        .whole("v", version.number())?;
+    Ok(object)
 }
 
-// What a call of a container has beside that.
+// What each call of a container has.
 fn with_key(object: Object, key: &Key) -> Result<Object, AllocError>
     ensures members { IfOk result (λ o. members_view o.members.entries
         ≡ put (codes "attempt") (whole_number key.now.container.attempt)
@@ -82,8 +86,8 @@ fn by_uid(
     ensures tree { IfOk result (λ v. view v ≡ uid_tree version id call.now uid.now) }
     ensures fit { IfOk result (λ _. FitsUid uid.now) }
 {
-    let object = head(alloc, version, id, call)?.text("uid", uid.as_str())?;
-    Ok(object.done())
+    let object = Object::new(alloc).text("uid", uid.as_str())?;
+    Ok(with_head(object, version, id, call)?.done())
 }
 
 fn stop_pod(
@@ -96,10 +100,10 @@ fn stop_pod(
     ensures tree { IfOk result (λ v. view v ≡ uid_grace_tree version id uid.now grace) }
     ensures fit { IfOk result (λ _. FitsUid uid.now × IsSmall grace) }
 {
-    let object = head(alloc, version, id, "StopPodSandbox")?
+    let object = Object::new(alloc)
         .text("uid", uid.as_str())?
         .whole("grace", grace)?;
-    Ok(object.done())
+    Ok(with_head(object, version, id, "StopPodSandbox")?.done())
 }
 
 fn by_key(
@@ -112,8 +116,8 @@ fn by_key(
     ensures tree { IfOk result (λ v. view v ≡ key_tree version id call.now key.now) }
     ensures fit { IfOk result (λ _. FitsKey key.now) }
 {
-    let object = with_key(head(alloc, version, id, call)?, key)?;
-    Ok(object.done())
+    let object = with_key(Object::new(alloc), key)?;
+    Ok(with_head(object, version, id, call)?.done())
 }
 
 fn stop(
@@ -126,8 +130,8 @@ fn stop(
     ensures tree { IfOk result (λ v. view v ≡ key_grace_tree version id key.now grace) }
     ensures fit { IfOk result (λ _. FitsKey key.now × IsSmall grace) }
 {
-    let object = with_key(head(alloc, version, id, "StopContainer")?, key)?.whole("grace", grace)?;
-    Ok(object.done())
+    let object = with_key(Object::new(alloc), key)?.whole("grace", grace)?;
+    Ok(with_head(object, version, id, "StopContainer")?.done())
 }
 
 fn create(
@@ -142,10 +146,11 @@ fn create(
     ensures fit { IfOk result (λ _. FitsKey key.now × IsTrue (is_descending image.now) × FitsProfile profile.now) }
 {
     let profile = profile_tree(alloc, profile)?;
-    let object = with_key(head(alloc, version, id, "CreateContainer")?, key)?
-        .text("image", image.as_str())?
-        .with("profile", profile)?;
-    Ok(object.done())
+    let object = Object::new(alloc)
+        .with("profile", profile)?
+        .text("image", image.as_str())?;
+    let object = with_key(object, key)?;
+    Ok(with_head(object, version, id, "CreateContainer")?.done())
 }
 
 fn profile_tree(alloc: Global, profile: &SeccompProfile) -> Result<Value, AllocError>
