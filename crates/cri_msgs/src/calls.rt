@@ -1,5 +1,6 @@
 ghost use Rattle.std.specs.Prelude.{◌≡◌, ◌≢◌, ◌↔◌, ◌<◌, ◌≤◌, IfOk, IfErr, IsTrue, Ok, length};
 ghost use Rattle.json_tree.specs.Reading.{Gives};
+ghost use Rattle.cri_msgs.specs.declared.calls.Call.{Call};
 ghost use Rattle.cri_msgs.specs.declared.calls.Request.{Request};
 ghost use Rattle.cri_msgs.specs.declared.faults.MessageFault.{MessageFault};
 ghost use Rattle.cri_msgs.specs.declared.version.TheConstants.{MAX_TEXT};
@@ -102,46 +103,67 @@ impl Call {
         ensures { IfOk result (λ copy. copy ≡ self.now) }
     {
         match self {
-            Call::RunPodSandbox { uid } => Ok(Call::RunPodSandbox {
-                uid: uid.try_clone(alloc)?,
-            }),
-            Call::StopPodSandbox { uid, grace } => Ok(Call::StopPodSandbox {
-                uid: uid.try_clone(alloc)?,
-                grace: *grace,
-            }),
-            Call::RemovePodSandbox { uid } => Ok(Call::RemovePodSandbox {
-                uid: uid.try_clone(alloc)?,
-            }),
+            Call::RunPodSandbox { uid } => {
+                let uid = uid.try_clone(alloc)?;
+                Ok(Call::RunPodSandbox { uid })
+            }
+            Call::StopPodSandbox { uid, grace } => {
+                let uid = uid.try_clone(alloc)?;
+                Ok(Call::StopPodSandbox { uid, grace: *grace })
+            }
+            Call::RemovePodSandbox { uid } => {
+                let uid = uid.try_clone(alloc)?;
+                Ok(Call::RemovePodSandbox { uid })
+            }
+            Call::StartContainer { key } => {
+                let key = key.try_clone(alloc)?;
+                Ok(Call::StartContainer { key })
+            }
+            Call::StopContainer { key, grace } => {
+                let key = key.try_clone(alloc)?;
+                Ok(Call::StopContainer { key, grace: *grace })
+            }
+            Call::RemoveContainer { key } => {
+                let key = key.try_clone(alloc)?;
+                Ok(Call::RemoveContainer { key })
+            }
+            Call::ContainerStatus { key } => {
+                let key = key.try_clone(alloc)?;
+                Ok(Call::ContainerStatus { key })
+            }
+            Call::ListContainers { uid } => {
+                let uid = uid.try_clone(alloc)?;
+                Ok(Call::ListContainers { uid })
+            }
+            Call::ContainerStatuses { uid } => {
+                let uid = uid.try_clone(alloc)?;
+                Ok(Call::ContainerStatuses { uid })
+            }
             Call::CreateContainer {
                 key,
                 image,
                 profile,
-            } => Ok(Call::CreateContainer {
-                key: key.try_clone(alloc)?,
-                image: image.try_clone(alloc)?,
-                profile: profile.try_clone(alloc)?,
-            }),
-            Call::StartContainer { key } => Ok(Call::StartContainer {
-                key: key.try_clone(alloc)?,
-            }),
-            Call::StopContainer { key, grace } => Ok(Call::StopContainer {
-                key: key.try_clone(alloc)?,
-                grace: *grace,
-            }),
-            Call::RemoveContainer { key } => Ok(Call::RemoveContainer {
-                key: key.try_clone(alloc)?,
-            }),
-            Call::ContainerStatus { key } => Ok(Call::ContainerStatus {
-                key: key.try_clone(alloc)?,
-            }),
-            Call::ListContainers { uid } => Ok(Call::ListContainers {
-                uid: uid.try_clone(alloc)?,
-            }),
-            Call::ContainerStatuses { uid } => Ok(Call::ContainerStatuses {
-                uid: uid.try_clone(alloc)?,
-            }),
+            } => create_again(alloc, key, image, profile),
         }
     }
+}
+
+fn create_again(
+    alloc: Global,
+    key: &Key,
+    image: &DescendingPath,
+    profile: &SeccompProfile,
+) -> Result<Call, AllocError>
+    ensures { IfOk result (λ copy. copy ≡ Call.CreateContainer key.now image.now profile.now) }
+{
+    let key = key.try_clone(alloc)?;
+    let image = image.try_clone(alloc)?;
+    let profile = profile.try_clone(alloc)?;
+    Ok(Call::CreateContainer {
+        key,
+        image,
+        profile,
+    })
 }
 
 /// A call with its number.

@@ -16,6 +16,7 @@ mod keys;
 mod laws;
 mod lists;
 mod names;
+mod object;
 mod refusals;
 mod replies;
 mod reply_reader;

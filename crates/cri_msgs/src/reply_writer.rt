@@ -1,17 +1,20 @@
 ghost use Rattle.std.specs.Prelude.{◌≡◌, IfOk, codes, map};
 ghost use Rattle.std.specs.List.{AllByRecursion};
-ghost use Rattle.serde_json.specs.View.{view};
+ghost use Rattle.serde_json.specs.Data.{array, member, no_members, object, put, string};
+ghost use Rattle.serde_json.specs.View.{items_view, members_view, view};
 ghost use Rattle.cri_msgs.specs.declared.lists.ListedContainer.{ListedContainer};
 ghost use Rattle.cri_msgs.specs.declared.lists.ListedStatus.{ListedStatus};
-ghost use Rattle.cri_msgs.specs.Fits.{FitsAnswer, FitsList, FitsListed, FitsListedStatus, FitsState, FitsStatus, IsSmall};
-ghost use Rattle.cri_msgs.specs.Names.{state_name};
-ghost use Rattle.cri_msgs.specs.Written.{answer_tree, exit_tree, list_tree, listed_status_tree, listed_tree, ok_tree, refused_tree, status_tree};
+ghost use Rattle.cri_msgs.specs.Fits.{FitsAnswer, FitsContainer, FitsList, FitsListed, FitsListedStatus, FitsState, FitsStatus, IsSmall};
+ghost use Rattle.cri_msgs.specs.Names.{kind_of, state_name};
+ghost use Rattle.cri_msgs.specs.Written.{answer_tree, exit_tree, list_tree, listed_status_tree, listed_tree, ok_tree, refused_tree, status_tree, version_last, whole_number};
 
+use crate::keys::ContainerMetadata;
 use crate::lists::{ListedContainer, ListedStatus, Listing, Statuses};
+use crate::object::Object;
 use crate::replies::Answer;
 use crate::states::{ContainerState, State, Status};
 use crate::version::Version;
-use serde_json::{Value, json};
+use serde_json::Value;
 use std::alloc::{AllocError, Global};
 
 // The trees of replies. Beside its tree each tells what the types keep of the answer.
@@ -29,9 +32,9 @@ pub(crate) fn answer_tree(
 {
     match answer {
         Answer::Refused(refusal) => refused(alloc, version, id, refusal.number()),
-        Answer::Done => ok(alloc, version, id, json!(in alloc; {})?),
-        Answer::Container(made) => ok(alloc, version, id, json!(in alloc; {"container": *made})?),
-        Answer::Status(status) => ok(alloc, version, id, status_tree(alloc, status)?),
+        Answer::Done => ok(alloc, version, id, Object::new(alloc).done()),
+        Answer::Container(made) => ok(alloc, version, id, made_tree(alloc, *made)?),
+        Answer::Status(status) => ok(alloc, version, id, status_tree(alloc, *status)?),
         Answer::List(list) => ok(alloc, version, id, listing_tree(alloc, list)?),
         Answer::Statuses(list) => ok(alloc, version, id, statuses_tree(alloc, list)?),
     }
@@ -40,13 +43,28 @@ pub(crate) fn answer_tree(
 fn refused(alloc: Global, version: Version, id: u64, number: u64) -> Result<Value, AllocError>
     ensures { IfOk result (λ v. view v ≡ refused_tree version id number) }
 {
-    json!(in alloc; {"id": id, "refused": number, "v": version.number()})
+    let object = Object::new(alloc)
+        .whole("id", id)?
+        .whole("refused", number)?
+        .whole("v", version.number())?;
+    Ok(object.done())
 }
 
 fn ok(alloc: Global, version: Version, id: u64, answer: Value) -> Result<Value, AllocError>
     ensures { IfOk result (λ v. view v ≡ ok_tree version id (view answer)) }
 {
-    json!(in alloc; {"id": id, "ok": answer, "v": version.number()})
+    let object = Object::new(alloc)
+        .with("ok", answer)?
+        .whole("id", id)?
+        .whole("v", version.number())?;
+    Ok(object.done())
+}
+
+fn made_tree(alloc: Global, made: u64) -> Result<Value, AllocError>
+    ensures { IfOk result (λ v. view v ≡ object (member (codes "container") (whole_number made) no_members)) }
+{
+    let object = Object::new(alloc).whole("container", made)?;
+    Ok(object.done())
 }
 
 fn name(state: ContainerState) -> &'static str
@@ -69,14 +87,43 @@ fn exit(state: State) -> Value
     }
 }
 
-fn status_tree(alloc: Global, status: &Status) -> Result<Value, AllocError>
-    ensures tree { IfOk result (λ v. view v ≡ status_tree status.now) }
-    ensures fit { IfOk result (λ _. FitsStatus status.now) }
+fn status_tree(alloc: Global, status: Status) -> Result<Value, AllocError>
+    ensures tree { IfOk result (λ v. view v ≡ status_tree status) }
+    ensures fit { IfOk result (λ _. FitsStatus status) }
 {
-    json!(in alloc; {
-        "denied": status.denied, "exit": exit(status.state), "performed": status.performed,
-        "state": name(status.state.kind())
-    })
+    let object = with_status(Object::new(alloc), status)?;
+    Ok(object.done())
+}
+
+// What is told of a container.
+fn with_status(object: Object, status: Status) -> Result<Object, AllocError>
+    ensures members { IfOk result (λ o. members_view o.members.entries
+        ≡ put (codes "state") (string (state_name (kind_of status.state)))
+        (put (codes "performed") (whole_number status.performed)
+        (put (codes "exit") (exit_tree status.state)
+        (put (codes "denied") (whole_number status.denied) (members_view object.members.entries))))) }
+    ensures fit { IfOk result (λ _. FitsStatus status) }
+{
+    let object = object
+        .whole("denied", status.denied)?
+        .with("exit", exit(status.state))?
+        .whole("performed", status.performed)?
+        .text("state", name(status.state.kind()))?;
+    Ok(object)
+}
+
+// Which container it is.
+fn with_container(object: Object, container: &ContainerMetadata) -> Result<Object, AllocError>
+    ensures members { IfOk result (λ o. members_view o.members.entries
+        ≡ put (codes "name") (string container.now.name)
+        (put (codes "attempt") (whole_number container.now.attempt) (members_view object.members.entries))) }
+    ensures fit { IfOk result (λ _. FitsContainer container.now) }
+{
+    let attempt = container.attempt;
+    let object = object
+        .whole("attempt", u64::from(attempt))?
+        .text("name", container.name.as_str())?;
+    Ok(object)
 }
 
 fn listing_tree(alloc: Global, list: &Listing) -> Result<Value, AllocError>
@@ -84,7 +131,7 @@ fn listing_tree(alloc: Global, list: &Listing) -> Result<Value, AllocError>
     ensures fit { IfOk result (λ _. FitsList FitsListed list.now) }
 {
     let trees = listed_trees(alloc, list.as_slice())?;
-    json!(in alloc; {"containers": Value::Array(trees)})
+    list_tree(alloc, "containers", trees)
 }
 
 fn statuses_tree(alloc: Global, list: &Statuses) -> Result<Value, AllocError>
@@ -92,7 +139,14 @@ fn statuses_tree(alloc: Global, list: &Statuses) -> Result<Value, AllocError>
     ensures fit { IfOk result (λ _. FitsList FitsListedStatus list.now) }
 {
     let trees = status_trees(alloc, list.as_slice())?;
-    json!(in alloc; {"statuses": Value::Array(trees)})
+    list_tree(alloc, "statuses", trees)
+}
+
+fn list_tree(alloc: Global, key: &str, trees: Vec<Value>) -> Result<Value, AllocError>
+    ensures { IfOk result (λ v. view v ≡ object (member key.now (array (items_view trees.items)) no_members)) }
+{
+    let object = Object::new(alloc).with(key, Value::Array(trees))?;
+    Ok(object.done())
 }
 
 #[tactic(auto, using(crate::proofs::Entries::written_more, crate::proofs::Entries::fits_more))]
@@ -123,20 +177,18 @@ fn listed_tree(alloc: Global, listed: &ListedContainer) -> Result<Value, AllocEr
     ensures tree { IfOk result (λ v. view v ≡ listed_tree listed.now) }
     ensures fit { IfOk result (λ _. FitsListed listed.now) }
 {
-    json!(in alloc; {
-        "attempt": listed.container.attempt, "name": listed.container.name.as_str(),
-        "state": name(listed.state)
-    })
+    let object = with_container(Object::new(alloc), &listed.container)?.text(
+        "state",
+        name(listed.state),
+    )?;
+    Ok(object.done())
 }
 
 fn listed_status_tree(alloc: Global, listed: &ListedStatus) -> Result<Value, AllocError>
     ensures tree { IfOk result (λ v. view v ≡ listed_status_tree listed.now) }
     ensures fit { IfOk result (λ _. FitsListedStatus listed.now) }
 {
-    let status = listed.status;
-    json!(in alloc; {
-        "attempt": listed.container.attempt, "denied": status.denied, "exit": exit(status.state),
-        "name": listed.container.name.as_str(), "performed": status.performed,
-        "state": name(status.state.kind())
-    })
+    let object = with_container(Object::new(alloc), &listed.container)?;
+    let object = with_status(object, listed.status)?;
+    Ok(object.done())
 }

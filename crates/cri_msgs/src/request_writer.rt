@@ -1,14 +1,18 @@
-ghost use Rattle.std.specs.Prelude.{◌≡◌, IfOk, IsTrue};
-ghost use Rattle.serde_json.specs.View.{view};
+ghost use Rattle.std.specs.Prelude.{◌≡◌, IfOk, IsTrue, codes};
+ghost use Rattle.serde_json.specs.Data.{member, no_members, object, put, string};
+ghost use Rattle.serde_json.specs.View.{members_view, view};
+ghost use Rattle.manifest.specs.declared.profiles.SeccompProfile.TheVariants.{Localhost};
 ghost use Rattle.manifest.specs.Texts.{is_descending};
 ghost use Rattle.cri_msgs.specs.Fits.{FitsCall, FitsKey, FitsProfile, FitsUid, IsSmall};
-ghost use Rattle.cri_msgs.specs.Written.{call_tree, create_tree, key_grace_tree, key_tree, profile_tree, uid_grace_tree, uid_tree};
+ghost use Rattle.cri_msgs.specs.Names.{version_number};
+ghost use Rattle.cri_msgs.specs.Written.{call_tree, create_tree, key_grace_tree, key_tree, profile_tree, uid_grace_tree, uid_tree, version_last, whole_number};
 
 use crate::calls::Call;
 use crate::keys::Key;
+use crate::object::Object;
 use crate::version::Version;
 use manifest::{DescendingPath, SeccompProfile, Uid};
-use serde_json::{Value, json};
+use serde_json::Value;
 use std::alloc::{AllocError, Global};
 
 // The trees of requests. Beside its tree each tells what the types keep of the call.
@@ -42,6 +46,36 @@ pub(crate) fn call_tree(
     }
 }
 
+// What each request has.
+fn with_head(object: Object, version: Version, id: u64, call: &str) -> Result<Object, AllocError>
+    ensures { IfOk result (λ o. members_view o.members.entries
+        ≡ put (codes "v") (whole_number (version_number version))
+        (put (codes "id") (whole_number id)
+        (put (codes "call") (string call.now) (members_view object.members.entries)))) }
+{
+    let object = object
+        .text("call", call)?
+        .whole("id", id)?
+        .whole("v", version.number())?;
+    Ok(object)
+}
+
+// What each call of a container has.
+fn with_key(object: Object, key: &Key) -> Result<Object, AllocError>
+    ensures members { IfOk result (λ o. members_view o.members.entries
+        ≡ put (codes "attempt") (whole_number key.now.container.attempt)
+        (put (codes "name") (string key.now.container.name)
+        (put (codes "uid") (string key.now.uid) (members_view object.members.entries)))) }
+    ensures fit { IfOk result (λ _. FitsKey key.now) }
+{
+    let attempt = key.container.attempt;
+    let object = object
+        .text("uid", key.uid.as_str())?
+        .text("name", key.container.name.as_str())?
+        .whole("attempt", u64::from(attempt))?;
+    Ok(object)
+}
+
 fn by_uid(
     alloc: Global,
     version: Version,
@@ -52,7 +86,8 @@ fn by_uid(
     ensures tree { IfOk result (λ v. view v ≡ uid_tree version id call.now uid.now) }
     ensures fit { IfOk result (λ _. FitsUid uid.now) }
 {
-    json!(in alloc; {"call": call, "id": id, "uid": uid.as_str(), "v": version.number()})
+    let object = Object::new(alloc).text("uid", uid.as_str())?;
+    Ok(with_head(object, version, id, call)?.done())
 }
 
 fn stop_pod(
@@ -65,9 +100,10 @@ fn stop_pod(
     ensures tree { IfOk result (λ v. view v ≡ uid_grace_tree version id uid.now grace) }
     ensures fit { IfOk result (λ _. FitsUid uid.now × IsSmall grace) }
 {
-    json!(in alloc; {
-        "call": "StopPodSandbox", "grace": grace, "id": id, "uid": uid.as_str(), "v": version.number()
-    })
+    let object = Object::new(alloc)
+        .text("uid", uid.as_str())?
+        .whole("grace", grace)?;
+    Ok(with_head(object, version, id, "StopPodSandbox")?.done())
 }
 
 fn by_key(
@@ -80,10 +116,8 @@ fn by_key(
     ensures tree { IfOk result (λ v. view v ≡ key_tree version id call.now key.now) }
     ensures fit { IfOk result (λ _. FitsKey key.now) }
 {
-    json!(in alloc; {
-        "attempt": key.container.attempt, "call": call, "id": id, "name": key.container.name.as_str(),
-        "uid": key.uid.as_str(), "v": version.number()
-    })
+    let object = with_key(Object::new(alloc), key)?;
+    Ok(with_head(object, version, id, call)?.done())
 }
 
 fn stop(
@@ -96,10 +130,8 @@ fn stop(
     ensures tree { IfOk result (λ v. view v ≡ key_grace_tree version id key.now grace) }
     ensures fit { IfOk result (λ _. FitsKey key.now × IsSmall grace) }
 {
-    json!(in alloc; {
-        "attempt": key.container.attempt, "call": "StopContainer", "grace": grace, "id": id,
-        "name": key.container.name.as_str(), "uid": key.uid.as_str(), "v": version.number()
-    })
+    let object = with_key(Object::new(alloc), key)?.whole("grace", grace)?;
+    Ok(with_head(object, version, id, "StopContainer")?.done())
 }
 
 fn create(
@@ -114,11 +146,11 @@ fn create(
     ensures fit { IfOk result (λ _. FitsKey key.now × IsTrue (is_descending image.now) × FitsProfile profile.now) }
 {
     let profile = profile_tree(alloc, profile)?;
-    json!(in alloc; {
-        "attempt": key.container.attempt, "call": "CreateContainer", "id": id, "image": image.as_str(),
-        "name": key.container.name.as_str(), "profile": profile, "uid": key.uid.as_str(),
-        "v": version.number()
-    })
+    let object = Object::new(alloc)
+        .with("profile", profile)?
+        .text("image", image.as_str())?;
+    let object = with_key(object, key)?;
+    Ok(with_head(object, version, id, "CreateContainer")?.done())
 }
 
 fn profile_tree(alloc: Global, profile: &SeccompProfile) -> Result<Value, AllocError>
@@ -126,10 +158,25 @@ fn profile_tree(alloc: Global, profile: &SeccompProfile) -> Result<Value, AllocE
     ensures fit { IfOk result (λ _. FitsProfile profile.now) }
 {
     match profile {
-        SeccompProfile::RuntimeDefault => json!(in alloc; {"type": "RuntimeDefault"}),
-        SeccompProfile::Localhost(path) => {
-            json!(in alloc; {"path": path.as_str(), "type": "Localhost"})
-        }
-        SeccompProfile::Unconfined => json!(in alloc; {"type": "Unconfined"}),
+        SeccompProfile::RuntimeDefault => typed(alloc, "RuntimeDefault"),
+        SeccompProfile::Localhost(path) => localhost(alloc, path),
+        SeccompProfile::Unconfined => typed(alloc, "Unconfined"),
     }
+}
+
+fn typed(alloc: Global, name: &str) -> Result<Value, AllocError>
+    ensures { IfOk result (λ v. view v ≡ object (member (codes "type") (string name.now) no_members)) }
+{
+    let object = Object::new(alloc).text("type", name)?;
+    Ok(object.done())
+}
+
+fn localhost(alloc: Global, path: &DescendingPath) -> Result<Value, AllocError>
+    ensures tree { IfOk result (λ v. view v ≡ profile_tree (Localhost path.now)) }
+    ensures fit { IfOk result (λ _. IsTrue (is_descending path.now)) }
+{
+    let object = Object::new(alloc)
+        .text("type", "Localhost")?
+        .text("path", path.as_str())?;
+    Ok(object.done())
 }

@@ -1,239 +1,148 @@
-use crate::test_texts::{is_reply, is_request, is_text, reply_again, reply_fault, request_again};
+use crate::test_texts::{
+    halves, is_reply, is_request, is_text, reply_again, reply_fault, request_again,
+};
 use crate::*;
 use manifest::{Label, Uid};
 use std::alloc::Global;
 
-// A request of each call as it is written, without its version, and whether version 1 has it.
-const CALLS: [(&str, bool); 12] = [
-    (
-        "{\"call\":\"RunPodSandbox\",\"id\":1,\"uid\":\"u1\",\"v\":",
-        true,
-    ),
-    (
-        "{\"call\":\"StopPodSandbox\",\"grace\":30,\"id\":0,\"uid\":\"u1\",\"v\":",
-        true,
-    ),
-    (
-        "{\"call\":\"RemovePodSandbox\",\"id\":3,\"uid\":\"U.1-\",\"v\":",
-        true,
-    ),
-    (
-        "{\"attempt\":0,\"call\":\"CreateContainer\",\"id\":4,\"image\":\"a.json\",\"name\":\"main\",\
-        \"profile\":{\"type\":\"RuntimeDefault\"},\"uid\":\"u1\",\"v\":",
-        true,
-    ),
-    (
-        "{\"attempt\":1,\"call\":\"CreateContainer\",\"id\":4,\"image\":\"a/b\",\"name\":\"main\",\
-        \"profile\":{\"type\":\"Unconfined\"},\"uid\":\"u1\",\"v\":",
-        true,
-    ),
-    (
-        "{\"attempt\":4294967295,\"call\":\"CreateContainer\",\"id\":4,\"image\":\"a\\\"\\n\\u0001\",\
-        \"name\":\"main\",\"profile\":{\"path\":\"a.json\",\"type\":\"Localhost\"},\"uid\":\"u1\",\"v\":",
-        true,
-    ),
-    (
-        "{\"attempt\":0,\"call\":\"StartContainer\",\"id\":5,\"name\":\"main\",\"uid\":\"u1\",\"v\":",
-        true,
-    ),
-    (
-        "{\"attempt\":0,\"call\":\"StopContainer\",\"grace\":18446744073709551615,\
-        \"id\":18446744073709551615,\"name\":\"main\",\"uid\":\"u1\",\"v\":",
-        true,
-    ),
-    (
-        "{\"attempt\":0,\"call\":\"RemoveContainer\",\"id\":7,\"name\":\"a-0\",\"uid\":\"u1\",\"v\":",
-        true,
-    ),
-    (
-        "{\"attempt\":0,\"call\":\"ContainerStatus\",\"id\":2,\"name\":\"main\",\"uid\":\"u1\",\"v\":",
-        true,
-    ),
-    (
-        "{\"call\":\"ListContainers\",\"id\":8,\"uid\":\"u1\",\"v\":",
-        true,
-    ),
-    (
-        "{\"call\":\"ContainerStatuses\",\"id\":9,\"uid\":\"u1\",\"v\":",
-        false,
-    ),
-];
+// A request of each call as it is written, behind the versions that have it.
+const CALLS: &str = r#"12=>{"call":"RunPodSandbox","id":1,"uid":"u1","v":2}
+12=>{"call":"StopPodSandbox","grace":30,"id":0,"uid":"u1","v":2}
+12=>{"call":"RemovePodSandbox","id":3,"uid":"U.1-","v":2}
+12=>{"attempt":0,"call":"CreateContainer","id":4,"image":"a.json","name":"main","profile":{"type":"RuntimeDefault"},"uid":"u1","v":2}
+12=>{"attempt":1,"call":"CreateContainer","id":4,"image":"a/b","name":"main","profile":{"type":"Unconfined"},"uid":"u1","v":2}
+12=>{"attempt":4294967295,"call":"CreateContainer","id":4,"image":"a\"\n\u0001","name":"main","profile":{"path":"a.json","type":"Localhost"},"uid":"u1","v":2}
+12=>{"attempt":0,"call":"StartContainer","id":5,"name":"main","uid":"u1","v":2}
+12=>{"attempt":0,"call":"StopContainer","grace":18446744073709551615,"id":18446744073709551615,"name":"main","uid":"u1","v":2}
+12=>{"attempt":0,"call":"RemoveContainer","id":7,"name":"a-0","uid":"u1","v":2}
+12=>{"attempt":0,"call":"ContainerStatus","id":2,"name":"main","uid":"u1","v":2}
+12=>{"call":"ListContainers","id":8,"uid":"u1","v":2}
+2=>{"call":"ContainerStatuses","id":9,"uid":"u1","v":2}"#;
 
-// A reply of each kind as it is written, without its version, and whether version 1 has it.
-const REPLIES: [(&str, bool); 15] = [
-    ("{\"id\":1,\"ok\":{},\"v\":", true),
-    ("{\"id\":1,\"refused\":3,\"v\":", true),
-    ("{\"id\":1,\"refused\":5,\"v\":", true),
-    ("{\"id\":1,\"refused\":6,\"v\":", true),
-    ("{\"id\":1,\"refused\":8,\"v\":", true),
-    ("{\"id\":1,\"refused\":9,\"v\":", true),
-    ("{\"id\":1,\"refused\":13,\"v\":", true),
-    ("{\"id\":1,\"refused\":14,\"v\":", true),
-    (
-        "{\"id\":18446744073709551615,\"ok\":{\"container\":18446744073709551615},\"v\":",
-        true,
-    ),
-    (
-        "{\"id\":2,\"ok\":{\"denied\":0,\"exit\":null,\"performed\":0,\"state\":\"CREATED\"},\"v\":",
-        true,
-    ),
-    (
-        "{\"id\":2,\"ok\":{\"denied\":0,\"exit\":255,\"performed\":1,\"state\":\"EXITED\"},\"v\":",
-        true,
-    ),
-    ("{\"id\":2,\"ok\":{\"containers\":[]},\"v\":", true),
-    (
-        "{\"id\":2,\"ok\":{\"containers\":[{\"attempt\":0,\"name\":\"main\",\"state\":\"CREATED\"},\
-        {\"attempt\":1,\"name\":\"main\",\"state\":\"RUNNING\"},\
-        {\"attempt\":0,\"name\":\"z\",\"state\":\"EXITED\"}]},\"v\":",
-        true,
-    ),
-    ("{\"id\":9,\"ok\":{\"statuses\":[]},\"v\":", false),
-    (
-        "{\"id\":9,\"ok\":{\"statuses\":[{\"attempt\":0,\"denied\":0,\"exit\":null,\"name\":\"main\",\
-        \"performed\":0,\"state\":\"RUNNING\"},{\"attempt\":1,\"denied\":7,\"exit\":0,\"name\":\"main\",\
-        \"performed\":0,\"state\":\"EXITED\"}]},\"v\":",
-        false,
-    ),
-];
+// A reply of each kind as it is written, behind the versions that have it.
+const REPLIES: &str = r#"12=>{"id":1,"ok":{},"v":2}
+12=>{"id":1,"refused":3,"v":2}
+12=>{"id":1,"refused":5,"v":2}
+12=>{"id":1,"refused":6,"v":2}
+12=>{"id":1,"refused":8,"v":2}
+12=>{"id":1,"refused":9,"v":2}
+12=>{"id":1,"refused":13,"v":2}
+12=>{"id":1,"refused":14,"v":2}
+12=>{"id":18446744073709551615,"ok":{"container":18446744073709551615},"v":2}
+12=>{"id":2,"ok":{"denied":0,"exit":null,"performed":0,"state":"CREATED"},"v":2}
+12=>{"id":2,"ok":{"denied":0,"exit":255,"performed":1,"state":"EXITED"},"v":2}
+12=>{"id":2,"ok":{"containers":[]},"v":2}
+12=>{"id":2,"ok":{"containers":[{"attempt":0,"name":"main","state":"CREATED"},{"attempt":1,"name":"main","state":"RUNNING"},{"attempt":0,"name":"z","state":"EXITED"}]},"v":2}
+2=>{"id":9,"ok":{"statuses":[]},"v":2}
+2=>{"id":9,"ok":{"statuses":[{"attempt":0,"denied":0,"exit":null,"name":"main","performed":0,"state":"RUNNING"},{"attempt":1,"denied":7,"exit":0,"name":"main","performed":0,"state":"EXITED"}]},"v":2}"#;
 
-fn text_in(alloc: Global, head: &str, version: Version) -> Option<String> {
-    format!(in alloc; "{head}{}}}", version.number()).ok()
+// Whether the text is written as it stands, also in version 1, whether version 1 reads that where it has it,
+// and whether no text of one version is one of the other.
+fn is_call_kept(alloc: Global, text: &str, first: &str, in_first: bool) -> bool {
+    is_text(request_again(alloc, text, Version::V2), text)
+        && is_text(request_again(alloc, text, Version::V1), first)
+        && is_request(alloc, Version::V1, first) == in_first
+        && !is_request(alloc, Version::V1, text)
+        && !is_request(alloc, Version::V2, first)
 }
 
-// Whether the text is written as it stands, also in version 1, whether version 1 reads that, and whether a
-// text of one version is one of the other.
-fn call_in_versions(alloc: Global, head: &str) -> Option<(bool, bool, bool, bool)> {
-    let first = text_in(alloc, head, Version::V1)?;
-    let text = text_in(alloc, head, Version::V2)?;
-    let same = request_again(alloc, text.as_str(), Version::V2);
-    let older = request_again(alloc, text.as_str(), Version::V1);
-    let other = is_request(alloc, Version::V1, text.as_str());
-    Some((
-        is_text(same, text.as_str()),
-        is_text(older, first.as_str()),
-        is_request(alloc, Version::V1, first.as_str()),
-        other || is_request(alloc, Version::V2, first.as_str()),
-    ))
+fn is_reply_kept(alloc: Global, text: &str, first: &str, in_first: bool) -> bool {
+    is_text(reply_again(alloc, text, Version::V2), text)
+        && is_text(reply_again(alloc, text, Version::V1), first)
+        && is_reply(alloc, Version::V1, first) == in_first
+        && !is_reply(alloc, Version::V1, text)
+        && !is_reply(alloc, Version::V2, first)
 }
 
-fn reply_in_versions(alloc: Global, head: &str) -> Option<(bool, bool, bool, bool)> {
-    let first = text_in(alloc, head, Version::V1)?;
-    let text = text_in(alloc, head, Version::V2)?;
-    let same = reply_again(alloc, text.as_str(), Version::V2);
-    let older = reply_again(alloc, text.as_str(), Version::V1);
-    let other = is_reply(alloc, Version::V1, text.as_str());
-    Some((
-        is_text(same, text.as_str()),
-        is_text(older, first.as_str()),
-        is_reply(alloc, Version::V1, first.as_str()),
-        other || is_reply(alloc, Version::V2, first.as_str()),
-    ))
+fn in_first(alloc: Global, text: &str) -> Option<String> {
+    text.replace(alloc, "\"v\":2}", "\"v\":1}").ok()
+}
+
+fn is_call_in_versions(alloc: Global, row: &str) -> bool {
+    let (versions, text) = halves(row);
+    match in_first(alloc, text) {
+        Some(first) => is_call_kept(alloc, text, first.as_str(), versions == "12"),
+        None => false,
+    }
+}
+
+fn is_reply_in_versions(alloc: Global, row: &str) -> bool {
+    let (versions, text) = halves(row);
+    match in_first(alloc, text) {
+        Some(first) => is_reply_kept(alloc, text, first.as_str(), versions == "12"),
+        None => false,
+    }
 }
 
 #[test]
 fn there_and_back(rt: HostRuntime) {
-    for (head, in_first) in CALLS {
-        let found = call_in_versions(rt.alloc(), head);
-        assert!(rt; found == Some((true, true, in_first, false)), "{head}");
+    for row in CALLS.lines() {
+        assert!(rt; is_call_in_versions(rt.alloc(), row), "{row}");
     }
-    for (head, in_first) in REPLIES {
-        let found = reply_in_versions(rt.alloc(), head);
-        assert!(rt; found == Some((true, true, in_first, false)), "{head}");
+    for row in REPLIES.lines() {
+        assert!(rt; is_reply_in_versions(rt.alloc(), row), "{row}");
     }
 }
 
-const STATUS: &str = "\"performed\":1,\"denied\":2";
-
-fn says(alloc: Global, said: &str, want: &str) -> Option<bool> {
-    let text = format!(in alloc; "{{{said},\"v\":2,\"id\":5}}").ok()?;
-    if want.is_empty() {
-        return Some(reply_fault(alloc, text.as_bytes()) == Some(MessageFault::NoMessage(5)));
-    }
-    let wanted = format!(in alloc; "{{\"id\":5,{want},\"v\":2}}").ok()?;
-    Some(is_text(
-        reply_again(alloc, text.as_str(), Version::V2),
-        wanted.as_str(),
-    ))
-}
-
-// What the members of a reply say together: the text that is written of what was read, empty where it is no
+// What the members of a reply say together: the text that is written of what was read, none where it is no
 // message.
+const SAID: &str = r#"{"refused":3,"ok":{},"v":2,"id":5}=>{"id":5,"refused":3,"v":2}
+{"refused":3,"ok":1,"v":2,"id":5}=>{"id":5,"refused":3,"v":2}
+{"refused":null,"ok":{},"v":2,"id":5}=>{"id":5,"ok":{},"v":2}
+{"refused":null,"v":2,"id":5}=>
+{"refused":4,"ok":{},"v":2,"id":5}=>
+{"refused":0,"v":2,"id":5}=>
+{"refused":16,"v":2,"id":5}=>
+{"refused":"3","v":2,"id":5}=>
+{"refused":3.0,"v":2,"id":5}=>
+{"ok":null,"v":2,"id":5}=>
+{"ok":[],"v":2,"id":5}=>
+{"ok":{"other":1},"more":null,"v":2,"id":5}=>{"id":5,"ok":{},"v":2}
+{"ok":{"container":null,"containers":null,"state":null,"statuses":null,"exit":1},"v":2,"id":5}=>{"id":5,"ok":{},"v":2}
+{"ok":{"statuses":1,"state":1,"containers":1,"container":0},"v":2,"id":5}=>{"id":5,"ok":{"container":0},"v":2}
+{"ok":{"container":"1","containers":[]},"v":2,"id":5}=>
+{"ok":{"container":-1},"v":2,"id":5}=>
+{"ok":{"statuses":1,"state":1,"containers":[]},"v":2,"id":5}=>{"id":5,"ok":{"containers":[]},"v":2}
+{"ok":{"containers":{}},"v":2,"id":5}=>
+{"ok":{"containers":[1]},"v":2,"id":5}=>
+{"ok":{"containers":[null]},"v":2,"id":5}=>
+{"ok":{"containers":[{"name":"a","state":"CREATED"}]},"v":2,"id":5}=>
+{"ok":{"containers":[{"attempt":0,"state":"CREATED"}]},"v":2,"id":5}=>
+{"ok":{"containers":[{"attempt":0,"name":"a"}]},"v":2,"id":5}=>
+{"ok":{"containers":[{"attempt":0,"name":"a","state":"UNKNOWN"}]},"v":2,"id":5}=>
+{"ok":{"containers":[{"attempt":0,"name":"A","state":"CREATED"}]},"v":2,"id":5}=>
+{"ok":{"containers":[{"attempt":4294967296,"name":"a","state":"CREATED"}]},"v":2,"id":5}=>
+{"ok":{"containers":[{"name":"a","exit":1,"state":"CREATED","attempt":0}]},"v":2,"id":5}=>{"id":5,"ok":{"containers":[{"attempt":0,"name":"a","state":"CREATED"}]},"v":2}"#;
+
+fn is_said(alloc: Global, row: &str) -> bool {
+    let (text, want) = halves(row);
+    if want.is_empty() {
+        reply_fault(alloc, text.as_bytes()) == Some(MessageFault::NoMessage(5))
+    } else {
+        is_text(reply_again(alloc, text, Version::V2), want)
+    }
+}
+
 #[test]
 fn replies(rt: HostRuntime) {
-    let cases = [
-        ("\"refused\":3,\"ok\":{}", "\"refused\":3"),
-        ("\"refused\":3,\"ok\":1", "\"refused\":3"),
-        ("\"refused\":null,\"ok\":{}", "\"ok\":{}"),
-        ("\"refused\":null", ""),
-        ("\"refused\":4,\"ok\":{}", ""),
-        ("\"refused\":0", ""),
-        ("\"refused\":16", ""),
-        ("\"refused\":\"3\"", ""),
-        ("\"refused\":3.0", ""),
-        ("\"ok\":null", ""),
-        ("\"ok\":[]", ""),
-        ("\"ok\":{\"other\":1},\"more\":null", "\"ok\":{}"),
-        (
-            "\"ok\":{\"container\":null,\"containers\":null,\"state\":null,\"statuses\":null,\"exit\":1}",
-            "\"ok\":{}",
-        ),
-        (
-            "\"ok\":{\"statuses\":1,\"state\":1,\"containers\":1,\"container\":0}",
-            "\"ok\":{\"container\":0}",
-        ),
-        ("\"ok\":{\"container\":\"1\",\"containers\":[]}", ""),
-        ("\"ok\":{\"container\":-1}", ""),
-        (
-            "\"ok\":{\"statuses\":1,\"state\":1,\"containers\":[]}",
-            "\"ok\":{\"containers\":[]}",
-        ),
-        ("\"ok\":{\"containers\":{}}", ""),
-        ("\"ok\":{\"containers\":[1]}", ""),
-        ("\"ok\":{\"containers\":[null]}", ""),
-        (
-            "\"ok\":{\"containers\":[{\"name\":\"a\",\"state\":\"CREATED\"}]}",
-            "",
-        ),
-        (
-            "\"ok\":{\"containers\":[{\"attempt\":0,\"state\":\"CREATED\"}]}",
-            "",
-        ),
-        (
-            "\"ok\":{\"containers\":[{\"attempt\":0,\"name\":\"a\"}]}",
-            "",
-        ),
-        (
-            "\"ok\":{\"containers\":[{\"attempt\":0,\"name\":\"a\",\"state\":\"UNKNOWN\"}]}",
-            "",
-        ),
-        (
-            "\"ok\":{\"containers\":[{\"attempt\":0,\"name\":\"A\",\"state\":\"CREATED\"}]}",
-            "",
-        ),
-        (
-            "\"ok\":{\"containers\":[{\"attempt\":4294967296,\"name\":\"a\",\"state\":\"CREATED\"}]}",
-            "",
-        ),
-        (
-            "\"ok\":{\"containers\":[{\"name\":\"a\",\"exit\":1,\"state\":\"CREATED\",\"attempt\":0}]}",
-            "\"ok\":{\"containers\":[{\"attempt\":0,\"name\":\"a\",\"state\":\"CREATED\"}]}",
-        ),
-    ];
-    for (said, want) in cases {
-        assert!(rt; says(rt.alloc(), said, want) == Some(true), "{said}");
+    for row in SAID.lines() {
+        assert!(rt; is_said(rt.alloc(), row), "{row}");
     }
 }
 
-const ONE: &str =
-    "{\"call\":\"ContainerStatus\",\"id\":5,\"uid\":\"u1\",\"name\":\"main\",\"attempt\":1,\"v\":2}";
+const ONE: &str = r#"{"call":"ContainerStatus","id":5,"uid":"u1","name":"main","attempt":1,"v":2}"#;
 
-const ALL: &str = "{\"call\":\"ContainerStatuses\",\"id\":5,\"uid\":\"u1\",\"v\":2}";
+const ALL: &str = r#"{"call":"ContainerStatuses","id":5,"uid":"u1","v":2}"#;
 
-fn exit_told(alloc: Global, text: &str, call: &Call, key: &Key) -> Option<Option<u8>> {
-    match Reply::read(alloc, Version::V2, text.as_bytes()) {
-        Ok(reply) => Some(reply.answer.exit_told(call, key)),
-        Err(_) => None,
+const STATUS: &str = r#"{"id":5,"v":2,"ok":{"performed":1,"denied":2,STATE}}"#;
+
+const STATUSES: &str =
+    r#"{"id":5,"v":2,"ok":{"statuses":[{"name":"main","attempt":0,"performed":0,"denied":0,"state":"EXITED","exit":9},{"name":"main","attempt":1,"performed":1,"denied":2,STATE}]}}"#;
+
+fn is_code(told: Option<u8>, want: &str) -> bool {
+    match told {
+        Some(code) => want.parse() == Ok(code),
+        None => want == "none",
     }
 }
 
@@ -246,62 +155,75 @@ fn key(alloc: Global) -> Option<Key> {
     })
 }
 
-// The exit of attempt 1 that the text tells as a reply to this call.
-fn told_to(alloc: Global, text: &str, asked: &str) -> Option<Option<u8>> {
-    let key = key(alloc)?;
-    match Request::read(alloc, Version::V2, asked.as_bytes()) {
-        Ok(request) => exit_told(alloc, text, &request.call, &key),
-        Err(_) => None,
+// Whether the answer to the call tells this of the exit of attempt 1.
+fn tells(alloc: Global, answer: &Answer, call: &Call, want: &str) -> bool {
+    match key(alloc) {
+        Some(key) => is_code(answer.exit_told(call, &key), want),
+        None => false,
     }
 }
 
-fn told(alloc: Global, text: &str) -> Option<(Option<u8>, Option<u8>)> {
-    Some((told_to(alloc, text, ONE)?, told_to(alloc, text, ALL)?))
+fn tells_asked(alloc: Global, answer: &Answer, asked: &str, want: &str) -> bool {
+    match Request::read(alloc, Version::V2, asked.as_bytes()) {
+        Ok(request) => {
+            let is_told = tells(alloc, answer, &request.call, want);
+            drop(request);
+            is_told
+        }
+        Err(_) => false,
+    }
 }
 
-fn told_of_one(alloc: Global, state: &str) -> Option<(Option<u8>, Option<u8>)> {
-    let text = format!(in alloc; "{{\"id\":5,\"v\":2,\"ok\":{{{STATUS},{state}}}}}").ok()?;
-    told(alloc, text.as_str())
+// The same of a text, where nothing is wanted of one that is no message.
+fn is_told(alloc: Global, text: &str, asked: &str, want: &str) -> bool {
+    match Reply::read(alloc, Version::V2, text.as_bytes()) {
+        Ok(reply) => tells_asked(alloc, &reply.answer, asked, want),
+        Err(_) => want.is_empty(),
+    }
 }
 
-fn told_of_all(alloc: Global, state: &str) -> Option<(Option<u8>, Option<u8>)> {
-    let text = format!(in alloc;
-        "{{\"id\":5,\"v\":2,\"ok\":{{\"statuses\":[\
-        {{\"name\":\"main\",\"attempt\":0,\"performed\":0,\"denied\":0,\"state\":\"EXITED\",\"exit\":9}},\
-        {{\"name\":\"main\",\"attempt\":1,{STATUS},{state}}}]}}}}"
-    )
-    .ok()?;
-    told(alloc, text.as_str())
+fn is_state_told(alloc: Global, form: &str, state: &str, to_one: &str, to_all: &str) -> bool {
+    match form.replace(alloc, "STATE", state) {
+        Ok(text) => {
+            is_told(alloc, text.as_str(), ONE, to_one) && is_told(alloc, text.as_str(), ALL, to_all)
+        }
+        Err(_) => false,
+    }
 }
 
-// A status, as `ok` and as an item of `statuses`: what is told of it, or that it is no message.
+// A status, as `ok` and as an item of `statuses`: what is told of it, nothing where it is no message.
+const STATES: &str = r#""state":"CREATED"=>none
+"state":"RUNNING","exit":null=>none
+"state":"EXITED","exit":0=>0
+"state":"EXITED","exit":255=>255
+"state":"CREATED","exit":0=>
+"state":"RUNNING","exit":137=>
+"state":"RUNNING","exit":""=>
+"state":"EXITED"=>
+"state":"EXITED","exit":null=>
+"state":"EXITED","exit":256=>
+"state":"EXITED","exit":-1=>
+"state":"EXITED","exit":"0"=>
+"state":"UNKNOWN"=>
+"state":"created"=>
+"state":1=>
+"state":"CREATED","performed":null=>
+"state":"CREATED","performed":1.5=>
+"state":"CREATED","denied":null=>
+"state":"CREATED","denied":"2"=>"#;
+
 #[test]
 fn statuses(rt: HostRuntime) {
-    let cases = [
-        ("\"state\":\"CREATED\"", true, None),
-        ("\"state\":\"RUNNING\",\"exit\":null", true, None),
-        ("\"state\":\"EXITED\",\"exit\":0", true, Some(0)),
-        ("\"state\":\"EXITED\",\"exit\":255", true, Some(255)),
-        ("\"state\":\"CREATED\",\"exit\":0", false, None),
-        ("\"state\":\"RUNNING\",\"exit\":137", false, None),
-        ("\"state\":\"RUNNING\",\"exit\":\"\"", false, None),
-        ("\"state\":\"EXITED\"", false, None),
-        ("\"state\":\"EXITED\",\"exit\":null", false, None),
-        ("\"state\":\"EXITED\",\"exit\":256", false, None),
-        ("\"state\":\"EXITED\",\"exit\":-1", false, None),
-        ("\"state\":\"EXITED\",\"exit\":\"0\"", false, None),
-        ("\"state\":\"UNKNOWN\"", false, None),
-        ("\"state\":\"created\"", false, None),
-        ("\"state\":1", false, None),
-        ("\"state\":\"CREATED\",\"performed\":null", false, None),
-        ("\"state\":\"CREATED\",\"performed\":1.5", false, None),
-        ("\"state\":\"CREATED\",\"denied\":null", false, None),
-        ("\"state\":\"CREATED\",\"denied\":\"2\"", false, None),
-    ];
-    for (state, is_one, code) in cases {
-        let one = if is_one { Some((code, None)) } else { None };
-        assert!(rt; told_of_one(rt.alloc(), state) == one, "{state}");
-        let all = if is_one { Some((None, code)) } else { None };
-        assert!(rt; told_of_all(rt.alloc(), state) == all, "{state}");
+    for row in STATES.lines() {
+        let (state, want) = halves(row);
+        let other = if want.is_empty() { "" } else { "none" };
+        assert!(rt;
+            is_state_told(rt.alloc(), STATUS, state, want, other),
+            "{row}"
+        );
+        assert!(rt;
+            is_state_told(rt.alloc(), STATUSES, state, other, want),
+            "{row}"
+        );
     }
 }
