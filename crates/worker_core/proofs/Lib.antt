@@ -1,0 +1,11 @@
+pub mod Texts
+pub mod Lists
+pub mod Steps
+pub mod Soonest
+pub mod Longest
+pub mod Grants
+pub mod Moves
+pub mod Idle
+pub mod Runs
+pub mod Leaves
+pub mod Every

@@ -1,0 +1,12 @@
+-- The refusals of a node and their numbers: this project's own. docs/SEMANTICS.md, "The agent: the node".
+use Rattle.std.specs.Prelude.{ℕ}
+use Rattle.worker_core.specs.declared.answers.Refusal.{Refusal}
+use Rattle.worker_core.specs.declared.answers.Refusal.TheVariants.{Full, KnownUid, NoSuchPod, NotYours, ClockBack, Memory}
+
+abbrev pub refusal_number : Refusal → ℕ
+refusal_number Full = 1
+refusal_number KnownUid = 2
+refusal_number NoSuchPod = 3
+refusal_number NotYours = 4
+refusal_number ClockBack = 5
+refusal_number Memory = 6

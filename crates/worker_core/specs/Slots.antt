@@ -1,0 +1,92 @@
+-- The pods of a node as its agent holds them, with who holds which: this project's own. docs/SEMANTICS.md,
+-- "The agent: the node".
+use Rattle.std.specs.Prelude.{◌≡◌, ℕ, ◌+◌, ◌≤◌, ◌==◌, Bool, true, false, if◌then◌else◌, List, [], ◌∷◌, Option, Some, None, slice_get, slice_set, position}
+use Rattle.std.specs.List.{remove}
+use Rattle.std.specs.Str.{bytes_eq}
+use Rattle.manifest.specs.declared.pods.Pod.{Pod}
+use Rattle.worker_pod.specs.declared.settings.Outcome.{Outcome}
+use Rattle.worker_pod.specs.declared.settings.Outcome.TheVariants as outcome
+use Rattle.worker_pod.specs.declared.settings.Settings.{Settings}
+use Rattle.worker_pod.specs.News.{told}
+use Rattle.worker_pod.specs.Next.{due_of, is_gone}
+use Rattle.worker_pod.specs.Past.{Kept, after, start, with_deleted}
+use Rattle.worker_core.specs.declared.events.Reported.{Reported}
+use Rattle.worker_core.specs.declared.events.Reported.TheVariants.{Replied, Lost}
+use Rattle.worker_core.specs.declared.slots.Held.{Held}
+use Rattle.worker_core.specs.declared.slots.Slot.{Slot}
+
+-- a pod that was just admitted
+abbrev pub fresh_slot : Pod → Settings → Slot
+fresh_slot pod settings = record { state = start pod settings; held = None }
+
+-- how a claim ends by what its worker tells
+abbrev pub outcome_of : Reported → Outcome
+outcome_of (Replied reply) = outcome.Replied reply
+outcome_of Lost = outcome.Lost
+
+abbrev pub is_reply : Outcome → Bool
+is_reply (outcome.Replied reply) = true
+is_reply how = false
+
+abbrev pub is_free : Option Held → Bool
+is_free None = true
+is_free (Some held) = false
+
+-- how many pods are held
+abbrev pub held_in : List Slot → ℕ
+held_in [] = 0
+held_in (slot ∷ slots) = (if is_free slot.held then 0 else 1) + held_in slots
+
+abbrev pub is_held_by : ℕ → Option Held → Bool
+is_held_by worker None = false
+is_held_by worker (Some held) = held.worker == worker
+
+-- where the pod stands that this worker holds
+abbrev pub holder_of : ℕ → List Slot → Option ℕ
+holder_of worker slots = position (λ s. is_held_by worker s.held) slots
+
+-- where the pod of this uid stands
+abbrev pub place_of : List ℕ → List Slot → Option ℕ
+place_of uid slots = position (λ s. bytes_eq s.state.pod.uid uid) slots
+
+-- from when on a request is due that a worker can be given: the pod is one that nobody holds
+abbrev pub free_due : Slot → Option ℕ
+free_due slot = if is_free slot.held then due_of slot.state else None
+
+-- the list with what f makes of the element at this place, if one is there
+abbrev pub changed_to : {A : Type 0} → (A → A) → List A → ℕ → Option A → List A
+changed_to f xs place None = xs
+changed_to f xs place (Some x) = slice_set xs place (f x)
+
+abbrev pub changed : {A : Type 0} → (A → A) → List A → ℕ → List A
+changed f xs place = changed_to f xs place (slice_get xs place)
+
+abbrev pub deleted : Slot → Slot
+deleted slot = record { state = with_deleted slot.state true; held = slot.held }
+
+-- the worker's claim of the pod
+abbrev pub claimed_by : Held → Slot → Slot
+claimed_by held slot = record { state = slot.state; held = Some held }
+
+abbrev pub state_ended : ℕ → Outcome → Kept → Option Held → Kept
+state_ended now how kept None = kept
+state_ended now how kept (Some held) = after now held.request (told held.request how) kept
+
+-- the claim of the pod ends
+abbrev pub ended : ℕ → Outcome → Slot → Slot
+ended now how slot = record { state = state_ended now how slot.state slot.held; held = None }
+
+abbrev pub is_gone_slot : Option Slot → Bool
+is_gone_slot None = false
+is_gone_slot (Some slot) = is_gone slot.state.sandbox
+
+-- a pod whose removal was answered leaves
+abbrev pub left : List Slot → ℕ → List Slot
+left slots place = if is_gone_slot (slice_get slots place) then remove slots place else slots
+
+abbrev pub ended_at : ℕ → Outcome → List Slot → ℕ → List Slot
+ended_at now how slots place = left (changed (ended now how) slots place) place
+
+-- no claim ended later
+abbrev pub AllEndedBy : ℕ → List Slot → Type 0
+AllEndedBy now slots = (at : ℕ) (slot : Slot) → slice_get slots at ≡ Some slot → slot.state.latest ≤ now

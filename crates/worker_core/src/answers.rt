@@ -1,0 +1,87 @@
+ghost use Rattle.std.specs.Prelude.{◌≡◌, IfOk};
+ghost use Rattle.worker_core.specs.Answers.{refusal_number};
+
+use cri_msgs::Request;
+use manifest::Uid;
+use std::alloc::{AllocError, Global};
+use thiserror::Error;
+
+/// Why a node refuses an event.
+#[derive(Clone, Copy, Debug, PartialEq, Eq, Error)]
+pub enum Refusal {
+    /// As many pods are on the node as may be, or as many uids were admitted.
+    #[error("Full")]
+    Full,
+    /// A pod of this uid was admitted before, whether it is still there or not.
+    #[error("KnownUid")]
+    KnownUid,
+    /// No pod of this uid is on the node.
+    #[error("NoSuchPod")]
+    NoSuchPod,
+    /// The worker holds no pod, where it has to hold one, or holds one already.
+    #[error("NotYours")]
+    NotYours,
+    /// The moment lies before the one that was told last.
+    #[error("ClockBack")]
+    ClockBack,
+    /// A growth was refused.
+    #[error("Memory")]
+    Memory,
+}
+
+impl Refusal {
+    /// Its number, from 1.
+    pub fn number(self) -> u8
+        ensures { result ≡ refusal_number self }
+    {
+        match self {
+            Refusal::Full => 1,
+            Refusal::KnownUid => 2,
+            Refusal::NoSuchPod => 3,
+            Refusal::NotYours => 4,
+            Refusal::ClockBack => 5,
+            Refusal::Memory => 6,
+        }
+    }
+}
+
+/// What a node answers to an event.
+#[derive(Debug, Drop)]
+pub enum Answer {
+    Done,
+    /// The worker now holds this pod, and is to send this request, which has this number.
+    Claimed {
+        uid: Uid,
+        number: u64,
+        request: Request,
+    },
+    /// No request is due.
+    Nothing,
+    Refused(Refusal),
+}
+
+impl Answer {
+    /// The same answer once more.
+    pub fn try_clone(&self, alloc: Global) -> Result<Answer, AllocError>
+        ensures { IfOk result (λ copy. copy ≡ self.now) }
+    {
+        match self {
+            Answer::Done => Ok(Answer::Done),
+            Answer::Claimed {
+                uid,
+                number,
+                request,
+            } => {
+                let uid = uid.try_clone(alloc)?;
+                let request = request.try_clone(alloc)?;
+                Ok(Answer::Claimed {
+                    uid,
+                    number: *number,
+                    request,
+                })
+            }
+            Answer::Nothing => Ok(Answer::Nothing),
+            Answer::Refused(refusal) => Ok(Answer::Refused(*refusal)),
+        }
+    }
+}

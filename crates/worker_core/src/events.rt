@@ -1,0 +1,74 @@
+ghost use Rattle.std.specs.Prelude.{◌≡◌, IfOk};
+ghost use Rattle.worker_core.specs.Slots.{outcome_of};
+
+use cri_msgs::Reply;
+use manifest::{Pod, Uid};
+use std::alloc::{AllocError, Global};
+use worker_pod::Outcome;
+
+/// What a worker tells of the request that it was given.
+#[derive(Debug, Drop)]
+pub enum Reported {
+    /// It was sent, and this came back.
+    Replied(Reply),
+    /// No reply came, and nobody knows whether it was carried out.
+    Lost,
+}
+
+impl Reported {
+    /// The same once more.
+    pub fn try_clone(&self, alloc: Global) -> Result<Reported, AllocError>
+        ensures { IfOk result (λ copy. copy ≡ self.now) }
+    {
+        match self {
+            Reported::Replied(reply) => Ok(Reported::Replied(reply.try_clone(alloc)?)),
+            Reported::Lost => Ok(Reported::Lost),
+        }
+    }
+
+    // How the claim ends by it.
+    pub(crate) fn outcome(self) -> Outcome
+        ensures { result ≡ outcome_of self }
+    {
+        match self {
+            Reported::Replied(reply) => Outcome::Replied(reply),
+            Reported::Lost => Outcome::Lost,
+        }
+    }
+}
+
+/// What happens to a node. Workers go by numbers, moments are seconds.
+#[derive(Debug, Drop)]
+pub enum AgentEvent {
+    /// A pod is to run on the node.
+    Admit(Pod),
+    /// The pod of this uid is to go.
+    Delete(Uid),
+    /// This worker asks for a request.
+    Claim(u32),
+    /// This worker tells what came of its request.
+    Report(u32, Reported),
+    /// It is this moment now.
+    Tick(u64),
+    /// This worker gives its request up.
+    Abandon(u32),
+}
+
+impl AgentEvent {
+    /// The same event once more.
+    pub fn try_clone(&self, alloc: Global) -> Result<AgentEvent, AllocError>
+        ensures { IfOk result (λ copy. copy ≡ self.now) }
+    {
+        match self {
+            AgentEvent::Admit(pod) => Ok(AgentEvent::Admit(pod.try_clone(alloc)?)),
+            AgentEvent::Delete(uid) => Ok(AgentEvent::Delete(uid.try_clone(alloc)?)),
+            AgentEvent::Claim(worker) => Ok(AgentEvent::Claim(*worker)),
+            AgentEvent::Report(worker, reported) => {
+                let reported = reported.try_clone(alloc)?;
+                Ok(AgentEvent::Report(*worker, reported))
+            }
+            AgentEvent::Tick(now) => Ok(AgentEvent::Tick(*now)),
+            AgentEvent::Abandon(worker) => Ok(AgentEvent::Abandon(*worker)),
+        }
+    }
+}

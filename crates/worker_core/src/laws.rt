@@ -1,0 +1,27 @@
+//! What holds of every run of a node, for what stands above.
+ghost use Rattle.std.specs.Prelude.{◌≡◌, ◌+◌, ◌^◌, List, ◌∷◌};
+ghost use Rattle.worker_pod.specs.declared.settings.Settings.{Settings};
+ghost use Rattle.worker_core.specs.declared.limits.TheConstants.{LAST_NUMBER, MAX_PODS, MAX_UIDS};
+ghost use Rattle.worker_core.specs.Laws.{IsNodeRun, NodeLaws, NodeLink, NodeLinkLaws};
+
+use worker_pod::{calls_are_of_the_pod, creations_follow, due_is_when_next_is, runs_were_told};
+
+/// In every run a pod is held by at most one worker and a worker holds at most one pod, a uid is admitted
+/// once and a number used once, and an attempt at a container is made as the manifest says, in the order of
+/// the init containers, and behind the back-off of a run that was told.
+pub fn every_run()
+    ensures run { (settings : Settings) (ls : List NodeLink) → IsNodeRun settings ls → NodeLaws settings ls }
+    ensures link { (settings : Settings) (l : NodeLink) (before : List NodeLink) → IsNodeRun settings (l ∷ before) → NodeLinkLaws l before }
+{
+    calls_are_of_the_pod();
+    creations_follow();
+    due_is_when_next_is();
+    runs_were_told();
+}
+
+/// What the constants of this crate are.
+pub fn constants_are_as_stated()
+    ensures pods { MAX_PODS ≡ 110 }
+    ensures uids { MAX_UIDS ≡ 65536 }
+    ensures last_number { LAST_NUMBER + 1 ≡ 2 ^ 64 }
+{}

@@ -1,0 +1,397 @@
+ghost use Rattle.std.specs.Prelude.{◌≡◌, ◌<◌, ◌≤◌, Some, None, length, nat_lt, true, false, is_some, slice_get, map, IfSome, IfOk, OnOk, OnErr};
+ghost use Rattle.worker_core.specs.declared.limits.TheConstants.{LAST_NUMBER, MAX_PODS, MAX_UIDS};
+ghost use Rattle.worker_core.specs.Kept.{Foresees, KeptStep, Takes, admit_answer, after_admit, after_claim, after_delete, after_end, after_tick, claim_answer, delete_answer, end_answer, fresh_node, grant_of, grant_of_turn, is_full, changes, refusal_of, tick_answer, with_grant, with_pod};
+ghost use Rattle.worker_pod.specs.Next.{phase_in};
+ghost use Rattle.worker_core.specs.Turns.{soonest};
+ghost use Rattle.worker_core.specs.Nodes.{Comes, IsNextDue, NodeState, StandsFor, empty_node, kept_of};
+ghost use Rattle.worker_core.specs.Slots.{held_in, holder_of, is_reply, outcome_of, place_of};
+
+use crate::answers::{Answer, Refusal};
+use crate::claims::{Grant, granted};
+use crate::events::{AgentEvent, Reported};
+use crate::known::KnownUids;
+use crate::limits::{LAST_NUMBER, MAX_PODS, MAX_UIDS};
+use crate::slots::{
+    Held, Slot, admitted, claimed_at, deleted_at, ended_at, fresh_slot, held_in, holder_of,
+    place_of,
+};
+use crate::turns::{Turn, longest, soonest};
+use manifest::{Pod, Uid};
+use std::alloc::{AllocError, Global};
+use std::marker::Model;
+use worker_pod::{Outcome, PodView, Settings, due_is_when_next_is};
+
+/// The agent of a node: its pods, and what its workers hold.
+#[derive(Drop)]
+pub struct Node {
+    alloc: Global,
+    settings: Settings,
+    moment: u64,
+    number: u64,
+    known: KnownUids,
+    slots: Vec<Slot>,
+}
+
+impl Model for Node {
+    ghost use Rattle.std.specs.Prelude.{◌≤◌, length};
+    ghost use Rattle.worker_core.specs.declared.limits.TheConstants.{MAX_PODS};
+    ghost use Rattle.worker_core.specs.Kept.{KeptNode};
+    ghost use Rattle.worker_core.specs.Slots.{AllEndedBy};
+
+    ghost Value = { KeptNode };
+
+    ghost view = { λ n. record {
+      settings = n.settings;
+      moment = n.moment;
+      number = n.number;
+      known = n.known;
+      slots = n.slots.items;
+    } };
+
+    // No claim ended later than now, and the pods are few enough to be counted.
+    ghost invariant = { λ n. record { ended : AllEndedBy n.moment n.slots.items; few : length n.slots.items ≤ MAX_PODS } };
+}
+
+#[cfg(test)]
+impl Node {
+    // As if a pod of this uid had been there.
+    pub(crate) fn know(&mut self, uid: &Uid) -> Result<(), AllocError> {
+        self.known.add(String::from_str(self.alloc, uid.as_str())?)
+    }
+
+    // As if this many requests had been given.
+    pub(crate) fn count_from(&mut self, number: u64) {
+        self.number = number;
+    }
+}
+
+impl Node {
+    /// A node without pods, at moment 0.
+    pub fn new(alloc: Global, settings: Settings) -> Node
+        ensures kept { result ≡ fresh_node settings }
+        ensures empty { StandsFor result (empty_node settings) }
+    {
+        Node {
+            alloc,
+            settings,
+            moment: 0,
+            number: 0,
+            known: KnownUids::new(alloc),
+            slots: Vec::new(alloc),
+        }
+    }
+
+    fn is_full(&self) -> bool
+        ensures value { result ≡ is_full self.now }
+    {
+        self.slots.len() >= MAX_PODS || self.known.count() >= MAX_UIDS
+    }
+
+    // Why a pod is not admitted.
+    fn refusal_of(&self, pod: &Pod) -> Option<Refusal>
+        ensures value { result ≡ refusal_of self.now pod.now }
+        ensures room { result ≡ None → length self.now.slots < MAX_PODS }
+    {
+        if self.known.has(&pod.uid) {
+            Some(Refusal::KnownUid)
+        } else if self.is_full() {
+            Some(Refusal::Full)
+        } else {
+            None
+        }
+    }
+
+    fn admit(&mut self, pod: Pod) -> Result<Answer, AllocError>
+        ensures answer { IfOk result (λ answer. answer ≡ admit_answer (refusal_of self.old pod)) }
+        ensures node { OnOk result (self.new ≡ after_admit self.old pod (refusal_of self.old pod)) }
+        ensures err { OnErr result (self.new ≡ self.old) }
+        ensures only { OnErr result (changes (admit_answer (refusal_of self.old pod)) ≡ true) }
+    {
+        match self.refusal_of(&pod) {
+            Some(refusal) => {
+                drop(pod);
+                Ok(Answer::Refused(refusal))
+            }
+            None => {
+                self.add(pod)?;
+                Ok(Answer::Done)
+            }
+        }
+    }
+
+    // All that takes memory comes before the first change.
+    fn add(&mut self, pod: Pod) -> Result<(), AllocError>
+        requires { length self.old.slots < MAX_PODS }
+        ensures ok { OnOk result (self.new ≡ with_pod self.old pod) }
+        ensures err { OnErr result (self.new ≡ self.old) }
+    {
+        let text = String::from_str(self.alloc, pod.uid.as_str())?;
+        let slot = fresh_slot(self.alloc, pod, self.settings)?;
+        admitted(&mut self.slots, &mut self.known, text, slot)?;
+        Ok(())
+    }
+
+    fn delete(&mut self, uid: &Uid) -> Answer
+        ensures answer { result ≡ delete_answer (place_of uid.now self.old.slots) }
+        ensures node { self.new ≡ after_delete self.old (place_of uid.now self.old.slots) }
+    {
+        match place_of(uid, self.slots.as_slice()) {
+            Some(place) => {
+                deleted_at(self.slots.as_mut_slice(), place);
+                Answer::Done
+            }
+            None => Answer::Refused(Refusal::NoSuchPod),
+        }
+    }
+
+    fn is_past(&self, moment: u64) -> bool
+        ensures { result ≡ nat_lt moment self.now.moment }
+    {
+        moment < self.moment
+    }
+
+    fn tick(&mut self, now: u64) -> Answer
+        ensures answer { result ≡ tick_answer self.old now }
+        ensures node { self.new ≡ after_tick self.old now }
+    {
+        if self.is_past(now) {
+            Answer::Refused(Refusal::ClockBack)
+        } else {
+            self.moment = now;
+            Answer::Done
+        }
+    }
+
+    // What a worker is given.
+    fn grant(&self) -> Result<Option<Grant>, AllocError>
+        ensures grant { IfOk result (λ grant. grant ≡ grant_of self.now) }
+        ensures only { OnErr result (is_some (grant_of self.now) ≡ true) }
+    {
+        if self.number < LAST_NUMBER {
+            self.grant_of_turn(longest(self.moment, self.slots.as_slice()))
+        } else {
+            Ok(None)
+        }
+    }
+
+    fn grant_of_turn(&self, turn: Option<Turn>) -> Result<Option<Grant>, AllocError>
+        requires { self.now.number < LAST_NUMBER }
+        ensures grant { IfOk result (λ grant. grant ≡ grant_of_turn self.now turn) }
+        ensures only { OnErr result (is_some (grant_of_turn self.now turn) ≡ true) }
+    {
+        let Some(turn) = turn else {
+            return Ok(None);
+        };
+        let Some(slot) = self.slots.as_slice().get(turn.place) else {
+            return Ok(None);
+        };
+        let request = slot.state.next(self.moment, self.number + 1)?;
+        granted(self.alloc, turn.place, &slot.state, request)
+    }
+
+    fn give(&mut self, worker: u32, grant: Grant)
+        ensures { self.new ≡ with_grant self.old worker grant }
+    {
+        let Grant { place, request, .. } = grant;
+        self.number = request.id;
+        claimed_at(self.slots.as_mut_slice(), place, Held { worker, request });
+    }
+
+    fn is_busy(&self, worker: u32) -> bool
+        ensures { result ≡ is_some (holder_of worker self.now.slots) }
+    {
+        holder_of(worker, self.slots.as_slice()).is_some()
+    }
+
+    fn claim_answer(&self, worker: u32) -> Result<Answer, AllocError>
+        ensures answer { IfOk result (λ answer. answer ≡ claim_answer self.now (holder_of worker self.now.slots)) }
+        ensures only { OnErr result (changes (claim_answer self.now (holder_of worker self.now.slots)) ≡ true) }
+    {
+        if self.is_busy(worker) {
+            return Ok(Answer::Refused(Refusal::NotYours));
+        }
+        match self.grant()? {
+            None => Ok(Answer::Nothing),
+            Some(grant) => grant.answer(self.alloc),
+        }
+    }
+
+    fn claim(&mut self, worker: u32) -> Result<Answer, AllocError>
+        ensures answer { IfOk result (λ answer. answer ≡ claim_answer self.old (holder_of worker self.old.slots)) }
+        ensures node { OnOk result (self.new ≡ after_claim self.old worker (holder_of worker self.old.slots)) }
+        ensures err { OnErr result (self.new ≡ self.old) }
+        ensures only { OnErr result (changes (claim_answer self.old (holder_of worker self.old.slots)) ≡ true) }
+    {
+        if self.is_busy(worker) {
+            return Ok(Answer::Refused(Refusal::NotYours));
+        }
+        match self.grant()? {
+            None => Ok(Answer::Nothing),
+            Some(grant) => {
+                let answer = grant.answer(self.alloc)?;
+                self.give(worker, grant);
+                Ok(answer)
+            }
+        }
+    }
+
+    fn end(&mut self, worker: u32, outcome: Outcome) -> Result<Answer, AllocError>
+        ensures answer { IfOk result (λ answer. answer ≡ end_answer (holder_of worker self.old.slots)) }
+        ensures node { OnOk result (self.new ≡ after_end self.old outcome (holder_of worker self.old.slots)) }
+        ensures err { OnErr result (self.new ≡ self.old) }
+        ensures only { OnErr result (changes (end_answer (holder_of worker self.old.slots)) ≡ true) }
+        ensures replied { OnErr result (is_reply outcome ≡ true) }
+    {
+        match holder_of(worker, self.slots.as_slice()) {
+            Some(place) => {
+                ended_at(&mut self.slots, place, self.moment, outcome)?;
+                Ok(Answer::Done)
+            }
+            None => {
+                drop(outcome);
+                Ok(Answer::Refused(Refusal::NotYours))
+            }
+        }
+    }
+
+    fn report(&mut self, worker: u32, reported: Reported) -> Answer
+        ensures { Takes (end_answer (holder_of worker self.old.slots)) (after_end self.old (outcome_of reported) (holder_of worker self.old.slots)) (is_reply (outcome_of reported)) self.old result self.new }
+    {
+        match self.end(worker, reported.outcome()) {
+            Ok(answer) => answer,
+            Err(_) => Answer::Refused(Refusal::Memory),
+        }
+    }
+
+    fn abandon(&mut self, worker: u32) -> Answer
+        ensures answer { result ≡ end_answer (holder_of worker self.old.slots) }
+        ensures node { self.new ≡ after_end self.old Outcome.Abandoned (holder_of worker self.old.slots) }
+    {
+        match self.end(worker, Outcome::Abandoned) {
+            Ok(answer) => answer,
+            Err(_) => Answer::Refused(Refusal::Memory),
+        }
+    }
+
+    fn take(&mut self, event: AgentEvent) -> Answer
+        ensures { KeptStep self.old event result self.new }
+    {
+        match event {
+            AgentEvent::Admit(pod) => match self.admit(pod) {
+                Ok(answer) => answer,
+                Err(_) => Answer::Refused(Refusal::Memory),
+            },
+            AgentEvent::Delete(uid) => self.delete(&uid),
+            AgentEvent::Claim(worker) => match self.claim(worker) {
+                Ok(answer) => answer,
+                Err(_) => Answer::Refused(Refusal::Memory),
+            },
+            AgentEvent::Report(worker, reported) => self.report(worker, reported),
+            AgentEvent::Tick(now) => self.tick(now),
+            AgentEvent::Abandon(worker) => self.abandon(worker),
+        }
+    }
+
+    /// Takes in what happens, and answers. Where there is no memory for it, that is answered, and nothing
+    /// changes.
+    pub fn apply(&mut self, event: AgentEvent) -> Answer
+        ensures kept { KeptStep self.old event result self.new }
+
+        // It is a step, with this answer, of every node that what is held stands for.
+        ensures step { (node : NodeState) → StandsFor self.old node → Comes node event result self.new }
+    {
+        self.take(event)
+    }
+
+    fn admit_answer(&self, pod: &Pod) -> Answer
+        ensures { result ≡ admit_answer (refusal_of self.now pod.now) }
+    {
+        match self.refusal_of(pod) {
+            Some(refusal) => Answer::Refused(refusal),
+            None => Answer::Done,
+        }
+    }
+
+    fn delete_answer(&self, uid: &Uid) -> Answer
+        ensures { result ≡ delete_answer (place_of uid.now self.now.slots) }
+    {
+        match place_of(uid, self.slots.as_slice()) {
+            Some(_) => Answer::Done,
+            None => Answer::Refused(Refusal::NoSuchPod),
+        }
+    }
+
+    fn end_answer(&self, worker: u32) -> Answer
+        ensures { result ≡ end_answer (holder_of worker self.now.slots) }
+    {
+        match holder_of(worker, self.slots.as_slice()) {
+            Some(_) => Answer::Done,
+            None => Answer::Refused(Refusal::NotYours),
+        }
+    }
+
+    fn tick_answer(&self, now: u64) -> Answer
+        ensures { result ≡ tick_answer self.now now }
+    {
+        if self.is_past(now) {
+            Answer::Refused(Refusal::ClockBack)
+        } else {
+            Answer::Done
+        }
+    }
+
+    fn foreseen(&self, event: &AgentEvent) -> Answer
+        ensures { Foresees self.now event.now result }
+    {
+        match event {
+            AgentEvent::Admit(pod) => self.admit_answer(pod),
+            AgentEvent::Delete(uid) => self.delete_answer(uid),
+            AgentEvent::Claim(worker) => match self.claim_answer(*worker) {
+                Ok(answer) => answer,
+                Err(_) => Answer::Refused(Refusal::Memory),
+            },
+            AgentEvent::Report(worker, _) | AgentEvent::Abandon(worker) => self.end_answer(*worker),
+            AgentEvent::Tick(now) => self.tick_answer(*now),
+        }
+    }
+
+    /// What [`apply`](Node::apply) would answer, want of memory aside. Only a request that would be given is
+    /// copied, and may lack memory.
+    pub fn answer(&self, event: &AgentEvent) -> Answer
+        ensures kept { Foresees self.now event.now result }
+        ensures answer { (node : NodeState) → StandsFor self.now node → Foresees (kept_of node) event.now result }
+    {
+        self.foreseen(event)
+    }
+
+    /// The pod at this place, in order of admission.
+    pub fn pod(&self, i: usize) -> Option<PodView<'_>>
+        ensures there { is_some result ≡ is_some (slice_get self.now.slots i) }
+        ensures few { length self.now.slots ≤ MAX_PODS }
+        ensures pod { IfSome result (λ view. slice_get (map (λ slot. slot.state.pod) self.now.slots) i ≡ Some view.pod.now) }
+        ensures tracks { IfSome result (λ view. slice_get (map (λ slot. slot.state.tracks) self.now.slots) i ≡ Some view.tracks.now) }
+        ensures phase { IfSome result (λ view. slice_get (map (λ slot. phase_in slot.state) self.now.slots) i ≡ Some view.phase) }
+    {
+        match self.slots.as_slice().get(i) {
+            Some(slot) => Some(slot.state.view()),
+            None => None,
+        }
+    }
+
+    /// From which moment on, in seconds and not before now, a request is due for a pod that nobody holds, if
+    /// nothing else happens.
+    pub fn next_due(&self) -> Option<u64>
+        ensures kept { result ≡ soonest self.now.moment self.now.slots }
+        ensures least { (node : NodeState) → StandsFor self.now node → IsNextDue node result }
+    {
+        due_is_when_next_is();
+        soonest(self.moment, self.slots.as_slice())
+    }
+
+    /// How many pods are held.
+    pub fn held(&self) -> u32
+        ensures { result ≡ held_in self.now.slots }
+    {
+        held_in(self.slots.as_slice()) as u32
+    }
+}

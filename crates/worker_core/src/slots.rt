@@ -1,0 +1,245 @@
+ghost use Rattle.std.specs.Prelude.{◌≡◌, ℕ, ◌+◌, ◌<◌, ◌≤◌, [], ◌∷◌, ◌++◌, Some, None, true, false, length, slice_get, vec_len, vec_capacity, IfOk, OnOk, OnErr};
+ghost use Rattle.std.specs.String.{string_bytes};
+ghost use Rattle.worker_core.specs.Known.{with_uid};
+ghost use Rattle.worker_core.specs.Slots.{AllEndedBy, changed, claimed_by, deleted, ended, ended_at, free_due, fresh_slot, held_in, holder_of, is_free, is_gone_slot, is_held_by, is_reply, left, place_of};
+
+use crate::known::KnownUids;
+use cri_msgs::Request;
+use manifest::{Pod, Uid};
+use std::alloc::{AllocError, Global};
+use worker_pod::{Outcome, PodState, Settings};
+
+// What a worker holds of a pod: the request that it was given.
+#[derive(Drop)]
+pub(crate) struct Held {
+    pub(crate) worker: u32,
+    pub(crate) request: Request,
+}
+
+// A pod on the node, and by whom it is held.
+#[derive(Drop)]
+pub(crate) struct Slot {
+    pub(crate) state: PodState,
+    pub(crate) held: Option<Held>,
+}
+
+impl Slot {
+    pub(crate) fn is_free(&self) -> bool
+        ensures { result ≡ is_free self.now.held }
+    {
+        match &self.held {
+            None => true,
+            Some(_) => false,
+        }
+    }
+
+    pub(crate) fn is_held_by(&self, worker: u32) -> bool
+        ensures { result ≡ is_held_by worker self.now.held }
+    {
+        match &self.held {
+            None => false,
+            Some(held) => held.worker == worker,
+        }
+    }
+
+    // From when on a request is due that a worker can be given.
+    pub(crate) fn free_due(&self) -> Option<u64>
+        ensures { result ≡ free_due self.now }
+    {
+        if self.is_free() {
+            self.state.due()
+        } else {
+            None
+        }
+    }
+}
+
+pub(crate) fn fresh_slot(alloc: Global, pod: Pod, settings: Settings) -> Result<Slot, AllocError>
+    ensures { IfOk result (λ slot. slot ≡ fresh_slot pod settings) }
+{
+    let state = PodState::new(alloc, pod, settings)?;
+    Ok(Slot { state, held: None })
+}
+
+// A pod that was just admitted comes last, and its uid is known from now on. All that takes memory comes
+// before the first change.
+pub(crate) fn admitted(
+    slots: &mut Vec<Slot>,
+    known: &mut KnownUids,
+    text: String,
+    slot: Slot,
+) -> Result<(), AllocError>
+    requires { slot.state.latest ≡ 0 }
+    ensures slots { OnOk result (slots.new.items ≡ slots.old.items ++ slot ∷ []) }
+    ensures known { OnOk result (known.new ≡ with_uid (string_bytes text) known.old) }
+    ensures same_slots { OnErr result (slots.new.items ≡ slots.old.items) }
+    ensures same_known { OnErr result (known.new ≡ known.old) }
+    ensures by { (now : ℕ) → AllEndedBy now slots.old.items → AllEndedBy now slots.new.items }
+    ensures more { length slots.new.items ≤ length slots.old.items + 1 }
+{
+    match slots.reserve(1) {
+        Ok(()) => reserved(slots, known, text, slot),
+        Err(refused) => {
+            drop(slot);
+            Err(refused)
+        }
+    }
+}
+
+fn reserved(
+    slots: &mut Vec<Slot>,
+    known: &mut KnownUids,
+    text: String,
+    slot: Slot,
+) -> Result<(), AllocError>
+    requires room { vec_len slots.old < vec_capacity slots.old }
+    requires fresh { slot.state.latest ≡ 0 }
+    ensures slots { OnOk result (slots.new.items ≡ slots.old.items ++ slot ∷ []) }
+    ensures known { OnOk result (known.new ≡ with_uid (string_bytes text) known.old) }
+    ensures same_slots { OnErr result (slots.new.items ≡ slots.old.items) }
+    ensures same_known { OnErr result (known.new ≡ known.old) }
+    ensures by { (now : ℕ) → AllEndedBy now slots.old.items → AllEndedBy now slots.new.items }
+    ensures more { length slots.new.items ≤ length slots.old.items + 1 }
+{
+    match known.add(text) {
+        Ok(()) => {
+            pushed(slots, slot);
+            Ok(())
+        }
+        Err(refused) => {
+            drop(slot);
+            Err(refused)
+        }
+    }
+}
+
+fn pushed(slots: &mut Vec<Slot>, slot: Slot)
+    requires room { vec_len slots.old < vec_capacity slots.old }
+    requires fresh { slot.state.latest ≡ 0 }
+    ensures slots { slots.new.items ≡ slots.old.items ++ slot ∷ [] }
+    ensures by { (now : ℕ) → AllEndedBy now slots.old.items → AllEndedBy now slots.new.items }
+    ensures more { length slots.new.items ≤ length slots.old.items + 1 }
+{
+    let pushed = slots.push(slot);
+    let held = pushed.is_ok();
+    prove!(held);
+    drop(pushed);
+}
+
+// How many pods are held.
+pub(crate) fn held_in(slots: &[Slot]) -> usize
+    ensures value { result ≡ held_in slots.now }
+    ensures within { result ≤ length slots.now }
+{
+    let mut count = 0;
+    for slot in slots {
+        count += if slot.is_free() { 0 } else { 1 };
+    }
+    count
+}
+
+// Where the pod stands that this worker holds.
+pub(crate) fn holder_of(worker: u32, slots: &[Slot]) -> Option<usize>
+    ensures { result ≡ holder_of worker slots.now }
+{
+    slots.iter().position(|s| s.is_held_by(worker))
+}
+
+// Where the pod of this uid stands.
+pub(crate) fn place_of(uid: &Uid, slots: &[Slot]) -> Option<usize>
+    ensures { result ≡ place_of uid.now slots.now }
+{
+    slots.iter().position(|s| s.state.view().pod.uid == *uid)
+}
+
+pub(crate) fn deleted_at(slots: &mut [Slot], place: usize)
+    ensures slots { slots.new ≡ changed deleted slots.old place }
+    ensures by { (now : ℕ) → AllEndedBy now slots.old → AllEndedBy now slots.new }
+{
+    if place < slots.len() {
+        slots[place].state.delete();
+    }
+}
+
+pub(crate) fn claimed_at(slots: &mut [Slot], place: usize, held: Held)
+    ensures slots { slots.new ≡ changed (claimed_by held) slots.old place }
+    ensures by { (now : ℕ) → AllEndedBy now slots.old → AllEndedBy now slots.new }
+{
+    if place < slots.len() {
+        slots[place].held = Some(held);
+    }
+}
+
+// The claim of the pod ends. Only the record of an exit takes memory.
+fn ended(slot: &mut Slot, now: u64, outcome: Outcome) -> Result<(), AllocError>
+    requires { slot.old.state.latest ≤ now }
+    ensures ok { OnOk result (slot.new ≡ ended now outcome slot.old) }
+    ensures err { OnErr result (slot.new ≡ slot.old) }
+    ensures replied { OnErr result (is_reply outcome ≡ true) }
+{
+    let Some(held) = &slot.held else {
+        return Ok(());
+    };
+    slot.state.ended(now, &held.request, outcome)?;
+    slot.held = None;
+    Ok(())
+}
+
+fn is_gone_at(slots: &[Slot], place: usize) -> bool
+    ensures value { result ≡ is_gone_slot (slice_get slots.now place) }
+    ensures within { result ≡ true → place < length slots.now }
+{
+    match slots.get(place) {
+        Some(slot) => slot.state.gone(),
+        None => false,
+    }
+}
+
+// A pod whose removal was answered leaves.
+fn left(slots: &mut Vec<Slot>, place: usize)
+    ensures slots { slots.new.items ≡ left slots.old.items place }
+    ensures by { (now : ℕ) → AllEndedBy now slots.old.items → AllEndedBy now slots.new.items }
+    ensures fewer { length slots.new.items ≤ length slots.old.items }
+{
+    if is_gone_at(slots.as_slice(), place) {
+        drop(slots.remove(place));
+    }
+}
+
+// The claim of the pod at this place ends, and the pod leaves if its removal was answered.
+pub(crate) fn ended_at(
+    slots: &mut Vec<Slot>,
+    place: usize,
+    now: u64,
+    outcome: Outcome,
+) -> Result<(), AllocError>
+    requires { AllEndedBy now slots.old.items }
+    ensures ok { OnOk result (slots.new.items ≡ ended_at now outcome slots.old.items place) }
+    ensures err { OnErr result (slots.new.items ≡ slots.old.items) }
+    ensures by { OnOk result (AllEndedBy now slots.new.items) }
+    ensures fewer { length slots.new.items ≤ length slots.old.items }
+    ensures replied { OnErr result (is_reply outcome ≡ true) }
+{
+    claim_ended(slots, place, now, outcome)?;
+    left(slots, place);
+    Ok(())
+}
+
+fn claim_ended(
+    slots: &mut Vec<Slot>,
+    place: usize,
+    now: u64,
+    outcome: Outcome,
+) -> Result<(), AllocError>
+    requires { AllEndedBy now slots.old.items }
+    ensures ok { OnOk result (slots.new.items ≡ changed (ended now outcome) slots.old.items place) }
+    ensures err { OnErr result (slots.new.items ≡ slots.old.items) }
+    ensures by { OnOk result (AllEndedBy now slots.new.items) }
+    ensures same { length slots.new.items ≡ length slots.old.items }
+    ensures replied { OnErr result (is_reply outcome ≡ true) }
+{
+    if place < slots.len() {
+        ended(&mut slots[place], now, outcome)?;
+    }
+    Ok(())
+}
