@@ -4,8 +4,8 @@
 # a profile is compiled, a verified filter judges a call, scripts are played, one of which adds a filter, and
 # the profiles of a pod's containers are picked. make lib: the C library, proved, and its header, in out/c.
 # make install PREFIX=..: the proved programs in PREFIX/bin, the library in PREFIX/lib and PREFIX/include.
-# make bench [ENGINES=..]: the machine and the compiler beside others, and the profiles of the engines whose
-# Debian packages lie below ENGINES. make kernel [COUNT=..]: the running kernel beside the library.
+# make bench [ENGINES=..]: the machine and the compiler beside others, the profiles of the engines whose
+# Debian packages lie below ENGINES, and the runtime with few and with many uids. make kernel [COUNT=..]: the running kernel beside the library.
 
 PREFIX ?= /usr/local
 PROGRAMS := seccheck
@@ -61,6 +61,7 @@ bench: lib
 	@seccomp=$$(printf '#if __has_include(<seccomp.h>)\n-lseccomp\n#endif\n' | $(CC) -E -P -x c -); \
 	  $(CC) $(BENCH_FLAGS) -Iout/c -Iout/bench bench/profiles.c out/c/libmotchidu.a $$seccomp -o out/bench/profiles
 	@out/bench/profiles $$(tools/engine_profiles.py out/bench/engines $(ENGINES))
+	@tools/bench_runtime.sh
 
 # What the running kernel does with drawn profiles, beside what the library says of COUNT calls.
 kernel: lib
