@@ -30,5 +30,7 @@ part "rt ci" tools/gate_times.py out/gate_times rt ci
 part "memory" tools/no_memory.sh
 part "pipe" tools/pipe.sh
 part "C examples" c_examples
+# In one line, so that it stands near the end of what a log keeps.
+echo "processor seconds of proofs, tests, edits: $(tools/gate_times.py out/gate_times | awk 'NR > 1 && NF == 5 { printf "%s %s %s %s; ", $1, $2, $3, $4 }')"
 echo "$all_passed passed, $all_failed failed"
 [ $all_failed = 0 ]

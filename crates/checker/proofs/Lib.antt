@@ -1,4 +1,3 @@
 pub mod Digits
 pub mod Plays
 pub mod Lines
-pub mod Numerals

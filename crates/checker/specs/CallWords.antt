@@ -1,18 +1,9 @@
 -- Which call the words of a command line write: docs/SEMANTICS.md, "Programs". Its numbers are looked at in
 -- the order of the usage line, and the first word that writes no number of its range is the answer else.
-use Rattle.std.specs.Prelude.{ℕ, ◌^◌, List, [], ◌∷◌, slice_get, Option, Some, None, Result, Ok}
-use Rattle.json_tree.specs.Reading.{◌>>=◌, or_else}
+use Rattle.std.specs.Prelude.{ℕ, ◌^◌, List, [], ◌∷◌, slice_get, Option, Result, Ok}
+use Rattle.json_tree.specs.Reading.{◌>>=◌}
 use Rattle.call_data.specs.declared.sys_call.SysCall.{SysCall}
-use Rattle.checker.specs.Numbers.{number_in}
-
--- the number of a word, or the word itself
-abbrev pub written : ℕ → List ℕ → Result ℕ (List ℕ)
-written limit word = or_else word (number_in limit word)
-
--- the same of a word that may be left out
-abbrev pub written_or : ℕ → ℕ → Option (List ℕ) → Result ℕ (List ℕ)
-written_or limit default None = Ok default
-written_or limit default (Some word) = written limit word
+use Rattle.command_line.specs.Words.{written, written_or}
 
 -- an argument that is left out is 0
 abbrev pub argument_of : List (List ℕ) → ℕ → Result ℕ (List ℕ)

@@ -1,7 +1,6 @@
 pub mod ArrowText
 pub mod CallWords
 pub mod LineText
-pub mod Numbers
 pub mod PickText
 pub mod PickedText
 pub mod StopText

@@ -1,9 +1,9 @@
 ghost use Rattle.std.specs.Prelude.{◌≡◌, ◌^◌, map, option_map};
-ghost use Rattle.json_tree.specs.Reading.{as_fault};
-ghost use Rattle.checker.specs.CallWords.{argument_of, arguments_of, call_of, written, written_or};
+ghost use Rattle.checker.specs.CallWords.{argument_of, arguments_of, call_of};
+ghost use Rattle.command_line.specs.Words.{told, written};
 
-use crate::number::{number_of, word_of};
 use call_data::{NATIVE_ARCH, SysCall};
+use command_line::{number_or, word_of, word_or};
 
 // Each answers, where a word writes no number of its range, that word.
 
@@ -16,19 +16,19 @@ pub(crate) fn call<'w>(
     arch: Option<&'w str>,
     ip: Option<&'w str>,
 ) -> Result<SysCall, &'w str>
-    ensures { as_fault (λ w. w.now) result
+    ensures { told result
         ≡ call_of nr.now (map (λ w. w.now) args.now) (option_map (λ w. w.now) arch.entry) (option_map (λ w. w.now) ip.entry) }
 {
     let nr = word(nr)?;
     let args = arguments(args)?;
     let arch = word_or(NATIVE_ARCH, arch)?;
-    let ip = whole_or_zero(ip)?;
+    let ip = number_or(0, ip)?;
     Ok(SysCall { nr, arch, ip, args })
 }
 
 #[tactic(auto, unfolding(crate::specs::CallWords::arguments_of))]
 fn arguments<'w>(words: &[&'w str]) -> Result<[u64; 6], &'w str>
-    ensures { as_fault (λ w. w.now) result ≡ arguments_of (map (λ w. w.now) words.now) }
+    ensures { told result ≡ arguments_of (map (λ w. w.now) words.now) }
 {
     Ok([
         argument(words, 0)?,
@@ -41,32 +41,13 @@ fn arguments<'w>(words: &[&'w str]) -> Result<[u64; 6], &'w str>
 }
 
 fn argument<'w>(words: &[&'w str], place: usize) -> Result<u64, &'w str>
-    ensures { as_fault (λ w. w.now) result ≡ argument_of (map (λ w. w.now) words.now) place }
+    ensures { told result ≡ argument_of (map (λ w. w.now) words.now) place }
 {
-    whole_or_zero(words.get(place).copied())
-}
-
-fn whole_or_zero(word: Option<&str>) -> Result<u64, &str>
-    ensures { as_fault (λ w. w.now) result ≡ written_or (2 ^ 64) 0 (option_map (λ w. w.now) word.entry) }
-{
-    match word {
-        Some(word) => number_of(word).ok_or(word),
-        None => Ok(0),
-    }
+    number_or(0, words.get(place).copied())
 }
 
 fn word(word: &str) -> Result<u32, &str>
-    ensures { as_fault (λ w. w.now) result ≡ written (2 ^ 32) word.now }
+    ensures { told result ≡ written (2 ^ 32) word.now }
 {
     word_of(word).ok_or(word)
-}
-
-/// The number of a word below 2^32 that may be left out.
-pub(crate) fn word_or(default: u32, word: Option<&str>) -> Result<u32, &str>
-    ensures { as_fault (λ w. w.now) result ≡ written_or (2 ^ 32) default (option_map (λ w. w.now) word.entry) }
-{
-    match word {
-        Some(word) => word_of(word).ok_or(word),
-        None => Ok(default),
-    }
 }

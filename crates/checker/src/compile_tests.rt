@@ -1,4 +1,4 @@
-use crate::tests::{bytes_of, file_of, seccheck};
+use crate::test_play::{file_of, halves, passed, said_to_lines, same, seccheck};
 use std::fs;
 use std::test::Fail;
 
@@ -26,40 +26,38 @@ fn a_profile_and_its_filter(rt: HostRuntime) -> Result<(), Fail> {
     let (_status, said, _err) = seccheck(&rt, "verify FILE", path.as_str())?;
     let want = format!(in rt.alloc(); "accepted {count} instructions\n")?;
     assert_eq!(rt; said.as_str(), want.as_str());
-    let rows = [
-        ("run FILE 0 0xffffffff", "7fff0000 ALLOW 0 "),
-        ("run FILE 0 0x100000000", "0005000d ERRNO 13 "),
-        ("run FILE 1 0x100000000", "7fff0000 ALLOW 0 "),
-        ("run FILE 0x40000000", "80000000 KILL_PROCESS 0 "),
-        ("run FILE 0 --arch 0x40000003", "80000000 KILL_PROCESS 0 "),
-    ];
-    for (line, want) in rows {
+    for row in VALUES.lines() {
+        let (line, want) = halves(row)?;
         let (_status, said, _err) = seccheck(&rt, line, path.as_str())?;
         assert!(rt; said.starts_with(want), "{line}: {said}");
     }
     Ok(())
 }
 
-// A profile that is refused leaves the file alone.
+const VALUES: &str = "\
+run FILE 0 0xffffffff => 7fff0000 ALLOW 0
+run FILE 0 0x100000000 => 0005000d ERRNO 13
+run FILE 1 0x100000000 => 7fff0000 ALLOW 0
+run FILE 0x40000000 => 80000000 KILL_PROCESS 0
+run FILE 0 --arch 0x40000003 => 80000000 KILL_PROCESS 0";
+
+const REFUSED: &str = r#"{ => refused NotJson
+{} => refused Missing
+{"defaultAction":"SCMP_ACT_NOTIFY"} => refused Notify
+{"defaultAction":"SCMP_ACT_ALLOW","syscalls":[{"names":["nosuchcall"],"action":"SCMP_ACT_ERRNO"}]} => refused UnknownCall"#;
+
+/// That a profile is refused so, and leaves the file alone.
+fn is_refused(rt: &HostRuntime, profile: &str, want: &str) -> Result<(), Fail> {
+    let (status, said, file) = compiled(rt, profile)?;
+    same(rt, said.as_str().trim_end(), want, profile)?;
+    passed(status == 1 && file.as_slice() == b"old".as_slice(), profile)
+}
+
 #[test]
 fn profiles_that_are_refused(rt: HostRuntime) -> Result<(), Fail> {
-    let cases = [
-        ("{", "refused NotJson\n"),
-        ("{}", "refused Missing\n"),
-        (
-            "{\"defaultAction\":\"SCMP_ACT_NOTIFY\"}",
-            "refused Notify\n",
-        ),
-        (
-            "{\"defaultAction\":\"SCMP_ACT_ALLOW\",\"syscalls\":[{\"names\":[\"nosuchcall\"],\"action\":\"SCMP_ACT_ERRNO\"}]}",
-            "refused UnknownCall\n",
-        ),
-    ];
-    for (profile, want) in cases {
-        let (status, said, file) = compiled(&rt, profile)?;
-        assert_eq!(rt; said.as_str(), want);
-        assert_eq!(rt; status, 1);
-        assert_eq!(rt; file.as_slice(), b"old".as_slice());
+    for row in REFUSED.lines() {
+        let (profile, want) = halves(row)?;
+        is_refused(&rt, profile, want)?;
     }
     Ok(())
 }
@@ -89,68 +87,10 @@ fn files_of_compile(rt: HostRuntime) -> Result<(), Fail> {
         "good_profile",
         b"{\"defaultAction\":\"SCMP_ACT_ALLOW\"}",
     )?;
-    let rows = [
-        (
-            "compile nosuchfile /",
-            "seccheck: nosuchfile: NotFound\n",
-            3,
-        ),
-        ("compile FILE /", "seccheck: /: Failed\n", 3),
-        (
-            "compile FILE /nosuchfolder/out",
-            "seccheck: /nosuchfolder/out: Failed\n",
-            3,
-        ),
-    ];
-    for (line, err, status) in rows {
-        let got = seccheck(&rt, line, profile.as_str())?;
-        assert_eq!(rt; got.1.as_str(), "", "{line}");
-        assert_eq!(rt; got.2.as_str(), err, "{line}");
-        assert_eq!(rt; got.0, status, "{line}");
-    }
-    Ok(())
+    said_to_lines(&rt, profile.as_str(), FILES)
 }
 
-// Counted by hand: the longer way of each jump, and nothing that no way leads to.
-#[test]
-fn the_longest_walk(rt: HostRuntime) -> Result<(), Fail> {
-    let allow = (0x06, 0, 0, 0x7fff_0000);
-    let cases = [
-        (
-            [
-                (0x20, 0, 0, 4),
-                (0x15, 0, 1, 0xc000_003e),
-                (0x06, 0, 0, 0x8000_0000),
-                allow,
-            ],
-            "longest 3\n",
-        ),
-        (
-            [allow, (0x60, 0, 0, 3), (0x16, 0, 0, 0), allow],
-            "longest 1\n",
-        ),
-        (
-            [
-                (0x20, 0, 0, 0),
-                (0x15, 1, 0, 0),
-                (0x00, 0, 0, 0),
-                (0x16, 0, 0, 0),
-            ],
-            "longest 4\n",
-        ),
-        (
-            [(0x05, 0, 0, 2), (0x00, 0, 0, 0), (0x00, 0, 0, 0), allow],
-            "longest 2\n",
-        ),
-        (
-            [allow, allow, allow, (0x00, 0, 0, 0)],
-            "refused NoFinalReturn\n",
-        ),
-    ];
-    for (code, want) in cases {
-        let path = file_of(&rt, "budget", &bytes_of(&rt, &code)?)?;
-        let (_status, out, _err) = seccheck(&rt, "budget FILE", path.as_str())?;
-        assert_eq!(rt; out.as_str(), want);
-    }
-    Ok(())
-}
+const FILES: &str = "\
+compile nosuchfile / => 3||seccheck: nosuchfile: NotFound$
+compile FILE / => 3||seccheck: /: Failed$
+compile FILE /nosuchfolder/out => 3||seccheck: /nosuchfolder/out: Failed$";

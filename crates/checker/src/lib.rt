@@ -14,7 +14,6 @@ mod file;
 mod judging;
 mod laws;
 mod line;
-mod number;
 #[cfg(test)]
 mod pick_tests;
 mod picked;
@@ -24,6 +23,8 @@ mod playing;
 mod seccheck;
 mod show;
 mod stop;
+#[cfg(test)]
+mod test_play;
 #[cfg(test)]
 mod tests;
 mod words;

@@ -1,21 +1,17 @@
-use crate::tests::{X86_64_ONLY, bytes_of, file_of, loads, seccheck};
+use crate::test_play::{
+    bytes_of, file_of, halves, loads, said_to_lines, same, seccheck, with_lines,
+};
+use crate::tests::X86_64_ONLY;
 use std::test::Fail;
 
-/// The filter that answers calls numbered 101 with this value, and allows the rest.
-fn filter_on_101(rt: &HostRuntime, value: u32) -> Result<Vec<u8>, Fail> {
-    bytes_of(
-        rt,
-        &[
-            (0x20, 0, 0, 0),
-            (0x15, 0, 1, 101),
-            (0x06, 0, 0, value),
-            (0x06, 0, 0, 0x7fff_0000),
-        ],
-    )
+/// The filter that answers calls numbered 101 with this value, eight hexadecimal digits, and allows the rest.
+fn filter_on_101(rt: &HostRuntime, value: &str) -> Result<Vec<u8>, Fail> {
+    let code = format!(in rt.alloc(); "20 0 0 0; 15 0 1 65; 06 0 0 {value}; 06 0 0 7fff0000")?;
+    bytes_of(rt, code.as_str())
 }
 
 /// What `play` prints of this script under that filter, which stops nothing.
-fn played(rt: &HostRuntime, script: &str, value: u32, options: &str) -> Result<String, Fail> {
+fn played(rt: &HostRuntime, script: &str, value: &str, options: &str) -> Result<String, Fail> {
     let script = file_of(rt, "script", script.as_bytes())?;
     let filter = file_of(rt, "filter", &filter_on_101(rt, value)?)?;
     let line = format!(in rt.alloc(); "play {script} {filter} {options}")?;
@@ -26,217 +22,231 @@ fn played(rt: &HostRuntime, script: &str, value: u32, options: &str) -> Result<S
     }
 }
 
-#[test]
-fn a_denied_call_and_its_script(rt: HostRuntime) -> Result<(), Fail> {
-    let on_error = "{\"steps\":[{\"call\":39},{\"call\":101,\"onError\":5},{\"exit\":3}]}";
-    let goes_on = "{\"steps\":[{\"call\":39},{\"call\":101},{\"exit\":3}]}";
-    let rows = [
-        (on_error, 0x5_0001, "1 101 ERRNO 1 denied\nexit 5\n"),
-        (goes_on, 0x5_0001, "1 101 ERRNO 1 denied\nexit 3\n"),
-        (on_error, 0x5_0000, "1 101 ERRNO 0 denied\nexit 3\n"),
-        (on_error, 0x5_ffff, "1 101 ERRNO 65535 denied\nexit 5\n"),
-        (
-            on_error,
-            0x8000_0000,
-            "1 101 KILL_PROCESS 0 denied\nexit 159\n",
-        ),
-        (
-            on_error,
-            0x1_0007,
-            "1 101 KILL_PROCESS 7 denied\nexit 159\n",
-        ),
-        (on_error, 0, "1 101 KILL_THREAD 0 denied\nexit 159\n"),
-        (on_error, 0x3_0002, "1 101 TRAP 2 denied\nexit 159\n"),
-        (on_error, 0x7ff0_0000, "1 101 TRACE 0 denied\nexit 5\n"),
-        (on_error, 0x7fc0_0000, "1 101 USER_NOTIF 0 denied\nexit 5\n"),
-        (goes_on, 0x7fc0_0000, "1 101 USER_NOTIF 0 denied\nexit 3\n"),
-        (on_error, 0x7ffc_0009, "1 101 LOG 9 performed\nexit 3\n"),
-        (on_error, 0x7fff_0000, "1 101 ALLOW 0 performed\nexit 3\n"),
-    ];
-    for (script, value, want) in rows {
-        let want = format!(in rt.alloc(); "0 39 ALLOW 0 performed\n{want}")?;
-        assert_eq!(rt; played(&rt, script, value, "")?, want);
+const ON_ERROR: &str = "{\"steps\":[{\"call\":39},{\"call\":101,\"onError\":5},{\"exit\":3}]}";
+
+const GOES_ON: &str = "{\"steps\":[{\"call\":39},{\"call\":101},{\"exit\":3}]}";
+
+/// What the filter gives for the second call, and what becomes of the script that ends at an error.
+const STOPPED: &str = "\
+00050001 => 1 101 ERRNO 1 denied$exit 5$
+00050000 => 1 101 ERRNO 0 denied$exit 3$
+0005ffff => 1 101 ERRNO 65535 denied$exit 5$
+80000000 => 1 101 KILL_PROCESS 0 denied$exit 159$
+00010007 => 1 101 KILL_PROCESS 7 denied$exit 159$
+00000000 => 1 101 KILL_THREAD 0 denied$exit 159$
+00030002 => 1 101 TRAP 2 denied$exit 159$
+7ff00000 => 1 101 TRACE 0 denied$exit 5$
+7fc00000 => 1 101 USER_NOTIF 0 denied$exit 5$
+7ffc0009 => 1 101 LOG 9 performed$exit 3$
+7fff0000 => 1 101 ALLOW 0 performed$exit 3$";
+
+/// The same of the script that goes on.
+const GONE_ON: &str = "\
+00050001 => 1 101 ERRNO 1 denied$exit 3$
+7fc00000 => 1 101 USER_NOTIF 0 denied$exit 3$";
+
+fn played_under_each(rt: &HostRuntime, script: &str, rows: &str) -> Result<(), Fail> {
+    for row in rows.lines() {
+        let (value, want) = halves(row)?;
+        let want = format!(in rt.alloc(); "0 39 ALLOW 0 performed${want}")?;
+        let out = played(rt, script, value, "")?;
+        same(
+            rt,
+            out.as_str(),
+            with_lines(rt, want.as_str())?.as_str(),
+            row,
+        )?;
     }
     Ok(())
+}
+
+#[test]
+fn a_denied_call_and_its_script(rt: HostRuntime) -> Result<(), Fail> {
+    played_under_each(&rt, ON_ERROR, STOPPED)?;
+    played_under_each(&rt, GOES_ON, GONE_ON)
+}
+
+const ENDS: &str = r#"{"steps":[{"exitByAttempt":[1,0]},{"exit":7}]} --attempt 0 => exit 1$
+{"steps":[{"exitByAttempt":[1,0]},{"exit":7}]} --attempt 0x1 => exit 0$
+{"steps":[{"exitByAttempt":[1,0]},{"exit":7}]} --attempt 9 => exit 0$
+{"steps":[{"exitByAttempt":[1,0]},{"exit":7}]} --attempt 4294967295 => exit 0$
+{"steps":[]} => exit 0$
+{"steps":[{"exit":255},{"call":39}]} => exit 255$
+{"steps":[{"exitByAttempt":[1,0]}]} => exit 1$
+{"steps":[{"call":39}]} => 0 39 ALLOW 0 performed$exit 0$
+{"steps":[{"call":"getpid"}]} => 0 39 ALLOW 0 performed$exit 0$"#;
+
+fn played_to_its_end(rt: &HostRuntime, row: &str) -> Result<(), Fail> {
+    let (line, want) = halves(row)?;
+    let (script, options) = line.split_once(' ').unwrap_or((line, ""));
+    let out = played(rt, script, "00000000", options)?;
+    same(rt, out.as_str(), with_lines(rt, want)?.as_str(), row)
 }
 
 #[test]
 fn ends_of_scripts(rt: HostRuntime) -> Result<(), Fail> {
-    let by_attempt = "{\"steps\":[{\"exitByAttempt\":[1,0]},{\"exit\":7}]}";
-    let rows = [
-        (by_attempt, "", "exit 1\n"),
-        (by_attempt, "--attempt 0x1", "exit 0\n"),
-        (by_attempt, "--attempt 9", "exit 0\n"),
-        (by_attempt, "--attempt 4294967295", "exit 0\n"),
-        ("{\"steps\":[]}", "", "exit 0\n"),
-        (
-            "{\"steps\":[{\"exit\":255},{\"call\":39}]}",
-            "",
-            "exit 255\n",
-        ),
-        (
-            "{\"steps\":[{\"call\":39}]}",
-            "",
-            "0 39 ALLOW 0 performed\nexit 0\n",
-        ),
-        (
-            "{\"steps\":[{\"call\":\"getpid\"}]}",
-            "",
-            "0 39 ALLOW 0 performed\nexit 0\n",
-        ),
-    ];
-    for (script, options, want) in rows {
-        assert_eq!(rt;
-            played(&rt, script, 0, options)?.as_str(),
-            want,
-            "{script} {options}"
-        );
+    for row in ENDS.lines() {
+        played_to_its_end(&rt, row)?;
     }
     Ok(())
 }
 
-/// What `play` prints of a script with one call under filters that answer 101 with these values, the
-/// oldest one first.
-fn stacked(rt: &HostRuntime, values: &[u32]) -> Result<String, Fail> {
-    let script = file_of(rt, "stacked", b"{\"steps\":[{\"call\":101}]}")?;
+/// Filters that answer 101 with these values, the oldest one first, and what `play` prints of a script with that
+/// call under them.
+const STACKS: &str = "\
+00050001 0005000d 7ffc0000 7fff0000 => 0 101 ERRNO 13 denied$exit 0$
+00000000 00010007 => 0 101 KILL_PROCESS 7 denied$exit 159$
+none => 0 101 ALLOW 0 performed$exit 0$";
+
+/// A line that plays the script under filters of these values.
+fn stacked(rt: &HostRuntime, script: &str, values: &str) -> Result<String, Fail> {
     let mut line = format!(in rt.alloc(); "play {script}")?;
-    for (place, value) in values.iter().enumerate() {
-        let name = format!(in rt.alloc(); "stacked_{place}")?;
-        let filter = file_of(rt, name.as_str(), &filter_on_101(rt, *value)?)?;
-        line.push_str(" ")?;
-        line.push_str(filter.as_str())?;
+    for value in values.split(' ') {
+        if value != "none" {
+            let filter = file_of(rt, value, &filter_on_101(rt, value)?)?;
+            line.push_str(" ")?;
+            line.push_str(filter.as_str())?;
+        }
     }
-    let (status, out, _err) = seccheck(rt, line.as_str(), "")?;
-    match status {
-        0 => Ok(out),
-        _ => Err("a script that is played")?,
-    }
+    Ok(line)
 }
 
 #[test]
 fn stacks_of_filters(rt: HostRuntime) -> Result<(), Fail> {
-    let errno = stacked(&rt, &[0x5_0001, 0x5_000d, 0x7ffc_0000, 0x7fff_0000])?;
-    assert_eq!(rt; errno.as_str(), "0 101 ERRNO 13 denied\nexit 0\n");
-    let unknown = stacked(&rt, &[0, 0x1_0007])?;
-    assert_eq!(rt; unknown.as_str(), "0 101 KILL_PROCESS 7 denied\nexit 159\n");
-    let none = stacked(&rt, &[])?;
-    assert_eq!(rt; none.as_str(), "0 101 ALLOW 0 performed\nexit 0\n");
+    let script = file_of(&rt, "stacked", b"{\"steps\":[{\"call\":101}]}")?;
+    for row in STACKS.lines() {
+        let (values, want) = halves(row)?;
+        let line = stacked(&rt, script.as_str(), values)?;
+        let (status, out, _err) = seccheck(&rt, line.as_str(), "")?;
+        assert_eq!(rt; out, with_lines(&rt, want)?, "{row}");
+        assert_eq!(rt; status, 0, "{row}");
+    }
     Ok(())
 }
 
-// A filter that a script adds judges what comes after it; one for which the stack has no place is not added.
+const ADDS: &[u8] = b"{\"steps\":[{\"call\":\"getpid\"},
+    {\"install\":[[32,0,0,0],[21,0,1,39],[6,0,0,327693],[6,0,0,2147418112]]},
+    {\"call\":\"getpid\",\"onError\":7},{\"exit\":0}]}";
+
+const ADDED: &str =
+    "play FILE => 0|0 39 ALLOW 0 performed$1 317 ALLOW 0 performed$2 39 ERRNO 13 denied$exit 7$|";
+
+const NO_SECCOMP: &[u8] =
+    b"{\"defaultAction\":\"SCMP_ACT_ALLOW\",\"syscalls\":[{\"names\":[\"seccomp\"],\"action\":\"SCMP_ACT_ERRNO\"}]}";
+
+// A filter that a script adds judges what comes after it; where it may add none, nothing changes.
 #[test]
 fn scripts_that_add_filters(rt: HostRuntime) -> Result<(), Fail> {
-    let adds = b"{\"steps\":[{\"call\":\"getpid\"},
-        {\"install\":[[32,0,0,0],[21,0,1,39],[6,0,0,327693],[6,0,0,2147418112]]},
-        {\"call\":\"getpid\",\"onError\":7},{\"exit\":0}]}";
-    let adds = file_of(&rt, "adds", adds)?;
-    let (_status, out, _err) = seccheck(&rt, "play FILE", adds.as_str())?;
-    assert_eq!(rt;
-        out.as_str(),
-        "0 39 ALLOW 0 performed\n1 317 ALLOW 0 performed\n2 39 ERRNO 13 denied\nexit 7\n"
-    );
-
-    let profile =
-        b"{\"defaultAction\":\"SCMP_ACT_ALLOW\",\"syscalls\":[{\"names\":[\"seccomp\"],\"action\":\"SCMP_ACT_ERRNO\"}]}";
-    let profile = file_of(&rt, "no_seccomp", profile)?;
+    let adds = file_of(&rt, "adds", ADDS)?;
+    said_to_lines(&rt, adds.as_str(), ADDED)?;
+    let profile = file_of(&rt, "no_seccomp", NO_SECCOMP)?;
     let filter = file_of(&rt, "no_seccomp_filter", b"")?;
     let line = format!(in rt.alloc(); "compile {profile} {filter}")?;
     assert_eq!(rt; seccheck(&rt, line.as_str(), "")?.0, 0);
-    let line = format!(in rt.alloc(); "play {adds} {filter}")?;
-    let (_status, out, _err) = seccheck(&rt, line.as_str(), "")?;
-    assert_eq!(rt;
-        out.as_str(),
-        "0 39 ALLOW 0 performed\n1 317 ERRNO 1 denied\n2 39 ALLOW 0 performed\nexit 0\n"
-    );
+    let row = format!(in rt.alloc();
+        "play FILE {filter} => 0|0 39 ALLOW 0 performed$1 317 ERRNO 1 denied$2 39 ALLOW 0 performed$exit 0$|"
+    )?;
+    said_to_lines(&rt, adds.as_str(), row.as_str())
+}
 
-    let script = b"{\"steps\":[{\"install\":[[6,0,0,0]],\"onError\":9},{\"exit\":0}]}";
-    let script = file_of(&rt, "no_place", script)?;
-    let longest = file_of(&rt, "longest_below", &loads(&rt, 0, 4095)?)?;
-    let last = file_of(&rt, "last_below", &loads(&rt, 0, 4067)?)?;
+/// A line that plays the script under seven filters as long as may be, and one more.
+fn under_eight(rt: &HostRuntime, script: &str, last: &str) -> Result<String, Fail> {
     let mut line = format!(in rt.alloc(); "play {script}")?;
     for _ in 0..7 {
         line.push_str(" FILE")?;
     }
     line.push_str(" ")?;
-    line.push_str(last.as_str())?;
-    let (_status, out, _err) = seccheck(&rt, line.as_str(), longest.as_str())?;
-    assert_eq!(rt; out.as_str(), "0 317 ALLOW 0 performed\nexit 9\n");
+    line.push_str(last)?;
+    Ok(line)
+}
 
-    let script = file_of(&rt, "no_insns_added", b"{\"steps\":[{\"install\":[]}]}")?;
-    let (status, out, _err) = seccheck(&rt, "play FILE", script.as_str())?;
-    assert_eq!(rt; out.as_str(), "refused script BadFilter\n");
-    assert_eq!(rt; status, 1);
-    Ok(())
+/// What is printed of a script under eight filters, the last one with so many loads.
+fn played_under_eight(
+    rt: &HostRuntime,
+    script: &[u8],
+    loaded: usize,
+    want: &str,
+) -> Result<(), Fail> {
+    let script = file_of(rt, "under_eight", script)?;
+    let longest = file_of(rt, "longest_below", &loads(rt, 0, 4095)?)?;
+    let last = file_of(rt, "last_below", &loads(rt, 0, loaded)?)?;
+    let line = under_eight(rt, script.as_str(), last.as_str())?;
+    let (_status, out, _err) = seccheck(rt, line.as_str(), longest.as_str())?;
+    same(
+        rt,
+        out.as_str(),
+        with_lines(rt, want)?.as_str(),
+        line.as_str(),
+    )
+}
+
+const NO_PLACE: &[u8] = b"{\"steps\":[{\"install\":[[6,0,0,0]],\"onError\":9},{\"exit\":0}]}";
+
+const SHORT: &[u8] = b"{\"steps\":[]}";
+
+// A filter for which the stack has no place is not added.
+#[test]
+fn stacks_at_the_limit(rt: HostRuntime) -> Result<(), Fail> {
+    played_under_eight(&rt, NO_PLACE, 4067, "0 317 ALLOW 0 performed$exit 9$")?;
+    played_under_eight(&rt, SHORT, 4067, "exit 0$")?;
+    played_under_eight(&rt, SHORT, 4068, "refused filter TooManyInsns$")
+}
+
+/// Lines over these files: a script, one that calls what there is not, one that installs no filter, a sound filter,
+/// an unsound one, one without instructions.
+const REFUSED: &str = "\
+play UNKNOWN BAD => 1|refused script UnknownCall$|
+play INSTALLS => 1|refused script BadFilter$|
+play SCRIPT GOOD BAD NONE => 1|refused filter BadOffset at 0$|
+play SCRIPT NONE BAD => 1|refused filter Empty$|
+play SCRIPT nosuchfile NONE => 3||seccheck: nosuchfile: NotFound$
+play nosuchfile NONE => 3||seccheck: nosuchfile: NotFound$
+play nosuchfile --attempt 4294967296 => 2||seccheck: 4294967296: BadNumber$";
+
+/// The rows with a file of these bytes in the place of a word.
+fn with_file(rt: &HostRuntime, rows: &str, word: &str, bytes: &[u8]) -> Result<String, Fail> {
+    let path = file_of(rt, word, bytes)?;
+    Ok(rows.replace(rt.alloc(), word, path.as_str())?)
 }
 
 #[test]
 fn what_play_refuses(rt: HostRuntime) -> Result<(), Fail> {
-    let script = file_of(&rt, "good", b"{\"steps\":[{\"exit\":0}]}")?;
-    let unknown = b"{\"steps\":[{\"call\":\"getpid\"},{\"call\":\"nosuchcall\"}]}";
-    let unknown = file_of(&rt, "unknown", unknown)?;
-    let sound = file_of(&rt, "sound", &X86_64_ONLY)?;
-    let unsound = file_of(
+    let rows = with_file(
         &rt,
-        "unsound",
-        &bytes_of(&rt, &[(0x20, 0, 0, 64), (0x16, 0, 0, 0)])?,
+        REFUSED,
+        "UNKNOWN",
+        b"{\"steps\":[{\"call\":\"getpid\"},{\"call\":\"nosuchcall\"}]}",
     )?;
-    let empty = file_of(&rt, "no_insns", b"")?;
-    let rows = [
-        format!(in rt.alloc(); "play {unknown} {unsound}|1|refused script UnknownCall\n|")?,
-        format!(in rt.alloc();
-            "play {script} {sound} {unsound} {empty}|1|refused filter BadOffset at 0\n|"
-        )?,
-        format!(in rt.alloc(); "play {script} {empty} {unsound}|1|refused filter Empty\n|")?,
-        format!(in rt.alloc();
-            "play {script} nosuchfile {empty}|3||seccheck: nosuchfile: NotFound\n"
-        )?,
-        format!(in rt.alloc(); "play nosuchfile {empty}|3||seccheck: nosuchfile: NotFound\n")?,
-        format!(in rt.alloc();
-            "play nosuchfile --attempt 4294967296|2||seccheck: 4294967296: BadNumber\n"
-        )?,
-    ];
-    for row in &rows {
-        let mut parts = row.as_str().split('|');
-        let line = parts.next().ok_or("a line")?;
-        let status = parts.next().ok_or("a status")?;
-        let got = seccheck(&rt, line, "")?;
-        assert_eq!(rt; got.1.as_str(), parts.next().ok_or("out")?, "{line}");
-        assert_eq!(rt; got.2.as_str(), parts.next().ok_or("err")?, "{line}");
-        assert_eq!(rt;
-            format!(in rt.alloc(); "{}", got.0)?.as_str(),
-            status,
-            "{line}"
-        );
-    }
-    Ok(())
+    let rows = with_file(
+        &rt,
+        rows.as_str(),
+        "BAD",
+        &bytes_of(&rt, "20 0 0 40; 16 0 0 0")?,
+    )?;
+    let rows = with_file(
+        &rt,
+        rows.as_str(),
+        "INSTALLS",
+        b"{\"steps\":[{\"install\":[]}]}",
+    )?;
+    let rows = with_file(&rt, rows.as_str(), "SCRIPT", b"{\"steps\":[{\"exit\":0}]}")?;
+    let rows = with_file(&rt, rows.as_str(), "GOOD", &bytes_of(&rt, X86_64_ONLY)?)?;
+    let rows = with_file(&rt, rows.as_str(), "NONE", b"")?;
+    said_to_lines(&rt, "", rows.as_str())
 }
 
+// One step more than a script may have.
 #[test]
-fn scripts_and_stacks_at_the_limits(rt: HostRuntime) -> Result<(), Fail> {
-    let script = file_of(&rt, "short", b"{\"steps\":[]}")?;
-    let longest = file_of(&rt, "longest_of_stack", &loads(&rt, 0, 4095)?)?;
-    let mut line = format!(in rt.alloc(); "play {script}")?;
-    for _ in 0..7 {
-        line.push_str(" ")?;
-        line.push_str(longest.as_str())?;
-    }
-    line.push_str(" FILE")?;
-    let last = file_of(&rt, "last_of_stack", &loads(&rt, 0, 4067)?)?;
-    let (_status, out, _err) = seccheck(&rt, line.as_str(), last.as_str())?;
-    assert_eq!(rt; out.as_str(), "exit 0\n");
-    let last = file_of(&rt, "over_the_stack", &loads(&rt, 0, 4068)?)?;
-    let (status, out, _err) = seccheck(&rt, line.as_str(), last.as_str())?;
-    assert_eq!(rt; out.as_str(), "refused filter TooManyInsns\n");
-    assert_eq!(rt; status, 1);
+fn a_script_of_too_many_steps(rt: HostRuntime) -> Result<(), Fail> {
     let mut steps = String::from_str(rt.alloc(), "{\"steps\":[{\"exit\":0}")?;
     for _ in 0..4096 {
         steps.push_str(",{\"exit\":0}")?;
     }
     steps.push_str("]}")?;
     let script = file_of(&rt, "long", steps.as_bytes())?;
-    let (status, out, _err) = seccheck(&rt, "play FILE", script.as_str())?;
-    assert_eq!(rt; out.as_str(), "refused script TooMany\n");
-    assert_eq!(rt; status, 1);
-    Ok(())
+    said_to_lines(
+        &rt,
+        script.as_str(),
+        "play FILE => 1|refused script TooMany$|",
+    )
 }

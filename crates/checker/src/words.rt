@@ -1,11 +1,12 @@
 ghost use Rattle.std.specs.Prelude.{◌≡◌};
 ghost use Rattle.clap.specs.Matches.{found_of};
-ghost use Rattle.json_tree.specs.Reading.{as_fault};
 ghost use Rattle.checker.specs.Words.{attempt_in, call_in, word_in};
+ghost use Rattle.command_line.specs.Words.{told};
 
-use crate::call_words::{call, word_or};
+use crate::call_words::call;
 use call_data::SysCall;
 use clap::{Arg, ArgAction, ArgMatches, Command};
+use command_line::word_or;
 use std::alloc::{AllocError, Global};
 
 /// The program's name.
@@ -105,7 +106,7 @@ fn option<'a>(alloc: Global, id: &'static str, value: &'static str, help: &'stat
 
 /// The call that the command line of `run` writes.
 pub(crate) fn call_at<'a>(matches: &ArgMatches<'a>) -> Result<SysCall, &'a str>
-    ensures { as_fault (λ w. w.now) result ≡ call_in (found_of matches.now) }
+    ensures { told result ≡ call_in (found_of matches.now) }
 {
     call(
         word_at(matches, "NR"),
@@ -117,7 +118,7 @@ pub(crate) fn call_at<'a>(matches: &ArgMatches<'a>) -> Result<SysCall, &'a str>
 
 /// Which attempt the command line of `play` writes.
 pub(crate) fn attempt_at<'a>(matches: &ArgMatches<'a>) -> Result<u32, &'a str>
-    ensures { as_fault (λ w. w.now) result ≡ attempt_in (found_of matches.now) }
+    ensures { told result ≡ attempt_in (found_of matches.now) }
 {
     word_or(0, matches.get_str("attempt"))
 }

@@ -96,6 +96,8 @@ struct Built {
 }
 
 fn compiled(alloc: Global, profile: Profile) -> Result<Built, Refusal>
+    // Told whether there is memory or not.
+    ensures told { MAX_INSNS < weight profile → result ≡ Err Refusal.InvalidArgument }
     ensures made { IfOk result (λ made. (made.profile ≡ profile) × GivesMeaning made.filter profile) }
     ensures refused { IfErr result (λ refusal. (refusal ≡ Refusal.Memory) ⊎ ((refusal ≡ Refusal.InvalidArgument) × (MAX_INSNS < weight profile))) }
 {

@@ -1,10 +1,10 @@
 ghost use Rattle.std.specs.Prelude.{◌≡◌, ◌==◌, ◌⊎◌, ◌^◌, slice_index};
-ghost use Rattle.checker.specs.Numbers.{base_of, digits_of, number_in, numeral};
+ghost use Rattle.command_line.specs.Numbers.{base_of, digits_of, number_in, numeral};
 
 /// The number that a word of a command line writes: ASCII digits, or `0x` and ASCII hexadecimal digits
 /// of either case. `None` where it writes none, or one of 2^64 or more.
 #[tactic(auto, unfolding(crate::specs::Numbers::number_in))]
-pub(crate) fn number_of(word: &str) -> Option<u64>
+pub fn number_of(word: &str) -> Option<u64>
     ensures { result ≡ number_in (2 ^ 64) word.now }
 {
     match word.strip_prefix("0x") {
@@ -15,7 +15,7 @@ pub(crate) fn number_of(word: &str) -> Option<u64>
 
 /// The same below 2^32.
 #[tactic(auto, unfolding(crate::specs::Numbers::number_in, crate::specs::Numbers::numeral))]
-pub(crate) fn word_of(word: &str) -> Option<u32>
+pub fn word_of(word: &str) -> Option<u32>
     ensures { result ≡ number_in (2 ^ 32) word.now }
 {
     u32::try_from(number_of(word)?).ok()

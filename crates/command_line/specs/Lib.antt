@@ -1,0 +1,6 @@
+pub mod Arguments
+pub mod Faults
+pub mod Nodeagent
+pub mod Numbers
+pub mod Scriptd
+pub mod Words

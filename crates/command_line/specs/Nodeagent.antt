@@ -1,0 +1,85 @@
+-- The line `nodeagent --socket PATH [--with-runtime] [--scripts DIR] [--profiles DIR] [--baseline FILTER]
+-- [--seccomp-default] [--workers N] [--settle] [--until S] [--verbose] MANIFEST..`, this project's own:
+-- docs/SEMANTICS.md, "Programs".
+use Rattle.std.specs.Prelude.{ℕ, ◌^◌, List, Bool, codes, map, Option, Result, Ok, Err, option_map}
+use Rattle.clap.specs.Simple.{App, new_app, with_rule}
+use Rattle.clap.specs.Walk.{Row, first_of}
+use Rattle.command_line.specs.Arguments.{flag_rule, folder_of, is_set, option_rule, word_of, words_of, words_rule}
+use Rattle.command_line.specs.Scriptd.{serving}
+use Rattle.command_line.specs.Words.{written_if_there, written_within}
+use Rattle.command_line.specs.declared.nodeagent.NodeagentLine.{NodeagentLine}
+use Rattle.command_line.specs.declared.nodeagent.Numbers.{Numbers}
+
+-- the command line, to clap
+abbrev pub choosing : App → App
+choosing app = with_rule (with_rule app (flag_rule (codes "with-runtime"))) (flag_rule (codes "seccomp-default"))
+
+abbrev pub settling : App → App
+settling app = with_rule (with_rule (with_rule app (option_rule (codes "workers"))) (flag_rule (codes "settle"))) (option_rule (codes "until"))
+
+abbrev pub naming : App → App
+naming app = with_rule (with_rule app (flag_rule (codes "verbose"))) (words_rule (codes "MANIFEST"))
+
+abbrev pub running : App → App
+running app = naming (settling (choosing (serving app)))
+
+unfoldable pub nodeagent : App
+nodeagent = running (new_app (codes "nodeagent"))
+
+-- its numbers, looked at in the order of the line
+abbrev pub numbers_of : Result ℕ (List ℕ) → Result (Option ℕ) (List ℕ) → Result Numbers (List ℕ)
+numbers_of (Err word) until = Err word
+numbers_of (Ok workers) (Err word) = Err word
+numbers_of (Ok workers) (Ok until) = Ok (record { workers = workers; until = until })
+
+-- workers from 1 to 64, 4 where none is named
+abbrev pub numbers_in : List Row → Result Numbers (List ℕ)
+numbers_in rows =
+    numbers_of (written_within 1 64 4 (first_of (codes "workers") rows)) (written_if_there (2 ^ 64) (first_of (codes "until") rows))
+
+-- what the line says
+pub record Nodeagent : Type 0 where
+  pub socket : List ℕ
+  pub with_runtime : Bool
+  pub scripts : List ℕ
+  pub profiles : List ℕ
+  pub baseline : Option (List ℕ)
+  pub seccomp_default : Bool
+  pub numbers : Numbers
+  pub settle : Bool
+  pub verbose : Bool
+  pub manifests : List (List ℕ)
+
+abbrev pub nodeagent_with : List Row → Result Numbers (List ℕ) → Result Nodeagent (List ℕ)
+nodeagent_with rows (Err word) = Err word
+nodeagent_with rows (Ok numbers) = Ok (record {
+  socket = word_of (codes "socket") rows;
+  with_runtime = is_set (codes "with-runtime") rows;
+  scripts = folder_of (codes "scripts") rows;
+  profiles = folder_of (codes "profiles") rows;
+  baseline = first_of (codes "baseline") rows;
+  seccomp_default = is_set (codes "seccomp-default") rows;
+  numbers = numbers;
+  settle = is_set (codes "settle") rows;
+  verbose = is_set (codes "verbose") rows;
+  manifests = words_of (codes "MANIFEST") rows;
+})
+
+-- what the matches of a line say, or the first word that writes no number of its range
+abbrev pub nodeagent_in : List Row → Result Nodeagent (List ℕ)
+nodeagent_in rows = nodeagent_with rows (numbers_in rows)
+
+-- the texts that a line lends
+abbrev pub nodeagent_of : NodeagentLine → Nodeagent
+nodeagent_of line = record {
+  socket = line.socket.now;
+  with_runtime = line.with_runtime;
+  scripts = line.scripts.now;
+  profiles = line.profiles.now;
+  baseline = option_map (λ w. w.now) line.baseline;
+  seccomp_default = line.seccomp_default;
+  numbers = line.numbers;
+  settle = line.settle;
+  verbose = line.verbose;
+  manifests = map (λ w. w.now) line.manifests.items;
+}

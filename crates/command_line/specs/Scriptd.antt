@@ -1,0 +1,57 @@
+-- The line `scriptd --socket PATH [--scripts DIR] [--profiles DIR] [--baseline FILTER] [--runners N] [--verbose]`,
+-- this project's own: docs/SEMANTICS.md, "Programs".
+use Rattle.std.specs.Prelude.{ℕ, List, Bool, codes, Option, Result, Ok, Err, option_map}
+use Rattle.clap.specs.Simple.{App, new_app, with_rule}
+use Rattle.clap.specs.Walk.{Row, first_of}
+use Rattle.command_line.specs.Arguments.{flag_rule, folder_of, is_set, option_rule, required_rule, word_of}
+use Rattle.command_line.specs.Words.{written_within}
+use Rattle.command_line.specs.declared.scriptd.ScriptdLine.{ScriptdLine}
+
+-- the command line, to clap
+abbrev pub folders : App → App
+folders app = with_rule (with_rule app (option_rule (codes "scripts"))) (option_rule (codes "profiles"))
+
+abbrev pub serving : App → App
+serving app = with_rule (folders (with_rule app (required_rule (codes "socket")))) (option_rule (codes "baseline"))
+
+abbrev pub stepping : App → App
+stepping app = with_rule (with_rule app (option_rule (codes "runners"))) (flag_rule (codes "verbose"))
+
+unfoldable pub scriptd : App
+scriptd = stepping (serving (new_app (codes "scriptd")))
+
+-- what the line says
+pub record Scriptd : Type 0 where
+  pub socket : List ℕ
+  pub scripts : List ℕ
+  pub profiles : List ℕ
+  pub baseline : Option (List ℕ)
+  -- from 1 to 64, 4 where none is named
+  pub runners : ℕ
+  pub verbose : Bool
+
+abbrev pub scriptd_with : List Row → Result ℕ (List ℕ) → Result Scriptd (List ℕ)
+scriptd_with rows (Err word) = Err word
+scriptd_with rows (Ok runners) = Ok (record {
+  socket = word_of (codes "socket") rows;
+  scripts = folder_of (codes "scripts") rows;
+  profiles = folder_of (codes "profiles") rows;
+  baseline = first_of (codes "baseline") rows;
+  runners = runners;
+  verbose = is_set (codes "verbose") rows;
+})
+
+-- what the matches of a line say, or the word that writes no number of its range
+abbrev pub scriptd_in : List Row → Result Scriptd (List ℕ)
+scriptd_in rows = scriptd_with rows (written_within 1 64 4 (first_of (codes "runners") rows))
+
+-- the texts that a line lends
+abbrev pub scriptd_of : ScriptdLine → Scriptd
+scriptd_of line = record {
+  socket = line.socket.now;
+  scripts = line.scripts.now;
+  profiles = line.profiles.now;
+  baseline = option_map (λ w. w.now) line.baseline;
+  runners = line.runners;
+  verbose = line.verbose;
+}

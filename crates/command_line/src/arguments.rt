@@ -1,0 +1,58 @@
+// The arguments of a command line, as clap takes them.
+ghost use Rattle.std.specs.Prelude.{◌≡◌, false, IfOk};
+ghost use Rattle.clap.specs.Simple.{app_of, with_rule};
+ghost use Rattle.clap.specs.Walk.{rule_of};
+ghost use Rattle.command_line.specs.Arguments.{flag_rule, option_rule, required_rule, words_rule};
+
+use clap::{Arg, ArgAction, Command};
+use std::alloc::{AllocError, Global};
+
+/// An option with a value.
+pub(crate) fn with_option<'a>(
+    alloc: Global,
+    command: Command<'a>,
+    id: &'static str,
+    value: &'static str,
+    help: &'static str,
+) -> Result<Command<'a>, AllocError>
+    ensures { IfOk result (λ c. app_of c ≡ with_rule (app_of command.entry) (option_rule id.now)) }
+{
+    command.arg(Arg::new(alloc, id).long(id).value_name(value).help(help))
+}
+
+/// An option with a value that has to be there.
+pub(crate) fn with_required<'a>(
+    alloc: Global,
+    command: Command<'a>,
+    id: &'static str,
+    value: &'static str,
+    help: &'static str,
+) -> Result<Command<'a>, AllocError>
+    ensures { IfOk result (λ c. app_of c ≡ with_rule (app_of command.entry) (required_rule id.now)) }
+{
+    command.arg(Arg::new(alloc, id).long(id).value_name(value).required(true).help(help))
+}
+
+/// An option without a value.
+pub(crate) fn with_flag<'a>(
+    alloc: Global,
+    command: Command<'a>,
+    id: &'static str,
+    help: &'static str,
+) -> Result<Command<'a>, AllocError>
+    ensures { IfOk result (λ c. app_of c ≡ with_rule (app_of command.entry) (flag_rule id.now)) }
+{
+    command.arg(Arg::new(alloc, id).long(id).action(ArgAction::SetTrue).help(help))
+}
+
+/// One word or more that stand by themselves.
+pub(crate) fn with_words<'a>(
+    alloc: Global,
+    command: Command<'a>,
+    id: &'static str,
+    help: &'static str,
+) -> Result<Command<'a>, AllocError>
+    ensures { IfOk result (λ c. app_of c ≡ with_rule (app_of command.entry) (words_rule id.now)) }
+{
+    command.arg(Arg::new(alloc, id).num_args(1..).required(true).help(help))
+}

@@ -1,0 +1,171 @@
+ghost use Rattle.std.specs.Prelude.{◌≡◌, [], IfErr, IfOk, Ok, map, option_map, unwrap_or};
+ghost use Rattle.std.specs.String.{string_bytes};
+ghost use Rattle.clap.specs.Matches.{found_of};
+ghost use Rattle.clap.specs.Simple.{app_of, matches_of};
+ghost use Rattle.clap.specs.Walk.{rows_of};
+ghost use Rattle.command_line.specs.Faults.{TellsWord};
+ghost use Rattle.command_line.specs.Words.{told};
+ghost use Rattle.command_line.specs.Nodeagent.{choosing, naming, nodeagent, nodeagent_in, nodeagent_of, nodeagent_with, numbers_in, running, settling};
+
+use crate::arguments::{with_flag, with_option, with_words};
+use crate::fault::LineFault;
+use crate::matched::{folder_at, is_set, required_at, word_at, words_at};
+use crate::scriptd::{matches_in, serving};
+use crate::written::{number_if_there, number_within};
+use clap::{ArgMatches, Command};
+use std::alloc::{AllocError, Global};
+
+/// The numbers of a line.
+#[derive(Clone, Copy, Debug)]
+pub struct Numbers {
+    /// How many threads make the pods' requests, from 1 to 64.
+    pub workers: u32,
+    /// The last moment, in seconds from the start.
+    pub until: Option<u64>,
+}
+
+/// What the command line of `nodeagent` says.
+#[derive(Debug, Drop)]
+pub struct NodeagentLine<'a> {
+    /// The path of the runtime's socket.
+    pub socket: &'a str,
+    /// Whether the runtime runs in this process too.
+    pub with_runtime: bool,
+    /// The folder of the containers' scripts.
+    pub scripts: &'a str,
+    /// The folder of the profiles.
+    pub profiles: &'a str,
+    /// The file of the node's own filter.
+    pub baseline: Option<&'a str>,
+    /// Whether a container that says nothing gets RuntimeDefault.
+    pub seccomp_default: bool,
+    pub numbers: Numbers,
+    /// Whether the clock is a counter, and the program ends once every pod is over.
+    pub settle: bool,
+    /// Whether each event is told on standard error.
+    pub verbose: bool,
+    /// The files of the pods' manifests, one at least.
+    pub manifests: Vec<&'a str>,
+}
+
+/// What the words say, the program's name first.
+#[tactic(auto, using(crate::proofs::Simple::nodeagent_is_simple))]
+pub fn nodeagent_line<'a>(
+    alloc: Global,
+    words: &'a [String],
+) -> Result<NodeagentLine<'a>, LineFault<'a>>
+    ensures line { IfOk result (λ line. nodeagent_in (matches_of nodeagent (map string_bytes words.now)) ≡ Ok (nodeagent_of line)) }
+    ensures fault { IfErr result (TellsWord (nodeagent_in (matches_of nodeagent (map string_bytes words.now)))) }
+{
+    let matches = matches_in(nodeagent(alloc)?, words)?;
+    match line_numbers(&matches) {
+        Ok(numbers) => Ok(said(alloc, &matches, numbers)?),
+        Err(word) => Err(LineFault::BadNumber(word)),
+    }
+}
+
+#[tactic(auto, unfolding(crate::specs::Nodeagent::nodeagent))]
+fn nodeagent<'a>(alloc: Global) -> Result<Command<'a>, AllocError>
+    ensures { IfOk result (λ c. app_of c ≡ nodeagent) }
+{
+    let command = Command::new(alloc, "nodeagent").about(
+        "Runs pods by the containers of a runtime behind a socket, and tells what became of them",
+    );
+    running(alloc, command)
+}
+
+fn running<'a>(alloc: Global, command: Command<'a>) -> Result<Command<'a>, AllocError>
+    ensures { IfOk result (λ c. app_of c ≡ running (app_of command.entry)) }
+{
+    let command = choosing(alloc, serving(alloc, command)?)?;
+    naming(alloc, settling(alloc, command)?)
+}
+
+fn choosing<'a>(alloc: Global, command: Command<'a>) -> Result<Command<'a>, AllocError>
+    ensures { IfOk result (λ c. app_of c ≡ choosing (app_of command.entry)) }
+{
+    let command = with_flag(
+        alloc,
+        command,
+        "with-runtime",
+        "runs the runtime in this process too, with four runners",
+    )?;
+    with_flag(
+        alloc,
+        command,
+        "seccomp-default",
+        "a container that names no profile gets RuntimeDefault",
+    )
+}
+
+fn naming<'a>(alloc: Global, command: Command<'a>) -> Result<Command<'a>, AllocError>
+    ensures { IfOk result (λ c. app_of c ≡ naming (app_of command.entry)) }
+{
+    let command = with_flag(alloc, command, "verbose", "tells each event on standard error")?;
+    with_words(alloc, command, "MANIFEST", "the pods' manifests, in JSON")
+}
+
+fn settling<'a>(alloc: Global, command: Command<'a>) -> Result<Command<'a>, AllocError>
+    ensures { IfOk result (λ c. app_of c ≡ settling (app_of command.entry)) }
+{
+    let command = with_option(
+        alloc,
+        command,
+        "workers",
+        "N",
+        "how many threads make the pods' requests, 1 to 64 [default: 4]",
+    )?;
+    let command = with_flag(
+        alloc,
+        command,
+        "settle",
+        "counts moments instead of waiting for them, and ends once every pod is over",
+    )?;
+    with_option(
+        alloc,
+        command,
+        "until",
+        "S",
+        "the last moment, in seconds from the start [default with --settle: 3600]",
+    )
+}
+
+fn line_numbers<'a>(matches: &ArgMatches<'a>) -> Result<Numbers, &'a str>
+    ensures { told result ≡ numbers_in (rows_of (found_of matches.now)) }
+{
+    let workers = number_within(1, 64, 4, word_at(matches, "workers"))?;
+    let until = number_if_there(word_at(matches, "until"))?;
+    Ok(Numbers { workers, until })
+}
+
+fn said<'a>(
+    alloc: Global,
+    matches: &ArgMatches<'a>,
+    numbers: Numbers,
+) -> Result<NodeagentLine<'a>, AllocError>
+    ensures { IfOk result (λ line. nodeagent_with (rows_of (found_of matches.now)) (Ok numbers) ≡ Ok (nodeagent_of line)) }
+{
+    Ok(NodeagentLine {
+        socket: required_at(matches, "socket"),
+        with_runtime: is_set(matches, "with-runtime"),
+        scripts: folder_at(matches, "scripts"),
+        profiles: folder_at(matches, "profiles"),
+        baseline: word_at(matches, "baseline"),
+        seccomp_default: is_set(matches, "seccomp-default"),
+        numbers,
+        settle: is_set(matches, "settle"),
+        verbose: is_set(matches, "verbose"),
+        manifests: listed(alloc, words_at(matches, "MANIFEST"))?,
+    })
+}
+
+/// A list of the words that were lent.
+fn listed<'a>(alloc: Global, words: Option<&[&'a str]>) -> Result<Vec<&'a str>, AllocError>
+    ensures { IfOk result (λ list. map (λ w. w.now) list.items ≡ unwrap_or (option_map (λ s. map (λ w. w.now) s.now) words.entry) []) }
+{
+    let mut list = Vec::new(alloc);
+    if let Some(words) = words {
+        list.extend_from_slice(words)?;
+    }
+    Ok(list)
+}

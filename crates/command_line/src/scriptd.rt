@@ -1,0 +1,130 @@
+ghost use Rattle.std.specs.Prelude.{◌≡◌, true, IfErr, IfOk, Ok, map};
+ghost use Rattle.std.specs.Result.{result_map_both};
+ghost use Rattle.std.specs.String.{string_bytes};
+ghost use Rattle.clap.specs.Matches.{found_of};
+ghost use Rattle.clap.specs.Simple.{app_of, is_simple, matches_of};
+ghost use Rattle.clap.specs.Walk.{rows_of};
+ghost use Rattle.command_line.specs.Faults.{IsNoNumber, TellsWord};
+ghost use Rattle.command_line.specs.Scriptd.{folders, scriptd, scriptd_in, scriptd_of, serving, stepping};
+
+use crate::arguments::{with_flag, with_option, with_required};
+use crate::fault::LineFault;
+use crate::matched::{folder_at, is_set, required_at, word_at};
+use crate::written::number_within;
+use clap::{ArgMatches, Command};
+use std::alloc::{AllocError, Global};
+
+/// What the command line of `scriptd` says.
+#[derive(Clone, Copy, Debug)]
+pub struct ScriptdLine<'a> {
+    /// The path of the socket.
+    pub socket: &'a str,
+    /// The folder of the containers' scripts.
+    pub scripts: &'a str,
+    /// The folder of the profiles.
+    pub profiles: &'a str,
+    /// The file of the node's own filter.
+    pub baseline: Option<&'a str>,
+    /// How many threads step the containers, from 1 to 64.
+    pub runners: u32,
+    /// Whether each event is told on standard error.
+    pub verbose: bool,
+}
+
+/// What the words say, the program's name first.
+#[tactic(auto, using(crate::proofs::Simple::scriptd_is_simple))]
+pub fn scriptd_line<'a>(
+    alloc: Global,
+    words: &'a [String],
+) -> Result<ScriptdLine<'a>, LineFault<'a>>
+    ensures line { IfOk result (λ line. scriptd_in (matches_of scriptd (map string_bytes words.now)) ≡ Ok (scriptd_of line)) }
+    ensures fault { IfErr result (TellsWord (scriptd_in (matches_of scriptd (map string_bytes words.now)))) }
+{
+    let matches = matches_in(scriptd(alloc)?, words)?;
+    match said(&matches) {
+        Ok(line) => Ok(line),
+        Err(word) => Err(LineFault::BadNumber(word)),
+    }
+}
+
+#[tactic(auto, unfolding(crate::specs::Scriptd::scriptd))]
+fn scriptd<'a>(alloc: Global) -> Result<Command<'a>, AllocError>
+    ensures { IfOk result (λ c. app_of c ≡ scriptd) }
+{
+    let command = Command::new(alloc, "scriptd")
+        .about("Runs containers, which are scripts, behind a socket that takes CRI calls");
+    stepping(alloc, serving(alloc, command)?)
+}
+
+fn stepping<'a>(alloc: Global, command: Command<'a>) -> Result<Command<'a>, AllocError>
+    ensures { IfOk result (λ c. app_of c ≡ stepping (app_of command.entry)) }
+{
+    let command = with_option(
+        alloc,
+        command,
+        "runners",
+        "N",
+        "how many threads step the containers, 1 to 64 [default: 4]",
+    )?;
+    with_flag(alloc, command, "verbose", "tells each event on standard error")
+}
+
+/// The options of whoever runs containers.
+pub(crate) fn serving<'a>(alloc: Global, command: Command<'a>) -> Result<Command<'a>, AllocError>
+    ensures { IfOk result (λ c. app_of c ≡ serving (app_of command.entry)) }
+{
+    let command = with_required(alloc, command, "socket", "PATH", "the path of the socket")?;
+    let command = folders(alloc, command)?;
+    with_option(
+        alloc,
+        command,
+        "baseline",
+        "FILTER",
+        "a filter file that confines each container of the node",
+    )
+}
+
+fn folders<'a>(alloc: Global, command: Command<'a>) -> Result<Command<'a>, AllocError>
+    ensures { IfOk result (λ c. app_of c ≡ folders (app_of command.entry)) }
+{
+    let command = with_option(
+        alloc,
+        command,
+        "scripts",
+        "DIR",
+        "the folder of the containers' scripts [default: .]",
+    )?;
+    with_option(
+        alloc,
+        command,
+        "profiles",
+        "DIR",
+        "the folder of the seccomp profiles [default: .]",
+    )
+}
+
+/// The matches of the words of a simple command.
+pub(crate) fn matches_in<'a>(
+    mut command: Command<'a>,
+    words: &'a [String],
+) -> Result<ArgMatches<'a>, LineFault<'a>>
+    requires { is_simple (app_of command) ≡ true }
+    ensures rows { IfOk result (λ m. rows_of (found_of m) ≡ matches_of (app_of command.entry) (map string_bytes words.now)) }
+    ensures fault { IfErr result IsNoNumber }
+{
+    Ok(command.try_get_matches_from_mut(words)?)
+}
+
+fn said<'a>(matches: &ArgMatches<'a>) -> Result<ScriptdLine<'a>, &'a str>
+    ensures { result_map_both scriptd_of (λ w. w.now) result ≡ scriptd_in (rows_of (found_of matches.now)) }
+{
+    let runners = number_within(1, 64, 4, word_at(matches, "runners"))?;
+    Ok(ScriptdLine {
+        socket: required_at(matches, "socket"),
+        scripts: folder_at(matches, "scripts"),
+        profiles: folder_at(matches, "profiles"),
+        baseline: word_at(matches, "baseline"),
+        runners,
+        verbose: is_set(matches, "verbose"),
+    })
+}
