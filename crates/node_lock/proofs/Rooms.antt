@@ -2,7 +2,7 @@
 use Rattle.std.proofs.Common.{◌≡◌, ℕ, zero, suc, ◌+◌, ◌<◌, ◌≤◌, nat_lt, Bool, true, false, if◌then◌else◌, List, [], ◌∷◌, ◌++◌, length, Option, Some, None, slice_get, slice_set, get_or, refl, sym, ap, ◌∙◌, arith}
 use Rattle.std.specs.List.{remove}
 use Rattle.std.proofs.lemmas.List.Quantifiers.{position-Some}
-use Rattle.std.proofs.lemmas.Option.{get_or_from_slice_get}
+use Rattle.std.proofs.lemmas.Option.{slice_get-get_or}
 use Rattle.manifest.specs.declared.pods.Pod.{Pod}
 use Rattle.worker_pod.specs.declared.settings.Outcome.{Outcome}
 use Rattle.worker_pod.specs.declared.settings.Outcome.TheVariants as outcome
@@ -16,17 +16,20 @@ use Rattle.worker_core.specs.Slots.{changed, changed_to, claimed_by, deleted, en
 use Rattle.node_lock.specs.Rooms.{room_for, room_to_end}
 
 -- whether the pod of one place is held
+abbrev held_by : Option Held → ℕ
+held_by held = if is_free held then 0 else 1
+
 abbrev held_at : Slot → ℕ
-held_at slot = if is_free slot.held then 0 else 1
+held_at slot = held_by slot.held
 
 held_at_most : (slot : Slot) → held_at slot ≤ 1
 held_at_most slot = by_free (is_free slot.held) where
-  by_free : (free : Bool) → (if free then 0 else 1) ≤ 1
+  by_free : (free : Bool) → ◌≤◌ (if free then 0 else 1) 1
   by_free true = omega arith
   by_free false = omega arith
 
 held_append : (xs ys : List Slot) → held_in (xs ++ ys) ≡ held_in xs + held_in ys
-held_append [] ys = refl
+held_append [] ys = omega arith
 held_append (x ∷ xs) ys = let rest = held_append xs ys in omega (arith, rest)
 
 held_set : (xs : List Slot) (place : ℕ) (x y : Slot) → slice_get xs place ≡ Some x → held_in (slice_set xs place y) + held_at x ≡ held_in xs + held_at y
@@ -48,7 +51,7 @@ held_same : (f : Slot → Slot) → ((x : Slot) → (f x).held ≡ x.held) → (
 held_same f same xs place None here = refl
 held_same f same xs place (Some x) here =
     let set = held_set xs place x (f x) here in
-    let as_many : held_at (f x) ≡ held_at x = ap (λ (h : Option Held). if is_free h then 0 else 1) (same x) in
+    let as_many : held_at (f x) ≡ held_at x = ap held_by (same x) in
     omega (arith, set, as_many)
 
 held_fewer : (xs : List Slot) (place : ℕ) → held_in (remove xs place) ≤ held_in xs
@@ -63,23 +66,23 @@ held_left xs place = by_gone (is_gone_slot (slice_get xs place)) where
   by_gone true = held_fewer xs place
   by_gone false = omega arith
 
-held_by_one : (worker : ℕ) (held : Option Held) → is_held_by worker held ≡ true → (if is_free held then 0 else 1) ≡ 1
+held_by_one : (worker : ℕ) (held : Option Held) → is_held_by worker held ≡ true → held_by held ≡ 1
 held_by_one worker None by = absurd cc
 held_by_one worker (Some held) by = refl
 
 -- the pod whose claim ends was held
 held_ended : (now : ℕ) (how : Outcome) (worker place : ℕ) (slots : List Slot) → holder_of worker slots ≡ Some place → held_in (ended_at now how slots place) + 1 ≤ held_in slots
-held_ended now how worker place slots is = by_slot (slice_get slots place) refl where
-  by_slot : (o : Option Slot) → slice_get slots place ≡ o → held_in (ended_at now how slots place) + 1 ≤ held_in slots
-  by_slot None here = absurd cc
-  by_slot (Some slot) here =
-      let found = position-Some (λ (s : Slot). is_held_by worker s.held) slots place slot is in
-      let same = get_or_from_slice_get slots place slot slot here in
-      let one : held_at slot ≡ 1 = held_by_one worker slot.held (ap (λ (s : Slot). is_held_by worker s.held) (sym same) ∙ found.1) in
-      let set = held_set slots place slot (ended now how slot) here in
-      let few : held_in (ended_at now how slots place) ≤ held_in (changed (ended now how) slots place) = held_left (changed (ended now how) slots place) place in
-      let is_set : held_in (changed (ended now how) slots place) ≡ held_in (slice_set slots place (ended now how slot)) = ap (λ (o : Option Slot). held_in (changed_to (ended now how) slots place o)) here in
-      omega (arith, one, set, few, is_set)
+held_ended now how worker place [] is = absurd cc
+held_ended now how worker place (x ∷ xs) is =
+    let slots = x ∷ xs in
+    let slot = get_or slots place x in
+    let found = position-Some (λ (s : Slot). is_held_by worker s.held) slots place x is in
+    let here : slice_get slots place ≡ Some slot = slice_get-get_or slots place x found.0 in
+    let one : held_at slot ≡ 1 = held_by_one worker slot.held found.1 in
+    let set = held_set slots place slot (ended now how slot) here in
+    let few : held_in (ended_at now how slots place) ≤ held_in (changed (ended now how) slots place) = held_left (changed (ended now how) slots place) place in
+    let is_set : held_in (changed (ended now how) slots place) ≡ held_in (slice_set slots place (ended now how slot)) = ap (λ (o : Option Slot). held_in (changed_to (ended now how) slots place o)) here in
+    omega (arith, one, set, few, is_set)
 
 ended_room : (kept : KeptNode) (how : Outcome) (worker : ℕ) (h : Option ℕ) → holder_of worker kept.slots ≡ h → held_in (after_end kept how h).slots + 1 ≤ held_in kept.slots + room_to_end h
 ended_room kept how worker None is = omega arith

@@ -11,7 +11,7 @@ use crate::entries::Entry;
 use crate::faults::BookFault;
 use crate::limits::{MAX_ENTRIES, PARTS};
 use crate::receipts::Receipt;
-use crate::steps::{copied, foreseen, room_for, taken};
+use crate::steps::{Copies, prepared, room_for, taken};
 use crate::tallies::Tally;
 use std::alloc::Global;
 use std::marker::Model;
@@ -155,9 +155,7 @@ impl<L: Ledger> Book<L> {
         }
         let ahead = self.ahead(&event);
         self.history.reserve(ahead)?;
-        let told = foreseen(&self.node, &event)?;
-        let kept = copied(self.alloc, &event)?;
-        let copy = copied(self.alloc, &event)?;
+        let Copies { kept, copy, told } = prepared(self.alloc, &self.node, &event)?;
         let answer = taken(&mut self.node, event)?;
         let entry = Entry {
             worker,

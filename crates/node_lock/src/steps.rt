@@ -1,6 +1,7 @@
 //! What a book asks of a node: room for an event, what is answered, and the step itself.
-ghost use Rattle.std.specs.Prelude.{◌≡◌, true, IfOk, OnOk, OnErr, IsOk};
-ghost use Rattle.worker_core.specs.Kept.{after_event, answer_of, gives_request, takes_memory};
+ghost use Rattle.std.specs.Prelude.{◌≡◌, ◌+◌, ◌≤◌, false, IfOk, OnOk, OnErr};
+ghost use Rattle.worker_core.specs.Kept.{after_event, answer_of};
+ghost use Rattle.worker_core.specs.Slots.{held_in};
 ghost use Rattle.node_lock.specs.Histories.{IsStep};
 ghost use Rattle.node_lock.specs.Rooms.{is_abandon, room_for};
 
@@ -27,9 +28,9 @@ pub(crate) fn room_for(node: &Node, event: &AgentEvent) -> usize
 }
 
 // The event once more. For what a worker gives up no memory is needed.
-pub(crate) fn copied(alloc: Global, event: &AgentEvent) -> Result<AgentEvent, AllocError>
+fn copied(alloc: Global, event: &AgentEvent) -> Result<AgentEvent, AllocError>
     ensures same { IfOk result (λ copy. copy ≡ event.now) }
-    ensures abandon { is_abandon event.now ≡ true → IsOk result }
+    ensures only { OnErr result (is_abandon event.now ≡ false) }
 {
     match event {
         AgentEvent::Abandon(worker) => Ok(AgentEvent::Abandon(*worker)),
@@ -38,10 +39,11 @@ pub(crate) fn copied(alloc: Global, event: &AgentEvent) -> Result<AgentEvent, Al
 }
 
 // What will be answered.
-pub(crate) fn foreseen(node: &Node, event: &AgentEvent) -> Result<Answer, BookFault>
+#[tactic(auto, using(crate::proofs::Abandons::asking))]
+fn foreseen(node: &Node, event: &AgentEvent) -> Result<Answer, BookFault>
     ensures answer { IfOk result (λ answer. answer ≡ answer_of node.now event.now) }
     ensures fault { OnErr result (result ≡ Err BookFault.Memory) }
-    ensures only { OnErr result (gives_request event.now ≡ true) }
+    ensures only { OnErr result (is_abandon event.now ≡ false) }
 {
     let answer = node.answer(event);
     if answer.is_memory() {
@@ -50,13 +52,40 @@ pub(crate) fn foreseen(node: &Node, event: &AgentEvent) -> Result<Answer, BookFa
     Ok(answer)
 }
 
+// What an entry and its receipt are made from: the event twice, and what will be answered.
+pub(crate) struct Copies {
+    pub(crate) kept: AgentEvent,
+    pub(crate) copy: AgentEvent,
+    pub(crate) told: Answer,
+}
+
+// All that takes memory before the node changes.
+pub(crate) fn prepared(
+    alloc: Global,
+    node: &Node,
+    event: &AgentEvent,
+) -> Result<Copies, BookFault>
+    ensures kept { IfOk result (λ c. c.kept ≡ event.now) }
+    ensures copy { IfOk result (λ c. c.copy ≡ event.now) }
+    ensures told { IfOk result (λ c. c.told ≡ answer_of node.now event.now) }
+    ensures fault { OnErr result (result ≡ Err BookFault.Memory) }
+    ensures only { OnErr result (is_abandon event.now ≡ false) }
+{
+    let told = foreseen(node, event)?;
+    let kept = copied(alloc, event)?;
+    let copy = copied(alloc, event)?;
+    Ok(Copies { kept, copy, told })
+}
+
 // The node takes the event. Want of memory is told apart from what it answers, and is no step.
+#[tactic(auto, using(crate::proofs::Abandons::growing, crate::proofs::Rooms::room_enough))]
 pub(crate) fn taken(node: &mut Node, event: AgentEvent) -> Result<Answer, BookFault>
     ensures answer { IfOk result (λ answer. answer ≡ answer_of node.old event) }
     ensures node { OnOk result (node.new ≡ after_event node.old event) }
     ensures step { IfOk result (λ answer. IsStep node.old event answer node.new) }
+    ensures room { OnOk result (held_in node.new.slots + 1 ≤ held_in node.old.slots + room_for node.old event) }
     ensures fault { OnErr result (result ≡ Err BookFault.Memory) }
-    ensures only { OnErr result (takes_memory event ≡ true) }
+    ensures only { OnErr result (is_abandon event ≡ false) }
     ensures err { OnErr result (node.new ≡ node.old) }
 {
     let answer = node.apply(event);
