@@ -1,4 +1,4 @@
-ghost use Rattle.std.specs.Prelude.{◌≡◌, ◌↔◌, ◌+◌, ◌<◌, ◌≤◌, ◌++◌, [], ◌∷◌, ◌&&◌, not, true, false, drop, length, nat_le, vec_len, vec_capacity, IfOk, OnOk, OnErr, IsOk};
+ghost use Rattle.std.specs.Prelude.{◌≡◌, ◌↔◌, ◌+◌, ◌<◌, ◌≤◌, ◌++◌, [], ◌∷◌, ◌&&◌, not, true, false, drop, length, nat_le, IfOk, OnOk, OnErr, IsOk};
 ghost use Rattle.std.specs.List.{list_all};
 ghost use Rattle.worker_core.specs.Kept.{after_event, answer_of, fresh_node, gives_request};
 ghost use Rattle.worker_core.specs.Slots.{held_in};
@@ -11,7 +11,7 @@ use crate::entries::Entry;
 use crate::faults::BookFault;
 use crate::limits::{MAX_ENTRIES, PARTS};
 use crate::receipts::Receipt;
-use crate::steps::{Copies, prepared, room_for, taken};
+use crate::steps::{entered, room_for};
 use crate::tallies::Tally;
 use std::alloc::Global;
 use std::marker::Model;
@@ -120,6 +120,7 @@ impl<L: Ledger> Book<L> {
     /// The node takes the worker's event, which becomes the last entry of the history. The receipt is for it,
     /// and the share counts it. A fault changes nothing. HistoryFull is told before Memory; the end of a
     /// claim that is held always finds room, and giving one up takes no memory.
+    #[tactic(auto, using(crate::proofs::Abandons::giving_up))]
     pub fn record(
         &mut self,
         share: &mut Share<L>,
@@ -154,21 +155,15 @@ impl<L: Ledger> Book<L> {
             return Err(BookFault::HistoryFull);
         }
         let ahead = self.ahead(&event);
-        self.history.reserve(ahead)?;
-        let Copies { kept, copy, told } = prepared(self.alloc, &self.node, &event)?;
-        let answer = taken(&mut self.node, event)?;
-        let entry = Entry {
+        let entry = entered(
+            self.alloc,
+            &mut self.node,
+            &mut self.history,
+            ahead,
             worker,
-            event: kept,
-            answer,
-        };
-        add(&mut self.history, entry);
+            event,
+        )?;
         self.count.add(share, 1);
-        let entry = Entry {
-            worker,
-            event: copy,
-            answer: told,
-        };
         let number = self.history.len() as u64;
         Ok(Receipt::new(number, entry))
     }
@@ -206,19 +201,6 @@ impl<L: Ledger> Book<L> {
         tally.counted(&mut self.count);
         self.history.len() as u64
     }
-}
-
-// There is room for the entry.
-fn add(history: &mut Vec<Entry>, entry: Entry)
-    requires { vec_len history.old < vec_capacity history.old }
-    ensures items { history.new.items ≡ history.old.items ++ entry ∷ [] }
-    ensures len { vec_len history.new ≡ vec_len history.old + 1 }
-    ensures capacity { vec_capacity history.old ≤ vec_capacity history.new }
-{
-    let pushed = history.push(entry);
-    let added = pushed.is_ok();
-    prove!(added);
-    drop(pushed);
 }
 
 // Whether all entries behind these are claims.
