@@ -10,7 +10,7 @@ ghost use Rattle.cri_msgs.specs.Written.{request_text};
 
 use crate::faults::MessageFault;
 use crate::fields::message_fault;
-use crate::keys::{Key, same_profile};
+use crate::keys::Key;
 use crate::request_reader::request;
 use crate::request_writer::call_tree;
 use crate::version::Version;
@@ -88,7 +88,7 @@ impl Call {
                     image: j,
                     profile: q,
                 },
-            ) => a.same(b) && i.as_str() == j.as_str() && same_profile(p, q),
+            ) => a.same(b) && i.as_str() == j.as_str() && p.same(q),
             (Call::StopContainer { key: a, grace: g }, Call::StopContainer { key: b, grace: h }) =>
                 { *g == *h && a.same(b) }
             (Call::StartContainer { key: a }, Call::StartContainer { key: b })

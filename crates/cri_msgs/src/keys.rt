@@ -3,7 +3,7 @@ ghost use Rattle.std.proofs.Common.{rules};
 ghost use Rattle.std.specs.Cmp.Rules.{comparing};
 ghost use Rattle.std.specs.Ordering.{as_partial_cmp, eq_by_cmp};
 
-use manifest::{Label, SeccompProfile, Uid};
+use manifest::{Label, Uid};
 use std::alloc::{AllocError, Global};
 use std::cmp::Ordering;
 
@@ -105,19 +105,5 @@ impl Key {
         let uid = self.uid.try_clone(alloc)?;
         let container = self.container.try_clone(alloc)?;
         Ok(Key { uid, container })
-    }
-}
-
-/// Whether both are the same profile.
-pub fn same_profile(profile: &SeccompProfile, other: &SeccompProfile) -> bool
-    ensures { IsTrue result ↔ (profile.now ≡ other.now) }
-{
-    match (profile, other) {
-        (SeccompProfile::RuntimeDefault, SeccompProfile::RuntimeDefault)
-        | (SeccompProfile::Unconfined, SeccompProfile::Unconfined) => true,
-        (SeccompProfile::Localhost(path), SeccompProfile::Localhost(file)) => {
-            path.as_str() == file.as_str()
-        }
-        _ => false,
     }
 }

@@ -33,7 +33,7 @@ mod version;
 
 pub use calls::{Call, Request};
 pub use faults::MessageFault;
-pub use keys::{ContainerMetadata, Key, same_profile};
+pub use keys::{ContainerMetadata, Key};
 pub use laws::constants_are_as_stated;
 pub use lists::{ListedContainer, ListedStatus, Listing, MAX_LISTED, Statuses};
 pub use refusals::Refusal;

@@ -190,7 +190,7 @@ fn status_copies(alloc: Global, list: &[ListedStatus]) -> Result<Vec<ListedStatu
     Ok(copies)
 }
 
-#[tactic(auto, using(crate::proofs::Entries::same_more, crate::proofs::Entries::same_stops, crate::proofs::Entries::same_ends))]
+#[tactic(auto, using(json_tree::proofs::Loops::same_more, json_tree::proofs::Loops::same_stops, json_tree::proofs::Loops::same_ends))]
 fn same_listed(list: &[ListedContainer], others: &[ListedContainer]) -> bool
     ensures { IsTrue result ↔ (list.now ≡ others.now) }
 {
@@ -205,7 +205,7 @@ fn same_listed(list: &[ListedContainer], others: &[ListedContainer]) -> bool
     true
 }
 
-#[tactic(auto, using(crate::proofs::Entries::same_more, crate::proofs::Entries::same_stops, crate::proofs::Entries::same_ends))]
+#[tactic(auto, using(json_tree::proofs::Loops::same_more, json_tree::proofs::Loops::same_stops, json_tree::proofs::Loops::same_ends))]
 fn same_statuses(list: &[ListedStatus], others: &[ListedStatus]) -> bool
     ensures { IsTrue result ↔ (list.now ≡ others.now) }
 {

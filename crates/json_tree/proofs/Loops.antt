@@ -1,6 +1,6 @@
--- A loop that reads item after item, and stops at the first fault.
-use Rattle.std.proofs.Common.{◌≡◌, ℕ, suc, ◌+◌, ◌<◌, List, [], ◌∷◌, ◌++◌, length, get_or, map, take, drop, append_assoc, Result, Ok, Err, refl, sym, ap, ◌∙◌}
-use Rattle.std.proofs.lemmas.List.{map-append, take_more, take-append-drop}
+-- Loops over lists: one that reads item after item, and stops at the first fault, and one that compares.
+use Rattle.std.proofs.Common.{◌≡◌, ℕ, suc, ◌+◌, ◌<◌, ◌≤◌, List, [], ◌∷◌, ◌++◌, length, get_or, map, take, drop, append_assoc, Result, Ok, Err, refl, sym, ap, ◌∙◌}
+use Rattle.std.proofs.lemmas.List.{get_or_default, map-append, take_all, take_more, take-append-drop}
 use Rattle.json_tree.specs.Reading.{◌>>=◌, ◌>>◌, in_order}
 
 parts : {A : Type 0} (xs : List A) (i : ℕ) (d : A) → i < length xs → xs ≡ take i xs ++ get_or xs i d ∷ drop (i + 1) xs
@@ -70,3 +70,15 @@ length_in_order f (x ∷ xs) ys h =
     let rest = bind_ok (in_order f xs) _ _ first.2 in
     let whole : first.0 ∷ rest.0 ≡ ys = cc in
     ap length (sym whole) ∙ ap suc (length_in_order f xs rest.0 rest.1)
+
+-- one more item is the same
+pub same_more : {A : Type 0} (xs ys : List A) (i : ℕ) (d e : A) → i < length xs → i < length ys → take i xs ≡ take i ys → get_or xs i d ≡ get_or ys i e → take (i + 1) xs ≡ take (i + 1) ys
+same_more xs ys i d e lt below before here = take_more xs i d lt ∙ ap (λ front. front ++ get_or xs i d ∷ []) before ∙ ap (λ x. take i ys ++ x ∷ []) here ∙ sym (take_more ys i e below)
+
+-- where an item differs, the lists do
+pub same_stops : {A : Type 0} (xs ys : List A) (i : ℕ) (d e : A) → i < length ys → (get_or xs i d ≡ get_or ys i e → ⊥) → xs ≡ ys → ⊥
+same_stops xs ys i d e lt apart same = apart (ap (λ zs. get_or zs i d) same ∙ get_or_default ys i d e lt)
+
+-- where all items are the same, the lists are
+pub same_ends : {A : Type 0} (xs ys : List A) (n : ℕ) → length xs ≤ n → length xs ≡ length ys → take n xs ≡ take n ys → xs ≡ ys
+same_ends xs ys n enough as_many same = sym (take_all n xs enough) ∙ same ∙ take_all n ys (rw (← as_many) enough)

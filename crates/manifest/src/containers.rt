@@ -1,9 +1,9 @@
-ghost use Rattle.std.specs.Prelude.{◌≡◌, ◌<◌, IfOk, length};
+ghost use Rattle.std.specs.Prelude.{◌≡◌, ◌↔◌, ◌<◌, IfOk, IsTrue, length};
 ghost use Rattle.manifest.specs.Containers.{AreContainers, ContainerList};
 
 use crate::labels::Label;
 use crate::paths::DescendingPath;
-use crate::profiles::{SeccompProfile, copied};
+use crate::profiles::{SeccompProfile, copied, is_same};
 use std::alloc::{AllocError, Global};
 use std::marker::Model;
 
@@ -23,6 +23,16 @@ pub struct Container {
 }
 
 impl Container {
+    /// Whether both are the same container.
+    pub fn same(&self, other: &Container) -> bool
+        ensures { IsTrue result ↔ (self.now ≡ other.now) }
+    {
+        self.name.as_str() == other.name.as_str()
+            && self.image.as_str() == other.image.as_str()
+            && self.privileged == other.privileged
+            && is_same(&self.profile, &other.profile)
+    }
+
     /// The same container once more.
     pub fn try_clone(&self, alloc: Global) -> Result<Container, AllocError>
         ensures { IfOk result (λ copy. copy ≡ self.now) }
@@ -82,6 +92,13 @@ impl Containers {
         self.inits
     }
 
+    /// Whether both are the same containers.
+    pub fn same(&self, other: &Containers) -> bool
+        ensures { IsTrue result ↔ (self.now ≡ other.now) }
+    {
+        self.inits == other.inits && same_list(self.list.as_slice(), other.list.as_slice())
+    }
+
     /// The same containers once more.
     pub fn try_clone(&self, alloc: Global) -> Result<Containers, AllocError>
         ensures { IfOk result (λ copy. copy ≡ self.now) }
@@ -103,4 +120,19 @@ fn copies(alloc: Global, containers: &[Container]) -> Result<Vec<Container>, All
         copies.push(copy)?;
     }
     Ok(copies)
+}
+
+#[tactic(auto, using(json_tree::proofs::Loops::same_more, json_tree::proofs::Loops::same_stops, json_tree::proofs::Loops::same_ends))]
+fn same_list(containers: &[Container], others: &[Container]) -> bool
+    ensures { IsTrue result ↔ (containers.now ≡ others.now) }
+{
+    if containers.len() != others.len() {
+        return false;
+    }
+    for place in 0..containers.len() {
+        if !containers[place].same(&others[place]) {
+            return false;
+        }
+    }
+    true
 }

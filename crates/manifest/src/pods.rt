@@ -1,9 +1,9 @@
-ghost use Rattle.std.specs.Prelude.{◌≡◌, IfOk};
+ghost use Rattle.std.specs.Prelude.{◌≡◌, ◌↔◌, IfOk, IsTrue};
 
 use crate::containers::Containers;
 use crate::labels::Label;
 use crate::pod_names::PodName;
-use crate::profiles::{SeccompProfile, copied};
+use crate::profiles::{SeccompProfile, copied, is_same};
 use crate::uids::Uid;
 use lifecycle::RestartPolicy;
 use std::alloc::{AllocError, Global};
@@ -23,6 +23,19 @@ pub struct Pod {
 }
 
 impl Pod {
+    /// Whether both are the same pod.
+    pub fn same(&self, other: &Pod) -> bool
+        ensures { IsTrue result ↔ (self.now ≡ other.now) }
+    {
+        self.uid.as_str() == other.uid.as_str()
+            && self.namespace.as_str() == other.namespace.as_str()
+            && self.name.as_str() == other.name.as_str()
+            && self.policy == other.policy
+            && self.grace == other.grace
+            && is_same(&self.profile, &other.profile)
+            && self.containers.same(&other.containers)
+    }
+
     /// The same pod once more.
     pub fn try_clone(&self, alloc: Global) -> Result<Pod, AllocError>
         ensures { IfOk result (λ copy. copy ≡ self.now) }

@@ -1,4 +1,4 @@
-ghost use Rattle.std.specs.Prelude.{◌≡◌, IfOk, option_map};
+ghost use Rattle.std.specs.Prelude.{◌≡◌, ◌↔◌, IfOk, IsTrue, option_map};
 ghost use Rattle.manifest.specs.Profiles.{HasFitPath, profile_seen};
 
 use crate::paths::DescendingPath;
@@ -16,6 +16,20 @@ pub enum SeccompProfile {
 }
 
 impl SeccompProfile {
+    /// Whether both are the same profile.
+    pub fn same(&self, other: &SeccompProfile) -> bool
+        ensures { IsTrue result ↔ (self.now ≡ other.now) }
+    {
+        match (self, other) {
+            (SeccompProfile::RuntimeDefault, SeccompProfile::RuntimeDefault)
+            | (SeccompProfile::Unconfined, SeccompProfile::Unconfined) => true,
+            (SeccompProfile::Localhost(path), SeccompProfile::Localhost(file)) => {
+                path.as_str() == file.as_str()
+            }
+            _ => false,
+        }
+    }
+
     /// The same profile once more.
     pub fn try_clone(&self, alloc: Global) -> Result<SeccompProfile, AllocError>
         ensures { IfOk result (λ profile. profile ≡ self.now) }
@@ -27,6 +41,17 @@ impl SeccompProfile {
             )?)),
             SeccompProfile::Unconfined => Ok(SeccompProfile::Unconfined),
         }
+    }
+}
+
+// Whether a field that may be left out is the same in both.
+pub(crate) fn is_same(profile: &Option<SeccompProfile>, other: &Option<SeccompProfile>) -> bool
+    ensures { IsTrue result ↔ (profile.now ≡ other.now) }
+{
+    match (profile, other) {
+        (None, None) => true,
+        (Some(profile), Some(other)) => profile.same(other),
+        _ => false,
     }
 }
 

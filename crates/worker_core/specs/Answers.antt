@@ -1,5 +1,7 @@
 -- The refusals of a node and their numbers: this project's own. docs/SEMANTICS.md, "The agent: the node".
-use Rattle.std.specs.Prelude.{ℕ}
+use Rattle.std.specs.Prelude.{ℕ, Bool, true, false}
+use Rattle.worker_core.specs.declared.answers.Answer.{Answer}
+use Rattle.worker_core.specs.declared.answers.Answer.TheVariants.{Refused}
 use Rattle.worker_core.specs.declared.answers.Refusal.{Refusal}
 use Rattle.worker_core.specs.declared.answers.Refusal.TheVariants.{Full, KnownUid, NoSuchPod, NotYours, ClockBack, Memory}
 
@@ -10,3 +12,12 @@ refusal_number NoSuchPod = 3
 refusal_number NotYours = 4
 refusal_number ClockBack = 5
 refusal_number Memory = 6
+
+-- a growth was refused
+abbrev pub is_want : Refusal → Bool
+is_want Memory = true
+is_want refusal = false
+
+abbrev pub is_memory : Answer → Bool
+is_memory (Refused refusal) = is_want refusal
+is_memory answer = false

@@ -1,5 +1,5 @@
-ghost use Rattle.std.specs.Prelude.{◌≡◌, IfOk};
-ghost use Rattle.worker_core.specs.Answers.{refusal_number};
+ghost use Rattle.std.specs.Prelude.{◌≡◌, ◌↔◌, IfOk, IsTrue};
+ghost use Rattle.worker_core.specs.Answers.{is_memory, refusal_number};
 
 use cri_msgs::Request;
 use manifest::Uid;
@@ -61,6 +61,39 @@ pub enum Answer {
 }
 
 impl Answer {
+    /// Whether a growth was refused, so that nothing was done.
+    pub fn is_memory(&self) -> bool
+        ensures { result ≡ is_memory self.now }
+    {
+        match self {
+            Answer::Refused(refusal) => *refusal == Refusal::Memory,
+            _ => false,
+        }
+    }
+
+    /// Whether both are the same answer.
+    pub fn same(&self, other: &Answer) -> bool
+        ensures { IsTrue result ↔ (self.now ≡ other.now) }
+    {
+        match (self, other) {
+            (Answer::Done, Answer::Done) | (Answer::Nothing, Answer::Nothing) => true,
+            (
+                Answer::Claimed {
+                    uid: a,
+                    number: m,
+                    request: r,
+                },
+                Answer::Claimed {
+                    uid: b,
+                    number: n,
+                    request: s,
+                },
+            ) => a.as_str() == b.as_str() && *m == *n && r.same(s),
+            (Answer::Refused(refusal), Answer::Refused(another)) => *refusal == *another,
+            _ => false,
+        }
+    }
+
     /// The same answer once more.
     pub fn try_clone(&self, alloc: Global) -> Result<Answer, AllocError>
         ensures { IfOk result (λ copy. copy ≡ self.now) }

@@ -1,4 +1,5 @@
-ghost use Rattle.std.specs.Prelude.{◌≡◌, IfOk};
+ghost use Rattle.std.specs.Prelude.{◌≡◌, ◌↔◌, IfOk, IsTrue};
+ghost use Rattle.worker_core.specs.Kept.{gives_request};
 ghost use Rattle.worker_core.specs.Slots.{outcome_of};
 
 use cri_msgs::Reply;
@@ -16,6 +17,17 @@ pub enum Reported {
 }
 
 impl Reported {
+    /// Whether both are the same.
+    pub fn same(&self, other: &Reported) -> bool
+        ensures { IsTrue result ↔ (self.now ≡ other.now) }
+    {
+        match (self, other) {
+            (Reported::Replied(reply), Reported::Replied(another)) => reply.same(another),
+            (Reported::Lost, Reported::Lost) => true,
+            _ => false,
+        }
+    }
+
     /// The same once more.
     pub fn try_clone(&self, alloc: Global) -> Result<Reported, AllocError>
         ensures { IfOk result (λ copy. copy ≡ self.now) }
@@ -55,6 +67,35 @@ pub enum AgentEvent {
 }
 
 impl AgentEvent {
+    /// Whether a worker asks for a request.
+    pub fn is_claim(&self) -> bool
+        ensures { result ≡ gives_request self.now }
+    {
+        match self {
+            AgentEvent::Claim(_) => true,
+            _ => false,
+        }
+    }
+
+    /// Whether both are the same event.
+    pub fn same(&self, other: &AgentEvent) -> bool
+        ensures { IsTrue result ↔ (self.now ≡ other.now) }
+    {
+        match (self, other) {
+            (AgentEvent::Admit(pod), AgentEvent::Admit(another)) => pod.same(another),
+            (AgentEvent::Delete(uid), AgentEvent::Delete(another)) => {
+                uid.as_str() == another.as_str()
+            }
+            (AgentEvent::Claim(worker), AgentEvent::Claim(another))
+            | (AgentEvent::Abandon(worker), AgentEvent::Abandon(another)) => *worker == *another,
+            (AgentEvent::Report(worker, told), AgentEvent::Report(another, its)) => {
+                *worker == *another && told.same(its)
+            }
+            (AgentEvent::Tick(now), AgentEvent::Tick(another)) => *now == *another,
+            _ => false,
+        }
+    }
+
     /// The same event once more.
     pub fn try_clone(&self, alloc: Global) -> Result<AgentEvent, AllocError>
         ensures { IfOk result (λ copy. copy ≡ self.now) }

@@ -197,7 +197,8 @@ impl Node {
         claimed_at(self.slots.as_mut_slice(), place, Held { worker, request });
     }
 
-    fn is_busy(&self, worker: u32) -> bool
+    /// Whether this worker holds a pod.
+    pub fn is_busy(&self, worker: u32) -> bool
         ensures { result ≡ is_some (holder_of worker self.now.slots) }
     {
         holder_of(worker, self.slots.as_slice()).is_some()

@@ -1,0 +1,4 @@
+pub mod Abandons
+pub mod Histories
+pub mod Rooms
+pub mod Runs

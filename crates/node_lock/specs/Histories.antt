@@ -1,0 +1,39 @@
+-- Histories of a node, as one thread could have made them: this project's own. docs/SEMANTICS.md, "The agent:
+-- the history of a node".
+use Rattle.std.specs.Prelude.{◌≡◌, List, [], ◌∷◌, reverse}
+use Rattle.worker_pod.specs.declared.settings.Settings.{Settings}
+use Rattle.worker_core.specs.declared.answers.Answer.{Answer}
+use Rattle.worker_core.specs.declared.events.AgentEvent.{AgentEvent}
+use Rattle.worker_core.specs.Kept.{KeptNode}
+use Rattle.worker_core.specs.Nodes.{IsTaken, NodeState, StandsFor, empty_node}
+use Rattle.worker_core.specs.Laws.{IsNodeRun, NodeLink}
+use Rattle.node_lock.specs.declared.entries.Entry.{Entry}
+
+-- from the first node on each event is taken with the answer that the node's step gives at that point, and the
+-- last node is this one. Want of memory is no such answer
+abbrev pub Leads : NodeState → List Entry → NodeState → Type 0
+Leads first [] last = first ≡ last
+Leads first (e ∷ es) last = (next : NodeState) × IsTaken first e.event e.answer next × Leads next es last
+
+-- a legal history of a node with these settings, from the empty node on
+abbrev pub IsLegal : Settings → List Entry → Type 0
+IsLegal settings history = (last : NodeState) × Leads (empty_node settings) history last
+
+-- the history is legal, and what is kept of the node stands for where it ends
+abbrev pub EndsAt : Settings → List Entry → KeptNode → Type 0
+EndsAt settings history kept = (last : NodeState) × Leads (empty_node settings) history last × StandsFor kept last
+
+-- every node that was kept takes the event with this answer, and comes to one that is kept then
+abbrev pub IsStep : KeptNode → AgentEvent → Answer → KeptNode → Type 0
+IsStep old event answer new = (node : NodeState) → StandsFor old node → (next : NodeState) × IsTaken node event answer next × StandsFor new next
+
+-- the links of a run say what the history does; the newest link stands first
+abbrev pub Tells : List NodeLink → List Entry → Type 0
+Tells [] [] = Unit {0}
+Tells [] (e ∷ es) = ⊥
+Tells (l ∷ ls) [] = ⊥
+Tells (l ∷ ls) (e ∷ es) = (l.event ≡ e.event) × (l.answer ≡ e.answer) × Tells ls es
+
+-- some run of the node has these events and answers
+abbrev pub IsRunOf : Settings → List Entry → Type 0
+IsRunOf settings history = (links : List NodeLink) × IsNodeRun settings links × Tells (reverse links) history

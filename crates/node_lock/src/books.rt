@@ -1,0 +1,211 @@
+ghost use Rattle.std.specs.Prelude.{◌≡◌, ◌↔◌, ◌+◌, ◌<◌, ◌≤◌, ◌++◌, [], ◌∷◌, ◌&&◌, not, true, false, drop, length, nat_le, IfOk, OnOk, OnErr, IsOk};
+ghost use Rattle.std.specs.List.{list_all};
+ghost use Rattle.worker_core.specs.Kept.{after_event, answer_of, fresh_node, gives_request};
+ghost use Rattle.worker_core.specs.Slots.{held_in};
+ghost use Rattle.node_lock.specs.declared.limits.TheConstants.{MAX_ENTRIES};
+ghost use Rattle.node_lock.specs.Books.{needed, worker_of};
+ghost use Rattle.node_lock.specs.Histories.{EndsAt, IsLegal};
+ghost use Rattle.node_lock.specs.Rooms.{gives_up, room_for};
+
+use crate::entries::Entry;
+use crate::faults::BookFault;
+use crate::limits::{MAX_ENTRIES, PARTS};
+use crate::receipts::Receipt;
+use crate::steps::{entered, room_for};
+use crate::tallies::Tally;
+use std::alloc::Global;
+use std::marker::Model;
+use std::sync::ledger;
+use std::sync::ledger::{Blank, Ledger, Share};
+use worker_core::{AgentEvent, Node};
+use worker_pod::Settings;
+
+/// The node that workers share, the history of what they did, and the count of its entries. It belongs
+/// behind a lock: each of its calls is one step, and uses no file and no socket.
+#[derive(Drop)]
+pub struct Book<L: Ledger> {
+    alloc: Global,
+    settings: Settings,
+    node: Node,
+    history: Vec<Entry>,
+    count: ledger::Book<L>,
+    limit: usize,
+    closed: bool,
+}
+
+impl<L: Ledger> Model for Book<L> {
+    ghost use Rattle.std.specs.Prelude.{vec_capacity};
+    ghost use Rattle.node_lock.specs.Books.{Books, IsKept};
+
+    ghost Value = { Books };
+
+    ghost view = { λ b. record {
+      settings = b.settings;
+      node = b.node;
+      history = b.history.items;
+      total = b.count.total;
+      limit = b.limit;
+      closed = b.closed;
+    } };
+
+    ghost invariant = { λ b. IsKept b.settings b.node b.history.items b.count.total b.limit (vec_capacity b.history) };
+}
+
+impl<L: Ledger> Book<L> {
+    /// A book of a node without pods, which may come to have `limit` entries, and the share that counts
+    /// them, with all parts of its ledger.
+    pub fn with_limit(
+        alloc: Global,
+        settings: Settings,
+        limit: usize,
+        blank: Blank,
+    ) -> (Book<L>, Share<L>)
+        requires name { blank.name ≡ L.name }
+        requires parts { blank.parts ≡ L.parts }
+        requires limit { limit ≤ MAX_ENTRIES }
+        ensures node { result.0.node ≡ fresh_node settings }
+        ensures history { result.0.history ≡ [] }
+        ensures settings { result.0.settings ≡ settings }
+        ensures limit { result.0.limit ≡ limit }
+        ensures open { result.0.closed ≡ false }
+        ensures parts { result.1.parts ≡ L.parts }
+        ensures amount { result.1.amount ≡ 0 }
+    {
+        let (count, share) = blank.open::<L>();
+        let book = Book {
+            alloc,
+            settings,
+            node: Node::new(alloc, settings),
+            history: Vec::new(alloc),
+            count,
+            limit,
+            closed: false,
+        };
+        (book, share)
+    }
+
+    /// What happened so far, the oldest entry first.
+    pub fn history(&self) -> &[Entry]
+        ensures value { result.now ≡ self.now.history }
+        ensures counted { self.now.total ≡ length result.now }
+
+        // One thread could have made it, and the node is where it ends.
+        ensures legal { IsLegal self.now.settings result.now }
+        ensures ends { EndsAt self.now.settings result.now self.now.node }
+    {
+        self.history.as_slice()
+    }
+
+    /// The node, lent.
+    pub fn node(&self) -> &Node
+        ensures { result.now ≡ self.now.node }
+    {
+        &self.node
+    }
+
+    // How many entries have to fit behind the history: the event's, and the ends of claims.
+    fn ahead(&self, event: &AgentEvent) -> usize
+        ensures { result ≡ held_in self.now.node.slots + room_for self.now.node event.now }
+    {
+        self.node.held() as usize + room_for(&self.node, event)
+    }
+
+    /// Whether the limit leaves room for this event.
+    pub fn has_room(&self, event: &AgentEvent) -> bool
+        ensures { result ≡ nat_le (needed self.now event.now) self.now.limit }
+    {
+        self.history.len() + self.ahead(event) <= self.limit
+    }
+
+    /// The node takes the worker's event, which becomes the last entry of the history. The receipt is for it,
+    /// and the share counts it. A fault changes nothing. HistoryFull is told before Memory; the end of a
+    /// claim that is held always finds room, and giving one up takes no memory.
+    #[tactic(auto, using(crate::proofs::Abandons::giving_up))]
+    pub fn record(
+        &mut self,
+        share: &mut Share<L>,
+        worker: u32,
+        event: AgentEvent,
+    ) -> Result<Receipt, BookFault>
+        requires part { 0 < share.old.parts }
+        requires own { worker_of event ≡ worker }
+
+        // The entry is the worker's, and is answered what the node's step gives.
+        ensures number { IfOk result (λ r. r.number ≡ length self.new.history) }
+        ensures worker { IfOk result (λ r. r.entry.worker ≡ worker) }
+        ensures event { IfOk result (λ r. r.entry.event ≡ event) }
+        ensures answer { IfOk result (λ r. r.entry.answer ≡ answer_of self.old.node event) }
+        ensures history { IfOk result (λ r. self.new.history ≡ self.old.history ++ r.entry ∷ []) }
+        ensures node { OnOk result (self.new.node ≡ after_event self.old.node event) }
+        ensures counted { OnOk result (share.new.amount ≡ share.old.amount + 1) }
+
+        // The rest stays.
+        ensures settings { self.new.settings ≡ self.old.settings }
+        ensures limit { self.new.limit ≡ self.old.limit }
+        ensures closed { self.new.closed ≡ self.old.closed }
+        ensures parts { share.new.parts ≡ share.old.parts }
+        ensures err { OnErr result (self.new ≡ self.old) }
+        ensures uncounted { OnErr result (share.new.amount ≡ share.old.amount) }
+
+        // Which fault, and when none.
+        ensures full { result ≡ Err BookFault.HistoryFull ↔ self.old.limit < needed self.old event }
+        ensures abandon { gives_up self.old.node event ≡ true → IsOk result }
+    {
+        if !self.has_room(&event) {
+            return Err(BookFault::HistoryFull);
+        }
+        let ahead = self.ahead(&event);
+        let entry = entered(
+            self.alloc,
+            &mut self.node,
+            &mut self.history,
+            ahead,
+            worker,
+            event,
+        )?;
+        self.count.add(share, 1);
+        let number = self.history.len() as u64;
+        Ok(Receipt::new(number, entry))
+    }
+
+    /// No worker that waits shall wait any longer.
+    pub fn close(&mut self)
+        ensures { self.new ≡ record self.old { closed = true } }
+    {
+        self.closed = true;
+    }
+
+    /// Whether it was closed.
+    pub fn is_closed(&self) -> bool
+        ensures { result ≡ self.now.closed }
+    {
+        self.closed
+    }
+
+    /// Whether a worker that was given nothing has to wait on: the book is open, and behind this many
+    /// entries there are claims alone.
+    pub fn is_quiet(&self, since: usize) -> bool
+        ensures { result ≡ (not self.now.closed && list_all (λ e. gives_request e.event) (drop since self.now.history)) }
+    {
+        !self.closed && are_claims(self.history.as_slice(), since)
+    }
+
+    /// How many entries there are. That is the number of the tally's receipts too, where it has all parts
+    /// of the ledger. Nothing changes.
+    pub fn entries(&mut self, tally: &mut Tally<L>) -> u64
+        ensures length { result ≡ length self.old.history }
+        ensures all { tally.old.parts ≡ L.parts → result ≡ length tally.old.receipts }
+        ensures book { self.new ≡ self.old }
+        ensures tally { tally.new ≡ tally.old }
+    {
+        tally.counted(&mut self.count);
+        self.history.len() as u64
+    }
+}
+
+// Whether all entries behind these are claims.
+fn are_claims(history: &[Entry], since: usize) -> bool
+    ensures { result ≡ list_all (λ e. gives_request e.event) (drop since history.now) }
+{
+    history.iter().skip(since).all(|entry| entry.event.is_claim())
+}

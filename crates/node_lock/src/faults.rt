@@ -1,0 +1,37 @@
+ghost use Rattle.std.specs.Prelude.{◌≡◌};
+ghost use Rattle.node_lock.specs.Faults.{fault_number};
+ghost use Rattle.node_lock.specs.declared.faults.BookFault.TheVariants.{Memory};
+
+use std::alloc::AllocError;
+use thiserror::Error;
+
+/// Why a book takes no entry. What a node refuses stands in the history, these do not.
+#[derive(Clone, Copy, Debug, PartialEq, Eq, Error)]
+pub enum BookFault {
+    /// A growth was refused.
+    #[error("Memory")]
+    Memory,
+    /// The history would come to have more entries than it may, with those counted that end the held claims.
+    #[error("HistoryFull")]
+    HistoryFull,
+}
+
+impl BookFault {
+    /// Its number, behind those of a node's refusals: 6 is `Refusal::Memory` too.
+    pub fn number(self) -> u8
+        ensures { result ≡ fault_number self }
+    {
+        match self {
+            BookFault::Memory => 6,
+            BookFault::HistoryFull => 7,
+        }
+    }
+}
+
+impl From<AllocError> for BookFault {
+    ghost from_gives = { λ _ fault. fault ≡ Memory };
+
+    fn from(_: AllocError) -> BookFault {
+        BookFault::Memory
+    }
+}

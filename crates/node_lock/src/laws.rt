@@ -1,0 +1,18 @@
+//! What holds of every history that a book has, for what stands above.
+ghost use Rattle.std.specs.Prelude.{◌≡◌, List};
+ghost use Rattle.worker_pod.specs.declared.settings.Settings.{Settings};
+ghost use Rattle.worker_core.specs.Laws.{IsNodeRun};
+ghost use Rattle.node_lock.specs.declared.entries.Entry.{Entry};
+ghost use Rattle.node_lock.specs.declared.limits.TheConstants.{MAX_ENTRIES, PARTS};
+ghost use Rattle.node_lock.specs.Histories.{IsLegal, IsRunOf};
+
+/// A legal history is a run of the node, so that what is proved of every run holds of it.
+pub fn histories_are_runs()
+    ensures { (settings : Settings) (history : List Entry) → IsLegal settings history → IsRunOf settings history }
+{}
+
+/// What the constants of this crate are.
+pub fn constants_are_as_stated()
+    ensures entries { MAX_ENTRIES ≡ 1048576 }
+    ensures parts { PARTS ≡ 65 }
+{}

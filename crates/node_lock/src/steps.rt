@@ -1,0 +1,147 @@
+//! What a book asks of a node: room for an event, what is answered, and the step itself.
+ghost use Rattle.std.specs.Prelude.{◌≡◌, ◌+◌, ◌<◌, ◌≤◌, ◌++◌, [], ◌∷◌, false, length, vec_len, vec_capacity, IfOk, OnOk, OnErr};
+ghost use Rattle.worker_core.specs.Kept.{after_event, answer_of};
+ghost use Rattle.worker_core.specs.Slots.{held_in};
+ghost use Rattle.node_lock.specs.Histories.{IsStep};
+ghost use Rattle.node_lock.specs.Rooms.{is_abandon, room_for};
+
+use crate::entries::Entry;
+use crate::faults::BookFault;
+use std::alloc::{AllocError, Global};
+use worker_core::{AgentEvent, Answer, Node};
+
+// How many entries an event needs, beside those that are kept for held claims. A claim needs a second one
+// for its end, whatever it is answered, and the end of a claim has its own already.
+pub(crate) fn room_for(node: &Node, event: &AgentEvent) -> usize
+    ensures { result ≡ room_for node.now event.now }
+{
+    match event {
+        AgentEvent::Claim(_) => 2,
+        AgentEvent::Report(worker, _) | AgentEvent::Abandon(worker) => {
+            if node.is_busy(*worker) {
+                0
+            } else {
+                1
+            }
+        }
+        AgentEvent::Admit(_) | AgentEvent::Delete(_) | AgentEvent::Tick(_) => 1,
+    }
+}
+
+// The event once more. For what a worker gives up no memory is needed.
+fn copied(alloc: Global, event: &AgentEvent) -> Result<AgentEvent, AllocError>
+    ensures same { IfOk result (λ copy. copy ≡ event.now) }
+    ensures only { OnErr result (is_abandon event.now ≡ false) }
+{
+    match event {
+        AgentEvent::Abandon(worker) => Ok(AgentEvent::Abandon(*worker)),
+        event => event.try_clone(alloc),
+    }
+}
+
+// What will be answered.
+#[tactic(auto, using(crate::proofs::Abandons::asking))]
+fn foreseen(node: &Node, event: &AgentEvent) -> Result<Answer, BookFault>
+    ensures answer { IfOk result (λ answer. answer ≡ answer_of node.now event.now) }
+    ensures fault { OnErr result (result ≡ Err BookFault.Memory) }
+    ensures only { OnErr result (is_abandon event.now ≡ false) }
+{
+    let answer = node.answer(event);
+    if answer.is_memory() {
+        return Err(BookFault::Memory);
+    }
+    Ok(answer)
+}
+
+// What an entry and its receipt are made from: the event twice, and what will be answered.
+struct Copies {
+    kept: AgentEvent,
+    copy: AgentEvent,
+    told: Answer,
+}
+
+// All that takes memory before the node changes.
+fn prepared(alloc: Global, node: &Node, event: &AgentEvent) -> Result<Copies, BookFault>
+    ensures kept { IfOk result (λ c. c.kept ≡ event.now) }
+    ensures copy { IfOk result (λ c. c.copy ≡ event.now) }
+    ensures told { IfOk result (λ c. c.told ≡ answer_of node.now event.now) }
+    ensures fault { OnErr result (result ≡ Err BookFault.Memory) }
+    ensures only { OnErr result (is_abandon event.now ≡ false) }
+{
+    let told = foreseen(node, event)?;
+    let kept = copied(alloc, event)?;
+    let copy = copied(alloc, event)?;
+    Ok(Copies { kept, copy, told })
+}
+
+// The node takes the event. Want of memory is told apart from what it answers, and is no step.
+#[tactic(auto, using(crate::proofs::Abandons::growing, crate::proofs::Rooms::room_enough))]
+fn taken(node: &mut Node, event: AgentEvent) -> Result<Answer, BookFault>
+    ensures answer { IfOk result (λ answer. answer ≡ answer_of node.old event) }
+    ensures node { OnOk result (node.new ≡ after_event node.old event) }
+    ensures step { IfOk result (λ answer. IsStep node.old event answer node.new) }
+    ensures room { OnOk result (held_in node.new.slots + 1 ≤ held_in node.old.slots + room_for node.old event) }
+    ensures fault { OnErr result (result ≡ Err BookFault.Memory) }
+    ensures only { OnErr result (is_abandon event ≡ false) }
+    ensures err { OnErr result (node.new ≡ node.old) }
+{
+    let answer = node.apply(event);
+    if answer.is_memory() {
+        return Err(BookFault::Memory);
+    }
+    Ok(answer)
+}
+
+// There is room for the entry.
+fn add(history: &mut Vec<Entry>, entry: Entry)
+    requires { vec_len history.old < vec_capacity history.old }
+    ensures items { history.new.items ≡ history.old.items ++ entry ∷ [] }
+    ensures len { vec_len history.new ≡ vec_len history.old + 1 }
+    ensures capacity { vec_capacity history.old ≤ vec_capacity history.new }
+{
+    let pushed = history.push(entry);
+    let added = pushed.is_ok();
+    prove!(added);
+    drop(pushed);
+}
+
+// The event becomes the last entry of the history, and a copy of the entry comes back. There has to be room
+// for it, and for the ends of the claims that are held then.
+pub(crate) fn entered(
+    alloc: Global,
+    node: &mut Node,
+    history: &mut Vec<Entry>,
+    ahead: usize,
+    worker: u32,
+    event: AgentEvent,
+) -> Result<Entry, BookFault>
+    requires { ahead ≡ held_in node.old.slots + room_for node.old event }
+    ensures worker { IfOk result (λ entry. entry.worker ≡ worker) }
+    ensures event { IfOk result (λ entry. entry.event ≡ event) }
+    ensures answer { IfOk result (λ entry. entry.answer ≡ answer_of node.old event) }
+    ensures history { IfOk result (λ entry. history.new.items ≡ history.old.items ++ entry ∷ []) }
+    ensures node { OnOk result (node.new ≡ after_event node.old event) }
+    ensures step { IfOk result (λ entry. IsStep node.old event entry.answer node.new) }
+    ensures held { OnOk result (held_in node.new.slots + 1 ≤ ahead) }
+    ensures room { OnOk result (length history.old.items + ahead ≤ vec_capacity history.new) }
+    ensures kept { vec_capacity history.old ≤ vec_capacity history.new }
+    ensures same { OnErr result (history.new.items ≡ history.old.items) }
+    ensures still { OnErr result (node.new ≡ node.old) }
+    ensures fault { OnErr result (result ≡ Err BookFault.Memory) }
+    ensures only { OnErr result (length history.old.items + ahead ≤ vec_capacity history.old → is_abandon event ≡ false) }
+{
+    history.reserve(ahead)?;
+    let Copies { kept, copy, told } = prepared(alloc, node, &event)?;
+    let answer = taken(node, event)?;
+    let entry = Entry {
+        worker,
+        event: kept,
+        answer,
+    };
+    add(history, entry);
+    Ok(Entry {
+        worker,
+        event: copy,
+        answer: told,
+    })
+}
