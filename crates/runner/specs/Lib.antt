@@ -1,0 +1,4 @@
+pub mod Gathered
+pub mod Connection
+pub mod Steps
+pub mod Shared
