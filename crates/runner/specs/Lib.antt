@@ -2,3 +2,4 @@ pub mod Gathered
 pub mod Connection
 pub mod Steps
 pub mod Shared
+pub mod Labelled
