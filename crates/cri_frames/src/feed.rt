@@ -78,7 +78,8 @@ impl Feed {
         Some((version, text))
     }
 
-    fn has_failed(&self) -> bool
+    /// Whether four bytes were pushed that stand where a frame begins and are the head of none.
+    pub fn has_failed(&self) -> bool
         ensures { IsTrue result ↔ HasBadRest self.now }
     {
         self.failed

@@ -20,3 +20,4 @@ pub use faults::{FeedFault, Lost};
 pub use feed::Feed;
 pub use frames::frame_of;
 pub use laws::{bad_heads_are_as_stated, streams_split_one_way};
+pub use moving::write_all;

@@ -14,8 +14,9 @@ pub(crate) enum Stop {
     Ended,
 }
 
-/// Writes all bytes. Where a write fails, it tells how many were written before.
-pub(crate) fn write_all<W: Wire>(wire: &mut W, bytes: &[u8]) -> Result<(), usize>
+/// Writes all bytes, and offers all that is left at each write. Where a write fails, it tells how many were
+/// written before.
+pub fn write_all<W: Wire>(wire: &mut W, bytes: &[u8]) -> Result<(), usize>
     ensures ok { OnOk result (Appends (W.output wire.old) (W.output wire.new) bytes.now) }
     ensures within { IfErr result (λ count. count < length bytes.now) }
     ensures some { IfErr result (λ count. Appends (W.output wire.old) (W.output wire.new) (take count bytes.now)) }

@@ -7,7 +7,7 @@ use cri_msgs::Call;
 use manifest::Uid;
 
 /// The uid of the sandbox that a call names.
-pub(crate) fn uid_of(call: &Call) -> &Uid
+pub fn uid_of(call: &Call) -> &Uid
     ensures { result.now ≡ uid_of call.now }
 {
     match call {

@@ -26,6 +26,7 @@ mod tests;
 mod uids;
 mod used;
 
+pub use calls::uid_of;
 pub use cells::Cells;
 pub use files::{Contents, FileAnswers};
 pub use laws::constants_are_as_stated;

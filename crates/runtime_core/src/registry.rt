@@ -66,7 +66,7 @@ impl Registry {
     }
 
     /// Whether no further uid has place.
-    pub(crate) fn is_full(&self) -> bool
+    pub fn is_full(&self) -> bool
         ensures { IsTrue result ↔ IsFull (stages_in self.now) }
     {
         self.uids.is_full()

@@ -1,0 +1,5 @@
+pub mod Connections
+pub mod Exits
+pub mod Labels
+pub mod Talks
+pub mod Unwoken

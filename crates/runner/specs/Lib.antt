@@ -1,0 +1,5 @@
+pub mod Gathered
+pub mod Connection
+pub mod Steps
+pub mod Shared
+pub mod Labelled

@@ -1,0 +1,28 @@
+-- What a request may get of a runtime that threads share, this project's own: docs/SEMANTICS.md, "Threads".
+use Rattle.std.specs.Prelude.{◌≡◌, List}
+use Rattle.cri_msgs.specs.declared.calls.Call.{Call}
+use Rattle.cri_msgs.specs.declared.calls.Call.TheVariants.{RunPodSandbox}
+use Rattle.cri_msgs.specs.declared.calls.Request.{Request}
+use Rattle.cri_msgs.specs.declared.replies.Reply.{Reply}
+use Rattle.runtime_cell.specs.Cell.{Cell}
+use Rattle.runtime_core.specs.declared.files.FileAnswers.{FileAnswers}
+use Rattle.runtime_core.specs.declared.registry.Registry.{Registry}
+use Rattle.runtime_core.specs.declared.stage.Stage.TheVariants.{Unknown}
+use Rattle.runtime_core.specs.Serves.{IsFull}
+use Rattle.runtime_core.specs.Stands.{AreBound, LendsTo, stages_in}
+
+-- One event: a registry and a list of cells were held while the request was served. What other threads did before,
+-- and will do, is not known.
+pub record MayServe (request : Request) (files : FileAnswers) (reply : Reply) : Type 0 where
+  pub registry : Registry
+  pub registry' : Registry
+  pub cells : List Cell
+  pub cells' : List Cell
+  pub bound : AreBound registry
+  pub lends : LendsTo registry registry' request.call files reply.answer cells cells'
+  pub number : reply.id ≡ request.id
+
+-- the call may make a sandbox of a uid that was never named
+abbrev pub Wakes : Registry → Call → Type 0
+Wakes registry (RunPodSandbox uid) = (stages_in registry uid ≡ Unknown) × (IsFull (stages_in registry) → ⊥)
+Wakes registry call = ⊥

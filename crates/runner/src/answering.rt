@@ -1,0 +1,84 @@
+//! One frame and its reply.
+ghost use Rattle.std.specs.Prelude.{◌≡◌, ◌≤◌, ◌++◌, [], List, ℕ, IfErr, IfOk, OnErr, OnOk, length};
+ghost use Rattle.std.specs.Io.KnownBytes.{Appends, Keeps};
+ghost use Rattle.node_io.specs.Counts.{HasRisen};
+ghost use Rattle.cri_msgs.specs.Written.{reply_text};
+ghost use Rattle.cri_frames.specs.Frames.{IsLength, frame_of};
+ghost use Rattle.runner.specs.declared.ending.Cut.{Cut};
+ghost use Rattle.runner.specs.Gathered.{Gave};
+ghost use Rattle.runner.specs.Connection.{Answers, IsServed, Talk};
+ghost use Rattle.runner.specs.Steps.{CutsTalk, SendsPart};
+
+use crate::ending::Cut;
+use crate::gathering::gather;
+use crate::service::{Host, Service};
+use cri_frames::{frame_of, write_all};
+use cri_msgs::{Answer, MessageFault, Refusal, Reply, Request, Version};
+use node_io::{Files, Wire};
+use std::alloc::{AllocError, Global};
+
+/// Answers a frame of this version with this text.
+pub(crate) fn answer<W: Wire, S: Files, P: Files, H: Host>(
+    alloc: Global,
+    wire: &mut W,
+    service: &mut Service<S, P, H>,
+    version: Version,
+    text: &[u8],
+) -> Result<(), Cut>
+    requires { IsLength (length text.now) }
+    ensures ok { OnOk result (Talk (Answers (Gave S.held S.failed) (Gave P.held P.failed) H.may) service.old service.new
+        (frame_of version text.now) [] [] (W.output wire.old) (W.output wire.new)) }
+    ensures cut { OnErr result (CutsTalk (Answers (Gave S.held S.failed) (Gave P.held P.failed) H.may) service.old service.new
+        (frame_of version text.now) (W.output wire.old) (W.output wire.new)) }
+    ensures failed { IfErr result (λ cut. cut ≡ Cut.Failed → HasRisen (W.failed wire.old) (W.failed wire.new)) }
+    ensures counted { W.failed wire.old ≤ W.failed wire.new }
+    ensures input { Keeps (W.input wire.old) (W.input wire.new) }
+{
+    let reply = reply_to(alloc, service, version, text)?;
+    send(alloc, wire, version, &reply)
+}
+
+// The reply to a text in a frame of this version. Where memory is wanted nobody was asked.
+fn reply_to<S: Files, P: Files, H: Host>(
+    alloc: Global,
+    service: &mut Service<S, P, H>,
+    version: Version,
+    text: &[u8],
+) -> Result<Reply, AllocError>
+    ensures reply { IfOk result (λ reply. Answers (Gave S.held S.failed) (Gave P.held P.failed) H.may service.old
+        (record { frame = (version, text.now); reply = reply }) service.new) }
+    ensures err { OnErr result (service.new ≡ service.old) }
+{
+    match Request::read(alloc, version, text) {
+        Ok(request) => Ok(serve(service, request)),
+        Err(MessageFault::NoMessage(id)) => Ok(Reply {
+            id,
+            answer: Answer::Refused(Refusal::InvalidArgument),
+        }),
+        Err(MessageFault::Memory) => Err(AllocError),
+    }
+}
+
+// Reads the files of a request, then serves it.
+fn serve<S: Files, P: Files, H: Host>(service: &mut Service<S, P, H>, request: Request) -> Reply
+    ensures { IsServed (Gave S.held S.failed) (Gave P.held P.failed) H.may service.old request result service.new }
+{
+    let files = gather(&mut service.scripts, &mut service.profiles, &request);
+    service.host.serve(request, files)
+}
+
+// Writes the frame of a reply.
+fn send<W: Wire>(alloc: Global, wire: &mut W, version: Version, reply: &Reply) -> Result<(), Cut>
+    ensures ok { OnOk result (Appends (W.output wire.old) (W.output wire.new) (frame_of version (reply_text version reply.now))) }
+    ensures cut { OnErr result (SendsPart (frame_of version (reply_text version reply.now)) (W.output wire.old) (W.output wire.new)) }
+    ensures failed { IfErr result (λ cut. cut ≡ Cut.Failed → HasRisen (W.failed wire.old) (W.failed wire.new)) }
+    ensures counted { W.failed wire.old ≤ W.failed wire.new }
+    ensures input { Keeps (W.input wire.old) (W.input wire.new) }
+{
+    let text = reply.write(alloc, version)?;
+    let frame = frame_of(alloc, version, text.as_slice())?;
+    match write_all(wire, frame.as_slice()) {
+        Ok(()) => Ok(()),
+        Err(_) => Err(Cut::Failed),
+    }
+}

@@ -1,0 +1,112 @@
+//! One connection, from its first byte to its last.
+ghost use Rattle.std.specs.Prelude.{◌≡◌, ◌≤◌, ◌++◌, [], List, ℕ, IfErr, IfOk, OnErr, OnOk};
+ghost use Rattle.std.specs.Io.KnownBytes.{Consumes, IsAtEnd, Keeps};
+ghost use Rattle.node_io.specs.Counts.{HasRisen};
+ghost use Rattle.cri_frames.specs.Frames.{BeginsNone};
+ghost use Rattle.cri_frames.specs.Streams.{HasBadRest};
+ghost use Rattle.runner.specs.declared.ending.Cut.{Cut};
+ghost use Rattle.runner.specs.declared.ending.Ending.{Ending};
+ghost use Rattle.runner.specs.Gathered.{Gave};
+ghost use Rattle.runner.specs.Connection.{Answers, Ends, PartTalk, Talk};
+ghost use Rattle.runner.specs.Steps.{CutsTalk, ReadsPiece};
+
+use crate::answering::answer;
+use crate::ending::{Cut, Ending};
+use crate::service::{Host, Service};
+use cri_frames::{Feed, FeedFault};
+use node_io::{Files, Wire};
+use std::alloc::Global;
+
+// How many bytes are read at once.
+const PIECE: usize = 4096;
+
+/// Serves one connection to its end. Each frame that comes, in order, is answered with one frame of its version:
+/// the reply of the host to the frame's request and what its files gave, or the refusal InvalidArgument of a text
+/// that is no request. The files are read before the host is asked.
+pub fn serve_wire<W: Wire, S: Files, P: Files, H: Host>(
+    alloc: Global,
+    wire: &mut W,
+    service: &mut Service<S, P, H>,
+) -> Ending
+    // What was read, what each frame in it got, and what was written.
+    ensures talk { Ends (Answers (Gave S.held S.failed) (Gave P.held P.failed) H.may) service.old service.new
+        (W.input wire.old) (W.input wire.new) (W.output wire.old) (W.output wire.new) result }
+
+    // A failure of the wire is told only where it failed.
+    ensures failed { result ≡ Ending.Failed → HasRisen (W.failed wire.old) (W.failed wire.new) }
+    ensures counted { W.failed wire.old ≤ W.failed wire.new }
+{
+    match serve_all(alloc, wire, service) {
+        Ok(ending) => ending,
+        Err(Cut::Failed) => Ending::Failed,
+        Err(Cut::Memory) => Ending::Memory,
+    }
+}
+
+fn serve_all<W: Wire, S: Files, P: Files, H: Host>(
+    alloc: Global,
+    wire: &mut W,
+    service: &mut Service<S, P, H>,
+) -> Result<Ending, Cut>
+    ensures ending { IfOk result (Ends (Answers (Gave S.held S.failed) (Gave P.held P.failed) H.may) service.old service.new
+        (W.input wire.old) (W.input wire.new) (W.output wire.old) (W.output wire.new)) }
+    ensures good { IfOk result (λ ending. ending ≡ Ending.Failed → ⊥) }
+    ensures cut { OnErr result (PartTalk (Answers (Gave S.held S.failed) (Gave P.held P.failed) H.may) service.old service.new
+        (W.input wire.old) (W.input wire.new) (W.output wire.old) (W.output wire.new)) }
+    ensures failed { IfErr result (λ cut. cut ≡ Cut.Failed → HasRisen (W.failed wire.old) (W.failed wire.new)) }
+    ensures counted { W.failed wire.old ≤ W.failed wire.new }
+{
+    let mut feed = Feed::new(alloc);
+    for _ in 0..u64::MAX {
+        if read_piece(wire, &mut feed)? == 0 {
+            return Ok(Ending::Ended);
+        }
+        answer_whole(alloc, wire, service, &mut feed)?;
+        if feed.has_failed() {
+            return Ok(Ending::BadLength);
+        }
+    }
+    // No run comes to so many reads.
+    Err(Cut::Memory)
+}
+
+// Reads what has come into the feed, and tells how many bytes that was: none at the end.
+fn read_piece<W: Wire>(wire: &mut W, feed: &mut Feed) -> Result<usize, Cut>
+    requires { HasBadRest feed.old → ⊥ }
+    ensures ok { IfOk result (ReadsPiece (W.input wire.old) (W.input wire.new) feed.old feed.new) }
+    ensures cut { OnErr result ((more : List ℕ) × Consumes (W.input wire.old) (W.input wire.new) more) }
+    ensures failed { IfErr result (λ cut. cut ≡ Cut.Failed → HasRisen (W.failed wire.old) (W.failed wire.new)) }
+    ensures counted { W.failed wire.old ≤ W.failed wire.new }
+    ensures output { Keeps (W.output wire.old) (W.output wire.new) }
+{
+    let mut piece = [0u8; PIECE];
+    let Ok(count) = wire.read(&mut piece) else {
+        return Err(Cut::Failed);
+    };
+    match feed.push(&piece[..count]) {
+        Ok(()) | Err(FeedFault::BadLength) => Ok(count),
+        Err(FeedFault::Memory) => Err(Cut::Memory),
+    }
+}
+
+// Answers each frame in the feed that is whole.
+fn answer_whole<W: Wire, S: Files, P: Files, H: Host>(
+    alloc: Global,
+    wire: &mut W,
+    service: &mut Service<S, P, H>,
+    feed: &mut Feed,
+) -> Result<(), Cut>
+    ensures ok { OnOk result (Talk (Answers (Gave S.held S.failed) (Gave P.held P.failed) H.may) service.old service.new
+        feed.old feed.new [] (W.output wire.old) (W.output wire.new)) }
+    ensures begins_none { OnOk result (BeginsNone feed.new) }
+    ensures cut { OnErr result (CutsTalk (Answers (Gave S.held S.failed) (Gave P.held P.failed) H.may) service.old service.new
+        feed.old (W.output wire.old) (W.output wire.new)) }
+    ensures failed { IfErr result (λ cut. cut ≡ Cut.Failed → HasRisen (W.failed wire.old) (W.failed wire.new)) }
+    ensures counted { W.failed wire.old ≤ W.failed wire.new }
+    ensures input { Keeps (W.input wire.old) (W.input wire.new) }
+{
+    while let Some((version, text)) = feed.take() {
+        answer(alloc, wire, service, version, text.as_slice())?;
+    }
+    Ok(())
+}

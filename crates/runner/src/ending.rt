@@ -1,0 +1,34 @@
+ghost use Rattle.std.specs.Prelude.{◌≡◌};
+
+use std::alloc::AllocError;
+
+/// How a connection came to its end.
+#[derive(Clone, Copy, Debug, PartialEq, Eq)]
+pub enum Ending {
+    /// The input was read to its end, and each frame in it was answered.
+    Ended,
+    /// Each frame was answered up to four bytes that are the head of none.
+    BadLength,
+    /// A read or a write failed.
+    Failed,
+    /// A growth was refused: for a frame, for reading a request or for a reply's bytes.
+    Memory,
+}
+
+/// Why a connection is cut off before all that was read is answered.
+#[derive(Clone, Copy, PartialEq, Eq)]
+pub(crate) enum Cut {
+    Failed,
+    Memory,
+}
+
+impl From<AllocError> for Cut {
+    ghost use Rattle.std.specs.Prelude.{◌≡◌};
+    ghost use Rattle.runner.specs.declared.ending.Cut.TheVariants.{Memory};
+
+    ghost from_gives = { λ _ cut. cut ≡ Memory };
+
+    fn from(_: AllocError) -> Cut {
+        Cut::Memory
+    }
+}

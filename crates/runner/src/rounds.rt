@@ -1,0 +1,124 @@
+//! Runners: each steps the cells of its share, round after round.
+ghost use Rattle.std.specs.Prelude.{◌≡◌, ◌<◌, ◌%◌, IfSome};
+ghost use Rattle.runtime_core.specs.Kept.{MayStepIn};
+
+use crate::lists::SandboxCells;
+use crate::shared::{Node, SharedRuntime};
+use runtime_cell::Did;
+use runtime_core::Cells;
+use std::alloc::Global;
+use std::sync::{Arc, Wait};
+
+/// What stands round each step of a cell, while the lock of the cell's sandbox is held. Tests hold a step up there.
+pub trait StepGate {
+    /// Is called before the step of the cell with this id.
+    fn before(&self, id: u64);
+
+    /// Is called behind it.
+    fn after(&self, id: u64);
+}
+
+/// Holds up no step.
+#[derive(Clone, Copy)]
+pub struct Open;
+
+impl StepGate for Open {
+    fn before(&self, _id: u64) {}
+
+    fn after(&self, _id: u64) {}
+}
+
+// A step that a round owes. It is neither copied nor dropped, so it is done once.
+struct Turn {
+    id: u64,
+    // Where the cell is; none where that can't be held on to.
+    list: Option<Arc<SandboxCells, Global>>,
+}
+
+impl SharedRuntime {
+    /// A round of one runner of so many, who are numbered from 0: each running cell whose id leaves the runner's
+    /// number on division by how many there are is stepped once, in the order of ids, each in a critical section
+    /// of its own. It takes no memory, and tells whether a cell went on.
+    pub fn step_round<R: Wait, G: StepGate>(
+        &self,
+        rt: &R,
+        runner: u64,
+        runners: u64,
+        gate: &G,
+    ) -> bool
+        requires { runner < runners }
+    {
+        let mut last = 0;
+        let mut went_on = false;
+        while let Some(turn) = self.next_turn(rt, last, runner, runners) {
+            last = turn.id;
+            if step(rt, turn, gate) {
+                went_on = true;
+            }
+        }
+        went_on
+    }
+
+    // The runner's next step, behind the one of this id.
+    fn next_turn<R: Wait>(&self, rt: &R, above: u64, runner: u64, runners: u64) -> Option<Turn>
+        requires { runner < runners }
+        ensures later { IfSome result (λ turn. above < turn.id) }
+        ensures own { IfSome result (λ turn. turn.id % runners ≡ runner) }
+    {
+        self.node.lock(rt).next_turn(above, runner, runners)
+    }
+}
+
+impl Node {
+    // The step of the least id above this one that is of the share.
+    fn next_turn(&self, above: u64, runner: u64, runners: u64) -> Option<Turn>
+        requires { runner < runners }
+        ensures later { IfSome result (λ turn. above < turn.id) }
+        ensures own { IfSome result (λ turn. turn.id % runners ≡ runner) }
+    {
+        let mut last = above;
+        while let Some(id) = self.registry.next_id(last) {
+            if id % runners == runner {
+                let list = self.list_of(id);
+                return Some(Turn { id, list });
+            }
+            last = id;
+        }
+        None
+    }
+
+    // Where the cell with this id is.
+    fn list_of(&self, id: u64) -> Option<Arc<SandboxCells, Global>> {
+        let uid = self.registry.home(id)?;
+        let list = self.lists.get(uid)?;
+        Arc::try_clone(list).ok()
+    }
+}
+
+// Does a step that is owed, and tells whether the cell went on.
+fn step<R: Wait, G: StepGate>(rt: &R, turn: Turn, gate: &G) -> bool {
+    let Turn { id, list } = turn;
+    let Some(list) = list else {
+        return false;
+    };
+    let mut cells = list.cells.lock(rt);
+    goes_on(step_in(&mut cells, id, gate))
+}
+
+// The critical section of a step.
+fn step_in<G: StepGate>(cells: &mut Cells, id: u64, gate: &G) -> Option<Did>
+    ensures { MayStepIn cells.old id result cells.new }
+{
+    gate.before(id);
+    let did = cells.step(id);
+    gate.after(id);
+    did
+}
+
+// Whether something came of a step.
+fn goes_on(did: Option<Did>) -> bool {
+    match did {
+        None | Some(Did::Idle) => false,
+        Some(Did::Performed | Did::Denied(_) | Did::Ended(_)) => true,
+    }
+}

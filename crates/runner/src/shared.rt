@@ -1,0 +1,213 @@
+//! A runtime that threads share. The registry stands under one lock and each sandbox's cells under one of their
+//! own, so that a step of a cell holds up nothing but its own sandbox.
+ghost use Rattle.std.specs.Prelude.{◌≡◌, IsTrue};
+ghost use Rattle.runtime_core.specs.Serves.{uid_of};
+ghost use Rattle.runtime_core.specs.Stands.{AreBound};
+ghost use Rattle.runner.specs.Shared.{MayServe, Wakes};
+
+use crate::lists::{Lists, SandboxCells};
+use crate::service::Host;
+use bpf_verify::Filter;
+use cri_msgs::{Answer, Call, Refusal, Reply, Request};
+use runtime_core::{Cells, FileAnswers, Registry, Stage, uid_of};
+use std::alloc::{AllocError, Global};
+use std::sync::{Mutex, Wait};
+
+/// What is known of all uids, and where their cells are.
+#[derive(Drop)]
+pub(crate) struct Node {
+    pub(crate) registry: Registry,
+    pub(crate) lists: Lists,
+    alloc: Global,
+    ghost bound: { AreBound registry },
+}
+
+impl Node {
+    fn new(alloc: Global, baseline: Option<Filter>) -> Node {
+        Node {
+            registry: Registry::new(alloc, baseline),
+            lists: Lists::new(alloc),
+            alloc,
+        }
+    }
+
+    fn serve<R: Wait>(&mut self, rt: &R, request: Request, files: FileAnswers) -> Reply
+        ensures { MayServe request files result }
+    {
+        serve(
+            rt,
+            self.alloc,
+            &mut self.registry,
+            &mut self.lists,
+            request,
+            files,
+        )
+    }
+}
+
+/// A runtime that threads share.
+#[derive(Drop)]
+pub struct SharedRuntime {
+    pub(crate) node: Mutex<Node>,
+}
+
+impl SharedRuntime {
+    /// A runtime that knows of nothing, on a node with this filter of its own.
+    pub fn new(alloc: Global, baseline: Option<Filter>) -> SharedRuntime {
+        SharedRuntime {
+            node: Mutex::new(Node::new(alloc, baseline)),
+        }
+    }
+
+    /// Serves a request, with what the reads of its files gave. The registry's lock, and then that of the
+    /// sandbox's cells, are held until the reply is made.
+    pub fn serve<R: Wait>(&self, rt: &R, request: Request, files: FileAnswers) -> Reply
+        ensures { MayServe request files result }
+    {
+        self.node.lock(rt).serve(rt, request, files)
+    }
+}
+
+/// What a thread serves a shared runtime's connections by.
+#[derive(Drop)]
+pub struct SharedHost<'a, R: Wait> {
+    rt: &'a R,
+    runtime: &'a SharedRuntime,
+}
+
+impl<'a, R: Wait> SharedHost<'a, R> {
+    /// A host of this runtime.
+    pub fn new(rt: &'a R, runtime: &'a SharedRuntime) -> SharedHost<'a, R> {
+        SharedHost { rt, runtime }
+    }
+}
+
+impl<'a, R: Wait> Host for SharedHost<'a, R> {
+    ghost use Rattle.runner.specs.Shared.{MayServe};
+
+    ghost may = { λ _ request files reply _. MayServe request files reply };
+
+    fn serve(&mut self, request: Request, files: FileAnswers) -> Reply {
+        self.runtime.serve(self.rt, request, files)
+    }
+}
+
+fn serve<R: Wait>(
+    rt: &R,
+    alloc: Global,
+    registry: &mut Registry,
+    lists: &mut Lists,
+    request: Request,
+    files: FileAnswers,
+) -> Reply
+    requires { AreBound registry.old }
+    ensures may { MayServe request files result }
+    ensures bound { AreBound registry.new }
+{
+    if wakes(registry, &request.call) {
+        return wake(rt, registry, lists, request, files);
+    }
+    if removes(&request.call) {
+        return remove(rt, alloc, registry, lists, request, files);
+    }
+    match lists.get(uid_of(&request.call).as_str()) {
+        Some(list) => serve_under(rt, registry, list, request, files),
+        None => serve_absent(alloc, registry, request, files),
+    }
+}
+
+// Whether a call may make a sandbox of a uid that was never named.
+fn wakes(registry: &Registry, call: &Call) -> bool
+    ensures { IsTrue result → Wakes registry.now call.now }
+{
+    match call {
+        Call::RunPodSandbox { uid } => {
+            registry.stage(uid.as_str()) == Stage::Unknown && !registry.is_full()
+        }
+        _ => false,
+    }
+}
+
+fn removes(call: &Call) -> bool {
+    matches!(call, Call::RemovePodSandbox { .. })
+}
+
+// The list and its lock are there before the registry is asked, and go again where no sandbox came of it.
+fn wake<R: Wait>(
+    rt: &R,
+    registry: &mut Registry,
+    lists: &mut Lists,
+    request: Request,
+    files: FileAnswers,
+) -> Reply
+    requires wakes { Wakes registry.old request.call }
+    requires bound { AreBound registry.old }
+    ensures may { MayServe request files result }
+    ensures bound { AreBound registry.new }
+{
+    match lists.put(uid_of(&request.call)) {
+        Ok(list) => {
+            let reply = serve_under(rt, registry, &list, request, files);
+            let uid = list.uid.as_str();
+            if registry.stage(uid) == Stage::Unknown {
+                drop(lists.take(uid));
+            }
+            reply
+        }
+        Err(AllocError) => Reply {
+            id: request.id,
+            answer: Answer::Refused(Refusal::Memory),
+        },
+    }
+}
+
+// The list goes with its sandbox.
+fn remove<R: Wait>(
+    rt: &R,
+    alloc: Global,
+    registry: &mut Registry,
+    lists: &mut Lists,
+    request: Request,
+    files: FileAnswers,
+) -> Reply
+    requires { AreBound registry.old }
+    ensures may { MayServe request files result }
+    ensures bound { AreBound registry.new }
+{
+    match lists.take(uid_of(&request.call).as_str()) {
+        Some(list) => serve_under(rt, registry, &list, request, files),
+        None => serve_absent(alloc, registry, request, files),
+    }
+}
+
+// Serves a request with the cells of its sandbox, whose lock is held meanwhile.
+fn serve_under<R: Wait>(
+    rt: &R,
+    registry: &mut Registry,
+    list: &SandboxCells,
+    request: Request,
+    files: FileAnswers,
+) -> Reply
+    requires own { list.now.uid ≡ uid_of request.call }
+    requires bound { AreBound registry.old }
+    ensures may { MayServe request files result }
+    ensures bound { AreBound registry.new }
+{
+    let mut cells = list.cells.lock(rt);
+    registry.serve_lent(&mut cells, request, files)
+}
+
+// Serves a request that names no sandbox which is there.
+fn serve_absent(
+    alloc: Global,
+    registry: &mut Registry,
+    request: Request,
+    files: FileAnswers,
+) -> Reply
+    requires { AreBound registry.old }
+    ensures may { MayServe request files result }
+    ensures bound { AreBound registry.new }
+{
+    let mut none = Cells::new(alloc);
+    registry.serve_lent(&mut none, request, files)
+}
