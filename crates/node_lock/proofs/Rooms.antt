@@ -1,9 +1,8 @@
 -- The claims that are held after an event.
-use Rattle.std.proofs.Common.{◌≡◌, ℕ, zero, suc, ◌+◌, ◌<◌, ◌≤◌, nat_lt, Bool, true, false, if◌then◌else◌, List, [], ◌∷◌, ◌++◌, length, Option, Some, None, slice_get, slice_set, get_or, refl, sym, ap, ◌∙◌, arith}
+use Rattle.std.proofs.Common.{◌≡◌, ℕ, zero, suc, ◌+◌, ◌≤◌, nat_lt, Bool, true, false, if◌then◌else◌, List, [], ◌∷◌, ◌++◌, Option, Some, None, slice_get, slice_set, get_or, refl, ap, arith}
 use Rattle.std.specs.List.{remove}
 use Rattle.std.proofs.lemmas.List.Quantifiers.{position-Some}
 use Rattle.std.proofs.lemmas.Option.{slice_get-get_or}
-use Rattle.manifest.specs.declared.pods.Pod.{Pod}
 use Rattle.worker_pod.specs.declared.settings.Outcome.{Outcome}
 use Rattle.worker_pod.specs.declared.settings.Outcome.TheVariants as outcome
 use Rattle.worker_core.specs.declared.events.AgentEvent.{AgentEvent}
@@ -11,7 +10,7 @@ use Rattle.worker_core.specs.declared.events.AgentEvent.TheVariants.{Admit, Dele
 use Rattle.worker_core.specs.declared.answers.Refusal.{Refusal}
 use Rattle.worker_core.specs.declared.slots.Held.{Held}
 use Rattle.worker_core.specs.declared.slots.Slot.{Slot}
-use Rattle.worker_core.specs.Kept.{KeptNode, after_admit, after_claim, after_delete, after_end, after_event, after_grant, after_tick, grant_of, refusal_of, with_moment}
+use Rattle.worker_core.specs.Kept.{KeptNode, after_admit, after_claim, after_delete, after_end, after_event, after_grant, grant_of, refusal_of, with_moment}
 use Rattle.worker_core.specs.Slots.{changed, changed_to, claimed_by, deleted, ended, ended_at, fresh_slot, held_in, holder_of, is_free, is_gone_slot, is_held_by, left, outcome_of, place_of}
 use Rattle.node_lock.specs.Rooms.{room_for, room_to_end}
 

@@ -16,8 +16,7 @@ goes_on : (settings : Settings) (es : List Entry) (before : List NodeLink) (firs
 goes_on settings [] before first last is run leads = ([], run, tt)
 goes_on settings (e ∷ es) before first last is run leads =
     let link : NodeLink = record { old = first; event = e.event; answer = e.answer; new = leads.0 } in
-    let rest : Goes settings (link ∷ before) es = goes_on settings es (link ∷ before) leads.0 last refl (is, inl leads.1, run) leads.2 in
-    (
+    let rest : Goes settings (link ∷ before) es = goes_on settings es (link ∷ before) leads.0 last refl (is, inl leads.1, run) leads.2 in (
       rest.0 ++ link ∷ [],
       rw (append_assoc rest.0 (link ∷ []) before) rest.1,
       rw (reverse-append rest.0 (link ∷ [])) (refl, refl, rest.2),

@@ -207,5 +207,8 @@ impl<L: Ledger> Book<L> {
 fn are_claims(history: &[Entry], since: usize) -> bool
     ensures { result ≡ list_all (λ e. gives_request e.event) (drop since history.now) }
 {
-    history.iter().skip(since).all(|entry| entry.event.is_claim())
+    history
+        .iter()
+        .skip(since)
+        .all(|entry| entry.event.is_claim())
 }

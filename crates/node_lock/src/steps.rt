@@ -18,11 +18,7 @@ pub(crate) fn room_for(node: &Node, event: &AgentEvent) -> usize
     match event {
         AgentEvent::Claim(_) => 2,
         AgentEvent::Report(worker, _) | AgentEvent::Abandon(worker) => {
-            if node.is_busy(*worker) {
-                0
-            } else {
-                1
-            }
+            if node.is_busy(*worker) { 0 } else { 1 }
         }
         AgentEvent::Admit(_) | AgentEvent::Delete(_) | AgentEvent::Tick(_) => 1,
     }

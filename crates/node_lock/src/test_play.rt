@@ -31,9 +31,8 @@ fn worker_of(event: &AgentEvent) -> u32
 {
     match event {
         AgentEvent::Admit(_) | AgentEvent::Delete(_) | AgentEvent::Tick(_) => 0,
-        AgentEvent::Claim(worker)
-        | AgentEvent::Report(worker, _)
-        | AgentEvent::Abandon(worker) => *worker,
+        AgentEvent::Claim(worker) | AgentEvent::Report(worker, _) | AgentEvent::Abandon(worker) =>
+            *worker,
     }
 }
 
@@ -63,7 +62,10 @@ fn answer_text(alloc: Global, receipt: &Receipt) -> Result<String, AllocError> {
     let (number, entry) = (receipt.number(), receipt.entry());
     match &entry.answer {
         Answer::Done => format!(in alloc; "{number} done"),
-        Answer::Claimed { number: request, .. } => format!(in alloc; "{number} request {request}"),
+        Answer::Claimed {
+            number: request,
+            ..
+        } => format!(in alloc; "{number} request {request}"),
         Answer::Nothing => format!(in alloc; "{number} nothing"),
         Answer::Refused(refusal) => format!(in alloc; "{number} {refusal}"),
     }
@@ -90,12 +92,7 @@ pub(crate) struct Play<L: Ledger> {
 }
 
 impl<L: Ledger> Play<L> {
-    pub(crate) fn new(
-        alloc: Global,
-        settings: Settings,
-        limit: usize,
-        blank: Blank,
-    ) -> Play<L>
+    pub(crate) fn new(alloc: Global, settings: Settings, limit: usize, blank: Blank) -> Play<L>
         requires name { blank.name ≡ L.name }
         requires parts { blank.parts ≡ L.parts }
         requires some { 0 < blank.parts }

@@ -13,7 +13,7 @@ use worker_core::AgentEvent;
 fn limited<L: Ledger>(
     alloc: Global,
     limit: usize,
-    words: &str,
+    words: String,
     blank: Blank,
 ) -> Result<String, PodFault>
     requires name { blank.name ≡ L.name }
@@ -22,14 +22,14 @@ fn limited<L: Ledger>(
     requires limit { limit ≤ MAX_ENTRIES }
 {
     let mut play: Play<L> = Play::new(alloc, settings(false), limit, blank);
-    let text = play.plays(words)?;
+    let text = play.plays(words.as_str())?;
     if !play.stand(play.receipts()) {
         return Ok(String::from_str(alloc, "a receipt stands nowhere")?);
     }
     Ok(text)
 }
 
-fn limits(alloc: Global, limit: usize, words: &str) -> Result<String, PodFault>
+fn limits(alloc: Global, limit: usize, words: String) -> Result<String, PodFault>
     requires { limit ≤ MAX_ENTRIES }
 {
     limited::<Brand>(alloc, limit, words, Blank::new(PARTS))
@@ -49,7 +49,11 @@ fn rooms(rt: HostRuntime) -> Result<(), Fail> {
             "Aa c1 t1 a2 a1 a1",
             "Aa: 1 done; c1: 2 request 1; t1: 7 HistoryFull; a2: 7 HistoryFull; a1: 3 done; a1: 7 HistoryFull; ",
         ),
-        (2, "c1 c1 t1 t2", "c1: 1 nothing; c1: 7 HistoryFull; t1: 2 done; t2: 7 HistoryFull; "),
+        (
+            2,
+            "c1 c1 t1 t2",
+            "c1: 1 nothing; c1: 7 HistoryFull; t1: 2 done; t2: 7 HistoryFull; ",
+        ),
         (0, "t0 c1", "t0: 7 HistoryFull; c1: 7 HistoryFull; "),
         // What the node refuses stands in the history.
         (
@@ -59,7 +63,7 @@ fn rooms(rt: HostRuntime) -> Result<(), Fail> {
         ),
     ];
     for (limit, words, want) in rows {
-        let text = limits(rt.alloc(), limit, words)?;
+        let text = limits(rt.alloc(), limit, String::from_str(rt.alloc(), words)?)?;
         assert_eq!(rt; text.as_str(), want, "{words}");
     }
     Ok(())
@@ -71,7 +75,7 @@ const CREATED: &str = "Aa c1 d1 c1";
 fn agreed<L: Ledger, M: Ledger>(
     alloc: Global,
     seccomp_default: bool,
-    words: &str,
+    words: String,
     blank: Blank,
     other: Blank,
 ) -> Result<bool, PodFault>
@@ -80,11 +84,11 @@ fn agreed<L: Ledger, M: Ledger>(
     requires some { (0 < blank.parts) × (0 < other.parts) }
 {
     let play: Play<L> = played(alloc, settings(true), CREATED, blank)?;
-    let another: Play<M> = played(alloc, settings(seccomp_default), words, other)?;
+    let another: Play<M> = played(alloc, settings(seccomp_default), words.as_str(), other)?;
     Ok(agree(&play, &another))
 }
 
-fn agrees(alloc: Global, seccomp_default: bool, words: &str) -> Result<bool, PodFault> {
+fn agrees(alloc: Global, seccomp_default: bool, words: String) -> Result<bool, PodFault> {
     agreed::<Brand, Brand>(
         alloc,
         seccomp_default,
@@ -106,7 +110,8 @@ fn audits(rt: HostRuntime) -> Result<(), Fail> {
         (true, "Aa c1 d1 c1 c1", true),
     ];
     for (seccomp_default, words, want) in rows {
-        let agrees = agrees(rt.alloc(), seccomp_default, words)?;
+        let given = String::from_str(rt.alloc(), words)?;
+        let agrees = agrees(rt.alloc(), seccomp_default, given)?;
         assert_eq!(rt; agrees, want, "{words}");
     }
     Ok(())
