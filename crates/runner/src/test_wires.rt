@@ -1,6 +1,6 @@
 use crate::{Service, SharedHost, SharedRuntime, serve_wire};
 use cri_frames::frame_of;
-use cri_msgs::Version;
+use cri_msgs::{MAX_TEXT, Version};
 use node_io::{MemoryFiles, MemoryWire, StoredFile};
 use std::alloc::{AllocError, Global};
 use std::sync::Wait;
@@ -35,8 +35,11 @@ fn version_of(text: &str) -> Version {
     }
 }
 
-// Adds the frame of a text.
+// Adds the frame of a text. A text that fits into none adds nothing.
 pub(crate) fn add(stream: &mut Vec<u8>, alloc: Global, text: &str) -> Result<(), AllocError> {
+    if text.is_empty() || text.len() > MAX_TEXT {
+        return Ok(());
+    }
     let frame = frame_of(alloc, version_of(text), text.as_bytes())?;
     stream.extend_from_slice(frame.as_slice())
 }
