@@ -30,7 +30,13 @@ pub(crate) fn with_required<'a>(
 ) -> Result<Command<'a>, AllocError>
     ensures { IfOk result (λ c. app_of c ≡ with_rule (app_of command.entry) (required_rule id.now)) }
 {
-    command.arg(Arg::new(alloc, id).long(id).value_name(value).required(true).help(help))
+    command.arg(
+        Arg::new(alloc, id)
+            .long(id)
+            .value_name(value)
+            .required(true)
+            .help(help),
+    )
 }
 
 /// An option without a value.
@@ -42,7 +48,12 @@ pub(crate) fn with_flag<'a>(
 ) -> Result<Command<'a>, AllocError>
     ensures { IfOk result (λ c. app_of c ≡ with_rule (app_of command.entry) (flag_rule id.now)) }
 {
-    command.arg(Arg::new(alloc, id).long(id).action(ArgAction::SetTrue).help(help))
+    command.arg(
+        Arg::new(alloc, id)
+            .long(id)
+            .action(ArgAction::SetTrue)
+            .help(help),
+    )
 }
 
 /// One word or more that stand by themselves.

@@ -101,7 +101,12 @@ fn choosing<'a>(alloc: Global, command: Command<'a>) -> Result<Command<'a>, Allo
 fn naming<'a>(alloc: Global, command: Command<'a>) -> Result<Command<'a>, AllocError>
     ensures { IfOk result (λ c. app_of c ≡ naming (app_of command.entry)) }
 {
-    let command = with_flag(alloc, command, "verbose", "tells each event on standard error")?;
+    let command = with_flag(
+        alloc,
+        command,
+        "verbose",
+        "tells each event on standard error",
+    )?;
     with_words(alloc, command, "MANIFEST", "the pods' manifests, in JSON")
 }
 

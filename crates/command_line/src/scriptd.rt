@@ -51,8 +51,9 @@ pub fn scriptd_line<'a>(
 fn scriptd<'a>(alloc: Global) -> Result<Command<'a>, AllocError>
     ensures { IfOk result (λ c. app_of c ≡ scriptd) }
 {
-    let command = Command::new(alloc, "scriptd")
-        .about("Runs containers, which are scripts, behind a socket that takes CRI calls");
+    let command = Command::new(alloc, "scriptd").about(
+        "Runs containers, which are scripts, behind a socket that takes CRI calls",
+    );
     stepping(alloc, serving(alloc, command)?)
 }
 
@@ -66,7 +67,12 @@ fn stepping<'a>(alloc: Global, command: Command<'a>) -> Result<Command<'a>, Allo
         "N",
         "how many threads step the containers, 1 to 64 [default: 4]",
     )?;
-    with_flag(alloc, command, "verbose", "tells each event on standard error")
+    with_flag(
+        alloc,
+        command,
+        "verbose",
+        "tells each event on standard error",
+    )
 }
 
 /// The options of whoever runs containers.

@@ -32,7 +32,9 @@ fn scriptd(rt: &HostRuntime, line: &str) -> Result<String, Fail> {
             let baseline = line.baseline.unwrap_or("-");
             let (socket, scripts, profiles) = (line.socket, line.scripts, line.profiles);
             let (runners, verbose) = (line.runners, line.verbose);
-            Ok(format!(in rt.alloc(); "{socket} {scripts} {profiles} {baseline} {runners} {verbose}")?)
+            Ok(format!(in rt.alloc();
+                "{socket} {scripts} {profiles} {baseline} {runners} {verbose}"
+            )?)
         }
         Err(fault) => Ok(shown(rt, &fault)?),
     }
@@ -44,14 +46,20 @@ fn lines_of_scriptd(rt: HostRuntime) -> Result<(), Fail> {
         ("scriptd --socket s", "s . . - 4 false"),
         ("scriptd --runners 0x40 --socket s", "s . . - 64 false"),
         ("scriptd --socket s --runners 1 --verbose", "s . . - 1 true"),
-        ("scriptd --socket=s --scripts a --profiles b --baseline f", "s a b f 4 false"),
+        (
+            "scriptd --socket=s --scripts a --profiles b --baseline f",
+            "s a b f 4 false",
+        ),
         ("scriptd --socket s --runners 0", "BadNumber 0"),
         ("scriptd --socket s --runners 65", "BadNumber 65"),
         ("scriptd --socket s --runners +1", "BadNumber +1"),
         ("scriptd", "MissingRequiredArgument"),
         ("scriptd --socket", "InvalidValue"),
         ("scriptd --socket s --socket t", "ArgumentConflict"),
-        ("scriptd --socket s --runners x --runners y", "ArgumentConflict"),
+        (
+            "scriptd --socket s --runners x --runners y",
+            "ArgumentConflict",
+        ),
         ("scriptd --socket s more", "UnknownArgument"),
         ("scriptd --socket s --settle", "UnknownArgument"),
         ("scriptd --help", "DisplayHelp"),
@@ -69,7 +77,11 @@ fn nodeagent(rt: &HostRuntime, line: &str) -> Result<String, Fail> {
         Ok(line) => {
             let mut text = String::new(rt.alloc());
             let baseline = line.baseline.unwrap_or("-");
-            write!(text, "{} {} {} {baseline}", line.socket, line.scripts, line.profiles)?;
+            write!(
+                text,
+                "{} {} {} {baseline}",
+                line.socket, line.scripts, line.profiles
+            )?;
             write!(text, " {} {}", line.with_runtime, line.seccomp_default)?;
             write!(text, " {} {:?}", line.numbers.workers, line.numbers.until)?;
             write!(text, " {} {}", line.settle, line.verbose)?;
@@ -85,7 +97,10 @@ fn nodeagent(rt: &HostRuntime, line: &str) -> Result<String, Fail> {
 #[test]
 fn lines_of_nodeagent(rt: HostRuntime) -> Result<(), Fail> {
     let rows = [
-        ("nodeagent --socket s m", "s . . - false false 4 None false false m"),
+        (
+            "nodeagent --socket s m",
+            "s . . - false false 4 None false false m",
+        ),
         (
             "nodeagent --socket s --with-runtime --scripts a --profiles b --baseline f --seccomp-default --workers 64 --settle --until 0 m n",
             "s a b f true true 64 Some(0) true false m n",
@@ -94,15 +109,27 @@ fn lines_of_nodeagent(rt: HostRuntime) -> Result<(), Fail> {
             "nodeagent m --socket s n --until 18446744073709551615 o --verbose",
             "s . . - false false 4 Some(18446744073709551615) false true m n o",
         ),
-        ("nodeagent --socket s --until 18446744073709551616 m", "BadNumber 18446744073709551616"),
-        ("nodeagent --socket s --until u --workers w m", "BadNumber w"),
+        (
+            "nodeagent --socket s --until 18446744073709551616 m",
+            "BadNumber 18446744073709551616",
+        ),
+        (
+            "nodeagent --socket s --until u --workers w m",
+            "BadNumber w",
+        ),
         ("nodeagent --socket s --workers 0 m", "BadNumber 0"),
         ("nodeagent --socket s --workers 65 m", "BadNumber 65"),
-        ("nodeagent --socket s --workers 4294967297 m", "BadNumber 4294967297"),
+        (
+            "nodeagent --socket s --workers 4294967297 m",
+            "BadNumber 4294967297",
+        ),
         ("nodeagent --socket s", "MissingRequiredArgument"),
         ("nodeagent m", "MissingRequiredArgument"),
         ("nodeagent --socket s --runners 1 m", "UnknownArgument"),
-        ("nodeagent --socket s --settle --settle m", "ArgumentConflict"),
+        (
+            "nodeagent --socket s --settle --settle m",
+            "ArgumentConflict",
+        ),
         ("nodeagent --workers w --nosuch", "UnknownArgument"),
         ("nodeagent --version", "UnknownArgument"),
         ("nodeagent -h", "DisplayHelp"),

@@ -25,12 +25,7 @@ pub fn number_or(default: u64, word: Option<&str>) -> Result<u64, &str>
 }
 
 /// The number of a word, from the least to the most, or the default where the word is left out.
-pub fn number_within(
-    least: u32,
-    most: u32,
-    default: u32,
-    word: Option<&str>,
-) -> Result<u32, &str>
+pub fn number_within(least: u32, most: u32, default: u32, word: Option<&str>) -> Result<u32, &str>
     ensures { told result ≡ written_within least most default (option_map (λ w. w.now) word.entry) }
 {
     match word {
