@@ -1,5 +1,6 @@
 pub mod Connections
 pub mod Exits
 pub mod Labels
+pub mod Shares
 pub mod Talks
 pub mod Unwoken

@@ -1,6 +1,7 @@
 //! Runners: each steps the cells of its share, round after round.
-ghost use Rattle.std.specs.Prelude.{◌≡◌, ◌<◌, ◌%◌, IfSome};
-ghost use Rattle.runtime_core.specs.Kept.{MayStepIn};
+ghost use Rattle.std.specs.Prelude.{◌<◌, ℕ, List, option_map};
+ghost use Rattle.runtime_core.specs.Kept.{IsNextIn, MayStepIn, home_in};
+ghost use Rattle.runner.specs.Labelled.{of_share};
 
 use crate::lists::SandboxCells;
 use crate::shared::{Node, SharedRuntime};
@@ -62,8 +63,7 @@ impl SharedRuntime {
     // The runner's next step, behind the one of this id.
     fn next_turn<R: Wait>(&self, rt: &R, above: u64, runner: u64, runners: u64) -> Option<Turn>
         requires { runner < runners }
-        ensures later { IfSome result (λ turn. above < turn.id) }
-        ensures own { IfSome result (λ turn. turn.id % runners ≡ runner) }
+        ensures { (homes : List (ℕ × List ℕ)) × IsNextIn (of_share runner runners (home_in homes)) above (option_map (λ turn. turn.id) result) }
     {
         self.node.lock(rt).next_turn(above, runner, runners)
     }
@@ -71,10 +71,10 @@ impl SharedRuntime {
 
 impl Node {
     // The step of the least id above this one that is of the share.
+    #[tactic(auto, using(crate::proofs::Shares::next_is_own, crate::proofs::Shares::next_is_none, crate::proofs::Shares::next_is_passed))]
     fn next_turn(&self, above: u64, runner: u64, runners: u64) -> Option<Turn>
         requires { runner < runners }
-        ensures later { IfSome result (λ turn. above < turn.id) }
-        ensures own { IfSome result (λ turn. turn.id % runners ≡ runner) }
+        ensures { IsNextIn (of_share runner runners (home_in self.now.registry.homes)) above (option_map (λ turn. turn.id) result) }
     {
         let mut last = above;
         while let Some(id) = self.registry.next_id(last) {
