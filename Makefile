@@ -1,14 +1,15 @@
 # make test: the gate, which proves every crate from nothing, tries the must-fail edits, and runs the
 # tests, the stored runs and the examples in C. make times: the processor seconds that the last gate
 # spent, crate by crate. make planted [CRATE=..]: more wrong bodies, which the gate leaves out. make demo:
-# a profile is compiled, a verified filter judges a call, scripts are played, one of which adds a filter, and
-# the profiles of a pod's containers are picked. make lib: the C library, proved, and its header, in out/c.
-# make install PREFIX=..: the proved programs in PREFIX/bin, the library in PREFIX/lib and PREFIX/include.
+# a profile is compiled, a verified filter judges a call, scripts are played, one of which adds a filter, the
+# profiles of a pod's containers are picked, and two pods are settled over a socket. make lib: the C library, proved, and its header, in out/c.
+# make install PREFIX=..: the proved programs in PREFIX/bin with their manual pages, the library in PREFIX/lib and PREFIX/include.
 # make bench [ENGINES=..]: the machine and the compiler beside others, the profiles of the engines whose
-# Debian packages lie below ENGINES, and the runtime with few and with many uids. make kernel [COUNT=..]: the running kernel beside the library.
+# Debian packages lie below ENGINES, the runtime with few and with many uids, and
+# calls over a socket, by the programs that make test or make install built. make kernel [COUNT=..]: the running kernel beside the library.
 
 PREFIX ?= /usr/local
-PROGRAMS := seccheck
+PROGRAMS := seccheck scriptd nodeagent
 COUNT ?= 100000
 ENGINES ?= /
 BENCH_FLAGS := -std=gnu11 -O2 -Wall -Wextra
@@ -32,6 +33,11 @@ demo:
 	  --data no_ptrace.bpf=$(EXAMPLES)/no_ptrace.bpf --data tries_ptrace.json=$(EXAMPLES)/tries_ptrace.json \
 	  --data adds_a_filter.json=$(EXAMPLES)/adds_a_filter.json --data no_ptrace.json=$(EXAMPLES)/no_ptrace.json --data two_profiles.json=$(EXAMPLES)/two_profiles.json \
 	  --cases $(EXAMPLES)/demo
+	@echo "demo: two pods over a socket; one container asks for ptrace under RuntimeDefault, one under a profile that lets it"
+	@cd crates/nodeagent && rt try --data confined_pod.json=$(EXAMPLES)/confined_pod.json \
+	  --data tracing_pod.json=$(EXAMPLES)/tracing_pod.json --data wants_ptrace.json=$(EXAMPLES)/wants_ptrace.json \
+	  --data lets_ptrace.json=$(EXAMPLES)/lets_ptrace.json \
+	  -- --socket node.sock --with-runtime --settle confined_pod.json tracing_pod.json
 
 lib:
 	@cd crates/motchidu_c && rt lib
@@ -62,6 +68,8 @@ bench: lib
 	  $(CC) $(BENCH_FLAGS) -Iout/c -Iout/bench bench/profiles.c out/c/libmotchidu.a $$seccomp -o out/bench/profiles
 	@out/bench/profiles $$(tools/engine_profiles.py out/bench/engines $(ENGINES))
 	@tools/bench_runtime.sh
+	@$(CC) $(BENCH_FLAGS) -pthread bench/echo.c -o out/bench/echo
+	@tools/bench_calls.py out/bench/echo
 
 # What the running kernel does with drawn profiles, beside what the library says of COUNT calls.
 kernel: lib

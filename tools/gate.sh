@@ -1,6 +1,6 @@
 #!/bin/bash
-# What make test runs: the gate (rt ci), the program with no memory and with a pipe, and the examples in C
-# over the library. Each says what it counted, and the last line has the sum of all.
+# What make test runs: the gate (rt ci), the program with no memory and with a pipe, scriptd and nodeagent in
+# processes of their own, and the examples in C over the library. Each says what it counted, and the last line has the sum of all.
 set -u
 cd "$(dirname "$0")/.."
 said=$(mktemp)
@@ -29,6 +29,7 @@ c_examples() {
 part "rt ci" tools/gate_times.py out/gate_times rt ci
 part "memory" tools/no_memory.sh
 part "pipe" tools/pipe.sh
+part "daemons" tools/daemons.py
 part "C examples" c_examples
 # In one line, so that it stands near the end of what a log keeps.
 echo "processor seconds of proofs, tests, edits: $(tools/gate_times.py out/gate_times | awk 'NR > 1 && NF == 5 { printf "%s %s %s %s; ", $1, $2, $3, $4 }')"

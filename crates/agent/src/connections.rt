@@ -1,0 +1,83 @@
+//! The connections that are open at once.
+
+use std::alloc::{AllocError, Global};
+use std::net::Shutdown;
+use std::os::unix::net::UnixStream;
+use std::sync::{Mutex, Wait};
+
+/// How many connections are served at once; one more is closed at once.
+pub const MAX_CONNECTIONS: usize = 128;
+
+// A place for each connection that may be open.
+#[derive(Drop)]
+struct Open {
+    places: Vec<Option<UnixStream>>,
+    closed: bool,
+}
+
+/// The connections that are open, so that they can be cut off.
+#[derive(Drop)]
+pub(crate) struct Connections {
+    open: Mutex<Open>,
+}
+
+impl Connections {
+    /// None are open yet.
+    pub(crate) fn new(alloc: Global) -> Result<Connections, AllocError> {
+        let mut places = Vec::new(alloc);
+        for _ in 0..MAX_CONNECTIONS {
+            places.push(None)?;
+        }
+        Ok(Connections {
+            open: Mutex::new(Open {
+                places,
+                closed: false,
+            }),
+        })
+    }
+
+    /// Takes a place for a connection. None where all are taken, or no more are served.
+    pub(crate) fn enter<R: Wait>(&self, rt: &R, stream: &UnixStream) -> Option<usize> {
+        let copy = stream.try_clone().ok()?;
+        let mut open = self.open.lock(rt);
+        if open.closed {
+            return None;
+        }
+        put_in(&mut open.places, copy)
+    }
+
+    /// Gives a place back.
+    pub(crate) fn leave<R: Wait>(&self, rt: &R, place: usize) {
+        let mut open = self.open.lock(rt);
+        let left = take_at(&mut open.places, place);
+        drop(open);
+        drop(left);
+    }
+
+    /// Cuts all connections off, and serves no more.
+    pub(crate) fn close<R: Wait>(&self, rt: &R) {
+        let mut open = self.open.lock(rt);
+        open.closed = true;
+        drop(open);
+        for place in 0..MAX_CONNECTIONS {
+            let mut open = self.open.lock(rt);
+            let stream = take_at(&mut open.places, place);
+            drop(open);
+            if let Some(stream) = stream {
+                let _ = stream.shutdown(Shutdown::Both);
+            }
+        }
+    }
+}
+
+// Puts a connection into the first place that is free.
+fn put_in(places: &mut Vec<Option<UnixStream>>, stream: UnixStream) -> Option<usize> {
+    let free = places.iter().position(|place| place.is_none())?;
+    let place = places.get_mut(free)?;
+    *place = Some(stream);
+    Some(free)
+}
+
+fn take_at(places: &mut Vec<Option<UnixStream>>, place: usize) -> Option<UnixStream> {
+    places.get_mut(place)?.take()
+}

@@ -1,0 +1,58 @@
+//! Who answers an agent's requests.
+ghost use Rattle.std.specs.Prelude.{◌≡◌, IfOk};
+
+use crate::telling::tell_call;
+use cri_frames::{Lost, call_over};
+use cri_msgs::{Reply, Request, Version};
+use node_io::StreamWire;
+use std::alloc::Global;
+use std::os::unix::net::UnixStream;
+use std::sync::ledger::Ledger;
+use std::time::Duration;
+use worker_crew::{Peer, Shared};
+
+/// How many seconds a read or a write may take: behind that it fails.
+const PATIENCE: u64 = 120;
+
+/// The runtime behind the socket at a path. Each call has a connection of its own.
+#[derive(Drop)]
+pub(crate) struct SocketPeer<'a, L: Ledger> {
+    pub(crate) system: &'a HostRuntime,
+    pub(crate) alloc: Global,
+    pub(crate) path: &'a str,
+    // Whose moments are told with each call, if that is asked for.
+    pub(crate) teller: Option<&'a Shared<L>>,
+}
+
+impl<L: Ledger> SocketPeer<'_, L> {
+    fn ask(&self, request: &Request) -> Result<Reply, Lost>
+        ensures { IfOk result (λ reply. reply.id ≡ request.now.id) }
+    {
+        let Ok(stream) = UnixStream::connect(self.system, self.path) else {
+            return Err(Lost::WriteFailed(0));
+        };
+        let patience = Some(Duration::from_secs(PATIENCE));
+        if stream.set_read_timeout(patience).is_err()
+            || stream.set_write_timeout(patience).is_err()
+        {
+            return Err(Lost::WriteFailed(0));
+        }
+        let mut wire = StreamWire::new(stream);
+        call_over(self.alloc, &mut wire, request, Version::V1)
+    }
+}
+
+impl<L: Ledger> Peer for SocketPeer<'_, L> {
+    ghost use Rattle.std.specs.Prelude.{◌≡◌, IfOk};
+
+    // A reply has the number of its request. What runs behind the socket is not known.
+    ghost may = { λ request outcome. IfOk outcome (λ reply. reply.id ≡ request.id) };
+
+    fn call(&mut self, request: &Request) -> Result<Reply, Lost> {
+        let came = self.ask(request);
+        if let Some(teller) = self.teller {
+            tell_call(self.system, self.alloc, teller.moment(), request, &came);
+        }
+        came
+    }
+}

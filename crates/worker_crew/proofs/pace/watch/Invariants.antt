@@ -1,0 +1,6 @@
+-- The desk keeps its parts.
+use Rattle.std.proofs.Common.{◌≡◌}
+use Rattle.worker_crew.proofs.pace.watch.Given as goal
+
+abbrev pub invariant-loop : goal.invariant-loop
+invariant-loop g l = l.desk ≡ l.initial.desk

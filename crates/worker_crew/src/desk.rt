@@ -1,0 +1,97 @@
+ghost use Rattle.std.specs.Prelude.{◌≡◌, ◌+◌, ◌<◌, ◌≤◌, ◌++◌, ◌∷◌, [], length, vec_len, vec_capacity, OnOk, OnErr};
+ghost use Rattle.node_lock.specs.Books.{worker_of};
+
+use crate::seats::Seat;
+use crate::shared::Shared;
+use node_lock::{BookFault, Receipt, Tally};
+use std::alloc::Global;
+use std::marker::Model;
+use std::sync::Wait;
+use std::sync::ledger::{Ledger, Share};
+use worker_core::{AgentEvent, Answer, Refusal};
+
+/// Where worker 0 admits pods and tells the time: its share, and the receipts for what it did. Contracts see how
+/// many parts of the count its share has.
+#[derive(Drop)]
+pub struct Desk<L: Ledger> {
+    share: Share<L>,
+    receipts: Vec<Receipt>,
+    last: u64,
+}
+
+impl<L: Ledger> Model for Desk<L> {
+    ghost use Rattle.std.specs.Prelude.{◌≡◌, ◌<◌, ℕ, length};
+
+    ghost Value = { ℕ };
+
+    ghost view = { λ d. d.share.parts };
+
+    ghost invariant = { λ d. (0 < d.share.parts) × (d.share.amount ≡ length d.receipts.items) };
+}
+
+// The receipt comes last. There is room for it.
+fn add(receipts: &mut Vec<Receipt>, receipt: Receipt)
+    requires { vec_len receipts.old < vec_capacity receipts.old }
+    ensures { receipts.new.items ≡ receipts.old.items ++ receipt ∷ [] }
+{
+    let pushed = receipts.push(receipt);
+    let added = pushed.is_ok();
+    prove!(added);
+    drop(pushed);
+}
+
+impl<L: Ledger> Desk<L> {
+    /// A desk at which nothing was done yet.
+    pub fn new(alloc: Global, share: Share<L>) -> Desk<L>
+        requires part { 0 < share.parts }
+        requires fresh { share.amount ≡ 0 }
+        ensures { result ≡ share.parts }
+    {
+        Desk {
+            share,
+            receipts: Vec::new(alloc),
+            last: 0,
+        }
+    }
+
+    /// Records an event of worker 0, and tells why the node refused it, if it did.
+    pub fn record<R: Wait>(
+        &mut self,
+        rt: &R,
+        shared: &Shared<L>,
+        event: AgentEvent,
+    ) -> Result<Option<Refusal>, BookFault>
+        requires own { worker_of event ≡ 0 }
+        ensures parts { self.new ≡ self.old }
+    {
+        self.receipts.reserve(1)?;
+        let receipt = shared.record(rt, &mut self.share, 0, event, self.last)?;
+        let refusal = match &receipt.entry().answer {
+            Answer::Refused(refusal) => Some(*refusal),
+            Answer::Done | Answer::Nothing | Answer::Claimed { .. } => None,
+        };
+        self.last = receipt.number();
+        add(&mut self.receipts, receipt);
+        Ok(refusal)
+    }
+
+    /// A worker's seat, with one part.
+    pub(crate) fn seat(&mut self, worker: u32) -> Seat<L>
+        requires { 1 < self.old }
+        ensures { self.new + 1 ≡ self.old }
+    {
+        Seat::new(worker, self.share.split_off(1, 0))
+    }
+
+    /// The receipts, and the share that counts them.
+    pub fn into_tally(self) -> Tally<L>
+        ensures { result.parts ≡ self }
+    {
+        let Desk {
+            share,
+            receipts,
+            last: _,
+        } = self;
+        Tally::of(share, receipts)
+    }
+}

@@ -1,0 +1,54 @@
+//! Whether a node waits for the time alone.
+
+use lifecycle::Phase;
+use worker_core::{MAX_PODS, Node};
+
+/// Why nobody at work has anything to do.
+#[derive(Clone, Copy, Debug, PartialEq, Eq)]
+pub(crate) enum Turn {
+    /// No worker is left.
+    Deserted,
+    /// Each pod is Succeeded or Failed.
+    Over,
+    /// Nothing is due before this moment.
+    At(u64),
+    /// Nothing will ever be due.
+    Never,
+}
+
+/// Whether a pod in this phase stays in it.
+fn is_final(phase: Phase) -> bool {
+    match phase {
+        Phase::Succeeded | Phase::Failed => true,
+        Phase::Pending | Phase::Running | Phase::Unknown => false,
+    }
+}
+
+fn is_over(node: &Node) -> bool {
+    for place in 0..MAX_PODS {
+        if let Some(view) = node.pod(place) {
+            if !is_final(view.phase) {
+                return false;
+            }
+        }
+    }
+    true
+}
+
+/// What is to be done at this moment by the one who tells the time. None where the workers have something to do.
+pub(crate) fn turn_of(node: &Node, workers: u32, now: u64) -> Option<Turn> {
+    if workers == 0 {
+        return Some(Turn::Deserted);
+    }
+    if node.held() > 0 {
+        return None;
+    }
+    if is_over(node) {
+        return Some(Turn::Over);
+    }
+    match node.next_due() {
+        None => Some(Turn::Never),
+        Some(due) if due > now => Some(Turn::At(due)),
+        Some(_) => None,
+    }
+}

@@ -1,0 +1,184 @@
+//! The node's book behind its lock, and the workers that wait for it to change.
+ghost use Rattle.std.specs.Prelude.{◌≡◌, ◌+◌, ◌<◌, IfOk, IfSome, IfNone, OnOk, OnErr, OnSome};
+ghost use Rattle.worker_core.specs.declared.events.AgentEvent.TheVariants.{Claim};
+ghost use Rattle.node_lock.specs.Books.{worker_of};
+
+use crate::idle::{Turn, turn_of};
+use node_lock::{Book, BookFault, Receipt};
+use std::sync::atomic::{AtomicU64, Ordering};
+use std::sync::ledger::{Ledger, Share};
+use std::sync::{Condvar, Mutex, Wait};
+use worker_core::{AgentEvent, Answer};
+
+/// What stands under the lock: the book, and how many workers have not ended.
+#[derive(Drop)]
+struct Office<L: Ledger> {
+    book: Book<L>,
+    workers: u32,
+}
+
+/// A node's book, which its workers share. Its lock is held for one step at a time, and never while a call is
+/// made or a file is read.
+#[derive(Drop)]
+pub struct Shared<L: Ledger> {
+    office: Mutex<Office<L>>,
+    // Told at each entry that is no claim, when a worker ends, and once the book is closed.
+    changed: Condvar,
+    // The moment that was told last, for whoever wants to name it.
+    moment: AtomicU64,
+}
+
+// No fact spans two locks, so that the numbers of a worker's entries rise is looked at again.
+fn record_above<L: Ledger>(
+    book: &mut Book<L>,
+    share: &mut Share<L>,
+    worker: u32,
+    event: AgentEvent,
+    last: u64,
+) -> Result<Receipt, BookFault>
+    requires part { 0 < share.old.parts }
+    requires own { worker_of event ≡ worker }
+    ensures above { IfOk result (λ r. last < r.number) }
+    ensures worker { IfOk result (λ r. r.entry.worker ≡ worker) }
+    ensures event { IfOk result (λ r. r.entry.event ≡ event) }
+    ensures counted { OnOk result (share.new.amount ≡ share.old.amount + 1) }
+    ensures uncounted { OnErr result (share.new.amount ≡ share.old.amount) }
+    ensures parts { share.new.parts ≡ share.old.parts }
+{
+    if (book.history().len() as u64) < last {
+        return Err(BookFault::Memory);
+    }
+    book.record(share, worker, event)
+}
+
+impl<L: Ledger> Shared<L> {
+    /// A book that is shared from now on.
+    pub fn new(book: Book<L>) -> Shared<L> {
+        Shared {
+            office: Mutex::new(Office { book, workers: 0 }),
+            changed: Condvar::new(),
+            moment: AtomicU64::new(0),
+        }
+    }
+
+    /// The book, once nobody shares it any longer.
+    pub fn into_book(self) -> Book<L> {
+        let Shared {
+            office,
+            changed,
+            moment: _,
+        } = self;
+        drop(changed);
+        let Office { book, workers: _ } = office.into_inner();
+        book
+    }
+
+    /// Records an event of the worker, whose last entry has this number, and wakes those that wait.
+    pub(crate) fn record<R: Wait>(
+        &self,
+        rt: &R,
+        share: &mut Share<L>,
+        worker: u32,
+        event: AgentEvent,
+        last: u64,
+    ) -> Result<Receipt, BookFault>
+        requires part { 0 < share.old.parts }
+        requires own { worker_of event ≡ worker }
+        ensures above { IfOk result (λ r. last < r.number) }
+        ensures worker { IfOk result (λ r. r.entry.worker ≡ worker) }
+        ensures event { IfOk result (λ r. r.entry.event ≡ event) }
+        ensures counted { OnOk result (share.new.amount ≡ share.old.amount + 1) }
+        ensures uncounted { OnErr result (share.new.amount ≡ share.old.amount) }
+        ensures parts { share.new.parts ≡ share.old.parts }
+    {
+        let mut office = self.office.lock(rt);
+        let recorded = record_above(&mut office.book, share, worker, event, last);
+        drop(office);
+        self.changed.notify_all();
+        recorded
+    }
+
+    /// Claims for the worker. Where nothing is due it waits until something other than a claim was recorded.
+    /// None where the book is closed, or takes no claim.
+    pub(crate) fn claim<R: Wait>(
+        &self,
+        rt: &R,
+        share: &mut Share<L>,
+        worker: u32,
+        last: u64,
+    ) -> Option<Receipt>
+        requires part { 0 < share.old.parts }
+        ensures above { IfSome result (λ r. last < r.number) }
+        ensures worker { IfSome result (λ r. r.entry.worker ≡ worker) }
+        ensures event { IfSome result (λ r. r.entry.event ≡ Claim worker) }
+        ensures counted { OnSome result (share.new.amount ≡ share.old.amount + 1) }
+        ensures uncounted { IfNone result (share.new.amount ≡ share.old.amount) }
+        ensures parts { share.new.parts ≡ share.old.parts }
+    {
+        let mut office = self.office.lock(rt);
+        if office.book.is_closed() {
+            return None;
+        }
+        let event = AgentEvent::Claim(worker);
+        let claim = record_above(&mut office.book, share, worker, event, last).ok()?;
+        if matches!(&claim.entry().answer, Answer::Nothing) {
+            let since = office.book.history().len();
+            let _office = self
+                .changed
+                .wait_while(rt, office, |office| office.book.is_quiet(since));
+        }
+        Some(claim)
+    }
+
+    /// A worker is about to begin.
+    pub(crate) fn begin<R: Wait>(&self, rt: &R) {
+        let mut office = self.office.lock(rt);
+        office.workers = office.workers.saturating_add(1);
+    }
+
+    /// A worker has ended.
+    pub(crate) fn end<R: Wait>(&self, rt: &R) {
+        let mut office = self.office.lock(rt);
+        office.workers = office.workers.saturating_sub(1);
+        drop(office);
+        self.changed.notify_all();
+    }
+
+    /// What is to be done at this moment: None where workers have something to do.
+    pub(crate) fn turn<R: Wait>(&self, rt: &R, now: u64) -> Option<Turn> {
+        let office = self.office.lock(rt);
+        turn_of(office.book.node(), office.workers, now)
+    }
+
+    /// The same, once workers have nothing to do.
+    pub(crate) fn next_turn<R: Wait>(&self, rt: &R, now: u64) -> Option<Turn> {
+        let office = self.office.lock(rt);
+        let office = self.changed.wait_while(rt, office, |office| {
+            turn_of(office.book.node(), office.workers, now).is_none()
+        });
+        turn_of(office.book.node(), office.workers, now)
+    }
+
+    /// Whether the book takes a claim still.
+    pub fn has_room<R: Wait>(&self, rt: &R) -> bool {
+        self.office.lock(rt).book.has_room(&AgentEvent::Claim(1))
+    }
+
+    /// The moment that was told last.
+    pub fn moment(&self) -> u64 {
+        self.moment.load(Ordering::SeqCst)
+    }
+
+    /// From now on it is this moment.
+    pub(crate) fn tell(&self, moment: u64) {
+        self.moment.store(moment, Ordering::SeqCst);
+    }
+
+    /// No worker claims or waits from now on.
+    pub(crate) fn close<R: Wait>(&self, rt: &R) {
+        let mut office = self.office.lock(rt);
+        office.book.close();
+        drop(office);
+        self.changed.notify_all();
+    }
+}
