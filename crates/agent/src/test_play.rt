@@ -19,6 +19,14 @@ const LAST: u64 = 3_600;
 // More calls than any test has.
 const MANY_CALLS: u32 = 100_000;
 
+// Which call is lost, counted from 1, before or behind the runtime.
+#[derive(Clone, Copy, PartialEq, Eq)]
+pub(crate) enum Loses {
+    Nothing,
+    Request(u64),
+    Reply(u64),
+}
+
 // A node whose one worker calls a runtime by frames.
 #[derive(Drop)]
 pub(crate) struct Play {
@@ -26,6 +34,7 @@ pub(crate) struct Play {
     pub(crate) node: Node,
     served: Served,
     feed: Feed,
+    loses: Loses,
     pub(crate) calls: u64,
     // The texts of requests and replies as they came over the wire, a line each.
     pub(crate) told: String,
@@ -39,12 +48,17 @@ pub(crate) fn pod(alloc: Global, name: &str, spec: &str) -> Result<Pod, PodFault
 }
 
 impl Play {
-    pub(crate) fn new(alloc: Global, files: &[(&str, &str)]) -> Result<Play, AllocError> {
+    pub(crate) fn new(
+        alloc: Global,
+        files: &[(&str, &str)],
+        loses: Loses,
+    ) -> Result<Play, AllocError> {
         Ok(Play {
             alloc,
             node: Node::new(alloc, SETTINGS),
             served: Served::new(alloc, files)?,
             feed: Feed::new(alloc),
+            loses,
             calls: 0,
             told: String::new(alloc),
         })
@@ -85,8 +99,14 @@ impl Play {
     // What the worker reports of its request.
     fn calls(&mut self, request: &Request) -> Result<Reported, Fail> {
         self.calls = self.calls.saturating_add(1);
+        if self.loses == Loses::Request(self.calls) {
+            return Ok(Reported::Lost);
+        }
         let frame = request_frame(self.alloc, request)?;
         let reply = self.passes(frame.as_slice())?;
+        if self.loses == Loses::Reply(self.calls) {
+            return Ok(Reported::Lost);
+        }
         Ok(Reported::Replied(self.takes(reply.as_slice())?))
     }
 
