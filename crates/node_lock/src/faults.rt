@@ -3,17 +3,31 @@ ghost use Rattle.node_lock.specs.Faults.{fault_number};
 ghost use Rattle.node_lock.specs.declared.faults.BookFault.TheVariants.{Memory};
 
 use std::alloc::AllocError;
+use std::fmt;
 use thiserror::Error;
 
 /// Why a book takes no entry. What a node refuses stands in the history, these do not.
 #[derive(Clone, Copy, Debug, PartialEq, Eq, Error)]
 pub enum BookFault {
     /// A growth was refused.
-    #[error("Memory")]
     Memory,
     /// The history would come to have more entries than it may, with those counted that end the held claims.
-    #[error("HistoryFull")]
     HistoryFull,
+}
+
+/// The fault's name.
+impl fmt::Display for BookFault {
+    ghost use Rattle.std.specs.Prelude.{Some};
+    ghost use Rattle.node_lock.specs.Faults.{fault_text};
+
+    ghost output = { λ fault. Some (fault_text fault) };
+
+    fn fmt<W: fmt::Write>(&self, f: &mut fmt::Formatter<W>) -> fmt::Result {
+        match self {
+            BookFault::Memory => f.write_str("Memory"),
+            BookFault::HistoryFull => f.write_str("HistoryFull"),
+        }
+    }
 }
 
 impl BookFault {

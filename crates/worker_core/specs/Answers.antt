@@ -1,5 +1,5 @@
--- The refusals of a node and their numbers: this project's own. docs/SEMANTICS.md, "The agent: the node".
-use Rattle.std.specs.Prelude.{ℕ, Bool, true, false}
+-- The refusals of a node, their names and their numbers: this project's own. docs/SEMANTICS.md, "The agent: the node".
+use Rattle.std.specs.Prelude.{ℕ, List, codes, Bool, true, false}
 use Rattle.worker_core.specs.declared.answers.Answer.{Answer}
 use Rattle.worker_core.specs.declared.answers.Answer.TheVariants.{Refused}
 use Rattle.worker_core.specs.declared.answers.Refusal.{Refusal}
@@ -12,6 +12,15 @@ refusal_number NoSuchPod = 3
 refusal_number NotYours = 4
 refusal_number ClockBack = 5
 refusal_number Memory = 6
+
+-- as programs print it
+abbrev pub refusal_text : Refusal → List ℕ
+refusal_text Full = codes "Full"
+refusal_text KnownUid = codes "KnownUid"
+refusal_text NoSuchPod = codes "NoSuchPod"
+refusal_text NotYours = codes "NotYours"
+refusal_text ClockBack = codes "ClockBack"
+refusal_text Memory = codes "Memory"
 
 -- a growth was refused
 abbrev pub is_want : Refusal → Bool

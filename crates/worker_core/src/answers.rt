@@ -4,29 +4,43 @@ ghost use Rattle.worker_core.specs.Answers.{is_memory, refusal_number};
 use cri_msgs::Request;
 use manifest::Uid;
 use std::alloc::{AllocError, Global};
+use std::fmt;
 use thiserror::Error;
 
 /// Why a node refuses an event.
 #[derive(Clone, Copy, Debug, PartialEq, Eq, Error)]
 pub enum Refusal {
     /// As many pods are on the node as may be, or as many uids were admitted.
-    #[error("Full")]
     Full,
     /// A pod of this uid was admitted before, whether it is still there or not.
-    #[error("KnownUid")]
     KnownUid,
     /// No pod of this uid is on the node.
-    #[error("NoSuchPod")]
     NoSuchPod,
     /// The worker holds no pod, where it has to hold one, or holds one already.
-    #[error("NotYours")]
     NotYours,
     /// The moment lies before the one that was told last.
-    #[error("ClockBack")]
     ClockBack,
     /// A growth was refused.
-    #[error("Memory")]
     Memory,
+}
+
+/// The refusal's name.
+impl fmt::Display for Refusal {
+    ghost use Rattle.std.specs.Prelude.{Some};
+    ghost use Rattle.worker_core.specs.Answers.{refusal_text};
+
+    ghost output = { λ refusal. Some (refusal_text refusal) };
+
+    fn fmt<W: fmt::Write>(&self, f: &mut fmt::Formatter<W>) -> fmt::Result {
+        match self {
+            Refusal::Full => f.write_str("Full"),
+            Refusal::KnownUid => f.write_str("KnownUid"),
+            Refusal::NoSuchPod => f.write_str("NoSuchPod"),
+            Refusal::NotYours => f.write_str("NotYours"),
+            Refusal::ClockBack => f.write_str("ClockBack"),
+            Refusal::Memory => f.write_str("Memory"),
+        }
+    }
 }
 
 impl Refusal {
