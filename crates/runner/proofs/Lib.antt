@@ -4,3 +4,4 @@ pub mod Labels
 pub mod Shares
 pub mod Talks
 pub mod Unwoken
+pub mod Visits

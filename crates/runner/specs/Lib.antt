@@ -3,3 +3,4 @@ pub mod Connection
 pub mod Steps
 pub mod Shared
 pub mod Labelled
+pub mod Rounds

@@ -1,7 +1,9 @@
 //! Runners: each steps the cells of its share, round after round.
-ghost use Rattle.std.specs.Prelude.{◌<◌, ℕ, List, option_map};
+ghost use Rattle.std.specs.Prelude.{◌≡◌, ◌<◌, ℕ, List, Option, option_map};
+ghost use Rattle.runtime_cell.specs.declared.cell.Did.{Did};
 ghost use Rattle.runtime_core.specs.Kept.{IsNextIn, MayStepIn, home_in};
 ghost use Rattle.runner.specs.Labelled.{of_share};
+ghost use Rattle.runner.specs.Rounds.{IsRound, StepsAt, moves_on};
 
 use crate::lists::SandboxCells;
 use crate::shared::{Node, SharedRuntime};
@@ -48,14 +50,14 @@ impl SharedRuntime {
         gate: &G,
     ) -> bool
         requires { runner < runners }
+        ensures { IsRound runner runners result }
     {
         let mut last = 0;
         let mut went_on = false;
         while let Some(turn) = self.next_turn(rt, last, runner, runners) {
             last = turn.id;
-            if step(rt, turn, gate) {
-                went_on = true;
-            }
+            let moved = step(rt, turn, gate);
+            went_on = went_on || moved;
         }
         went_on
     }
@@ -96,7 +98,9 @@ impl Node {
 }
 
 // Does a step that is owed, and tells whether the cell went on.
-fn step<R: Wait, G: StepGate>(rt: &R, turn: Turn, gate: &G) -> bool {
+fn step<R: Wait, G: StepGate>(rt: &R, turn: Turn, gate: &G) -> bool
+    ensures { (did : Option Did) × StepsAt turn.id did × (result ≡ moves_on did) }
+{
     let Turn { id, list } = turn;
     let Some(list) = list else {
         return false;
@@ -116,7 +120,9 @@ fn step_in<G: StepGate>(cells: &mut Cells, id: u64, gate: &G) -> Option<Did>
 }
 
 // Whether something came of a step.
-fn goes_on(did: Option<Did>) -> bool {
+fn goes_on(did: Option<Did>) -> bool
+    ensures { result ≡ moves_on did }
+{
     match did {
         None | Some(Did::Idle) => false,
         Some(Did::Performed | Did::Denied(_) | Did::Ended(_)) => true,
