@@ -1,5 +1,10 @@
--- With which status a program ends that is stopped, this project's own: docs/SEMANTICS.md, "Programs".
-use Rattle.std.specs.Prelude.{ℕ}
+-- Why scriptd or nodeagent ends before its work is done, from the fault that was met, and with which status: this project's
+-- own. docs/SEMANTICS.md, "Programs".
+use Rattle.std.specs.Prelude.{◌≡◌, ℕ, List}
+use Rattle.command_line.specs.declared.fault.LineFault.{LineFault}
+use Rattle.command_line.specs.declared.fault.LineFault.TheVariants as line
+use Rattle.node_io.specs.declared.faults.FileFault.{FileFault}
+use Rattle.node_io.specs.declared.faults.FileFault.TheVariants as file
 use Rattle.agent.specs.declared.stops.Stop.{Stop}
 use Rattle.agent.specs.declared.stops.Stop.TheVariants.{CommandLine, BadNumber, Baseline, Manifest, Pod, File, Socket, Unwritten, HistoryFull, Memory}
 
@@ -14,3 +19,15 @@ status_of (Socket path) = 3
 status_of Unwritten = 3
 status_of HistoryFull = 4
 status_of Memory = 4
+
+-- a command line is refused
+abbrev pub of_line_fault : LineFault → Stop
+of_line_fault (line.Refused error) = CommandLine error
+of_line_fault (line.BadNumber word) = BadNumber word
+of_line_fault line.Memory = Memory
+
+-- a file can't be read
+abbrev pub IsOfFile : List ℕ → FileFault → Stop → Type 0
+IsOfFile path file.Memory stop = stop ≡ Memory
+IsOfFile path fault (File word told) = (word.now ≡ path) × (told ≡ fault)
+IsOfFile path fault stop = ⊥

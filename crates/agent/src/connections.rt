@@ -38,12 +38,17 @@ impl Connections {
 
     /// Takes a place for a connection. None where all are taken, or no more are served.
     pub(crate) fn enter<R: Wait>(&self, rt: &R, stream: &UnixStream) -> Option<usize> {
-        let copy = stream.try_clone().ok()?;
+        // What finds no place is let go of behind the lock.
+        let mut copy = Some(stream.try_clone().ok()?);
         let mut open = self.open.lock(rt);
-        if open.closed {
-            return None;
-        }
-        put_in(&mut open.places, copy)
+        let place = if open.closed {
+            None
+        } else {
+            put_in(&mut open.places, &mut copy)
+        };
+        drop(open);
+        drop(copy);
+        place
     }
 
     /// Gives a place back.
@@ -70,11 +75,11 @@ impl Connections {
     }
 }
 
-// Puts a connection into the first place that is free.
-fn put_in(places: &mut Vec<Option<UnixStream>>, stream: UnixStream) -> Option<usize> {
+// Moves a connection into the first place that is free, if there is one.
+fn put_in(places: &mut Vec<Option<UnixStream>>, stream: &mut Option<UnixStream>) -> Option<usize> {
     let free = places.iter().position(|place| place.is_none())?;
     let place = places.get_mut(free)?;
-    *place = Some(stream);
+    *place = stream.take();
     Some(free)
 }
 

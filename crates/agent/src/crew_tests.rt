@@ -1,4 +1,4 @@
-use crate::test_crews::{SETTLED, Trial, settled};
+use crate::test_crews::{SETTLED, Trial, entries_at_call, settled};
 use node_lock::{MAX_ENTRIES, PARTS};
 use std::alloc::Global;
 use std::marker::Brand;
@@ -23,6 +23,11 @@ fn tried<R: Threads + Wait + Clock + Sync>(
     trial: Trial,
 ) -> Result<String, Fail> {
     settled::<Brand, R>(rt, alloc, trial, Blank::new(PARTS))
+}
+
+// One pod by four workers, whose first call is held up.
+fn held_up<R: Threads + Wait + Clock + Sync>(rt: &R, alloc: Global) -> Result<(u64, String), Fail> {
+    entries_at_call::<Brand, R>(rt, alloc, 4, Blank::new(PARTS))
 }
 
 // Whatever number of workers there is, what is told in the end is the same, and each entry has its receipt.
@@ -72,5 +77,18 @@ fn two_calls_are_in_flight(rt: HostRuntime) -> Result<(), Fail> {
     };
     let left = tried(&rt, rt.alloc(), trial)?;
     assert_eq!(rt; left.as_str(), SETTLED);
+    Ok(())
+}
+
+// A worker that was given nothing waits, and makes no entries meanwhile: there are those of the admission, of the first
+// claim, and of one claim of each other worker.
+#[test]
+fn workers_without_work_wait(rt: HostRuntime) -> Result<(), Fail> {
+    let (entries, left) = held_up(&rt, rt.alloc())?;
+    assert!(rt; 2 <= entries && entries <= 5, "{entries}");
+    assert_eq!(rt;
+        left.as_str(),
+        "settled, true\nPOD default.boot Failed\n  setup Terminated 3 0\n  main Waiting - 0\n"
+    );
     Ok(())
 }

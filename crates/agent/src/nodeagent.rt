@@ -125,7 +125,7 @@ fn admit<'a, L: Ledger, R: Wait>(
     desk: &mut Desk<L>,
     path: &'a str,
 ) -> Result<(), Stop<'a>>
-    ensures { desk.new ≡ desk.old }
+    ensures { desk.new.parts ≡ desk.old.parts }
 {
     let pod = pod_at(system, path)?;
     match desk.record(rt, shared, AgentEvent::Admit(pod)) {
@@ -164,7 +164,7 @@ fn run_crew<L: Ledger + Send + Sync, R: Threads + Wait + Clock + Sync>(
     shared: &Shared<L>,
     desk: Desk<L>,
 ) -> Result<Ended, AllocError>
-    requires { desk ≡ PARTS }
+    requires { desk.parts ≡ PARTS }
 {
     let peers = peers(system, line, shared)?;
     let (ended, tally) = crew(
@@ -189,7 +189,7 @@ fn run_beside<'a, L: Ledger + Send + Sync, R: Threads + Wait + Clock + Sync>(
     shared: &Shared<L>,
     desk: Desk<L>,
 ) -> Result<Ended, Stop<'a>>
-    requires { desk ≡ PARTS }
+    requires { desk.parts ≡ PARTS }
 {
     let address = Address {
         socket: line.socket,
@@ -212,13 +212,13 @@ fn run_at<L: Ledger + Send + Sync, R: Threads + Wait + Clock + Sync>(
     shared: &Shared<L>,
     desk: Desk<L>,
 ) -> Result<Ended, AllocError>
-    requires { desk ≡ PARTS }
+    requires { desk.parts ≡ PARTS }
 {
     scope(
         scope_env(),
         rt,
         move |scope| -> Result<Ended, AllocError>
-            requires { desk ≡ PARTS }
+            requires { desk.parts ≡ PARTS }
         {
             let ended = match start_site(scope, rt, system, site) {
                 Ok(()) => run_crew(rt, system, line, shared, desk),

@@ -1,3 +1,7 @@
+ghost use Rattle.std.specs.Prelude.{◌≡◌};
+ghost use Rattle.agent.specs.StopText.{refusal_name};
+ghost use Rattle.agent.specs.Stops.{IsOfFile};
+
 use bpf_code::CodeFault;
 use bpf_verify::{Fault, Refusal};
 use command_line::LineFault;
@@ -50,7 +54,9 @@ impl Stop<'_> {
 }
 
 /// The name of a filter's fault, without its place.
-fn name_of(refusal: Refusal) -> &'static str {
+fn name_of(refusal: Refusal) -> &'static str
+    ensures { result.now ≡ refusal_name refusal }
+{
     match refusal {
         Refusal::Code(fault) => match fault {
             CodeFault::Length => "Length",
@@ -81,6 +87,10 @@ pub(crate) struct Told<'t, 'a> {
 
 /// A refused command line is told in clap's own words.
 impl fmt::Display for Told<'_, '_> {
+    ghost use Rattle.agent.specs.StopText.{stop_text};
+
+    ghost output = { λ told. stop_text told.program.now told.stop.now };
+
     fn fmt<W: fmt::Write>(&self, f: &mut fmt::Formatter<W>) -> fmt::Result {
         let program = self.program;
         match self.stop {
@@ -103,18 +113,33 @@ impl fmt::Display for Told<'_, '_> {
 }
 
 impl<'a> From<AllocError> for Stop<'a> {
+    ghost use Rattle.std.specs.Prelude.{◌≡◌};
+    ghost use Rattle.agent.specs.declared.stops.Stop.TheVariants.{Memory};
+
+    ghost from_gives = { λ _ stop. stop ≡ Memory };
+
     fn from(_: AllocError) -> Stop<'a> {
         Stop::Memory
     }
 }
 
 impl<'a, T: Drop> From<AllocFailed<T>> for Stop<'a> {
+    ghost use Rattle.std.specs.Prelude.{◌≡◌};
+    ghost use Rattle.agent.specs.declared.stops.Stop.TheVariants.{Memory};
+
+    ghost from_gives = { λ _ stop. stop ≡ Memory };
+
     fn from(_: AllocFailed<T>) -> Stop<'a> {
         Stop::Memory
     }
 }
 
 impl<'a> From<LineFault<'a>> for Stop<'a> {
+    ghost use Rattle.std.specs.Prelude.{◌≡◌};
+    ghost use Rattle.agent.specs.Stops.{of_line_fault};
+
+    ghost from_gives = { λ fault stop. stop ≡ of_line_fault fault };
+
     fn from(fault: LineFault<'a>) -> Stop<'a> {
         match fault {
             LineFault::Refused(error) => Stop::CommandLine(error),
@@ -125,7 +150,9 @@ impl<'a> From<LineFault<'a>> for Stop<'a> {
 }
 
 /// Why a file stops the program.
-pub(crate) fn stop_at(path: &str, fault: FileFault) -> Stop<'_> {
+pub(crate) fn stop_at(path: &str, fault: FileFault) -> Stop<'_>
+    ensures { IsOfFile path.now fault result }
+{
     match fault {
         FileFault::Memory => Stop::Memory,
         _ => Stop::File(path, fault),

@@ -9,7 +9,7 @@ use node_io::{MemoryFiles, StoredFile};
 use node_lock::{Book, MAX_ENTRIES, PARTS, Tally, audit};
 use std::alloc::{AllocError, Global};
 use std::sync::Wait;
-use std::sync::atomic::{AtomicBool, Ordering};
+use std::sync::atomic::{AtomicBool, AtomicU64, Ordering};
 use std::sync::ledger::{Blank, Ledger};
 use std::test::Fail;
 use std::thread::{Threads, scope, scope_env, sleep};
@@ -34,6 +34,10 @@ pub(crate) const PODS: &str =
     r#"flaky "restartPolicy":"OnFailure","containers":[{"name":"main","image":"flaky.s"}]
 bad "restartPolicy":"Never","containers":[{"name":"main","image":"bad.s","securityContext":{"seccompProfile":{"type":"Localhost","localhostProfile":"kill.p"}}}]
 boot "restartPolicy":"Never","initContainers":[{"name":"setup","image":"three.s"}],"containers":[{"name":"main","image":"zero.s"}]"#;
+
+/// One of them alone.
+const ONE_POD: &str =
+    r#"boot "restartPolicy":"Never","initContainers":[{"name":"setup","image":"three.s"}],"containers":[{"name":"main","image":"zero.s"}]"#;
 
 /// What is left of these.
 pub(crate) const SETTLED: &str = "settled, true\n\
@@ -87,7 +91,7 @@ pub(crate) fn begun<L: Ledger, R: Wait>(
     requires parts { blank.parts ≡ L.parts }
     requires all { blank.parts ≡ PARTS }
     requires limit { limit ≤ MAX_ENTRIES }
-    ensures { IfOk result (λ begun. begun.1 ≡ PARTS) }
+    ensures { IfOk result (λ begun. begun.1.parts ≡ PARTS) }
 {
     let (book, share) = Book::<L>::with_limit(alloc, SETTINGS, limit, blank);
     let shared = Shared::new(book);
@@ -134,14 +138,14 @@ pub(crate) fn worked<
     gate: &G,
 ) -> (Ended, Option<Tally<L>>)
     requires few { vec_len peers < PARTS }
-    requires parts { desk ≡ PARTS }
+    requires parts { desk.parts ≡ PARTS }
 {
     scope(
         scope_env(),
         rt,
         move |scope| -> (Ended, Option<Tally<L>>)
             requires few { vec_len peers < PARTS }
-            requires parts { desk ≡ PARTS }
+            requires parts { desk.parts ≡ PARTS }
         {
             let started = start_runners(scope, rt, &runtime.engine, 4);
             let pace = Pace::Counted(3_600);
@@ -225,6 +229,55 @@ impl<R: Clock> Gate for Hold<'_, R> {
             self.answered.store(true, Ordering::SeqCst);
         }
     }
+}
+
+// A gate that holds the first call for a hundred turns, and keeps how many entries the history has then.
+#[derive(Drop)]
+struct Watch<'a, L: Ledger, R: Wait + Clock> {
+    rt: &'a R,
+    shared: &'a Shared<L>,
+    entries: AtomicU64,
+}
+
+impl<L: Ledger, R: Wait + Clock> Gate for Watch<'_, L, R> {
+    fn before(&self, call: u64) -> bool {
+        if call == 1 {
+            for _ in 0..100 {
+                sleep(self.rt, Duration::from_millis(1));
+            }
+            let entries = self.shared.entries(self.rt) as u64;
+            self.entries.store(entries, Ordering::SeqCst);
+        }
+        true
+    }
+
+    fn after(&self, _call: u64) {}
+}
+
+/// How many entries there are while the first call of one pod, which this many workers share, is held up; and what is left of
+/// the pod then.
+pub(crate) fn entries_at_call<L: Ledger + Send + Sync, R: Threads + Wait + Clock + Sync>(
+    rt: &R,
+    alloc: Global,
+    workers: u32,
+    blank: Blank,
+) -> Result<(u64, String), Fail>
+    requires name { blank.name ≡ L.name }
+    requires parts { blank.parts ≡ L.parts }
+    requires all { blank.parts ≡ PARTS }
+{
+    let runtime = runtime(alloc, 0, 0, 0)?;
+    let (shared, desk) = begun::<L, R>(rt, alloc, ONE_POD, MAX_ENTRIES, blank)?;
+    let gate = Watch {
+        rt,
+        shared: &shared,
+        entries: AtomicU64::new(0),
+    };
+    let peers = peers(rt, alloc, &runtime, workers)?;
+    let (ended, tally) = worked(rt, alloc, &runtime, &shared, desk, peers, &gate);
+    let entries = gate.entries.load(Ordering::SeqCst);
+    drop(gate);
+    Ok((entries, left_of(alloc, shared, ended, tally)?))
 }
 
 /// What is tried: by how many workers, with how long a history, and what is to fail, each by its number: a read or

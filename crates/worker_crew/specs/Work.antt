@@ -1,11 +1,12 @@
 -- What a worker of the agent does, as its receipts tell it: this project's own. docs/SEMANTICS.md, "The agent:
 -- workers".
-use Rattle.std.specs.Prelude.{◌≡◌, ℕ, ◌<◌, List, [], ◌∷◌, Option, Some, None, Result, Ok, Err}
+use Rattle.std.specs.Prelude.{◌≡◌, ℕ, ◌<◌, List, [], ◌∷◌, ◌++◌, Option, Some, None, Result, Ok, Err}
 use Rattle.cri_frames.specs.declared.faults.Lost.{Lost}
 use Rattle.cri_msgs.specs.declared.calls.Request.{Request}
 use Rattle.cri_msgs.specs.declared.replies.Reply.{Reply}
 use Rattle.worker_core.specs.declared.answers.Answer.{Answer}
-use Rattle.worker_core.specs.declared.answers.Answer.TheVariants.{Claimed}
+use Rattle.worker_core.specs.declared.answers.Answer.TheVariants.{Claimed, Refused}
+use Rattle.worker_core.specs.declared.answers.Refusal.{Refusal}
 use Rattle.worker_core.specs.declared.events.AgentEvent.{AgentEvent}
 use Rattle.worker_core.specs.declared.events.AgentEvent.TheVariants.{Claim, Report}
 use Rattle.worker_core.specs.declared.events.Reported.{Reported}
@@ -32,6 +33,19 @@ MayTell may (Some request) reported.Lost = (lost : Lost) × may request (Err los
 abbrev pub MayFollow : (Request → Result Reply Lost → Type 0) → Option Request → AgentEvent → Type 0
 MayFollow may before (Report worker told) = MayTell may before told
 MayFollow may before event = Unit {0}
+
+-- why the node refused an event, if it did
+abbrev pub refused_by : Answer → Option Refusal
+refused_by (Refused refusal) = Some refusal
+refused_by answer = None
+
+-- an event of the worker became an entry, whose receipt comes last, and it is told why the node refused it
+pub record Recorded (worker : ℕ) (event : AgentEvent) (told : Option Refusal) (old new : List Received) : Type 0 where
+  pub receipt : Received
+  pub last : new ≡ old ++ receipt ∷ []
+  pub worker_is : receipt.entry.worker ≡ worker
+  pub event_is : receipt.entry.event ≡ event
+  pub refused : told ≡ refused_by receipt.entry.answer
 
 -- from a claim's request and the number of its entry on: the numbers rise, the entries are the worker's, and each
 -- report comes right behind its claim

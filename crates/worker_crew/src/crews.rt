@@ -67,8 +67,8 @@ fn hire<
     peers: Vec<P>,
 ) -> Staff<L>
     requires few { vec_len peers < PARTS }
-    requires parts { vec_len peers < desk.old }
-    ensures { IsTrue result.complete → desk.new + vec_len result.threads ≡ desk.old }
+    requires parts { vec_len peers < desk.old.parts }
+    ensures { IsTrue result.complete → desk.new.parts + vec_len result.threads ≡ desk.old.parts }
 {
     let mut threads = Vec::new(alloc);
     let mut worker = 0;
@@ -135,8 +135,8 @@ fn run<
     pace: Pace,
 ) -> (Ended, Option<Tally<L>>)
     requires few { vec_len peers < PARTS }
-    requires parts { vec_len peers < desk }
-    ensures { IfSome result.1 (λ tally. tally.parts ≡ desk) }
+    requires parts { vec_len peers < desk.parts }
+    ensures { IfSome result.1 (λ tally. tally.parts ≡ desk.parts) }
 {
     let mut desk = desk;
     let staff = hire(scope, rt, alloc, shared, gate, &mut desk, peers);
@@ -172,16 +172,16 @@ pub fn crew<
     pace: Pace,
 ) -> (Ended, Option<Tally<L>>)
     requires few { vec_len peers < PARTS }
-    requires parts { vec_len peers < desk }
-    ensures { IfSome result.1 (λ tally. tally.parts ≡ desk) }
+    requires parts { vec_len peers < desk.parts }
+    ensures { IfSome result.1 (λ tally. tally.parts ≡ desk.parts) }
 {
     scope(
         scope_env(),
         rt,
         move |scope| -> (Ended, Option<Tally<L>>)
             requires few { vec_len peers < PARTS }
-            requires parts { vec_len peers < desk }
-            ensures { IfSome result.1 (λ tally. tally.parts ≡ desk) }
+            requires parts { vec_len peers < desk.parts }
+            ensures { IfSome result.1 (λ tally. tally.parts ≡ desk.parts) }
         { run(scope, rt, alloc, shared, gate, desk, peers, pace) },
     )
 }

@@ -1,5 +1,6 @@
-ghost use Rattle.std.specs.Prelude.{◌≡◌, ◌+◌, ◌<◌, ◌≤◌, ◌++◌, ◌∷◌, [], length, vec_len, vec_capacity, OnOk, OnErr};
+ghost use Rattle.std.specs.Prelude.{◌≡◌, ◌+◌, ◌<◌, ◌≤◌, ◌++◌, ◌∷◌, [], length, vec_len, vec_capacity, IfOk, OnErr};
 ghost use Rattle.node_lock.specs.Books.{worker_of};
+ghost use Rattle.worker_crew.specs.Work.{Recorded};
 
 use crate::seats::Seat;
 use crate::shared::Shared;
@@ -11,7 +12,7 @@ use std::sync::ledger::{Ledger, Share};
 use worker_core::{AgentEvent, Answer, Refusal};
 
 /// Where worker 0 admits pods and tells the time: its share, and the receipts for what it did. Contracts see how
-/// many parts of the count its share has.
+/// many parts of the count its share has, and the receipts.
 #[derive(Drop)]
 pub struct Desk<L: Ledger> {
     share: Share<L>,
@@ -20,11 +21,12 @@ pub struct Desk<L: Ledger> {
 }
 
 impl<L: Ledger> Model for Desk<L> {
-    ghost use Rattle.std.specs.Prelude.{◌≡◌, ◌<◌, ℕ, length};
+    ghost use Rattle.std.specs.Prelude.{◌≡◌, ◌<◌, length};
+    ghost use Rattle.node_lock.specs.Receipts.{Tallied};
 
-    ghost Value = { ℕ };
+    ghost Value = { Tallied };
 
-    ghost view = { λ d. d.share.parts };
+    ghost view = { λ d. record { parts = d.share.parts; receipts = d.receipts.items } };
 
     ghost invariant = { λ d. (0 < d.share.parts) × (d.share.amount ≡ length d.receipts.items) };
 }
@@ -45,7 +47,8 @@ impl<L: Ledger> Desk<L> {
     pub fn new(alloc: Global, share: Share<L>) -> Desk<L>
         requires part { 0 < share.parts }
         requires fresh { share.amount ≡ 0 }
-        ensures { result ≡ share.parts }
+        ensures parts { result.parts ≡ share.parts }
+        ensures receipts { result.receipts ≡ [] }
     {
         Desk {
             share,
@@ -62,7 +65,9 @@ impl<L: Ledger> Desk<L> {
         event: AgentEvent,
     ) -> Result<Option<Refusal>, BookFault>
         requires own { worker_of event ≡ 0 }
-        ensures parts { self.new ≡ self.old }
+        ensures parts { self.new.parts ≡ self.old.parts }
+        ensures done { IfOk result (λ refusal. Recorded 0 event refusal self.old.receipts self.new.receipts) }
+        ensures err { OnErr result (self.new.receipts ≡ self.old.receipts) }
     {
         self.receipts.reserve(1)?;
         let receipt = shared.record(rt, &mut self.share, 0, event, self.last)?;
@@ -77,15 +82,16 @@ impl<L: Ledger> Desk<L> {
 
     /// A worker's seat, with one part.
     pub(crate) fn seat(&mut self, worker: u32) -> Seat<L>
-        requires { 1 < self.old }
-        ensures { self.new + 1 ≡ self.old }
+        requires { 1 < self.old.parts }
+        ensures parts { self.new.parts + 1 ≡ self.old.parts }
+        ensures receipts { self.new.receipts ≡ self.old.receipts }
     {
         Seat::new(worker, self.share.split_off(1, 0))
     }
 
     /// The receipts, and the share that counts them.
     pub fn into_tally(self) -> Tally<L>
-        ensures { result.parts ≡ self }
+        ensures { result ≡ self }
     {
         let Desk {
             share,

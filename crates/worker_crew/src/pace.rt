@@ -43,7 +43,7 @@ pub(crate) fn keep_time<L: Ledger, R: Wait + Clock>(
     desk: &mut Desk<L>,
     pace: Pace,
 ) -> Ended
-    ensures { desk.new ≡ desk.old }
+    ensures { desk.new.parts ≡ desk.old.parts }
 {
     match pace {
         Pace::Counted(until) => count(rt, shared, desk, until),
@@ -61,7 +61,7 @@ fn fault_of<L: Ledger, R: Wait>(rt: &R, shared: &Shared<L>) -> Ended {
 }
 
 fn count<L: Ledger, R: Wait>(rt: &R, shared: &Shared<L>, desk: &mut Desk<L>, until: u64) -> Ended
-    ensures { desk.new ≡ desk.old }
+    ensures { desk.new.parts ≡ desk.old.parts }
 {
     let mut now = 0;
     for _ in rt.forever() {
@@ -99,7 +99,7 @@ fn watch<L: Ledger, R: Wait + Clock>(
     desk: &mut Desk<L>,
     until: Option<u64>,
 ) -> Ended
-    ensures { desk.new ≡ desk.old }
+    ensures { desk.new.parts ≡ desk.old.parts }
 {
     let start = Instant::now(rt).ok();
     let mut told = 0;

@@ -164,6 +164,11 @@ impl<L: Ledger> Shared<L> {
         self.office.lock(rt).book.has_room(&AgentEvent::Claim(1))
     }
 
+    /// How many entries the book's history has now.
+    pub fn entries<R: Wait>(&self, rt: &R) -> usize {
+        self.office.lock(rt).book.history().len()
+    }
+
     /// The moment that was told last.
     pub fn moment(&self) -> u64 {
         self.moment.load(Ordering::SeqCst)

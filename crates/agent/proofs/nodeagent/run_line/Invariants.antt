@@ -4,4 +4,4 @@ use Rattle.node_lock.specs.declared.limits.TheConstants.{PARTS}
 use Rattle.agent.proofs.nodeagent.run_line.Given as goal
 
 abbrev pub invariant-loop-path : goal.invariant-loop-path
-invariant-loop-path g l = l.desk ≡ PARTS
+invariant-loop-path g l = l.desk.parts ≡ PARTS

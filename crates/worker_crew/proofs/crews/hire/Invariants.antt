@@ -3,5 +3,5 @@ use Rattle.std.proofs.Common.{◌≡◌, ◌+◌, ◌<◌, length, vec_len}
 use Rattle.worker_crew.proofs.crews.hire.Given as goal
 
 abbrev pub invariant-loop-peer : goal.invariant-loop-peer
-invariant-loop-peer g l = (length l.peer-iterator.rest.items < l.desk) × (l.desk + vec_len l.threads ≡ l.initial.desk)
+invariant-loop-peer g l = (length l.peer-iterator.rest.items < l.desk.parts) × (l.desk.parts + vec_len l.threads ≡ l.initial.desk.parts)
     × (l.worker + length l.peer-iterator.rest.items ≡ length l.initial.peer-iterator.rest.items)
