@@ -3,7 +3,8 @@
 # spent, crate by crate. make planted [CRATE=..]: more wrong bodies, which the gate leaves out. make demo:
 # a profile is compiled, a verified filter judges a call, scripts are played, one of which adds a filter, the
 # profiles of a pod's containers are picked, and two pods are settled over a socket. make lib: the C library, proved, and its header, in out/c.
-# make install PREFIX=..: the proved programs in PREFIX/bin with their manual pages, the library in PREFIX/lib and PREFIX/include.
+# make install PREFIX=..: the proved programs in PREFIX/bin, their manual pages in PREFIX/share/man, the library in PREFIX/lib and
+# PREFIX/include. make copy PREFIX=..: the same of what is built already.
 # make bench [ENGINES=..]: the machine and the compiler beside others, the profiles of the engines whose
 # Debian packages lie below ENGINES, the runtime with few and with many uids, and
 # calls over a socket, by the programs that make test or make install built. make kernel [COUNT=..]: the running kernel beside the library.
@@ -15,7 +16,7 @@ ENGINES ?= /
 BENCH_FLAGS := -std=gnu11 -O2 -Wall -Wextra
 EXAMPLES := ../../examples
 
-.PHONY: test times planted demo lib install bench kernel table clean
+.PHONY: test times planted demo lib install copy bench kernel table clean
 
 test:
 	@tools/gate.sh
@@ -46,7 +47,14 @@ lib:
 install: lib
 	@set -e; for program in $(PROGRAMS); do \
 	  (cd crates/$$program && rm -f out/$$program && { rt run -- --help > /dev/null 2>&1 || test -x out/$$program; }); \
+	done
+	@$(MAKE) --no-print-directory copy
+
+# What make install or make test built, into PREFIX.
+copy:
+	@set -e; for program in $(PROGRAMS); do \
 	  install -D -m 755 crates/$$program/out/$$program $(DESTDIR)$(PREFIX)/bin/$$program; \
+	  install -D -m 644 man/$$program.1 $(DESTDIR)$(PREFIX)/share/man/man1/$$program.1; \
 	done
 	@tools/pack_library.sh crates/motchidu_c/out/libmotchidu_c.a out/install $(PREFIX)
 	install -D -m 644 out/install/libmotchidu.a $(DESTDIR)$(PREFIX)/lib/libmotchidu.a

@@ -13,22 +13,15 @@ import sys
 import tempfile
 import time
 
+sys.dont_write_bytecode = True
+from counting import check, counted
+
 ROOT = os.path.dirname(os.path.dirname(os.path.abspath(__file__)))
-PASSED = FAILED = 0
 
 
 def program(name):
     folder = os.environ.get("BIN")
     return f"{folder}/{name}" if folder else f"{ROOT}/crates/{name}/out/{name}"
-
-
-def check(what, found, want=True):
-    global PASSED, FAILED
-    if found == want:
-        PASSED += 1
-    else:
-        FAILED += 1
-        print(f"{what}: {found!r} is not {want!r}", flush=True)
 
 
 FILES = {
@@ -230,8 +223,7 @@ def main():
         with tempfile.TemporaryDirectory() as folder:
             write_files(folder)
             part(folder)
-    print(f"{PASSED} passed, {FAILED} failed")
-    sys.exit(FAILED != 0)
+    sys.exit(counted())
 
 
 main()
