@@ -1,4 +1,5 @@
 use crate::test_crews::{SETTLED, Trial, entries_at_call, settled};
+use crate::test_play::many_told;
 use node_lock::{MAX_ENTRIES, PARTS};
 use std::alloc::Global;
 use std::marker::Brand;
@@ -9,6 +10,7 @@ use std::thread::Threads;
 use std::time::Clock;
 
 const PLAIN: Trial = Trial {
+    full: false,
     workers: 2,
     limit: MAX_ENTRIES,
     wires: 0,
@@ -53,6 +55,26 @@ fn failures_change_nothing(rt: HostRuntime) -> Result<(), Fail> {
         }
         let left = tried(&rt, rt.alloc(), trial)?;
         assert_eq!(rt; left.as_str(), SETTLED, "{place}");
+    }
+    Ok(())
+}
+
+// And so it is for a full node and as many workers as there may be.
+#[test]
+fn a_crew_settles_a_full_node(rt: HostRuntime) -> Result<(), Fail> {
+    let told = many_told(rt.alloc(), 110, 16)?;
+    for wires in 0..=200 {
+        let trial = Trial {
+            full: true,
+            workers: 64,
+            wires,
+            ..PLAIN
+        };
+        let left = tried(&rt, rt.alloc(), trial)?;
+        assert!(rt;
+            left.as_str().strip_prefix("settled, true\n") == Some(told.as_str()),
+            "{wires}"
+        );
     }
     Ok(())
 }

@@ -1,5 +1,5 @@
-use crate::test_play::{Loses, Play};
-use std::alloc::{AllocError, Global};
+use crate::test_play::{Loses, Play, many, many_told};
+use std::alloc::Global;
 use std::test::Fail;
 
 const FILES: [(&str, &str); 7] = [
@@ -121,32 +121,6 @@ fn choices(rt: HostRuntime) -> Result<(), Fail> {
         assert!(rt; play.told.as_str().contains(row), "{row}");
     }
     Ok(())
-}
-
-// The fields of a pod of this many containers, each of which ends with 0.
-fn many(alloc: Global, containers: u32) -> Result<String, AllocError> {
-    let mut text = String::from_str(alloc, "\"restartPolicy\":\"Never\",\"containers\":[")?;
-    for container in 0..containers {
-        let before = if container == 0 { "" } else { "," };
-        write!(
-            text,
-            "{before}{{\"name\":\"c{container}\",\"image\":\"ends.json\"}}"
-        )?;
-    }
-    write!(text, "]")?;
-    Ok(text)
-}
-
-// What is told of that many pods in the end.
-fn many_told(alloc: Global, pods: u32, containers: u32) -> Result<String, AllocError> {
-    let mut text = String::new(alloc);
-    for pod in 0..pods {
-        writeln!(text, "POD default.p{pod} Succeeded")?;
-        for container in 0..containers {
-            writeln!(text, "  c{container} Terminated 0 0")?;
-        }
-    }
-    Ok(text)
 }
 
 fn settled(alloc: Global, pods: u32, containers: u32) -> Result<String, Fail> {

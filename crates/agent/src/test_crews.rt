@@ -5,6 +5,7 @@ ghost use Rattle.node_lock.specs.declared.limits.TheConstants.{MAX_ENTRIES, PART
 use crate::engine::start_runners;
 use crate::loops::{Loop, LoopPeer};
 use crate::table;
+use crate::test_play::many;
 use node_io::{MemoryFiles, StoredFile};
 use node_lock::{Book, MAX_ENTRIES, PARTS, Tally, audit};
 use std::alloc::{AllocError, Global};
@@ -281,15 +282,30 @@ pub(crate) fn entries_at_call<L: Ledger + Send + Sync, R: Threads + Wait + Clock
 }
 
 /// What is tried: by how many workers, with how long a history, and what is to fail, each by its number: a read or
-/// write of the wires, a read of a script, one of a profile; and whether the first call is to be held up.
+/// write of the wires, a read of a script, one of a profile; whether the first call is to be held up; and whether it is
+/// a full node, of 110 pods of 16 containers, in the place of a few pods.
 #[derive(Clone, Copy)]
 pub(crate) struct Trial {
+    pub(crate) full: bool,
     pub(crate) workers: u32,
     pub(crate) limit: usize,
     pub(crate) wires: u64,
     pub(crate) scripts: u64,
     pub(crate) profiles: u64,
     pub(crate) holds: bool,
+}
+
+// The pods of a trial, in a line each.
+fn pods_of(alloc: Global, full: bool) -> Result<String, AllocError> {
+    if !full {
+        return String::from_str(alloc, PODS);
+    }
+    let spec = many(alloc, 16)?;
+    let mut pods = String::new(alloc);
+    for pod in 0..110 {
+        writeln!(pods, "p{pod} {}", spec.as_str())?;
+    }
+    Ok(pods)
 }
 
 /// What is left of the pods once workers settled them over a loop. Where the first call was to be held up and was
@@ -307,7 +323,8 @@ pub(crate) fn settled<L: Ledger + Send + Sync, R: Threads + Wait + Clock + Sync>
     let runtime = runtime(alloc, trial.wires, trial.scripts, trial.profiles)?;
     let gate = Hold::new(rt, trial.holds);
     let limit = trial.limit.min(MAX_ENTRIES);
-    let (shared, desk) = begun::<L, R>(rt, alloc, PODS, limit, blank)?;
+    let pods = pods_of(alloc, trial.full)?;
+    let (shared, desk) = begun::<L, R>(rt, alloc, pods.as_str(), limit, blank)?;
     let peers = peers(rt, alloc, &runtime, trial.workers)?;
     let (ended, tally) = worked(rt, alloc, &runtime, &shared, desk, peers, &gate);
     let left = left_of(alloc, shared, ended, tally)?;

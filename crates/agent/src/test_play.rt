@@ -47,6 +47,32 @@ pub(crate) fn pod(alloc: Global, name: &str, spec: &str) -> Result<Pod, PodFault
     manifest::read(alloc, text.as_bytes())
 }
 
+/// The fields of a pod of this many containers, each of which ends with 0.
+pub(crate) fn many(alloc: Global, containers: u32) -> Result<String, AllocError> {
+    let mut text = String::from_str(alloc, "\"restartPolicy\":\"Never\",\"containers\":[")?;
+    for container in 0..containers {
+        let before = if container == 0 { "" } else { "," };
+        write!(
+            text,
+            "{before}{{\"name\":\"c{container}\",\"image\":\"ends.json\"}}"
+        )?;
+    }
+    write!(text, "]")?;
+    Ok(text)
+}
+
+/// What is told of that many pods in the end.
+pub(crate) fn many_told(alloc: Global, pods: u32, containers: u32) -> Result<String, AllocError> {
+    let mut text = String::new(alloc);
+    for pod in 0..pods {
+        writeln!(text, "POD default.p{pod} Succeeded")?;
+        for container in 0..containers {
+            writeln!(text, "  c{container} Terminated 0 0")?;
+        }
+    }
+    Ok(text)
+}
+
 impl Play {
     pub(crate) fn new(
         alloc: Global,
