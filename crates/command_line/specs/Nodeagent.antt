@@ -1,6 +1,6 @@
 -- The line `nodeagent --socket PATH [--with-runtime] [--scripts DIR] [--profiles DIR] [--baseline FILTER]
--- [--seccomp-default] [--workers N] [--settle] [--until S] [--verbose] MANIFEST..`, this project's own:
--- docs/SEMANTICS.md, "Programs".
+-- [--seccomp-default] [--workers N] [--settle] [--until S] [--cri N] [--verbose] MANIFEST..`, this project's
+-- own: docs/SEMANTICS.md, "Programs".
 use Rattle.std.specs.Prelude.{ℕ, ◌^◌, List, Bool, codes, map, Option, Result, Ok, Err, option_map}
 use Rattle.clap.specs.Simple.{App, new_app, with_rule}
 use Rattle.clap.specs.Walk.{Row, first_of}
@@ -17,25 +17,30 @@ choosing app = with_rule (with_rule app (flag_rule (codes "with-runtime"))) (fla
 abbrev pub settling : App → App
 settling app = with_rule (with_rule (with_rule app (option_rule (codes "workers"))) (flag_rule (codes "settle"))) (option_rule (codes "until"))
 
+abbrev pub speaking : App → App
+speaking app = with_rule app (option_rule (codes "cri"))
+
 abbrev pub naming : App → App
 naming app = with_rule (with_rule app (flag_rule (codes "verbose"))) (words_rule (codes "MANIFEST"))
 
 abbrev pub running : App → App
-running app = naming (settling (choosing (serving app)))
+running app = naming (speaking (settling (choosing (serving app))))
 
 unfoldable pub nodeagent : App
 nodeagent = running (new_app (codes "nodeagent"))
 
 -- its numbers, looked at in the order of the line
-abbrev pub numbers_of : Result ℕ (List ℕ) → Result (Option ℕ) (List ℕ) → Result Numbers (List ℕ)
-numbers_of (Err word) until = Err word
-numbers_of (Ok workers) (Err word) = Err word
-numbers_of (Ok workers) (Ok until) = Ok (record { workers = workers; until = until })
+abbrev pub numbers_of : Result ℕ (List ℕ) → Result (Option ℕ) (List ℕ) → Result ℕ (List ℕ) → Result Numbers (List ℕ)
+numbers_of (Err word) until cri = Err word
+numbers_of (Ok workers) (Err word) cri = Err word
+numbers_of (Ok workers) (Ok until) (Err word) = Err word
+numbers_of (Ok workers) (Ok until) (Ok cri) = Ok (record { workers = workers; until = until; cri = cri })
 
--- workers from 1 to 64, 4 where none is named
+-- workers from 1 to 64, 4 where none is named; the version 1 or 2, 2 where none is named
 abbrev pub numbers_in : List Row → Result Numbers (List ℕ)
 numbers_in rows =
     numbers_of (written_within 1 64 4 (first_of (codes "workers") rows)) (written_if_there (2 ^ 64) (first_of (codes "until") rows))
+    (written_within 1 2 2 (first_of (codes "cri") rows))
 
 -- what the line says
 pub record Nodeagent : Type 0 where

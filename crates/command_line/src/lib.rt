@@ -9,8 +9,6 @@ mod matched;
 mod nodeagent;
 mod number;
 mod scriptd;
-#[cfg(test)]
-mod tests;
 mod written;
 
 pub use fault::LineFault;

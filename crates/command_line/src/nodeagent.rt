@@ -5,7 +5,7 @@ ghost use Rattle.clap.specs.Simple.{app_of, matches_of};
 ghost use Rattle.clap.specs.Walk.{rows_of};
 ghost use Rattle.command_line.specs.Faults.{TellsWord};
 ghost use Rattle.command_line.specs.Words.{told};
-ghost use Rattle.command_line.specs.Nodeagent.{choosing, naming, nodeagent, nodeagent_in, nodeagent_of, nodeagent_with, numbers_in, running, settling};
+ghost use Rattle.command_line.specs.Nodeagent.{choosing, naming, nodeagent, nodeagent_in, nodeagent_of, nodeagent_with, numbers_in, running, settling, speaking};
 
 use crate::arguments::{with_flag, with_option, with_words};
 use crate::fault::LineFault;
@@ -22,6 +22,8 @@ pub struct Numbers {
     pub workers: u32,
     /// The last moment, in seconds from the start.
     pub until: Option<u64>,
+    /// The version of the messages to the runtime, 1 or 2.
+    pub cri: u32,
 }
 
 /// What the command line of `nodeagent` says.
@@ -78,7 +80,8 @@ fn running<'a>(alloc: Global, command: Command<'a>) -> Result<Command<'a>, Alloc
     ensures { IfOk result (λ c. app_of c ≡ running (app_of command.entry)) }
 {
     let command = choosing(alloc, serving(alloc, command)?)?;
-    naming(alloc, settling(alloc, command)?)
+    let command = settling(alloc, command)?;
+    naming(alloc, speaking(alloc, command)?)
 }
 
 fn choosing<'a>(alloc: Global, command: Command<'a>) -> Result<Command<'a>, AllocError>
@@ -135,12 +138,29 @@ fn settling<'a>(alloc: Global, command: Command<'a>) -> Result<Command<'a>, Allo
     )
 }
 
+fn speaking<'a>(alloc: Global, command: Command<'a>) -> Result<Command<'a>, AllocError>
+    ensures { IfOk result (λ c. app_of c ≡ speaking (app_of command.entry)) }
+{
+    with_option(
+        alloc,
+        command,
+        "cri",
+        "N",
+        "the version of the messages to the runtime, 1 or 2 [default: 2]",
+    )
+}
+
 fn line_numbers<'a>(matches: &ArgMatches<'a>) -> Result<Numbers, &'a str>
     ensures { told result ≡ numbers_in (rows_of (found_of matches.now)) }
 {
     let workers = number_within(1, 64, 4, word_at(matches, "workers"))?;
     let until = number_if_there(word_at(matches, "until"))?;
-    Ok(Numbers { workers, until })
+    let cri = number_within(1, 2, 2, word_at(matches, "cri"))?;
+    Ok(Numbers {
+        workers,
+        until,
+        cri,
+    })
 }
 
 fn said<'a>(

@@ -13,13 +13,13 @@ asking (Report worker reported) asks = refl
 asking (Tick now) asks = refl
 asking (Abandon worker) asks = absurd cc
 
-pub growing : (event : AgentEvent) → takes_memory event ≡ true → is_abandon event ≡ false
-growing (Admit pod) grows = refl
-growing (Delete uid) grows = refl
-growing (Claim worker) grows = refl
-growing (Report worker reported) grows = refl
-growing (Tick now) grows = refl
-growing (Abandon worker) grows = absurd cc
+pub growing : (kept : KeptNode) (event : AgentEvent) → takes_memory kept event ≡ true → is_abandon event ≡ false
+growing kept (Admit pod) grows = refl
+growing kept (Delete uid) grows = refl
+growing kept (Claim worker) grows = refl
+growing kept (Report worker reported) grows = refl
+growing kept (Tick now) grows = refl
+growing kept (Abandon worker) grows = absurd cc
 
 -- the end of a claim that is held has its room already
 pub giving_up : (kept : KeptNode) (event : AgentEvent) → gives_up kept event ≡ true → (is_abandon event ≡ true) × (room_for kept event ≡ 0)

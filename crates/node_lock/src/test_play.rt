@@ -3,7 +3,7 @@ ghost use Rattle.node_lock.specs.declared.limits.TheConstants.{MAX_ENTRIES};
 ghost use Rattle.node_lock.specs.Books.{worker_of};
 
 use crate::{Book, MAX_ENTRIES, Receipt, audit};
-use cri_msgs::{Answer as Said, Reply};
+use cri_msgs::{Answer as Said, Reply, Version};
 use manifest::{Pod, PodFault};
 use std::alloc::{AllocError, Global};
 use std::sync::ledger::{Blank, Ledger, Share};
@@ -14,6 +14,7 @@ pub(crate) fn settings(seccomp_default: bool) -> Settings {
     Settings {
         seccomp_default,
         poll: 0,
+        version: Version::V2,
     }
 }
 

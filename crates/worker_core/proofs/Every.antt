@@ -1,13 +1,16 @@
 -- The laws of every run of a node.
-use Rattle.std.proofs.Common.{◌≡◌, inl, inr, ℕ, ◌+◌, ◌<◌, nat_le, nat_lt, Bool, true, false, if◌then◌else◌, List, ◌∷◌, Option, Some, None, slice_get, refl, sym, ◌∙◌, ap, subst, arith}
+use Rattle.std.proofs.Common.{◌≡◌, inl, inr, ℕ, ◌+◌, ◌-◌, ◌<◌, nat_le, nat_lt, Bool, true, false, if◌then◌else◌, List, [], ◌∷◌, length, Option, Some, None, slice_get, refl, sym, ◌∙◌, ap, subst, arith}
 use Rattle.std.proofs.lemmas.Bool.{ltb-false}
+use Rattle.std.proofs.lemmas.Option.{get_or_from_slice_get, slice_get_cases, slice_get_within}
 use Rattle.std.specs.Option.{is_some, option_map}
+use Rattle.lifecycle.specs.BackOff.{Run, last_of}
 use Rattle.lifecycle.specs.Restart.{may_restart}
 use Rattle.lifecycle.specs.declared.track.Stage.{Stage}
 use Rattle.lifecycle.specs.declared.track.Track.{Track}
 use Rattle.manifest.specs.declared.containers.Container.{Container}
 use Rattle.manifest.specs.declared.pods.Pod.{Pod}
 use Rattle.manifest.specs.declared.profiles.SeccompProfile.{SeccompProfile}
+use Rattle.profile_pick.specs.Choice.{choice_of}
 use Rattle.cri_msgs.specs.declared.calls.Call.{Call}
 use Rattle.cri_msgs.specs.declared.calls.Call.TheVariants.{CreateContainer}
 use Rattle.cri_msgs.specs.declared.calls.Request.{Request}
@@ -15,7 +18,7 @@ use Rattle.cri_msgs.specs.declared.keys.Key.{Key}
 use Rattle.worker_pod.specs.declared.sandbox.Sandbox.{Sandbox}
 use Rattle.worker_pod.specs.declared.sandbox.Sandbox.TheVariants as sandbox
 use Rattle.worker_pod.specs.declared.settings.Settings.{Settings}
-use Rattle.worker_pod.specs.Laws.{AreOf, Creation, Follows, HasEnded, LastRun, WasTold, uid_of}
+use Rattle.worker_pod.specs.Laws.{AreNumbered, AreOf, Creation, EndedWell, Follows, HasEnded, IsNumberedIn, LastRun, Told, WasTold, key_named, uid_of}
 use Rattle.worker_pod.specs.Next.{due_of, duty_in, duty_of, has_come, next_by, next_of, numbered, phase_in, unmaking}
 use Rattle.worker_pod.specs.Past.{Claimed, Kept, Past, held_of, read_off}
 use Rattle.worker_core.specs.declared.answers.Answer.{Answer}
@@ -29,15 +32,17 @@ use Rattle.worker_core.specs.declared.slots.Held.{Held}
 use Rattle.worker_core.specs.declared.slots.Slot.{Slot}
 use Rattle.worker_core.specs.declared.turns.Turn.{Turn}
 use Rattle.worker_core.specs.Kept.{claim_answer, grant_answer, grant_of, grant_of_slot, grant_of_turn, grant_with}
-use Rattle.worker_core.specs.Laws.{CreationLaw, GivenLaw, Gives, Happened, Holds, IsNodeRun, NodeLaws, NodeLink, NodeLinkLaws, node_now, state_of}
+use Rattle.worker_core.specs.Laws.{CreationLaw, EndedWithZero, GivenLaw, Gives, Happened, Holds, IsNodeRun, NodeLaws, NodeLink, NodeLinkLaws, is_init, node_now, state_of}
 use Rattle.worker_core.specs.Nodes.{IsDueAt, NodeState, NodeStep, OnNode, kept_of, slot_of, slots_of}
 use Rattle.worker_core.specs.Slots.{holder_of, is_free}
 use Rattle.worker_core.specs.Turns.{longest}
-use Rattle.worker_core.proofs.Grants.{NodeGrant, free_if, node_grant, open_if, pod_is}
+use Rattle.worker_core.proofs.Askers.{asked}
+use Rattle.worker_core.proofs.Grants.{NodeGrant, free_if, node_grant, open_if, pod_is, settings_is}
 use Rattle.worker_core.proofs.Idle.{idle_holds_none}
 use Rattle.worker_core.proofs.Leaves.{remains}
 use Rattle.worker_core.proofs.Lists.{got, there}
 use Rattle.worker_core.proofs.Longest.{Found, IsOpen, is_open, longest_found, longest_open}
+use Rattle.worker_core.proofs.Moves.{moves}
 use Rattle.worker_core.proofs.Runs.{GivesIs, Good, admits_is, gives_is, good_run}
 
 some_same : {A : Type 0} (x y : A) → Some x ≡ Some y → x ≡ y
@@ -80,6 +85,14 @@ module _
     (dues : (settings : Settings) (past : Past) (now : ℕ) → is_some (next_of (held_of settings past) now) ≡ has_come (due_of (held_of settings past)) now)
     (tolds : (settings : Settings) (pod : Pod) (claims : List Claimed) → AreOf pod.uid claims → (at : ℕ) (track : Track) (container : Container)
     → slice_get (read_off pod settings claims).tracks at ≡ Some track → slice_get pod.containers.all at ≡ Some container → WasTold pod.uid claims container.name track)
+    (numbers : (settings : Settings) (past : Past) (now : ℕ) (call : Call) → AreOf past.pod.uid past.claims → AreNumbered settings past.pod past.claims
+    → next_of (held_of settings past) now ≡ Some call → IsNumberedIn past.pod.containers.all (read_off past.pod settings past.claims).tracks call)
+    (numbereds : (settings : Settings) (pod : Pod) (claims : List Claimed) → AreOf pod.uid claims → AreNumbered settings pod claims → (at : ℕ) (track : Track) (container : Container)
+    → slice_get (read_off pod settings claims).tracks at ≡ Some track → slice_get pod.containers.all at ≡ Some container
+    → (k : ℕ) (run : Run) → slice_get track.runs k ≡ Some run → Told pod.uid claims container.name k run)
+    (counts : (settings : Settings) (pod : Pod) (claims : List Claimed) → length (read_off pod settings claims).tracks ≡ length pod.containers.all)
+    (inits : (settings : Settings) (pod : Pod) (claims : List Claimed) (at : ℕ) (track : Track)
+    → slice_get (read_off pod settings claims).tracks at ≡ Some track → track.init ≡ nat_lt at pod.containers.inits)
   where
     -- what two claims of one place hold is the same
     same_held : (node : NodeState) (worker other : ℕ) (uid another : List ℕ) (request its : Request) (h : Holds node worker uid request) (k : Holds node other another its) → h.place ≡ k.place
@@ -90,11 +103,17 @@ module _
         some_same _ _ (sym h.at.by ∙ ap (λ (p : OnNode). p.held) pod_same ∙ k.at.by) in
         (ap (λ (x : Held). x.worker) held_same, sym h.at.of_uid ∙ ap (λ (p : OnNode). p.past.pod.uid) pod_same ∙ k.at.of_uid, ap (λ (x : Held). x.request) held_same)
 
+    settings_stay : (settings : Settings) (ls : List NodeLink) → IsNodeRun settings ls → (node_now settings ls).settings ≡ settings
+    settings_stay settings [] run = refl
+    settings_stay settings (l ∷ ls) run =
+        (moves l.old l.event l.answer l.new run.1).settings ∙ ap (λ (n : NodeState). n.settings) run.0 ∙ settings_stay settings ls run.2
+
     pub node_laws : (settings : Settings) (ls : List NodeLink) → IsNodeRun settings ls → NodeLaws settings ls
     node_laws settings ls run =
         let node : NodeState = node_now settings ls in
-        let good : Good ls node = good_run calls settings ls run in
+        let good : Good ls node = good_run calls numbers settings ls run in
         record {
+          settings_stay = settings_stay settings ls run;
           one_worker = λ worker other uid request another h k.
               let same : (worker ≡ other) × (uid ≡ uid) × (request ≡ another) =
               same_held node worker other uid uid request another h k (good.uids h.place k.place h.at.pod k.at.pod h.at.here k.at.here (h.at.of_uid ∙ sym k.at.of_uid)) in
@@ -109,6 +128,9 @@ module _
           claims_are_about = good.of_pod;
           admitted = good.admitted;
           ended = λ at p c here. good.ended at p here c;
+          tracked = λ at p here. counts node.settings p.past.pod p.past.claims;
+          inits = λ at p here place track here'. inits node.settings p.past.pod p.past.claims place track here';
+          numbered = λ at p here. numbereds node.settings p.past.pod p.past.claims (good.of_pod at p here) (good.numbered at p here);
           told = λ at p here. tolds node.settings p.past.pod p.past.claims (good.of_pod at p here);
         }
 
@@ -174,6 +196,34 @@ module _
     nothing_law old answer new worker (inr lacks) said less = λ due.
         let differ : Nothing ≡ Refused Memory = sym said ∙ lacks.answer_is in cc
 
+    -- the last of a container's runs was told
+    told_last : (uid : List ℕ) (claims : List Claimed) (name : List ℕ) (track : Track) → WasTold uid claims name track → (run : Run) → last_of track.runs ≡ Some run
+        → (k : ℕ) × Told uid claims name k run
+    told_last uid claims name track told run last =
+        subst (λ (r : Run). (k : ℕ) × Told uid claims name k r) (get_or_from_slice_get track.runs (length track.runs - 1) run run last)
+        (told.runs (length track.runs - 1) run (slice_get_within track.runs (length track.runs - 1) run last))
+
+    -- an init container that a creation came behind
+    init_ended : (old : NodeState) (ls : List NodeLink) → Good ls old → (from : ℕ) (p : OnNode) → slice_get old.pods from ≡ Some p
+        → (key : Key) (image : List ℕ) (profile : SeccompProfile) (c : Creation (state_of old p) old.moment key image profile)
+        → (at : ℕ) (container : Container) → slice_get p.past.pod.containers.all at ≡ Some container → is_init p.past.pod at ≡ true
+        → (is_init p.past.pod c.place ≡ true → at < c.place) → EndedWithZero old p at container
+    init_ended old ls good from p here key image profile c at container there is before =
+        let state : Kept = state_of old p in
+        let inside : at < length state.tracks = omega (arith, slice_get_within p.past.pod.containers.all at container there, counts old.settings p.past.pod p.past.claims) in
+        elim ((slice_get_cases state.tracks at).1) [
+          | inr outside ↦ absurd (omega (arith, inside, outside.0))
+          | inl found ↦
+              let track : Track = found.0 in
+              let e : EndedWell state.pod.policy track =
+              c.in_order at track found.2 (inits old.settings p.past.pod p.past.claims at track found.2 ∙ is)
+              (λ init. before (sym (inits old.settings p.past.pod p.past.claims c.place c.track c.here) ∙ init)) in
+              let told : (k : ℕ) × Told p.past.pod.uid p.past.claims container.name k e.run =
+              told_last p.past.pod.uid p.past.claims container.name track
+              (tolds old.settings p.past.pod p.past.claims (good.of_pod from p here) at track container found.2 there) e.run e.last in
+              record { track = track; here = found.2; run = e.run; last = e.last; zero = e.zero; attempt = told.0; was_told = told.1 }
+        ]
+
     creation_law : (old : NodeState) (ls : List NodeLink) → Good ls old → (worker : ℕ) (uid : List ℕ) (request : Request) → GivenLaw old worker uid request
         → (key : Key) (image : List ℕ) (profile : SeccompProfile) → request.call ≡ CreateContainer key image profile → CreationLaw old uid key image profile
     creation_law old ls good worker uid request g key image profile is =
@@ -189,6 +239,12 @@ module _
           of_uid = g.of_uid;
           undeleted = made_undeleted (state_of old p) old.moment key image profile (g.due ∙ ap Some is);
           creation = c;
+          container_is = named;
+          key_is = c.of_container ∙ ap (λ (u : List ℕ). key_named u c.container.name key.container.attempt) (ap (λ (pod : Pod). pod.uid) pod_same ∙ g.of_uid);
+          profile_is = c.its_profile
+              ∙ ap (λ (pod : Pod). choice_of pod.profile c.container (state_of old p).settings.seccomp_default) pod_same
+              ∙ ap (λ (s : Settings). choice_of p.past.pod.profile c.container s.seccomp_default) (settings_is old.settings p.past.pod p.past.claims);
+          inits = init_ended old ls good g.place p g.here key image profile c;
           again = λ k next.
               let f : Follows (state_of old p).pod.policy c.track k old.moment = c.follows k next in
               let l : LastRun p.past.pod.uid p.past.claims c.container.name c.track k f.code =
@@ -197,14 +253,17 @@ module _
                 run = l.run;
                 last = l.last;
                 was_told = l.told;
-                may = ap (λ (n : ℕ). may_restart p.past.pod.policy c.track.init n) l.with_code ∙ ap (λ (pod : Pod). may_restart pod.policy c.track.init f.code) (sym pod_same) ∙ f.may;
+                may = ap (λ (b : Bool). may_restart p.past.pod.policy b l.run.code) (sym (inits old.settings p.past.pod p.past.claims c.place c.track c.here))
+                    ∙ ap (λ (n : ℕ). may_restart p.past.pod.policy c.track.init n) l.with_code
+                    ∙ ap (λ (pod : Pod). may_restart pod.policy c.track.init f.code) (sym pod_same)
+                    ∙ f.may;
                 ready = f.ready;
               };
         }
 
     pub link_laws : (settings : Settings) (l : NodeLink) (before : List NodeLink) → IsNodeRun settings (l ∷ before) → NodeLinkLaws l before
     link_laws settings l before run =
-        let good : Good before l.old = subst (Good before) (sym run.0) (good_run calls settings before run.2) in
+        let good : Good before l.old = subst (Good before) (sym run.0) (good_run calls numbers settings before run.2) in
         let gives : (worker : ℕ) (uid : List ℕ) (request : Request) → Gives worker uid request l → GivesIs l.old worker uid request l.new =
         λ worker uid request g. gives_is l.old l.event l.answer l.new run.1 worker uid request g.event_is g.given in
         record {
@@ -214,6 +273,7 @@ module _
               let law : GivenLaw l.old worker uid request = given_law l.old worker uid request l.new (gives worker uid request g) in
               omega (arith, law.number, good.numbers other another its h);
           given = λ worker uid request g. given_law l.old worker uid request l.new (gives worker uid request g);
+          asked = asked l.old l.event l.answer l.new run.1;
           nothing = λ worker is. nothing_law l.old l.answer l.new worker (subst (λ (e : AgentEvent). NodeStep l.old e l.answer l.new) is run.1);
           creation = λ worker uid request g. creation_law l.old before good worker uid request (given_law l.old worker uid request l.new (gives worker uid request g));
           remains = remains l.old l.event l.answer l.new run.1;

@@ -87,6 +87,11 @@ pub pod_is : (settings : Settings) (pod : Pod) (cs : List Ended) → (read_off p
 pod_is settings pod [] = refl
 pod_is settings pod (c ∷ cs) = pod_is settings pod cs
 
+-- and so do the settings
+pub settings_is : (settings : Settings) (pod : Pod) (cs : List Ended) → (read_off pod settings cs).settings ≡ settings
+settings_is settings pod [] = refl
+settings_is settings pod (c ∷ cs) = settings_is settings pod cs
+
 -- of a node
 pub record NodeGrant (old : NodeState) (grant : Grant) : Type 0 where
   pub pod : OnNode

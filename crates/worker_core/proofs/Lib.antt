@@ -6,6 +6,8 @@ pub mod Longest
 pub mod Grants
 pub mod Moves
 pub mod Idle
+pub mod Holders
+pub mod Askers
 pub mod Runs
 pub mod Leaves
 pub mod Every

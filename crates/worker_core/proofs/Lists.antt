@@ -87,3 +87,10 @@ pub there : {A B : Type 0} (g : A → B) (xs : List A) (at : ℕ) (x : A) → sl
 there g [] at x e = absurd cc
 there g (z ∷ zs) zero x e = let same : z ≡ x = cc in ap (λ v. Some (g v)) same
 there g (z ∷ zs) (suc at) x e = there g zs at x e
+
+pub ended_by_push : (now : ℕ) (old new : List Slot) (slot : Slot) → new ≡ old ++ slot ∷ [] → slot.state.latest ≡ 0 → AllEndedBy now old → AllEndedBy now new
+ended_by_push now old new slot more fresh by at last e =
+    elim (in_push old slot at last (ap (λ (slots : List Slot). slice_get slots at) (sym more) ∙ e)) [
+      | inl there ↦ by at last there
+      | inr found ↦ omega (arith, fresh, ap (λ (s : Slot). s.state.latest) found.1)
+    ]

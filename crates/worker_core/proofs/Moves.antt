@@ -1,9 +1,9 @@
 -- What a step does to any pod of a node.
-use Rattle.std.proofs.Common.{◌≡◌, ◌⊎◌, inl, inr, ℕ, ◌≤◌, nat_lt, Bool, true, false, ◌||◌, if◌then◌else◌, List, length, map, Option, Some, None, slice_get, get_or, refl, sym, ◌∙◌, ap, subst, arith}
-use Rattle.std.proofs.lemmas.Bool.{eqb-true}
+use Rattle.std.proofs.Common.{◌≡◌, ◌⊎◌, inl, inr, ℕ, ◌<◌, ◌≤◌, nat_lt, Bool, true, false, ◌||◌, if◌then◌else◌, List, length, map, Option, Some, None, slice_get, get_or, cond, refl, sym, ◌∙◌, ap, subst, arith}
+use Rattle.std.proofs.lemmas.Bool.{eqb-true, ltb-true}
 use Rattle.std.proofs.lemmas.List.Quantifiers.{position-Some}
-use Rattle.std.proofs.lemmas.Option.{get_or_from_slice_get}
-use Rattle.std.specs.List.{remove}
+use Rattle.std.proofs.lemmas.Option.{get_or_from_slice_get, slice_get_cases}
+use Rattle.std.specs.List.{position_or_len, remove}
 use Rattle.std.specs.Str.{bytes_eq}
 use Rattle.manifest.specs.declared.pods.Pod.{Pod}
 use Rattle.cri_msgs.specs.declared.calls.Request.{Request}
@@ -26,7 +26,7 @@ use Rattle.worker_core.specs.Laws.{EndsBy, state_of}
 use Rattle.worker_core.specs.Nodes.{NodeState, NodeStep, OnNode, admit_node, at_moment, claim_node, delete_node, end_node, give_node, kept_of, next_node, pod_claimed, pod_deleted, pod_ended, slot_of, slots_of}
 use Rattle.worker_core.specs.Slots.{changed, holder_of, is_gone_slot, is_held_by, outcome_of, place_of}
 use Rattle.worker_core.proofs.Grants.{NodeGrant, node_grant}
-use Rattle.worker_core.proofs.Lists.{in_changed, in_push, in_remove_at, skip, skip_apart, there}
+use Rattle.worker_core.proofs.Lists.{got, in_changed, in_push, in_remove_at, skip, skip_apart, there}
 
 -- the pod was free, and a worker without a pod holds it now
 pub record WasGiven (old : NodeState) (event : AgentEvent) (answer : Answer) (p new : OnNode) : Type 0 where
@@ -178,6 +178,23 @@ holder_is node worker place e p here =
     let same : get_or (slots_of node) place slot ≡ slot = get_or_from_slice_get (slots_of node) place slot slot (there (slot_of node.settings) node.pods place p here) in
     let passes : is_held_by worker (get_or (slots_of node) place slot).held ≡ true = (position-Some (λ (s : Slot). is_held_by worker s.held) (slots_of node) place slot e).1 in
     held_is worker p.held (ap (λ (s : Slot). is_held_by worker s.held) (sym same) ∙ passes)
+
+found_at : (b : Bool) (n place : ℕ) → cond b (Some n) None ≡ Some place → (b ≡ true) × (n ≡ place)
+found_at true n place e = (refl, cc)
+found_at false n place e = absurd cc
+
+-- which is on the node
+pub holder_there : (node : NodeState) (worker place : ℕ) → holder_of worker (slots_of node) ≡ Some place → (p : OnNode) × (slice_get node.pods place ≡ Some p)
+holder_there node worker place e =
+    let test : Slot → Bool = λ (s : Slot). is_held_by worker s.held in
+    let slots : List Slot = slots_of node in
+    let found : (nat_lt (position_or_len test slots) (length slots) ≡ true) × (position_or_len test slots ≡ place) =
+    found_at (nat_lt (position_or_len test slots) (length slots)) (position_or_len test slots) place e in
+    let less : place < length slots = omega (arith, ltb-true _ _ found.0, found.1) in
+    elim ((slice_get_cases slots place).1) [
+      | inl here ↦ let p : (x : OnNode) × (slice_get node.pods place ≡ Some x) × (slot_of node.settings x ≡ here.0) = got (slot_of node.settings) node.pods place here.0 here.2 in (p.0, p.1)
+      | inr past ↦ absurd (omega (arith, less, past.0))
+    ]
 
 module _ (old : NodeState) (event : AgentEvent) (answer : Answer) (worker : ℕ) (how : Outcome) (told : EndsBy event worker how) where
   goes_ended : (place : ℕ) → holder_of worker (slots_of old) ≡ Some place → answer ≡ Done → (at : ℕ) (p : OnNode)

@@ -7,9 +7,9 @@ use Rattle.cri_msgs.specs.declared.calls.Call.{Call}
 use Rattle.cri_msgs.specs.declared.calls.Request.{Request}
 use Rattle.worker_pod.specs.declared.settings.Outcome.{Outcome}
 use Rattle.worker_pod.specs.declared.settings.Settings.{Settings}
-use Rattle.worker_pod.specs.Laws.{AreOf, uid_of}
+use Rattle.worker_pod.specs.Laws.{AreNumbered, AreOf, IsNumberedIn, uid_of}
 use Rattle.worker_pod.specs.Next.{next_of}
-use Rattle.worker_pod.specs.Past.{Claimed, Kept, Past}
+use Rattle.worker_pod.specs.Past.{Claimed, Kept, Past, held_of, read_off}
 use Rattle.worker_core.specs.declared.answers.Answer.{Answer}
 use Rattle.worker_core.specs.declared.answers.Answer.TheVariants.{Done, Claimed as Given, Refused}
 use Rattle.worker_core.specs.declared.answers.Refusal.{Refusal}
@@ -84,9 +84,15 @@ gives_is old event answer new (inr lacks) worker uid request is said =
     let differ : Given uid request.id request ≡ Refused Memory = sym said ∙ lacks.answer_is in
     absurd cc
 
+abbrev IsNumberedNow : Settings → Past → Call → Type 0
+IsNumberedNow settings past call = IsNumberedIn past.pod.containers.all (read_off past.pod settings past.claims).tracks call
+
 pub record Good (ls : List NodeLink) (node : NodeState) : Type 0 where
   pub of_pod : (at : ℕ) (p : OnNode) → slice_get node.pods at ≡ Some p → AreOf p.past.pod.uid p.past.claims
   pub held_of_pod : (at : ℕ) (p : OnNode) → slice_get node.pods at ≡ Some p → (held : Held) → p.held ≡ Some held → uid_of held.request.call ≡ p.past.pod.uid
+  -- creations are numbered by the runs of their containers, when they are given and when their claims end
+  pub numbered : (at : ℕ) (p : OnNode) → slice_get node.pods at ≡ Some p → AreNumbered node.settings p.past.pod p.past.claims
+  pub held_numbered : (at : ℕ) (p : OnNode) → slice_get node.pods at ≡ Some p → (held : Held) → p.held ≡ Some held → IsNumberedNow node.settings p.past held.request.call
   pub known : (at : ℕ) (p : OnNode) → slice_get node.pods at ≡ Some p → is_known p.past.pod.uid node.admitted ≡ true
   pub uids : (a b : ℕ) (p q : OnNode) → slice_get node.pods a ≡ Some p → slice_get node.pods b ≡ Some q → p.past.pod.uid ≡ q.past.pod.uid → a ≡ b
   pub workers : (a b : ℕ) (p q : OnNode) → slice_get node.pods a ≡ Some p → slice_get node.pods b ≡ Some q
@@ -101,6 +107,8 @@ good_start : (settings : Settings) → Good [] (empty_node settings)
 good_start settings = record {
   of_pod = λ at p e. absurd cc;
   held_of_pod = λ at p e. absurd cc;
+  numbered = λ at p e. absurd cc;
+  held_numbered = λ at p e. absurd cc;
   known = λ at p e. absurd cc;
   uids = λ a b p q e. absurd cc;
   workers = λ a b p q e. absurd cc;
@@ -117,6 +125,8 @@ or_first false b e = absurd cc
 
 module _
     (calls : (kept : Kept) (now : ℕ) (call : Call) → next_of kept now ≡ Some call → uid_of call ≡ kept.pod.uid)
+    (creations : (settings : Settings) (past : Past) (now : ℕ) (call : Call) → AreOf past.pod.uid past.claims → AreNumbered settings past.pod past.claims
+    → next_of (held_of settings past) now ≡ Some call → IsNumberedIn past.pod.containers.all (read_off past.pod settings past.claims).tracks call)
     (old : NodeState) (event : AgentEvent) (answer : Answer) (new : NodeState) (step : NodeStep old event answer new)
     (ls : List NodeLink) (good : Good ls old)
   where
@@ -157,6 +167,38 @@ module _
               (λ g held e. absurd cc)
               came.goes
         ]
+
+    numbered_ended : (at : ℕ) (p : OnNode) → slice_get old.pods at ≡ Some p → (how : Outcome) (h : Option Held) → p.held ≡ h
+        → AreNumbered old.settings (past_ended old.moment how p.past h).pod (past_ended old.moment how p.past h).claims
+    numbered_ended at p here how None e = good.numbered at p here
+    numbered_ended at p here how (Some held) e = (good.held_numbered at p here held e, good.numbered at p here)
+
+    numbered : (at : ℕ) (p : OnNode) → slice_get new.pods at ≡ Some p → AreNumbered new.settings p.past.pod p.past.claims
+    numbered at p here =
+        subst (λ (s : Settings). AreNumbered s p.past.pod p.past.claims) (sym m.settings)
+        (elim (m.came at p here) [
+          | inl fresh ↦ subst (λ (n : OnNode). AreNumbered old.settings n.past.pod n.past.claims) (sym fresh.is) tt
+          | inr came ↦ by_goes old event answer came.pod p (λ (n : OnNode). AreNumbered old.settings n.past.pod n.past.claims)
+              (good.numbered (m.origin at) came.pod came.here) (good.numbered (m.origin at) came.pod came.here)
+              (λ g. good.numbered (m.origin at) came.pod came.here)
+              (λ e. numbered_ended (m.origin at) came.pod came.here e.how came.pod.held refl)
+              came.goes
+        ])
+
+    held_numbered : (at : ℕ) (p : OnNode) → slice_get new.pods at ≡ Some p → (held : Held) → p.held ≡ Some held → IsNumberedNow new.settings p.past held.request.call
+    held_numbered at p here =
+        subst (λ (s : Settings). (held : Held) → p.held ≡ Some held → IsNumberedNow s p.past held.request.call) (sym m.settings)
+        (elim (m.came at p here) [
+          | inl fresh ↦ subst (λ (n : OnNode). (held : Held) → n.held ≡ Some held → IsNumberedNow old.settings n.past held.request.call) (sym fresh.is) (λ held e. absurd cc)
+          | inr came ↦ by_goes old event answer came.pod p (λ (n : OnNode). (held : Held) → n.held ≡ Some held → IsNumberedNow old.settings n.past held.request.call)
+              (good.held_numbered (m.origin at) came.pod came.here) (good.held_numbered (m.origin at) came.pod came.here)
+              (λ g held e.
+              let same : ◌≡◌ {A = Held} (record { worker = g.worker; request = g.request }) held = cc in
+              subst (λ (h : Held). IsNumberedNow old.settings came.pod.past h.request.call) same
+              (creations old.settings came.pod.past old.moment g.request.call (good.of_pod (m.origin at) came.pod came.here) (good.numbered (m.origin at) came.pod came.here) g.due))
+              (λ g held e. absurd cc)
+              came.goes
+        ])
 
     known : (at : ℕ) (p : OnNode) → slice_get new.pods at ≡ Some p → is_known p.past.pod.uid new.admitted ≡ true
     known at p here =
@@ -310,6 +352,8 @@ module _
     good_step = record {
       of_pod = of_pod;
       held_of_pod = held_of_pod;
+      numbered = numbered;
+      held_numbered = held_numbered;
       known = known;
       uids = uids;
       workers = workers;
@@ -321,7 +365,9 @@ module _
     }
 
 pub good_run : ((kept : Kept) (now : ℕ) (call : Call) → next_of kept now ≡ Some call → uid_of call ≡ kept.pod.uid)
+    → ((settings : Settings) (past : Past) (now : ℕ) (call : Call) → AreOf past.pod.uid past.claims → AreNumbered settings past.pod past.claims
+    → next_of (held_of settings past) now ≡ Some call → IsNumberedIn past.pod.containers.all (read_off past.pod settings past.claims).tracks call)
     → (settings : Settings) (ls : List NodeLink) → IsNodeRun settings ls → Good ls (node_now settings ls)
-good_run calls settings [] run = good_start settings
-good_run calls settings (l ∷ ls) run =
-    good_step calls l.old l.event l.answer l.new run.1 ls (subst (Good ls) (sym run.0) (good_run calls settings ls run.2))
+good_run calls creations settings [] run = good_start settings
+good_run calls creations settings (l ∷ ls) run =
+    good_step calls creations l.old l.event l.answer l.new run.1 ls (subst (Good ls) (sym run.0) (good_run calls creations settings ls run.2))

@@ -16,7 +16,7 @@ use Rattle.worker_core.specs.declared.events.AgentEvent.TheVariants.{Admit, Dele
 use Rattle.worker_core.specs.declared.limits.TheConstants.{MAX_PODS, MAX_UIDS}
 use Rattle.worker_core.specs.declared.slots.Held.{Held}
 use Rattle.worker_core.specs.declared.slots.Slot.{Slot}
-use Rattle.worker_core.specs.Kept.{Foresees, KeptNode, KeptStep, admit_answer, after_admit, after_claim, after_delete, after_end, after_event, after_grant, after_tick, answer_of, grant_of, is_full, changes, refusal_of, with_moment}
+use Rattle.worker_core.specs.Kept.{Foresees, KeptNode, KeptStep, admit_answer, after_admit, after_claim, after_delete, after_end, after_event, after_grant, after_tick, answer_of, grant_of, is_full, changes, refusal_of, takes_memory, with_moment}
 use Rattle.worker_core.specs.Known.{is_known}
 use Rattle.worker_core.specs.Nodes.{Comes, NodeState, OnNode, SameUids, StandsFor, admit_node, at_moment, claim_node, delete_node, end_node, give_node, kept_of, next_node, pod_claimed, pod_deleted, pod_ended, pods_left, slot_of, slots_of, tick_node}
 use Rattle.worker_core.specs.Slots.{changed, claimed_by, deleted, ended, holder_of, is_gone_slot, left, outcome_of, place_of}
@@ -145,6 +145,18 @@ relists kept node s = λ i. record { settings = s.settings i; moment = s.moment 
 pub answers : (kept : KeptNode) (node : NodeState) → StandsFor kept node → (event : AgentEvent) → answer_of kept event ≡ answer_of (kept_of node) event
 answers kept node s event = ap (λ (k : KeptNode). answer_of k event) (relists kept node s) ∙ answer_same node kept.known s.known event
 
+-- it takes memory where it does for the node
+takes_same : (node : NodeState) (known : List (List ℕ)) (event : AgentEvent) → takes_memory (relisted node known) event ≡ takes_memory (kept_of node) event
+takes_same node known (Admit pod) = refl
+takes_same node known (Delete uid) = refl
+takes_same node known (Claim worker) = refl
+takes_same node known (Report worker reported) = refl
+takes_same node known (Tick now) = refl
+takes_same node known (Abandon worker) = refl
+
+takes : (kept : KeptNode) (node : NodeState) → StandsFor kept node → (event : AgentEvent) → takes_memory kept event ≡ takes_memory (kept_of node) event
+takes kept node s event = ap (λ (k : KeptNode). takes_memory k event) (relists kept node s) ∙ takes_same node kept.known event
+
 -- a step of what is kept is a step of the node
 pub comes : (kept : KeptNode) (event : AgentEvent) (answer : Answer) (new : KeptNode) → KeptStep kept event answer new
     → (node : NodeState) → StandsFor kept node → Comes node event answer new
@@ -158,7 +170,7 @@ comes kept event answer new (inl taken) node s =
 comes kept event answer new (inr lacks) node s = record {
   new = node;
   step = inr (record {
-    takes = lacks.takes;
+    takes = sym (takes kept node s event) ∙ lacks.takes;
     changing = ap changes (sym (answers kept node s event)) ∙ lacks.changing;
     answer_is = lacks.answer_is;
     same = refl;

@@ -19,7 +19,7 @@ use Rattle.worker_core.specs.declared.limits.TheConstants.{LAST_NUMBER, MAX_PODS
 use Rattle.worker_core.specs.declared.slots.Slot.{Slot}
 use Rattle.worker_core.specs.declared.turns.Turn.{Turn}
 use Rattle.worker_core.specs.Known.{is_known, with_uid}
-use Rattle.worker_core.specs.Slots.{changed, claimed_by, deleted, ended_at, fresh_slot, holder_of, is_reply, outcome_of, place_of}
+use Rattle.worker_core.specs.Slots.{changed, claimed_by, deleted, ended_at, fresh_slot, holder_of, outcome_of, place_of, records_at}
 use Rattle.worker_core.specs.Turns.{longest}
 
 pub record KeptNode : Type 0 where
@@ -159,12 +159,17 @@ changes (Claimed uid number request) = true
 changes Nothing = false
 changes (Refused refusal) = false
 
--- what may take memory: of what a worker tells, a reply
-abbrev pub takes_memory : AgentEvent → Bool
-takes_memory (Admit pod) = true
-takes_memory (Claim worker) = true
-takes_memory (Report worker reported) = is_reply (outcome_of reported)
-takes_memory event = false
+-- whether the end of the claim of the pod at this place records an exit
+abbrev pub records : KeptNode → Outcome → Option ℕ → Bool
+records kept how None = false
+records kept how (Some place) = records_at kept.moment how kept.slots place
+
+-- what may take memory: of what a worker tells, that by which an exit is recorded
+abbrev pub takes_memory : KeptNode → AgentEvent → Bool
+takes_memory kept (Admit pod) = true
+takes_memory kept (Claim worker) = true
+takes_memory kept (Report worker reported) = records kept (outcome_of reported) (holder_of worker kept.slots)
+takes_memory kept event = false
 
 -- want of memory is told last, and changes nothing
 pub record LacksMemory (due : Answer) (may : Bool) (old : KeptNode) (answer : Answer) (new : KeptNode) : Type 0 where
@@ -177,7 +182,7 @@ abbrev pub Takes : Answer → KeptNode → Bool → KeptNode → Answer → Kept
 Takes due next may old answer new = ((answer ≡ due) × (new ≡ next)) ⊎ LacksMemory due may old answer new
 
 abbrev pub KeptStep : KeptNode → AgentEvent → Answer → KeptNode → Type 0
-KeptStep old event = Takes (answer_of old event) (after_event old event) (takes_memory event) old
+KeptStep old event = Takes (answer_of old event) (after_event old event) (takes_memory old event) old
 
 -- what is foreseen of a step; a request that would be given is copied
 pub record LacksCopy (due : Answer) (may : Bool) (answer : Answer) : Type 0 where

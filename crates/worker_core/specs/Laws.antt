@@ -1,19 +1,20 @@
 -- What holds of every run of a node: this project's own, over the order of init containers and restarts of
 -- Kubernetes 1.27, pod lifecycle. docs/SEMANTICS.md, "The agent: the node".
-use Rattle.std.specs.Prelude.{◌≡◌, ◌⊎◌, ℕ, ◌+◌, ◌<◌, ◌≤◌, true, false, List, [], ◌∷◌, Some, None, slice_get}
+use Rattle.std.specs.Prelude.{◌≡◌, ◌⊎◌, ℕ, ◌+◌, ◌<◌, ◌≤◌, nat_lt, Bool, true, false, List, [], ◌∷◌, length, Option, Some, None, slice_get}
 use Rattle.lifecycle.specs.BackOff.{Run, last_of, ready_at}
 use Rattle.lifecycle.specs.Restart.{may_restart}
 use Rattle.lifecycle.specs.declared.track.Track.{Track}
 use Rattle.manifest.specs.declared.containers.Container.{Container}
 use Rattle.manifest.specs.declared.pods.Pod.{Pod}
 use Rattle.manifest.specs.declared.profiles.SeccompProfile.{SeccompProfile}
+use Rattle.profile_pick.specs.Choice.{choice_of}
 use Rattle.cri_msgs.specs.declared.calls.Call.TheVariants.{CreateContainer}
 use Rattle.cri_msgs.specs.declared.calls.Request.{Request}
 use Rattle.cri_msgs.specs.declared.keys.Key.{Key}
 use Rattle.worker_pod.specs.declared.settings.Outcome.{Outcome}
 use Rattle.worker_pod.specs.declared.settings.Outcome.TheVariants as outcome
 use Rattle.worker_pod.specs.declared.settings.Settings.{Settings}
-use Rattle.worker_pod.specs.Laws.{AreOf, Creation, Told, WasTold, uid_of}
+use Rattle.worker_pod.specs.Laws.{AreOf, Creation, Told, WasTold, key_named, uid_of}
 use Rattle.worker_pod.specs.Next.{is_gone, next_of}
 use Rattle.worker_pod.specs.Past.{Claimed, Kept, held_of, read_off}
 use Rattle.worker_core.specs.declared.answers.Answer.{Answer}
@@ -79,6 +80,11 @@ pub record Holds (node : NodeState) (worker : ℕ) (uid : List ℕ) (request : R
   pub place : ℕ
   pub at : HoldsAt node place worker uid request
 
+-- the request by which a worker holds a pod, if it holds one
+abbrev pub IsClaimOf : NodeState → ℕ → Option Request → Type 0
+IsClaimOf node worker None = (uid : List ℕ) (request : Request) → ¬ Holds node worker uid request
+IsClaimOf node worker (Some request) = (uid : List ℕ) × Holds node worker uid request
+
 -- the event ends the worker's claim in this way
 abbrev pub EndsBy : AgentEvent → ℕ → Outcome → Type 0
 EndsBy (Report its reported) worker how = (its ≡ worker) × (outcome_of reported ≡ how)
@@ -93,8 +99,14 @@ pub record Ends (uid : List ℕ) (c : Claimed) (l : NodeLink) : Type 0 where
   pub now : c.moment ≡ l.old.moment
   pub done : l.answer ≡ Done
 
+-- init containers are the first of the manifest's list
+abbrev pub is_init : Pod → ℕ → Bool
+is_init pod place = nat_lt place pod.containers.inits
+
 -- at any moment
 pub record NodeLaws (settings : Settings) (ls : List NodeLink) : Type 0 where
+  -- a node keeps its settings
+  pub settings_stay : (node_now settings ls).settings ≡ settings
   -- a pod is held by at most one worker, and by one request
   pub one_worker : (worker other : ℕ) (uid : List ℕ) (request another : Request)
       → Holds (node_now settings ls) worker uid request → Holds (node_now settings ls) other uid another
@@ -111,7 +123,19 @@ pub record NodeLaws (settings : Settings) (ls : List NodeLink) : Type 0 where
   pub claims_are_about : (at : ℕ) (p : OnNode) → slice_get (node_now settings ls).pods at ≡ Some p → AreOf p.past.pod.uid p.past.claims
   -- each ended claim of a pod was held by a worker that told how it ended
   pub ended : (at : ℕ) (p : OnNode) (c : Claimed) → slice_get (node_now settings ls).pods at ≡ Some p → Among c p.past.claims → Happened (Ends p.past.pod.uid c) ls
-  -- each run that the node holds was told by a reply to a claim of its container's attempt
+  -- each container of the manifest has its track at its place, which says whether it is an init container
+  pub tracked : (at : ℕ) (p : OnNode) → slice_get (node_now settings ls).pods at ≡ Some p
+      → length (read_off p.past.pod (node_now settings ls).settings p.past.claims).tracks ≡ length p.past.pod.containers.all
+  pub inits : (at : ℕ) (p : OnNode) → slice_get (node_now settings ls).pods at ≡ Some p
+      → (place : ℕ) (track : Track) → slice_get (read_off p.past.pod (node_now settings ls).settings p.past.claims).tracks place ≡ Some track
+      → track.init ≡ is_init p.past.pod place
+  -- the run at each place, from 0, was told by a reply to a claim of the container's attempt of that number
+  pub numbered : (at : ℕ) (p : OnNode) → slice_get (node_now settings ls).pods at ≡ Some p
+      → (place : ℕ) (track : Track) (container : Container)
+      → slice_get (read_off p.past.pod (node_now settings ls).settings p.past.claims).tracks place ≡ Some track
+      → slice_get p.past.pod.containers.all place ≡ Some container
+      → (k : ℕ) (run : Run) → slice_get track.runs k ≡ Some run → Told p.past.pod.uid p.past.claims container.name k run
+  -- and where the container's attempt ended, the last run is that attempt's
   pub told : (at : ℕ) (p : OnNode) → slice_get (node_now settings ls).pods at ≡ Some p
       → (place : ℕ) (track : Track) (container : Container)
       → slice_get (read_off p.past.pod (node_now settings ls).settings p.past.claims).tracks place ≡ Some track
@@ -138,15 +162,25 @@ pub record GivenLaw (old : NodeState) (worker : ℕ) (uid : List ℕ) (request :
 
 -- attempt k is behind: its run is the last that the node holds, it was told, another may be, and the back-off
 -- is over
-pub record Again (node : NodeState) (p : OnNode) (track : Track) (container : Container) (k : ℕ) : Type 0 where
+pub record Again (node : NodeState) (p : OnNode) (place : ℕ) (track : Track) (container : Container) (k : ℕ) : Type 0 where
   pub run : Run
   pub last : last_of track.runs ≡ Some run
   pub was_told : Told p.past.pod.uid p.past.claims container.name k run
-  pub may : may_restart p.past.pod.policy track.init run.code ≡ true
+  pub may : may_restart p.past.pod.policy (is_init p.past.pod place) run.code ≡ true
   pub ready : ready_at track.runs ≤ node.moment
 
--- where an attempt at a container is made: the request is what the manifest says, the init containers in
--- front have ended with code 0, and so on behind an attempt that ended
+-- the last run that the node holds of this container was told, and ended with code 0
+pub record EndedWithZero (node : NodeState) (p : OnNode) (place : ℕ) (container : Container) : Type 0 where
+  pub track : Track
+  pub here : slice_get (state_of node p).tracks place ≡ Some track
+  pub run : Run
+  pub last : last_of track.runs ≡ Some run
+  pub zero : run.code ≡ 0
+  pub attempt : ℕ
+  pub was_told : Told p.past.pod.uid p.past.claims container.name attempt run
+
+-- where an attempt at a container is made: the request is what the manifest says, the init containers, for one
+-- of them those in front of it, have ended with code 0, and so on behind an attempt that ended
 pub record CreationLaw (old : NodeState) (uid : List ℕ) (key : Key) (image : List ℕ) (profile : SeccompProfile) : Type 0 where
   pub place : ℕ
   pub pod : OnNode
@@ -155,7 +189,12 @@ pub record CreationLaw (old : NodeState) (uid : List ℕ) (key : Key) (image : L
   -- no container is made for a deleted pod
   pub undeleted : pod.past.deleted ≡ false
   pub creation : Creation (state_of old pod) old.moment key image profile
-  pub again : (k : ℕ) → key.container.attempt ≡ k + 1 → Again old pod creation.track creation.container k
+  pub container_is : slice_get pod.past.pod.containers.all creation.place ≡ Some creation.container
+  pub key_is : key ≡ key_named uid creation.container.name key.container.attempt
+  pub profile_is : profile ≡ choice_of pod.past.pod.profile creation.container old.settings.seccomp_default
+  pub inits : (at : ℕ) (container : Container) → slice_get pod.past.pod.containers.all at ≡ Some container → is_init pod.past.pod at ≡ true
+      → (is_init pod.past.pod creation.place ≡ true → at < creation.place) → EndedWithZero old pod at container
+  pub again : (k : ℕ) → key.container.attempt ≡ k + 1 → Again old pod creation.place creation.track creation.container k
 
 -- the pod is on the node still
 pub record Stays (new : NodeState) (p : OnNode) : Type 0 where
@@ -180,6 +219,8 @@ pub record NodeLinkLaws (l : NodeLink) (before : List NodeLink) : Type 0 where
   pub number_once : (worker other : ℕ) (uid another : List ℕ) (request its : Request)
       → Gives worker uid request l → Happened (Gives other another its) before → its.id < request.id
   pub given : (worker : ℕ) (uid : List ℕ) (request : Request) → Gives worker uid request l → GivenLaw l.old worker uid request
+  -- only a worker that claims is given a request
+  pub asked : (uid : List ℕ) (number : ℕ) (request : Request) → l.answer ≡ Given uid number request → (worker : ℕ) × Gives worker uid request l
   -- where a worker is given nothing, nothing is due, or there is no number left
   pub nothing : (worker : ℕ) → l.event ≡ Claim worker → l.answer ≡ Nothing → l.old.number < LAST_NUMBER → ¬ IsDueAt l.old l.old.moment
   pub creation : (worker : ℕ) (uid : List ℕ) (request : Request) → Gives worker uid request l

@@ -134,7 +134,7 @@ pub record IsTaken (old : NodeState) (event : AgentEvent) (answer : Answer) (new
 
 -- it would be taken, but there is no memory for it
 pub record IsOutOfMemory (old : NodeState) (event : AgentEvent) (answer : Answer) (new : NodeState) : Type 0 where
-  pub takes : takes_memory event ≡ true
+  pub takes : takes_memory (kept_of old) event ≡ true
   pub changing : changes (answer_of (kept_of old) event) ≡ true
   pub answer_is : answer ≡ Refused Memory
   pub same : new ≡ old

@@ -4,12 +4,12 @@ use Rattle.std.specs.Prelude.{◌≡◌, ℕ, ◌+◌, ◌≤◌, ◌==◌, Bool
 use Rattle.std.specs.List.{remove}
 use Rattle.std.specs.Str.{bytes_eq}
 use Rattle.manifest.specs.declared.pods.Pod.{Pod}
+use Rattle.cri_msgs.specs.declared.calls.Request.{Request}
 use Rattle.worker_pod.specs.declared.settings.Outcome.{Outcome}
 use Rattle.worker_pod.specs.declared.settings.Outcome.TheVariants as outcome
 use Rattle.worker_pod.specs.declared.settings.Settings.{Settings}
-use Rattle.worker_pod.specs.News.{told}
 use Rattle.worker_pod.specs.Next.{due_of, is_gone}
-use Rattle.worker_pod.specs.Past.{Kept, after, start, with_deleted}
+use Rattle.worker_pod.specs.Past.{Kept, after, records_exit, start, with_deleted}
 use Rattle.worker_core.specs.declared.events.Reported.{Reported}
 use Rattle.worker_core.specs.declared.events.Reported.TheVariants.{Replied, Lost}
 use Rattle.worker_core.specs.declared.slots.Held.{Held}
@@ -23,10 +23,6 @@ fresh_slot pod settings = record { state = start pod settings; held = None }
 abbrev pub outcome_of : Reported → Outcome
 outcome_of (Replied reply) = outcome.Replied reply
 outcome_of Lost = outcome.Lost
-
-abbrev pub is_reply : Outcome → Bool
-is_reply (outcome.Replied reply) = true
-is_reply how = false
 
 abbrev pub is_free : Option Held → Bool
 is_free None = true
@@ -44,6 +40,23 @@ is_held_by worker (Some held) = held.worker == worker
 -- where the pod stands that this worker holds
 abbrev pub holder_of : ℕ → List Slot → Option ℕ
 holder_of worker slots = position (λ s. is_held_by worker s.held) slots
+
+-- the request by which a pod is held
+abbrev pub request_of : Option Held → Option Request
+request_of None = None
+request_of (Some held) = Some held.request
+
+abbrev pub request_in : Option Slot → Option Request
+request_in None = None
+request_in (Some slot) = request_of slot.held
+
+abbrev pub request_at : List Slot → Option ℕ → Option Request
+request_at slots None = None
+request_at slots (Some place) = request_in (slice_get slots place)
+
+-- the request that this worker was given, if it holds a pod
+abbrev pub claim_of : ℕ → List Slot → Option Request
+claim_of worker slots = request_at slots (holder_of worker slots)
 
 -- where the pod of this uid stands
 abbrev pub place_of : List ℕ → List Slot → Option ℕ
@@ -70,7 +83,7 @@ claimed_by held slot = record { state = slot.state; held = Some held }
 
 abbrev pub state_ended : ℕ → Outcome → Kept → Option Held → Kept
 state_ended now how kept None = kept
-state_ended now how kept (Some held) = after now held.request (told held.request how) kept
+state_ended now how kept (Some held) = after now held.request how kept
 
 -- the claim of the pod ends
 abbrev pub ended : ℕ → Outcome → Slot → Slot
@@ -86,6 +99,18 @@ left slots place = if is_gone_slot (slice_get slots place) then remove slots pla
 
 abbrev pub ended_at : ℕ → Outcome → List Slot → ℕ → List Slot
 ended_at now how slots place = left (changed (ended now how) slots place) place
+
+-- whether the end of the pod's claim records an exit
+abbrev pub records_held : ℕ → Outcome → Kept → Option Held → Bool
+records_held now how kept None = false
+records_held now how kept (Some held) = records_exit now held.request how kept
+
+abbrev pub records_in : ℕ → Outcome → Option Slot → Bool
+records_in now how None = false
+records_in now how (Some slot) = records_held now how slot.state slot.held
+
+abbrev pub records_at : ℕ → Outcome → List Slot → ℕ → Bool
+records_at now how slots place = records_in now how (slice_get slots place)
 
 -- no claim ended later
 abbrev pub AllEndedBy : ℕ → List Slot → Type 0

@@ -4,7 +4,10 @@ ghost use Rattle.worker_pod.specs.declared.settings.Settings.{Settings};
 ghost use Rattle.worker_core.specs.declared.limits.TheConstants.{LAST_NUMBER, MAX_PODS, MAX_UIDS};
 ghost use Rattle.worker_core.specs.Laws.{IsNodeRun, NodeLaws, NodeLink, NodeLinkLaws};
 
-use worker_pod::{calls_are_of_the_pod, creations_follow, due_is_when_next_is, runs_were_told};
+use worker_pod::{
+    calls_are_of_the_pod, containers_have_tracks, creations_are_numbered, creations_follow,
+    due_is_when_next_is, runs_are_numbered, runs_were_told,
+};
 
 /// In every run a pod is held by at most one worker and a worker holds at most one pod, a uid is admitted
 /// once and a number used once, and an attempt at a container is made as the manifest says, in the order of
@@ -17,6 +20,9 @@ pub fn every_run()
     creations_follow();
     due_is_when_next_is();
     runs_were_told();
+    creations_are_numbered();
+    runs_are_numbered();
+    containers_have_tracks();
 }
 
 /// What the constants of this crate are.

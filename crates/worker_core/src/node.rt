@@ -1,10 +1,11 @@
-ghost use Rattle.std.specs.Prelude.{◌≡◌, ◌<◌, ◌≤◌, Some, None, length, nat_lt, true, false, is_some, slice_get, map, IfSome, IfOk, OnOk, OnErr};
+ghost use Rattle.std.specs.Prelude.{◌≡◌, ◌<◌, ◌≤◌, Some, None, length, nat_lt, true, false, is_some, slice_get, map, IfSome, IfOk, OnOk, OnErr, option_copied, IsOk};
 ghost use Rattle.worker_core.specs.declared.limits.TheConstants.{LAST_NUMBER, MAX_PODS, MAX_UIDS};
-ghost use Rattle.worker_core.specs.Kept.{Foresees, KeptStep, Takes, admit_answer, after_admit, after_claim, after_delete, after_end, after_tick, claim_answer, delete_answer, end_answer, fresh_node, grant_of, grant_of_turn, is_full, changes, refusal_of, tick_answer, with_grant, with_pod};
+ghost use Rattle.worker_core.specs.Kept.{Foresees, KeptStep, Takes, admit_answer, after_admit, after_claim, after_delete, after_end, after_tick, claim_answer, delete_answer, end_answer, fresh_node, grant_of, grant_of_turn, is_full, changes, records, refusal_of, tick_answer, with_grant, with_pod};
 ghost use Rattle.worker_pod.specs.Next.{phase_in};
 ghost use Rattle.worker_core.specs.Turns.{soonest};
+ghost use Rattle.worker_core.specs.Laws.{IsClaimOf};
 ghost use Rattle.worker_core.specs.Nodes.{Comes, IsNextDue, NodeState, StandsFor, empty_node, kept_of};
-ghost use Rattle.worker_core.specs.Slots.{held_in, holder_of, is_reply, outcome_of, place_of};
+ghost use Rattle.worker_core.specs.Slots.{claim_of, held_in, holder_of, outcome_of, place_of};
 
 use crate::answers::{Answer, Refusal};
 use crate::claims::{Grant, granted};
@@ -12,10 +13,11 @@ use crate::events::{AgentEvent, Reported};
 use crate::known::KnownUids;
 use crate::limits::{LAST_NUMBER, MAX_PODS, MAX_UIDS};
 use crate::slots::{
-    Held, Slot, admitted, claimed_at, deleted_at, ended_at, fresh_slot, held_in, holder_of,
-    place_of,
+    Held, Slot, admitted, claim_of, claimed_at, deleted_at, ended_at, fresh_slot, held_in,
+    holder_of, place_of,
 };
 use crate::turns::{Turn, longest, soonest};
+use cri_msgs::Request;
 use manifest::{Pod, Uid};
 use std::alloc::{AllocError, Global};
 use std::marker::Model;
@@ -194,7 +196,7 @@ impl Node {
     {
         let Grant { place, request, .. } = grant;
         self.number = request.id;
-        claimed_at(self.slots.as_mut_slice(), place, Held { worker, request });
+        claimed_at(&mut self.slots, place, Held { worker, request });
     }
 
     /// Whether this worker holds a pod.
@@ -241,7 +243,8 @@ impl Node {
         ensures node { OnOk result (self.new ≡ after_end self.old outcome (holder_of worker self.old.slots)) }
         ensures err { OnErr result (self.new ≡ self.old) }
         ensures only { OnErr result (changes (end_answer (holder_of worker self.old.slots)) ≡ true) }
-        ensures replied { OnErr result (is_reply outcome ≡ true) }
+        ensures records { OnErr result (records self.old outcome (holder_of worker self.old.slots) ≡ true) }
+        ensures abandoned { outcome ≡ Outcome.Abandoned → IsOk result }
     {
         match holder_of(worker, self.slots.as_slice()) {
             Some(place) => {
@@ -256,7 +259,7 @@ impl Node {
     }
 
     fn report(&mut self, worker: u32, reported: Reported) -> Answer
-        ensures { Takes (end_answer (holder_of worker self.old.slots)) (after_end self.old (outcome_of reported) (holder_of worker self.old.slots)) (is_reply (outcome_of reported)) self.old result self.new }
+        ensures { Takes (end_answer (holder_of worker self.old.slots)) (after_end self.old (outcome_of reported) (holder_of worker self.old.slots)) (records self.old (outcome_of reported) (holder_of worker self.old.slots)) self.old result self.new }
     {
         match self.end(worker, reported.outcome()) {
             Ok(answer) => answer,
@@ -394,5 +397,15 @@ impl Node {
         ensures { result ≡ held_in self.now.slots }
     {
         held_in(self.slots.as_slice()) as u32
+    }
+
+    /// The request that this worker was given, if it holds a pod.
+    pub fn claim_of(&self, worker: u32) -> Option<&Request>
+        ensures kept { option_copied result ≡ claim_of worker self.now.slots }
+
+        // It is what the worker holds at every node that what is held stands for.
+        ensures claim { (node : NodeState) → StandsFor self.now node → IsClaimOf node worker (option_copied result) }
+    {
+        claim_of(worker, self.slots.as_slice())
     }
 }

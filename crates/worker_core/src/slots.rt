@@ -1,7 +1,7 @@
-ghost use Rattle.std.specs.Prelude.{◌≡◌, ℕ, ◌+◌, ◌<◌, ◌≤◌, [], ◌∷◌, ◌++◌, Some, None, true, false, length, slice_get, vec_len, vec_capacity, IfOk, OnOk, OnErr};
+ghost use Rattle.std.specs.Prelude.{◌≡◌, ℕ, ◌+◌, ◌<◌, ◌≤◌, [], ◌∷◌, ◌++◌, Some, None, true, false, length, slice_get, vec_len, vec_capacity, IfOk, OnOk, OnErr, option_copied, IsOk};
 ghost use Rattle.std.specs.String.{string_bytes};
 ghost use Rattle.worker_core.specs.Known.{with_uid};
-ghost use Rattle.worker_core.specs.Slots.{AllEndedBy, changed, claimed_by, deleted, ended, ended_at, free_due, fresh_slot, held_in, holder_of, is_free, is_gone_slot, is_held_by, is_reply, left, place_of};
+ghost use Rattle.worker_core.specs.Slots.{AllEndedBy, changed, claimed_by, deleted, ended, ended_at, free_due, fresh_slot, held_in, holder_of, is_free, is_gone_slot, is_held_by, left, place_of, claim_of, request_at, request_of, records_at, records_held};
 
 use crate::known::KnownUids;
 use cri_msgs::Request;
@@ -39,6 +39,16 @@ impl Slot {
         match &self.held {
             None => false,
             Some(held) => held.worker == worker,
+        }
+    }
+
+    // The request by which the pod is held.
+    pub(crate) fn request(&self) -> Option<&Request>
+        ensures { option_copied result ≡ request_of self.now.held }
+    {
+        match &self.held {
+            None => None,
+            Some(held) => Some(&held.request),
         }
     }
 
@@ -145,6 +155,25 @@ pub(crate) fn holder_of(worker: u32, slots: &[Slot]) -> Option<usize>
     slots.iter().position(|s| s.is_held_by(worker))
 }
 
+// The request that this worker was given, if it holds a pod.
+pub(crate) fn claim_of(worker: u32, slots: &[Slot]) -> Option<&Request>
+    ensures { option_copied result ≡ claim_of worker slots.now }
+{
+    request_at(slots, holder_of(worker, slots))
+}
+
+fn request_at(slots: &[Slot], place: Option<usize>) -> Option<&Request>
+    ensures { option_copied result ≡ request_at slots.now place }
+{
+    match place {
+        None => None,
+        Some(place) => match slots.get(place) {
+            None => None,
+            Some(slot) => slot.request(),
+        },
+    }
+}
+
 // Where the pod of this uid stands.
 pub(crate) fn place_of(uid: &Uid, slots: &[Slot]) -> Option<usize>
     ensures { result ≡ place_of uid.now slots.now }
@@ -161,21 +190,23 @@ pub(crate) fn deleted_at(slots: &mut [Slot], place: usize)
     }
 }
 
-pub(crate) fn claimed_at(slots: &mut [Slot], place: usize, held: Held)
-    ensures slots { slots.new ≡ changed (claimed_by held) slots.old place }
-    ensures by { (now : ℕ) → AllEndedBy now slots.old → AllEndedBy now slots.new }
+pub(crate) fn claimed_at(slots: &mut Vec<Slot>, place: usize, held: Held)
+    ensures slots { slots.new.items ≡ changed (claimed_by held) slots.old.items place }
+    ensures by { (now : ℕ) → AllEndedBy now slots.old.items → AllEndedBy now slots.new.items }
+    ensures same { length slots.new.items ≡ length slots.old.items }
 {
     if place < slots.len() {
         slots[place].held = Some(held);
     }
 }
 
-// The claim of the pod ends. Only the record of an exit takes memory.
+// The claim of the pod ends. Only the records of exits take memory.
 fn ended(slot: &mut Slot, now: u64, outcome: Outcome) -> Result<(), AllocError>
     requires { slot.old.state.latest ≤ now }
     ensures ok { OnOk result (slot.new ≡ ended now outcome slot.old) }
     ensures err { OnErr result (slot.new ≡ slot.old) }
-    ensures replied { OnErr result (is_reply outcome ≡ true) }
+    ensures records { OnErr result (records_held now outcome slot.old.state slot.old.held ≡ true) }
+    ensures abandoned { outcome ≡ Outcome.Abandoned → IsOk result }
 {
     let Some(held) = &slot.held else {
         return Ok(());
@@ -218,7 +249,8 @@ pub(crate) fn ended_at(
     ensures err { OnErr result (slots.new.items ≡ slots.old.items) }
     ensures by { OnOk result (AllEndedBy now slots.new.items) }
     ensures fewer { length slots.new.items ≤ length slots.old.items }
-    ensures replied { OnErr result (is_reply outcome ≡ true) }
+    ensures records { OnErr result (records_at now outcome slots.old.items place ≡ true) }
+    ensures abandoned { outcome ≡ Outcome.Abandoned → IsOk result }
 {
     claim_ended(slots, place, now, outcome)?;
     left(slots, place);
@@ -236,7 +268,8 @@ fn claim_ended(
     ensures err { OnErr result (slots.new.items ≡ slots.old.items) }
     ensures by { OnOk result (AllEndedBy now slots.new.items) }
     ensures same { length slots.new.items ≡ length slots.old.items }
-    ensures replied { OnErr result (is_reply outcome ≡ true) }
+    ensures records { OnErr result (records_at now outcome slots.old.items place ≡ true) }
+    ensures abandoned { outcome ≡ Outcome.Abandoned → IsOk result }
 {
     if place < slots.len() {
         ended(&mut slots[place], now, outcome)?;

@@ -1,5 +1,5 @@
 use crate::{AgentEvent, Answer, Node, Reported};
-use cri_msgs::{Call, Key, Refusal, Reply, Request, State, Status};
+use cri_msgs::{Call, Key, Refusal, Reply, Request, State, Status, Version};
 use manifest::{Pod, PodFault, Uid};
 use std::alloc::{AllocError, Global};
 use worker_pod::Settings;
@@ -15,6 +15,7 @@ pub(crate) struct Play {
 pub(crate) const PLAIN: Settings = Settings {
     seccomp_default: false,
     poll: 0,
+    version: Version::V1,
 };
 
 pub(crate) fn begun(alloc: Global) -> Play {

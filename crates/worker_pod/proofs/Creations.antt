@@ -13,6 +13,8 @@ use Rattle.manifest.specs.declared.profiles.SeccompProfile.{SeccompProfile}
 use Rattle.profile_pick.specs.Choice.{choice_of}
 use Rattle.cri_msgs.specs.declared.calls.Call.TheVariants.{CreateContainer}
 use Rattle.cri_msgs.specs.declared.keys.Key.{Key}
+use Rattle.cri_msgs.specs.declared.version.Version.{Version}
+use Rattle.cri_msgs.specs.declared.version.Version.TheVariants.{V1, V2}
 use Rattle.worker_pod.specs.declared.duty.Duty.{Duty}
 use Rattle.worker_pod.specs.declared.duty.Duty.TheVariants as duty
 use Rattle.worker_pod.specs.declared.settings.Settings.{Settings}
@@ -22,7 +24,7 @@ use Rattle.worker_pod.specs.declared.wants.Want.{Want}
 use Rattle.worker_pod.specs.declared.wants.Work.{Work}
 use Rattle.worker_pod.specs.declared.wants.Work.TheVariants.{Create, Start, Look, Clear}
 use Rattle.worker_pod.specs.Laws.{Creation, Follows}
-use Rattle.worker_pod.specs.Next.{call_by, call_of, duty_of, key_in, next_by, next_of}
+use Rattle.worker_pod.specs.Next.{call_by, call_of, duty_of, key_in, look_by, next_by, next_of}
 use Rattle.worker_pod.specs.Past.{Kept}
 use Rattle.worker_pod.specs.Wants.{again, chosen, front_of, is_in_turn, turn_of, want_in, want_of, wanted}
 use Rattle.worker_pod.proofs.Inits.{in_front}
@@ -40,7 +42,10 @@ by_work : (pod : Pod) (settings : Settings) (c : Container) (work : Work) (key :
     → call_of pod settings c work ≡ CreateContainer key image profile → IsSent pod settings c work key image profile
 by_work pod settings c (Create attempt) key image profile e = record { attempt = attempt; is = refl; the_key = cc; the_image = cc; the_profile = cc }
 by_work pod settings c (Start attempt) key image profile e = absurd cc
-by_work pod settings c (Look attempt) key image profile e = absurd cc
+by_work pod settings c (Look attempt) key image profile e = absurd (never settings.version e) where
+  never : (version : Version) → look_by version (key_in pod c attempt) ≡ CreateContainer key image profile → ⊥
+  never V1 h = cc
+  never V2 h = cc
 by_work pod settings c (Clear attempt) key image profile e = absurd cc
 
 -- why it is made

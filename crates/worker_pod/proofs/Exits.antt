@@ -1,7 +1,10 @@
--- Only a status tells of an exit, and what one claim makes of one container's track.
-use Rattle.std.proofs.Common.{◌≡◌, ℕ, ◌-◌, ◌==◌, Bool, true, false, if◌then◌else◌, List, [], ◌∷◌, ◌++◌, length, Option, Some, None, slice_get, refl, sym, ◌∙◌, ap, suc, length-append, arith}
+-- Only statuses tell of an exit, and what one claim makes of one container's track.
+use Rattle.std.proofs.Common.{◌≡◌, ℕ, ◌-◌, ◌==◌, Bool, true, false, cond, find, if◌then◌else◌, List, [], ◌∷◌, ◌++◌, length, Option, Some, None, slice_get, refl, sym, ◌∙◌, ap, suc, length-append, arith}
 use Rattle.std.proofs.lemmas.Bool.{eqb-true}
 use Rattle.std.proofs.lemmas.List.Elements.{All-push, All-weaker}
+use Rattle.std.proofs.lemmas.Slice.Eq.{bytes_eq-Decides}
+use Rattle.std.specs.List.{Any}
+use Rattle.std.specs.Str.{bytes_eq}
 use Rattle.lifecycle.specs.BackOff.{Run, last_of}
 use Rattle.lifecycle.specs.declared.track.Stage.{Stage}
 use Rattle.lifecycle.specs.declared.track.Stage.TheVariants as stage
@@ -9,25 +12,27 @@ use Rattle.lifecycle.specs.declared.track.Track.{Track}
 use Rattle.cri_msgs.specs.declared.calls.Call.{Call}
 use Rattle.cri_msgs.specs.declared.calls.Call.TheVariants as call
 use Rattle.cri_msgs.specs.declared.calls.Request.{Request}
+use Rattle.cri_msgs.specs.declared.keys.ContainerMetadata.{ContainerMetadata}
 use Rattle.cri_msgs.specs.declared.keys.Key.{Key}
+use Rattle.cri_msgs.specs.declared.lists.ListedStatus.{ListedStatus}
 use Rattle.cri_msgs.specs.declared.replies.Answer.{Answer}
 use Rattle.cri_msgs.specs.declared.replies.Answer.TheVariants as answer
 use Rattle.cri_msgs.specs.declared.replies.Reply.{Reply}
 use Rattle.cri_msgs.specs.declared.states.State.{State}
 use Rattle.cri_msgs.specs.declared.states.State.TheVariants as state
-use Rattle.cri_msgs.specs.Tells.{TellsExit}
+use Rattle.cri_msgs.specs.Tells.{IsExitOf, TellsExit}
 use Rattle.worker_pod.specs.declared.news.News.{News}
 use Rattle.worker_pod.specs.declared.news.News.TheVariants as news
 use Rattle.worker_pod.specs.declared.settings.Outcome.{Outcome}
 use Rattle.worker_pod.specs.declared.settings.Outcome.TheVariants as outcome
-use Rattle.worker_pod.specs.News.{answer_tells, done_tells, list_tells, made_tells, reply_tells, state_tells, status_tells, statuses_tell, told}
-use Rattle.worker_pod.specs.Laws.{HasEnded, LastRun, Told, TellsRun, WasTold, key_named}
+use Rattle.worker_pod.specs.News.{answer_tells_of, cell_tells, done_tells, is_cell_of, hearing_of, heard, made_tells, state_tells, status_tells, statuses_tell_of, told_of}
+use Rattle.worker_pod.specs.Laws.{HasEnded, LastRun, Told, TellsRun, WasTold, key_named, uid_of}
 use Rattle.worker_pod.specs.Past.{Claimed}
-use Rattle.worker_pod.specs.Tracks.{cleared_at, exit_at, exited_at, key_of, seen_at, started_at, track_at, with_run}
+use Rattle.worker_pod.specs.Tracks.{cleared_at, exit_at, exited_at, named_in, number_by, run_at, run_by, seen_at, stage_at, stage_by, started_at, track_after, with_run, worked_in}
+use Rattle.worker_pod.proofs.Offers.{and_left, and_right}
 
--- an answer to the call tells the exit of the container that the call names
-abbrev TellsOf : Call → Answer → ℕ → Type 0
-TellsOf c a code = (key : Key) → key_of c ≡ Some key → TellsExit c a key code
+abbrev metadata : List ℕ → ℕ → ContainerMetadata
+metadata name of = record { name = name; attempt = of }
 
 done_silent : (n : News) (a : Answer) (code : ℕ) → done_tells n a ≡ news.Exited code → n ≡ news.Exited code
 done_silent n answer.Done code e = e
@@ -45,68 +50,104 @@ made_silent (answer.Status status) code e = cc
 made_silent (answer.List items) code e = cc
 made_silent (answer.Statuses items) code e = cc
 
-list_silent : (a : Answer) (code : ℕ) → list_tells a ≡ news.Exited code → ⊥
-list_silent answer.Done code e = cc
-list_silent (answer.Refused refusal) code e = cc
-list_silent (answer.Container id) code e = cc
-list_silent (answer.Status status) code e = cc
-list_silent (answer.List items) code e = cc
-list_silent (answer.Statuses items) code e = cc
-
-statuses_silent : (a : Answer) (code : ℕ) → statuses_tell a ≡ news.Exited code → ⊥
-statuses_silent answer.Done code e = cc
-statuses_silent (answer.Refused refusal) code e = cc
-statuses_silent (answer.Container id) code e = cc
-statuses_silent (answer.Status status) code e = cc
-statuses_silent (answer.List items) code e = cc
-statuses_silent (answer.Statuses items) code e = cc
-
 state_is : (s : State) (code : ℕ) → state_tells s ≡ news.Exited code → s ≡ state.Exited code
 state_is state.Created code e = absurd cc
 state_is state.Running code e = absurd cc
 state_is (state.Exited its) code e = let same : its ≡ code = cc in ap (λ (n : ℕ). state.Exited n) same
 
-status_tells_of : (asked : Key) (a : Answer) (code : ℕ) → status_tells a ≡ news.Exited code → TellsOf (call.ContainerStatus asked) a code
-status_tells_of asked (answer.Status status) code e key names = (cc, state_is status.state code e)
-status_tells_of asked answer.Done code e key names = absurd cc
-status_tells_of asked (answer.Refused refusal) code e key names = absurd cc
-status_tells_of asked (answer.Container id) code e key names = absurd cc
-status_tells_of asked (answer.List items) code e key names = absurd cc
-status_tells_of asked (answer.Statuses items) code e key names = absurd cc
+name_is : (a b : List ℕ) → bytes_eq a b ≡ true → a ≡ b
+name_is a b e = (bytes_eq-Decides a b).0 e
 
-answer_is : (c : Call) (a : Answer) (code : ℕ) → answer_tells c a ≡ news.Exited code → TellsOf c a code
-answer_is (call.RunPodSandbox uid) a code e key names = absurd cc
-answer_is (call.StopPodSandbox uid grace) a code e key names = absurd cc
-answer_is (call.RemovePodSandbox uid) a code e key names = absurd cc
-answer_is (call.CreateContainer its image profile) a code e key names = absurd (made_silent a code e)
-answer_is (call.StartContainer its) a code e key names = let never : news.Started ≡ news.Exited code = done_silent news.Started a code e in absurd cc
-answer_is (call.StopContainer its grace) a code e key names = let never : news.Nothing ≡ news.Exited code = done_silent news.Nothing a code e in absurd cc
-answer_is (call.RemoveContainer its) a code e key names = let never : news.Cleared ≡ news.Exited code = done_silent news.Cleared a code e in absurd cc
-answer_is (call.ContainerStatus asked) a code e key names = status_tells_of asked a code e key names
-answer_is (call.ListContainers uid) a code e key names = absurd cc
-answer_is (call.ContainerStatuses uid) a code e key names = absurd cc
+-- the call names the attempt
+pub names : (asked : Key) (name : List ℕ) (of : ℕ) → named_in asked name ≡ Some of → (asked.container.name ≡ name) × (asked.container.attempt ≡ of)
+names asked name of e = by_test (bytes_eq asked.container.name name) refl e where
+  by_test : (b : Bool) → bytes_eq asked.container.name name ≡ b → (if b then Some asked.container.attempt else None) ≡ Some of
+      → (asked.container.name ≡ name) × (asked.container.attempt ≡ of)
+  by_test true test h = (name_is asked.container.name name test, cc)
+  by_test false test h = absurd cc
 
--- the claim's reply told the exit
-record IsTold (request : Request) (o : Outcome) (code : ℕ) : Type 0 where
-  reply : Reply
-  is : o ≡ outcome.Replied reply
-  number : reply.id ≡ request.id
-  tells : TellsOf request.call reply.answer code
+key_is : (key : Key) (uid name : List ℕ) (of : ℕ) → key.uid ≡ uid → (key.container.name ≡ name) × (key.container.attempt ≡ of) → key ≡ key_named uid name of
+key_is key uid name of u n = rw (← u, ← n.0, ← n.1) refl
 
-reply_is : (request : Request) (reply : Reply) (code : ℕ) → reply_tells request reply ≡ news.Exited code → IsTold request (outcome.Replied reply) code
-reply_is request reply code e = by_number (reply.id == request.id) refl e where
-  by_number : (b : Bool) → (reply.id == request.id) ≡ b → (if b then answer_tells request.call reply.answer else news.Lost) ≡ news.Exited code
-      → IsTold request (outcome.Replied reply) code
-  by_number true test h = record { reply = reply; is = refl; number = eqb-true reply.id request.id test; tells = answer_is request.call reply.answer code h }
+status_is : (asked key : Key) (a : Answer) (code : ℕ) → asked ≡ key → status_tells a ≡ news.Exited code → TellsExit (call.ContainerStatus asked) a key code
+status_is asked key (answer.Status status) code same e = (same, state_is status.state code e)
+status_is asked key answer.Done code same e = absurd cc
+status_is asked key (answer.Refused refusal) code same e = absurd cc
+status_is asked key (answer.Container id) code same e = absurd cc
+status_is asked key (answer.List items) code same e = absurd cc
+status_is asked key (answer.Statuses items) code same e = absurd cc
+
+-- the listed cell that decides is of the attempt
+cell_is : (name : List ℕ) (of : ℕ) (listed : ListedStatus) → is_cell_of name of listed ≡ true → listed.container ≡ metadata name of
+cell_is name of listed e =
+    let attempt : listed.container.attempt ≡ of = eqb-true listed.container.attempt of (and_left (listed.container.attempt == of) (bytes_eq listed.container.name name) e) in
+    let same : listed.container.name ≡ name = name_is listed.container.name name (and_right (listed.container.attempt == of) (bytes_eq listed.container.name name) e) in
+    rw (← same, ← attempt) refl
+
+found_in : (name : List ℕ) (of code : ℕ) (items : List ListedStatus) → cell_tells (find (is_cell_of name of) items) ≡ news.Exited code → Any (IsExitOf (metadata name of) code) items
+found_in name of code [] e = absurd cc
+found_in name of code (l ∷ ls) e = by_test (is_cell_of name of l) refl e (found_in name of code ls) where
+  by_test : (b : Bool) → is_cell_of name of l ≡ b → cell_tells (cond b (Some l) (find (is_cell_of name of) ls)) ≡ news.Exited code
+      → (cell_tells (find (is_cell_of name of) ls) ≡ news.Exited code → Any (IsExitOf (metadata name of) code) ls) → Any (IsExitOf (metadata name of) code) (l ∷ ls)
+  by_test true test h behind = (0, l, omega arith, refl, (cell_is name of l test, state_is l.status.state code h))
+  by_test false test h behind =
+      let found : Any (IsExitOf (metadata name of) code) ls = behind h in
+      (suc found.0, found.1, omega (arith, found.2), found.3, found.4)
+
+statuses_are : (u uid name : List ℕ) (of : ℕ) (a : Answer) (code : ℕ) → u ≡ uid → statuses_tell_of name of a ≡ news.Exited code
+    → TellsExit (call.ContainerStatuses u) a (key_named uid name of) code
+statuses_are u uid name of (answer.Statuses items) code same e = (same, found_in name of code items e)
+statuses_are u uid name of answer.Done code same e = absurd cc
+statuses_are u uid name of (answer.Refused refusal) code same e = absurd cc
+statuses_are u uid name of (answer.Container id) code same e = absurd cc
+statuses_are u uid name of (answer.Status status) code same e = absurd cc
+statuses_are u uid name of (answer.List items) code same e = absurd cc
+
+-- an answer to the call tells the exit of the attempt that the claim works on
+answer_is : (c : Call) (a : Answer) (uid name : List ℕ) (s : Stage) (of code : ℕ) → uid_of c ≡ uid → worked_in c name s ≡ Some of
+    → answer_tells_of name of c a ≡ news.Exited code → TellsExit c a (key_named uid name of) code
+answer_is (call.RunPodSandbox u) a uid name s of code same works e = absurd cc
+answer_is (call.StopPodSandbox u grace) a uid name s of code same works e = absurd cc
+answer_is (call.RemovePodSandbox u) a uid name s of code same works e = absurd cc
+answer_is (call.CreateContainer its image profile) a uid name s of code same works e = absurd (made_silent a code e)
+answer_is (call.StartContainer its) a uid name s of code same works e = let never : news.Started ≡ news.Exited code = done_silent news.Started a code e in absurd cc
+answer_is (call.StopContainer its grace) a uid name s of code same works e = let never : news.Nothing ≡ news.Exited code = done_silent news.Nothing a code e in absurd cc
+answer_is (call.RemoveContainer its) a uid name s of code same works e = let never : news.Cleared ≡ news.Exited code = done_silent news.Cleared a code e in absurd cc
+answer_is (call.ContainerStatus asked) a uid name s of code same works e =
+    status_is asked (key_named uid name of) a code (key_is asked uid name of same (names asked name of works)) e
+answer_is (call.ListContainers u) a uid name s of code same works e = absurd cc
+answer_is (call.ContainerStatuses u) a uid name s of code same works e = statuses_are u uid name of a code same e
+
+-- the claim's reply told the exit of the attempt
+pub record IsTold (request : Request) (how : Outcome) (key : Key) (code : ℕ) : Type 0 where
+  pub reply : Reply
+  pub is : how ≡ outcome.Replied reply
+  pub number : reply.id ≡ request.id
+  pub tells : TellsExit request.call reply.answer key code
+
+by_answer : (request : Request) (how : Outcome) (said : Option Answer) → heard request how ≡ said → (uid name : List ℕ) (s : Stage) (of code : ℕ)
+    → uid_of request.call ≡ uid → worked_in request.call name s ≡ Some of → hearing_of name of request.call said ≡ news.Exited code → IsTold request how (key_named uid name of) code
+by_answer request how None is uid name s of code same works e = absurd cc
+by_answer request (outcome.Replied reply) (Some said) is uid name s of code same works e = by_number (reply.id == request.id) refl is where
+  by_number : (b : Bool) → (reply.id == request.id) ≡ b → (if b then Some reply.answer else None) ≡ Some said → IsTold request (outcome.Replied reply) (key_named uid name of) code
+  by_number true test h = record {
+    reply = reply;
+    is = refl;
+    number = eqb-true reply.id request.id test;
+    tells =
+        let answer : said ≡ reply.answer = cc in
+        answer_is request.call reply.answer uid name s of code same works (ap (answer_tells_of name of request.call) (sym answer) ∙ e);
+  }
   by_number false test h = absurd cc
+by_answer request outcome.Lost (Some said) is uid name s of code same works e = absurd cc
+by_answer request outcome.Abandoned (Some said) is uid name s of code same works e = absurd cc
 
-told_is : (request : Request) (o : Outcome) (code : ℕ) → told request o ≡ news.Exited code → IsTold request o code
-told_is request (outcome.Replied reply) code e = reply_is request reply code e
-told_is request outcome.Lost code e = absurd cc
-told_is request outcome.Abandoned code e = absurd cc
+pub told_is : (request : Request) (how : Outcome) (uid name : List ℕ) (s : Stage) (of code : ℕ) → uid_of request.call ≡ uid → worked_in request.call name s ≡ Some of
+    → told_of name of request how ≡ news.Exited code → IsTold request how (key_named uid name of) code
+told_is request how uid name s of code same works e = by_answer request how (heard request how) refl uid name s of code same works e
 
 -- told before is told
-told_more : (uid : List ℕ) (c : Claimed) (cs : List Claimed) (name : List ℕ) (k : ℕ) (run : Run) → Told uid cs name k run → Told uid (c ∷ cs) name k run
+pub told_more : (uid : List ℕ) (c : Claimed) (cs : List Claimed) (name : List ℕ) (k : ℕ) (run : Run) → Told uid cs name k run → Told uid (c ∷ cs) name k run
 told_more uid c cs name k run t = (suc t.0, t.1, omega (arith, t.2), t.3, t.4)
 
 -- a track with the same runs, none of whose attempts ended but those that had
@@ -204,9 +245,18 @@ by_stage uid c cs name of code old tells (stage.Made attempt) at was = unchanged
 by_stage uid c cs name of code old tells (stage.Exited attempt its) at was = unchanged uid c cs name old _ refl (λ k code h. rw at h) was
 by_stage uid c cs name of code old tells (stage.Removed attempt its) at was = unchanged uid c cs name old _ refl (λ k code h. rw at h) was
 
+-- the track behind a claim that worked on this attempt, and told this of it
+abbrev behind : Claimed → ℕ → News → Track → Track
+behind c of n old = record {
+  init = old.init;
+  stage = stage_at c.moment of n old.stage;
+  runs = with_run (run_at c.moment of n old.stage) old.runs;
+  worked = c.request.id;
+}
+
 by_news : (uid : List ℕ) (c : Claimed) (cs : List Claimed) (name : List ℕ) (of : ℕ) (old : Track) (n : News)
     → ((code : ℕ) → n ≡ news.Exited code → (started : ℕ) → TellsRun (key_named uid name of) (record { started = started; code = code; recorded = c.moment }) c)
-    → WasTold uid cs name old → WasTold uid (c ∷ cs) name (track_at c.moment c.request.id of n old)
+    → WasTold uid cs name old → WasTold uid (c ∷ cs) name (behind c of n old)
 by_news uid c cs name of old (news.Exited code) tells was = by_stage uid c cs name of code old (tells code refl) old.stage refl was
 by_news uid c cs name of old news.Made tells was = unchanged uid c cs name old _ refl (λ k its h. absurd h) was
 by_news uid c cs name of old news.Started tells was = unchanged uid c cs name old _ refl (started_same c.moment of old.stage) was
@@ -219,17 +269,20 @@ by_news uid c cs name of old news.SandboxStopped tells was = unchanged uid c cs 
 by_news uid c cs name of old news.SandboxRemoved tells was = unchanged uid c cs name old _ refl (λ k its h. h) was
 by_news uid c cs name of old news.Nothing tells was = unchanged uid c cs name old _ refl (λ k its h. h) was
 
--- a claim that names the container
-pub told_behind : (uid : List ℕ) (c : Claimed) (cs : List Claimed) (name : List ℕ) (key : Key) → key_of c.request.call ≡ Some key
-    → key ≡ key_named uid name key.container.attempt → (old : Track) → WasTold uid cs name old
-    → WasTold uid (c ∷ cs) name (track_at c.moment c.request.id key.container.attempt (told c.request c.outcome) old)
-told_behind uid c cs name key names is old was =
-    by_news uid c cs name key.container.attempt old (told c.request c.outcome)
-    (λ code e started.
-    let found : IsTold c.request c.outcome code = told_is c.request c.outcome code e in
-    record { reply = found.reply; is = found.is; number = found.number; tells = found.tells (key_named uid name key.container.attempt) (rw (← is) names); recorded = refl })
-    was
-
--- a claim that does not
-pub told_still : (uid : List ℕ) (c : Claimed) (cs : List Claimed) (name : List ℕ) (old : Track) → WasTold uid cs name old → WasTold uid (c ∷ cs) name old
-told_still uid c cs name old was = unchanged uid c cs name old old refl (λ k its h. h) was
+-- a claim of the pod
+pub told_behind : (uid : List ℕ) (c : Claimed) (cs : List Claimed) (name : List ℕ) (old : Track) → uid_of c.request.call ≡ uid → WasTold uid cs name old
+    → WasTold uid (c ∷ cs) name (track_after c.moment c.request c.outcome name old)
+told_behind uid c cs name old same was = by_attempt (worked_in c.request.call name old.stage) refl where
+  by_attempt : (works : Option ℕ) → worked_in c.request.call name old.stage ≡ works → WasTold uid (c ∷ cs) name (record {
+    init = old.init;
+    stage = stage_by c.moment c.request c.outcome name old.stage works;
+    runs = with_run (run_by c.moment c.request c.outcome name old.stage works) old.runs;
+    worked = number_by c.request old.worked works;
+  })
+  by_attempt None is = unchanged uid c cs name old _ refl (λ k its h. h) was
+  by_attempt (Some of) is =
+      by_news uid c cs name of old (told_of name of c.request c.outcome)
+      (λ code e started.
+      let found : IsTold c.request c.outcome (key_named uid name of) code = told_is c.request c.outcome uid name old.stage of code same is e in
+      record { reply = found.reply; is = found.is; number = found.number; tells = found.tells; recorded = refl })
+      was

@@ -8,3 +8,5 @@ pub mod Exits
 pub mod Pasts
 pub mod Dues
 pub mod Uids
+pub mod Silent
+pub mod Numbers

@@ -4,6 +4,8 @@ use Rattle.std.specs.Option.{option_map}
 use Rattle.manifest.specs.declared.containers.Container.{Container}
 use Rattle.manifest.specs.declared.pods.Pod.{Pod}
 use Rattle.cri_msgs.specs.declared.calls.Call.{Call}
+use Rattle.cri_msgs.specs.declared.version.Version.{Version}
+use Rattle.cri_msgs.specs.declared.version.Version.TheVariants.{V1, V2}
 use Rattle.worker_pod.specs.declared.duty.Duty.{Duty}
 use Rattle.worker_pod.specs.declared.duty.Duty.TheVariants as duty
 use Rattle.worker_pod.specs.declared.settings.Settings.{Settings}
@@ -11,14 +13,17 @@ use Rattle.worker_pod.specs.declared.wants.Pick.{Pick}
 use Rattle.worker_pod.specs.declared.wants.Work.{Work}
 use Rattle.worker_pod.specs.declared.wants.Work.TheVariants.{Create, Start, Look, Clear}
 use Rattle.worker_pod.specs.Laws.{uid_of}
-use Rattle.worker_pod.specs.Next.{call_by, call_of, duty_of, next_by, next_of}
+use Rattle.worker_pod.specs.Next.{call_by, call_of, duty_of, key_in, look_by, next_by, next_of}
 use Rattle.worker_pod.specs.Past.{Kept}
 use Rattle.worker_pod.specs.Wants.{chosen}
 
 by_work : (pod : Pod) (settings : Settings) (c : Container) (work : Work) → uid_of (call_of pod settings c work) ≡ pod.uid
 by_work pod settings c (Create attempt) = refl
 by_work pod settings c (Start attempt) = refl
-by_work pod settings c (Look attempt) = refl
+by_work pod settings c (Look attempt) = by_version settings.version where
+  by_version : (version : Version) → uid_of (look_by version (key_in pod c attempt)) ≡ pod.uid
+  by_version V1 = refl
+  by_version V2 = refl
 by_work pod settings c (Clear attempt) = refl
 
 by_container : (pod : Pod) (settings : Settings) (c : Option Container) (work : Work) (call : Call) → option_map (λ c. call_of pod settings c work) c ≡ Some call → uid_of call ≡ pod.uid

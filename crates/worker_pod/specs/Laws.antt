@@ -1,6 +1,6 @@
 -- What holds of every pod on a node: this project's own, over the order of init containers and restarts of
 -- Kubernetes 1.27, pod lifecycle. docs/SEMANTICS.md, "The agent: one pod".
-use Rattle.std.specs.Prelude.{◌≡◌, ℕ, ◌+◌, ◌<◌, ◌≤◌, true, List, Some, slice_get}
+use Rattle.std.specs.Prelude.{◌≡◌, ℕ, ◌+◌, ◌<◌, ◌≤◌, true, List, [], ◌∷◌, length, Some, slice_get}
 use Rattle.std.specs.List.{All, AllByRecursion, Any}
 use Rattle.lifecycle.specs.BackOff.{Run, last_of, ready_at}
 use Rattle.lifecycle.specs.Restart.{may_restart}
@@ -10,6 +10,7 @@ use Rattle.lifecycle.specs.declared.track.Stage.{Stage}
 use Rattle.lifecycle.specs.declared.track.Stage.TheVariants as stage
 use Rattle.lifecycle.specs.declared.track.Track.{Track}
 use Rattle.manifest.specs.declared.containers.Container.{Container}
+use Rattle.manifest.specs.declared.pods.Pod.{Pod}
 use Rattle.manifest.specs.declared.profiles.SeccompProfile.{SeccompProfile}
 use Rattle.profile_pick.specs.Choice.{choice_of}
 use Rattle.cri_msgs.specs.Tells.{TellsExit}
@@ -18,10 +19,11 @@ use Rattle.cri_msgs.specs.declared.calls.Call.TheVariants.{RunPodSandbox, StopPo
 use Rattle.cri_msgs.specs.declared.keys.Key.{Key}
 use Rattle.cri_msgs.specs.declared.replies.Reply.{Reply}
 use Rattle.worker_pod.specs.declared.settings.Outcome.TheVariants.{Replied}
+use Rattle.worker_pod.specs.declared.settings.Settings.{Settings}
 use Rattle.worker_pod.specs.declared.wants.Pick.{Pick}
 use Rattle.worker_pod.specs.declared.wants.Want.{Want}
 use Rattle.worker_pod.specs.Next.{key_in}
-use Rattle.worker_pod.specs.Past.{Claimed, Kept}
+use Rattle.worker_pod.specs.Past.{Claimed, Kept, read_off}
 use Rattle.worker_pod.specs.Wants.{front_of, is_in_turn, turn_of}
 
 -- the pod that a call is about
@@ -115,3 +117,18 @@ abbrev pub WaitedLongest : RestartPolicy → ℕ → ℕ → List Track → Pick
 WaitedLongest policy poll now tracks pick =
     (at : ℕ) (track : Track) → slice_get tracks at ≡ Some track → IsDue policy poll now tracks at track
     → (pick.worked ≤ track.worked) × (at < pick.at → pick.worked < track.worked)
+
+-- a creation is of the attempt whose number is that of the container's runs so far
+abbrev pub IsNumbered : List ℕ → Track → Call → Type 0
+IsNumbered name track call = (key : Key) (image : List ℕ) (profile : SeccompProfile) → call ≡ CreateContainer key image profile
+    → key.container.name ≡ name → key.container.attempt ≡ length track.runs
+
+-- whichever container it is of
+abbrev pub IsNumberedIn : List Container → List Track → Call → Type 0
+IsNumberedIn containers tracks call = (at : ℕ) (track : Track) (container : Container) → slice_get tracks at ≡ Some track
+    → slice_get containers at ≡ Some container → IsNumbered container.name track call
+
+-- each of the pod's creations was so when its claim ended
+abbrev pub AreNumbered : Settings → Pod → List Claimed → Type 0
+AreNumbered settings pod [] = Unit {0}
+AreNumbered settings pod (c ∷ cs) = IsNumberedIn pod.containers.all (read_off pod settings cs).tracks c.request.call × AreNumbered settings pod cs

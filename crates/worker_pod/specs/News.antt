@@ -1,12 +1,13 @@
 -- What the end of a claim tells of a pod: this project's own, over the calls of CRI v1.
 -- docs/SEMANTICS.md, "The agent: one pod".
-use Rattle.std.specs.Prelude.{◌==◌, Bool, true, false, if◌then◌else◌}
+use Rattle.std.specs.Prelude.{ℕ, ◌==◌, ◌&&◌, Bool, true, false, if◌then◌else◌, List, Option, Some, None, find}
+use Rattle.std.specs.Str.{bytes_eq}
 use Rattle.cri_msgs.specs.declared.calls.Call.{Call}
 use Rattle.cri_msgs.specs.declared.calls.Call.TheVariants.{RunPodSandbox, StopPodSandbox, RemovePodSandbox, CreateContainer, StartContainer, StopContainer, RemoveContainer, ContainerStatus, ListContainers, ContainerStatuses}
 use Rattle.cri_msgs.specs.declared.calls.Request.{Request}
+use Rattle.cri_msgs.specs.declared.lists.ListedStatus.{ListedStatus}
 use Rattle.cri_msgs.specs.declared.replies.Answer.{Answer}
 use Rattle.cri_msgs.specs.declared.replies.Answer.TheVariants as answer
-use Rattle.cri_msgs.specs.declared.replies.Reply.{Reply}
 use Rattle.cri_msgs.specs.declared.states.State.{State}
 use Rattle.cri_msgs.specs.declared.states.State.TheVariants as state
 use Rattle.worker_pod.specs.declared.news.News.{News}
@@ -57,20 +58,45 @@ answer_tells (ContainerStatus key) said = status_tells said
 answer_tells (ListContainers uid) said = list_tells said
 answer_tells (ContainerStatuses uid) said = statuses_tell said
 
--- a reply with the number of another request counts as a lost one
-abbrev pub reply_tells : Request → Reply → News
-reply_tells request reply = if reply.id == request.id then answer_tells request.call reply.answer else news.Lost
+-- The answer to the request, by which its claim ended. A reply with the number of another request counts as a
+-- lost one.
+abbrev pub heard : Request → Outcome → Option Answer
+heard request (outcome.Replied reply) = if reply.id == request.id then Some reply.answer else None
+heard request outcome.Lost = None
+heard request outcome.Abandoned = None
 
--- what the end of the request's claim tells
+-- what it tells of the pod
+abbrev pub hearing : Call → Option Answer → News
+hearing call None = news.Lost
+hearing call (Some said) = answer_tells call said
+
 abbrev pub told : Request → Outcome → News
-told request (outcome.Replied reply) = reply_tells request reply
-told request outcome.Lost = news.Lost
-told request outcome.Abandoned = news.Lost
+told request how = hearing request.call (heard request how)
 
 abbrev pub is_lost : News → Bool
 is_lost news.Lost = true
 is_lost n = false
 
-abbrev pub is_exit : News → Bool
-is_exit (news.Exited code) = true
-is_exit n = false
+-- What it tells of an attempt at one of its containers. A list of statuses tells of each: the first cell of
+-- that name and attempt, and of an attempt that it lacks that it was seen and has not exited.
+abbrev pub is_cell_of : List ℕ → ℕ → ListedStatus → Bool
+is_cell_of name attempt listed = listed.container.attempt == attempt && bytes_eq listed.container.name name
+
+abbrev pub cell_tells : Option ListedStatus → News
+cell_tells None = news.NotExited
+cell_tells (Some listed) = state_tells listed.status.state
+
+abbrev pub statuses_tell_of : List ℕ → ℕ → Answer → News
+statuses_tell_of name attempt (answer.Statuses items) = cell_tells (find (is_cell_of name attempt) items)
+statuses_tell_of name attempt said = statuses_tell said
+
+abbrev pub answer_tells_of : List ℕ → ℕ → Call → Answer → News
+answer_tells_of name attempt (ContainerStatuses uid) said = statuses_tell_of name attempt said
+answer_tells_of name attempt call said = answer_tells call said
+
+abbrev pub hearing_of : List ℕ → ℕ → Call → Option Answer → News
+hearing_of name attempt call None = news.Lost
+hearing_of name attempt call (Some said) = answer_tells_of name attempt call said
+
+abbrev pub told_of : List ℕ → ℕ → Request → Outcome → News
+told_of name attempt request how = hearing_of name attempt request.call (heard request how)

@@ -9,9 +9,11 @@ use Rattle.manifest.specs.declared.containers.Container.{Container}
 use Rattle.manifest.specs.declared.pods.Pod.{Pod}
 use Rattle.profile_pick.specs.Choice.{choice_of}
 use Rattle.cri_msgs.specs.declared.calls.Call.{Call}
-use Rattle.cri_msgs.specs.declared.calls.Call.TheVariants.{RunPodSandbox, StopPodSandbox, RemovePodSandbox, CreateContainer, StartContainer, RemoveContainer, ContainerStatus}
+use Rattle.cri_msgs.specs.declared.calls.Call.TheVariants.{RunPodSandbox, StopPodSandbox, RemovePodSandbox, CreateContainer, StartContainer, RemoveContainer, ContainerStatus, ContainerStatuses}
 use Rattle.cri_msgs.specs.declared.calls.Request.{Request}
 use Rattle.cri_msgs.specs.declared.keys.Key.{Key}
+use Rattle.cri_msgs.specs.declared.version.Version.{Version}
+use Rattle.cri_msgs.specs.declared.version.Version.TheVariants.{V1, V2}
 use Rattle.worker_pod.specs.declared.duty.Duty.{Duty}
 use Rattle.worker_pod.specs.declared.duty.Duty.TheVariants as duty
 use Rattle.worker_pod.specs.declared.sandbox.Sandbox.{Sandbox}
@@ -60,11 +62,16 @@ due_of kept = due_by kept (duty_of kept)
 abbrev pub key_in : Pod → Container → ℕ → Key
 key_in pod container attempt = record { uid = pod.uid; container = record { name = container.name; attempt = attempt } }
 
+-- the call that asks for a container's status; that of version 2 asks for those of the whole pod
+abbrev pub look_by : Version → Key → Call
+look_by V1 key = ContainerStatus key
+look_by V2 key = ContainerStatuses key.uid
+
 -- the call by which the work on the container is done
 abbrev pub call_of : Pod → Settings → Container → Work → Call
 call_of pod settings c (Create attempt) = CreateContainer (key_in pod c attempt) c.image (choice_of pod.profile c settings.seccomp_default)
 call_of pod settings c (Start attempt) = StartContainer (key_in pod c attempt)
-call_of pod settings c (Look attempt) = ContainerStatus (key_in pod c attempt)
+call_of pod settings c (Look attempt) = look_by settings.version (key_in pod c attempt)
 call_of pod settings c (Clear attempt) = RemoveContainer (key_in pod c attempt)
 
 abbrev pub call_by : Pod → Settings → Option Pick → Option Call

@@ -15,7 +15,7 @@ use Rattle.worker_pod.specs.declared.settings.Outcome.{Outcome}
 use Rattle.worker_pod.specs.declared.settings.Settings.{Settings}
 use Rattle.worker_pod.specs.declared.settings.TheConstants.{REST}
 use Rattle.worker_pod.specs.News.{is_lost, told}
-use Rattle.worker_pod.specs.Tracks.{fresh, key_of, tracks_at}
+use Rattle.worker_pod.specs.Tracks.{fresh, records_in, tracks_after}
 
 pub record Kept : Type 0 where
   pub pod : Pod
@@ -46,19 +46,23 @@ rest_at now news.Lost = later now REST
 rest_at now news.Refused = later now REST
 rest_at now n = 0
 
--- once the claim of the request has ended, and told this
-abbrev pub after : ℕ → Request → News → Kept → Kept
-after now request n kept = record {
+-- once the claim of the request has ended, now and so
+abbrev pub after : ℕ → Request → Outcome → Kept → Kept
+after now request how kept = record {
   pod = kept.pod;
   settings = kept.settings;
   deleted = kept.deleted;
-  sandbox = sandbox_at n kept.sandbox;
-  lost = is_lost n;
-  rest = rest_at now n;
+  sandbox = sandbox_at (told request how) kept.sandbox;
+  lost = is_lost (told request how);
+  rest = rest_at now (told request how);
   latest = now;
   worked = request.id;
-  tracks = tracks_at kept.pod.containers.all (key_of request.call) now request.id n kept.tracks;
+  tracks = tracks_after now request how kept.pod.containers.all kept.tracks;
 }
+
+-- whether the exit of one of its containers is recorded then
+abbrev pub records_exit : ℕ → Request → Outcome → Kept → Bool
+records_exit now request how kept = records_in now request how kept.pod.containers.all kept.tracks
 
 -- nothing was told of its containers, the first of which are the init ones
 abbrev pub fresh_tracks : ContainerList → List Track
@@ -102,7 +106,7 @@ as_deleted past = record { pod = past.pod; deleted = true; claims = past.claims 
 -- what the claims say
 abbrev pub read_off : Pod → Settings → List Claimed → Kept
 read_off pod settings [] = start pod settings
-read_off pod settings (c ∷ cs) = after c.moment c.request (told c.request c.outcome) (read_off pod settings cs)
+read_off pod settings (c ∷ cs) = after c.moment c.request c.outcome (read_off pod settings cs)
 
 abbrev pub with_deleted : Kept → Bool → Kept
 with_deleted kept deleted = record {

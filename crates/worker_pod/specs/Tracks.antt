@@ -1,6 +1,8 @@
 -- What the end of a claim makes of a pod's containers: this project's own. docs/SEMANTICS.md, "The agent:
 -- one pod".
-use Rattle.std.specs.Prelude.{◌≡◌, ℕ, ◌≤◌, ◌==◌, Bool, if◌then◌else◌, List, [], ◌∷◌, ◌++◌, Option, Some, None, slice_get, slice_set, position}
+use Rattle.std.specs.Prelude.{ℕ, ◌≤◌, ◌==◌, Bool, false, ◌||◌, if◌then◌else◌, List, [], ◌∷◌, ◌++◌, Option, Some, None}
+use Rattle.std.specs.List.{AllByRecursion}
+use Rattle.std.specs.Option.{is_some}
 use Rattle.std.specs.Str.{bytes_eq}
 use Rattle.lifecycle.specs.BackOff.{Run}
 use Rattle.lifecycle.specs.declared.track.Stage.{Stage}
@@ -9,9 +11,12 @@ use Rattle.lifecycle.specs.declared.track.Track.{Track}
 use Rattle.manifest.specs.declared.containers.Container.{Container}
 use Rattle.cri_msgs.specs.declared.calls.Call.{Call}
 use Rattle.cri_msgs.specs.declared.calls.Call.TheVariants.{RunPodSandbox, StopPodSandbox, RemovePodSandbox, CreateContainer, StartContainer, StopContainer, RemoveContainer, ContainerStatus, ListContainers, ContainerStatuses}
+use Rattle.cri_msgs.specs.declared.calls.Request.{Request}
 use Rattle.cri_msgs.specs.declared.keys.Key.{Key}
 use Rattle.worker_pod.specs.declared.news.News.{News}
 use Rattle.worker_pod.specs.declared.news.News.TheVariants as news
+use Rattle.worker_pod.specs.declared.settings.Outcome.{Outcome}
+use Rattle.worker_pod.specs.News.{told_of}
 
 -- a container that nothing was told of
 abbrev pub fresh : Bool → Track
@@ -62,50 +67,78 @@ abbrev pub with_run : Option Run → List Run → List Run
 with_run None runs = runs
 with_run (Some run) runs = runs ++ run ∷ []
 
--- the container, once a claim of this number that names its attempt `of` has ended
-abbrev pub track_at : ℕ → ℕ → ℕ → News → Track → Track
-track_at now number of n track = record {
+-- which attempt is going on: it was started, and its exit was not recorded
+abbrev pub running_in : Stage → Option ℕ
+running_in (stage.Running attempt started polled) = Some attempt
+running_in s = None
+
+abbrev pub named_in : Key → List ℕ → Option ℕ
+named_in key name = if bytes_eq key.container.name name then Some key.container.attempt else None
+
+-- Which attempt at the container of this name, at this stage, a claim of the call works on: the one that
+-- the call names, and by a call for the statuses of all containers the one that is going on.
+abbrev pub worked_in : Call → List ℕ → Stage → Option ℕ
+worked_in (RunPodSandbox uid) name s = None
+worked_in (StopPodSandbox uid grace) name s = None
+worked_in (RemovePodSandbox uid) name s = None
+worked_in (CreateContainer key image profile) name s = named_in key name
+worked_in (StartContainer key) name s = named_in key name
+worked_in (StopContainer key grace) name s = named_in key name
+worked_in (RemoveContainer key) name s = named_in key name
+worked_in (ContainerStatus key) name s = named_in key name
+worked_in (ListContainers uid) name s = None
+worked_in (ContainerStatuses uid) name s = running_in s
+
+-- The container of this name, once the claim of the request has ended so: how far it is,
+abbrev pub stage_by : ℕ → Request → Outcome → List ℕ → Stage → Option ℕ → Stage
+stage_by now request how name s None = s
+stage_by now request how name s (Some of) = stage_at now of (told_of name of request how) s
+
+abbrev pub stage_after : ℕ → Request → Outcome → List ℕ → Stage → Stage
+stage_after now request how name s = stage_by now request how name s (worked_in request.call name s)
+
+-- the run that is recorded,
+abbrev pub run_by : ℕ → Request → Outcome → List ℕ → Stage → Option ℕ → Option Run
+run_by now request how name s None = None
+run_by now request how name s (Some of) = run_at now of (told_of name of request how) s
+
+abbrev pub run_after : ℕ → Request → Outcome → List ℕ → Stage → Option Run
+run_after now request how name s = run_by now request how name s (worked_in request.call name s)
+
+-- and the number of the last claim that worked on it
+abbrev pub number_by : Request → ℕ → Option ℕ → ℕ
+number_by request number None = number
+number_by request number (Some of) = request.id
+
+abbrev pub number_after : Request → List ℕ → Stage → ℕ → ℕ
+number_after request name s number = number_by request number (worked_in request.call name s)
+
+abbrev pub track_after : ℕ → Request → Outcome → List ℕ → Track → Track
+track_after now request how name track = record {
   init = track.init;
-  stage = stage_at now of n track.stage;
-  runs = with_run (run_at now of n track.stage) track.runs;
-  worked = number;
+  stage = stage_after now request how name track.stage;
+  runs = with_run (run_after now request how name track.stage) track.runs;
+  worked = number_after request name track.stage track.worked;
 }
 
--- the container that a call names
-abbrev pub key_of : Call → Option Key
-key_of (RunPodSandbox uid) = None
-key_of (StopPodSandbox uid grace) = None
-key_of (RemovePodSandbox uid) = None
-key_of (CreateContainer key image profile) = Some key
-key_of (StartContainer key) = Some key
-key_of (StopContainer key grace) = Some key
-key_of (RemoveContainer key) = Some key
-key_of (ContainerStatus key) = Some key
-key_of (ListContainers uid) = None
-key_of (ContainerStatuses uid) = None
+-- the pod's containers, each at the place of its track
+abbrev pub tracks_after : ℕ → Request → Outcome → List Container → List Track → List Track
+tracks_after now request how [] ts = ts
+tracks_after now request how (c ∷ cs) [] = []
+tracks_after now request how (c ∷ cs) (t ∷ ts) =
+    track_after now request how c.name t ∷ tracks_after now request how cs ts
 
--- where it stands among the pod's containers
-abbrev pub place_of : List Container → List ℕ → Option ℕ
-place_of containers name = position (λ c. bytes_eq c.name name) containers
-
-abbrev pub tracks_at_track : ℕ → ℕ → ℕ → News → List Track → ℕ → Option Track → List Track
-tracks_at_track now number of n tracks place None = tracks
-tracks_at_track now number of n tracks place (Some track) = slice_set tracks place (track_at now number of n track)
-
-abbrev pub tracks_at_place : ℕ → ℕ → ℕ → News → List Track → Option ℕ → List Track
-tracks_at_place now number of n tracks None = tracks
-tracks_at_place now number of n tracks (Some place) = tracks_at_track now number of n tracks place (slice_get tracks place)
-
--- the pod's containers, once a claim of this number that names this one, or none, has ended
-abbrev pub tracks_at : List Container → Option Key → ℕ → ℕ → News → List Track → List Track
-tracks_at containers None now number n tracks = tracks
-tracks_at containers (Some key) now number n tracks =
-    tracks_at_place now number key.container.attempt n tracks (place_of containers key.container.name)
+-- whether a run of one of them is recorded
+abbrev pub records_in : ℕ → Request → Outcome → List Container → List Track → Bool
+records_in now request how [] ts = false
+records_in now request how (c ∷ cs) [] = false
+records_in now request how (c ∷ cs) (t ∷ ts) =
+    is_some (run_after now request how c.name t.stage) || records_in now request how cs ts
 
 -- what runs was started by this moment
 abbrev pub StartedBy : ℕ → Stage → Type 0
 StartedBy now (stage.Running attempt started polled) = started ≤ now
 StartedBy now s = Unit {0}
 
-abbrev pub AllStartedBy : ℕ → List Track → Type 0
-AllStartedBy now tracks = (at : ℕ) (track : Track) → slice_get tracks at ≡ Some track → StartedBy now track.stage
+unfoldable pub AllStartedBy : ℕ → List Track → Type 0
+AllStartedBy now tracks = AllByRecursion (λ (track : Track). StartedBy now track.stage) tracks

@@ -1,10 +1,10 @@
 ghost use Rattle.std.specs.Prelude.{◌≡◌, IfOk, Ok, Some, None, slice_get};
 ghost use Rattle.profile_pick.specs.Choice.{choice_of, choice_seen};
-ghost use Rattle.worker_pod.specs.Next.{call_by, call_of, key_in};
+ghost use Rattle.worker_pod.specs.Next.{call_by, call_of, key_in, look_by};
 
 use crate::settings::Settings;
 use crate::wants::{Pick, Work};
-use cri_msgs::{Call, ContainerMetadata, Key};
+use cri_msgs::{Call, ContainerMetadata, Key, Version};
 use manifest::{Container, Pod, SeccompProfile};
 use profile_pick::{Choice, pick};
 use std::alloc::{AllocError, Global};
@@ -45,6 +45,26 @@ fn profile_of(
     owned(alloc, pick(pod, at, settings.seccomp_default))
 }
 
+// The call that asks for a container's status, and by version 2 for those of the whole pod.
+fn look_by(
+    alloc: Global,
+    pod: &Pod,
+    container: &Container,
+    version: Version,
+    attempt: u32,
+) -> Result<Call, AllocError>
+    ensures { IfOk result (λ call. call ≡ look_by version (key_in pod.now container.now attempt)) }
+{
+    match version {
+        Version::V1 => Ok(Call::ContainerStatus {
+            key: key_in(alloc, pod, container, attempt)?,
+        }),
+        Version::V2 => Ok(Call::ContainerStatuses {
+            uid: pod.uid.try_clone(alloc)?,
+        }),
+    }
+}
+
 // The call by which the work on the container at this place is done.
 fn call_of(
     alloc: Global,
@@ -66,9 +86,7 @@ fn call_of(
         Work::Start(attempt) => Ok(Call::StartContainer {
             key: key_in(alloc, pod, container, attempt)?,
         }),
-        Work::Look(attempt) => Ok(Call::ContainerStatus {
-            key: key_in(alloc, pod, container, attempt)?,
-        }),
+        Work::Look(attempt) => look_by(alloc, pod, container, settings.version, attempt),
         Work::Clear(attempt) => Ok(Call::RemoveContainer {
             key: key_in(alloc, pod, container, attempt)?,
         }),

@@ -1,5 +1,6 @@
-ghost use Rattle.std.specs.Prelude.{◌≡◌, ℕ, List, Some, slice_get, length, nat_lt};
+ghost use Rattle.std.specs.Prelude.{◌≡◌, ◌+◌, ◌^◌, ℕ, List, Some, slice_get, length, nat_lt};
 ghost use Rattle.std.specs.Option.{is_some};
+ghost use Rattle.lifecycle.specs.BackOff.{Run};
 ghost use Rattle.lifecycle.specs.declared.policy.RestartPolicy.{RestartPolicy};
 ghost use Rattle.lifecycle.specs.declared.track.Track.{Track};
 ghost use Rattle.manifest.specs.declared.containers.Container.{Container};
@@ -8,8 +9,9 @@ ghost use Rattle.manifest.specs.declared.profiles.SeccompProfile.{SeccompProfile
 ghost use Rattle.cri_msgs.specs.declared.calls.Call.{Call};
 ghost use Rattle.cri_msgs.specs.declared.keys.Key.{Key};
 ghost use Rattle.worker_pod.specs.declared.settings.Settings.{Settings};
+ghost use Rattle.worker_pod.specs.declared.settings.TheConstants.{LAST_ATTEMPT, REST};
 ghost use Rattle.worker_pod.specs.declared.wants.Pick.{Pick};
-ghost use Rattle.worker_pod.specs.Laws.{AreOf, Creation, WaitedLongest, WasTold, uid_of};
+ghost use Rattle.worker_pod.specs.Laws.{AreNumbered, AreOf, Creation, IsNumberedIn, Told, WaitedLongest, WasTold, uid_of};
 ghost use Rattle.worker_pod.specs.Next.{due_of, has_come, next_of};
 ghost use Rattle.worker_pod.specs.Past.{Claimed, Kept, Past, held_of, read_off};
 ghost use Rattle.worker_pod.specs.Wants.{chosen};
@@ -27,6 +29,21 @@ pub fn runs_were_told()
         → (at : ℕ) (track : Track) (container : Container)
         → slice_get (read_off pod settings claims).tracks at ≡ Some track
         → slice_get pod.containers.all at ≡ Some container → WasTold pod.uid claims container.name track }
+{}
+
+/// A pod's creations are numbered by the runs of their containers.
+pub fn creations_are_numbered()
+    ensures { (settings : Settings) (past : Past) (now : ℕ) (call : Call) → AreOf past.pod.uid past.claims → AreNumbered settings past.pod past.claims
+        → next_of (held_of settings past) now ≡ Some call
+        → IsNumberedIn past.pod.containers.all (read_off past.pod settings past.claims).tracks call }
+{}
+
+/// Where creations are, the run at each place, from 0, was told of the attempt of that number.
+pub fn runs_are_numbered()
+    ensures { (settings : Settings) (pod : Pod) (claims : List Claimed) → AreOf pod.uid claims → AreNumbered settings pod claims
+        → (at : ℕ) (track : Track) (container : Container)
+        → slice_get (read_off pod settings claims).tracks at ≡ Some track → slice_get pod.containers.all at ≡ Some container
+        → (k : ℕ) (run : Run) → slice_get track.runs k ≡ Some run → Told pod.uid claims container.name k run }
 {}
 
 /// Each container of the manifest has its track, at its place.
@@ -52,4 +69,11 @@ pub fn longest_waits_first()
 /// A pod's requests are about the pod.
 pub fn calls_are_of_the_pod()
     ensures { (kept : Kept) (now : ℕ) (call : Call) → next_of kept now ≡ Some call → uid_of call ≡ kept.pod.uid }
+{}
+
+/// What the constants of this crate are.
+pub fn constants_are_as_stated()
+    // ten seconds
+    ensures rest { REST ≡ 10 }
+    ensures last_attempt { LAST_ATTEMPT + 1 ≡ 2 ^ 32 }
 {}

@@ -1,8 +1,9 @@
-ghost use Rattle.std.specs.Prelude.{◌≡◌};
-ghost use Rattle.worker_pod.specs.News.{answer_tells, done_tells, is_lost, list_tells, made_tells, reply_tells, state_tells, status_tells, statuses_tell, told};
+ghost use Rattle.std.specs.Prelude.{◌≡◌, find, option_copied};
+ghost use Rattle.worker_pod.specs.News.{answer_tells, answer_tells_of, cell_tells, done_tells, heard, is_cell_of, is_lost, list_tells, made_tells, state_tells, status_tells, statuses_tell, statuses_tell_of, told, told_of};
 
 use crate::settings::Outcome;
-use cri_msgs::{Answer, Call, Reply, Request, State};
+use cri_msgs::{Answer, Call, ListedStatus, Request, State, Statuses};
+use manifest::Label;
 
 // What the end of a claim tells.
 #[derive(Clone, Copy)]
@@ -33,22 +34,23 @@ impl News {
     }
 }
 
-pub(crate) fn told(request: &Request, outcome: &Outcome) -> News
-    ensures { result ≡ told request.now outcome.now }
+// The answer to the request. A reply with the number of another one counts as lost.
+fn heard<'o>(request: &Request, outcome: &'o Outcome) -> Option<&'o Answer>
+    ensures { option_copied result ≡ heard request.now outcome.now }
 {
     match outcome {
-        Outcome::Replied(reply) => reply_news(request, reply),
-        Outcome::Lost | Outcome::Abandoned => News::Lost,
+        Outcome::Replied(reply) if reply.id == request.id => Some(&reply.answer),
+        Outcome::Replied(_) | Outcome::Lost | Outcome::Abandoned => None,
     }
 }
 
-fn reply_news(request: &Request, reply: &Reply) -> News
-    ensures { result ≡ reply_tells request.now reply.now }
+// Of the pod.
+pub(crate) fn told(request: &Request, outcome: &Outcome) -> News
+    ensures { result ≡ told request.now outcome.now }
 {
-    if reply.id == request.id {
-        answer_news(&request.call, &reply.answer)
-    } else {
-        News::Lost
+    match heard(request, outcome) {
+        Some(answer) => answer_news(&request.call, answer),
+        None => News::Lost,
     }
 }
 
@@ -125,5 +127,58 @@ fn statuses_news(answer: &Answer) -> News
         Answer::Statuses(_) => News::Nothing,
         Answer::Refused(_) => News::Refused,
         _ => News::Lost,
+    }
+}
+
+// Of an attempt at one of its containers.
+pub(crate) fn told_of(name: &Label, attempt: u32, request: &Request, outcome: &Outcome) -> News
+    ensures { result ≡ told_of name.now attempt request.now outcome.now }
+{
+    let Some(answer) = heard(request, outcome) else {
+        return News::Lost;
+    };
+    answer_news_of(name, attempt, &request.call, answer)
+}
+
+fn answer_news_of(name: &Label, attempt: u32, call: &Call, answer: &Answer) -> News
+    ensures { result ≡ answer_tells_of name.now attempt call.now answer.now }
+{
+    match call {
+        Call::ContainerStatuses { .. } => statuses_news_of(name, attempt, answer),
+        _ => answer_news(call, answer),
+    }
+}
+
+fn statuses_news_of(name: &Label, attempt: u32, answer: &Answer) -> News
+    ensures { result ≡ statuses_tell_of name.now attempt answer.now }
+{
+    match answer {
+        Answer::Statuses(statuses) => cell_news(cell_of(name, attempt, statuses)),
+        _ => statuses_news(answer),
+    }
+}
+
+fn is_cell_of(name: &Label, attempt: u32, listed: &ListedStatus) -> bool
+    ensures { result ≡ is_cell_of name.now attempt listed.now }
+{
+    listed.container.attempt == attempt && listed.container.name == *name
+}
+
+fn cell_of<'s>(name: &Label, attempt: u32, statuses: &'s Statuses) -> Option<&'s ListedStatus>
+    ensures { option_copied result ≡ find (is_cell_of name.now attempt) statuses.now }
+{
+    statuses
+        .as_slice()
+        .iter()
+        .find(|listed| is_cell_of(name, attempt, listed))
+}
+
+// An attempt that the list lacks was seen, and has not exited.
+fn cell_news(listed: Option<&ListedStatus>) -> News
+    ensures { result ≡ cell_tells (option_copied listed.entry) }
+{
+    match listed {
+        Some(listed) => state_news(listed.status.state),
+        None => News::NotExited,
     }
 }

@@ -1,7 +1,7 @@
 ghost use Rattle.std.specs.Prelude.{◌≡◌, ◌≤◌, IfOk, Ok, OnOk, OnErr, IsOk, Some, None, true, false, option_map};
-ghost use Rattle.worker_pod.specs.News.{is_exit, told};
+ghost use Rattle.worker_pod.specs.News.{told};
 ghost use Rattle.worker_pod.specs.Next.{due_by, due_of, duty_of, is_gone, next_by, next_of, numbered, phase_in};
-ghost use Rattle.worker_pod.specs.Past.{Past, StandsFor, admitted, after, as_deleted, rest_at, start, with_claim, with_deleted};
+ghost use Rattle.worker_pod.specs.Past.{Past, StandsFor, admitted, after, as_deleted, records_exit, rest_at, start, with_claim, with_deleted};
 ghost use Rattle.worker_pod.specs.Wants.{chosen};
 
 use crate::calls::call_by;
@@ -218,27 +218,29 @@ impl PodState {
         call_by(self.alloc, &self.pod, self.settings, chosen)
     }
 
-    /// The claim of this request ends at this moment, in seconds. Where there is no memory to record an exit
-    /// that was told, nothing changes.
+    /// The claim of this request ends at this moment, in seconds. Where there is no memory to record all exits
+    /// that were told, nothing changes.
+    #[tactic(auto, using(crate::proofs::Silent::given_up, crate::proofs::Fresh::all_later))]
     pub fn ended(&mut self, now: u64, request: &Request, outcome: Outcome) -> Result<(), AllocError>
         requires { self.old.latest ≤ now }
-        ensures ok { OnOk result (self.new ≡ after now request.now (told request.now outcome) self.old) }
+        ensures ok { OnOk result (self.new ≡ after now request.now outcome self.old) }
         ensures past { OnOk result ((past : Past) → StandsFor self.old past
             → StandsFor self.new (with_claim past (record { moment = now; request = request.now; outcome = outcome }))) }
         ensures err { OnErr result (self.new ≡ self.old) }
 
-        // Only the record of an exit takes memory.
-        ensures free { is_exit (told request.now outcome) ≡ false → IsOk result }
+        // Only the records of exits take memory.
+        ensures free { OnErr result (records_exit now request.now outcome self.old ≡ true) }
         ensures abandoned { outcome ≡ Outcome.Abandoned → IsOk result }
     {
-        let news = told(request, &outcome);
         tracks_ended(
+            self.alloc,
             self.pod.containers.as_slice(),
             self.tracks.as_mut_slice(),
             now,
             request,
-            news,
+            &outcome,
         )?;
+        let news = told(request, &outcome);
         self.sandbox = sandbox_at(news, self.sandbox);
         self.lost = news.is_lost();
         self.rest = rest_at(now, news);

@@ -1,6 +1,6 @@
 ghost use Rattle.std.specs.Prelude.{◌≡◌, IfOk};
 
-use cri_msgs::Reply;
+use cri_msgs::{Reply, Version};
 use std::alloc::{AllocError, Global};
 
 // How many seconds a pod rests after a refusal, a loss or an abandoned claim.
@@ -16,6 +16,9 @@ pub struct Settings {
     pub seccomp_default: bool,
     /// How many seconds after the status of a container was reported it is asked for again.
     pub poll: u64,
+    /// The version in which it speaks to the runtime. By version 2 it asks for the statuses of a pod's
+    /// containers with one request.
+    pub version: Version,
 }
 
 /// How a claim ended.

@@ -1,7 +1,10 @@
 use crate::{Outcome, PodState, Settings};
-use cri_msgs::{Answer, Call, Key, Refusal, Reply, Request, State, Status};
-use lifecycle::Phase;
-use manifest::{PodFault, SeccompProfile};
+use cri_msgs::{
+    Answer, Call, ContainerMetadata, Key, ListedStatus, MAX_LISTED, Refusal, Reply, Request, State,
+    Status, Statuses,
+};
+use lifecycle::{Phase, Stage};
+use manifest::{Label, PodFault, SeccompProfile};
 use std::alloc::{AllocError, Global};
 use std::marker::Model;
 
@@ -73,23 +76,47 @@ fn call_text(alloc: Global, call: &Call) -> Result<String, AllocError> {
     }
 }
 
-fn status(state: State) -> Answer {
-    Answer::Status(Status {
+// As the letter says: e and x for an exit with 0 or 1, else running.
+fn status(letter: u8) -> Status {
+    let state = match letter {
+        b'e' => State::Exited(0),
+        b'x' => State::Exited(1),
+        _ => State::Running,
+    };
+    Status {
         state,
         performed: 0,
         denied: 0,
-    })
+    }
 }
 
-// The answer of the call's kind, a status as the letter says: e and x for an exit with 0 or 1, else running.
-fn answer(call: &Call, letter: u8) -> Answer {
-    match (call, letter) {
-        (Call::ContainerStatus { .. }, b'e') => status(State::Exited(0)),
-        (Call::ContainerStatus { .. }, b'x') => status(State::Exited(1)),
-        (Call::ContainerStatus { .. }, _) => status(State::Running),
-        (Call::CreateContainer { .. }, _) => Answer::Container(7),
-        _ => Answer::Done,
+fn listed(cells: Vec<ListedStatus>) -> Answer {
+    if cells.len() <= MAX_LISTED {
+        Answer::Statuses(Statuses::new(cells))
+    } else {
+        drop(cells);
+        Answer::Done
     }
+}
+
+// A list of cells from a text: of each the container's name, the attempt and the status, a letter each.
+fn listed_in(alloc: Global, text: &str) -> Result<Answer, AllocError> {
+    let mut cells = Vec::new(alloc);
+    for cell in text.split_whitespace() {
+        let Some((name, rest)) = cell.split_at_checked(1) else {
+            continue;
+        };
+        let (attempt, letter) = rest.split_at_checked(1).unwrap_or((rest, ""));
+        if let Some(name) = Label::new(alloc, name)? {
+            let attempt = attempt.parse::<u32>().unwrap_or(0);
+            let letter = letter.as_bytes().first().copied().unwrap_or(b'r');
+            cells.push(ListedStatus {
+                container: ContainerMetadata { name, attempt },
+                status: status(letter),
+            })?;
+        }
+    }
+    Ok(listed(cells))
 }
 
 fn another_kind(call: &Call) -> Answer {
@@ -101,7 +128,7 @@ fn another_kind(call: &Call) -> Answer {
 
 // How the claim ends: r a refusal, l a loss, a given up, k an answer of another kind, n a reply with another
 // number, else answered.
-fn outcome(request: &Request, letter: u8) -> Outcome {
+fn outcome(request: &Request, answer: Answer, letter: u8) -> Outcome {
     let id = request.id;
     match letter {
         b'r' => Outcome::Replied(Reply {
@@ -116,12 +143,9 @@ fn outcome(request: &Request, letter: u8) -> Outcome {
         }),
         b'n' => Outcome::Replied(Reply {
             id: id.wrapping_add(1),
-            answer: answer(&request.call, letter),
+            answer,
         }),
-        _ => Outcome::Replied(Reply {
-            id,
-            answer: answer(&request.call, letter),
-        }),
+        _ => Outcome::Replied(Reply { id, answer }),
     }
 }
 
@@ -138,9 +162,66 @@ impl Play {
             b'w' => self.now = self.now.saturating_add(2),
             _ => {}
         }
-        let outcome = outcome(&request, letter);
-        self.state.ended(self.now, &request, outcome)?;
-        call_text(self.alloc, &request.call)
+        let text = self.call_text(&request.call)?;
+        let answer = self.answer(&request.call, letter)?;
+        self.state
+            .ended(self.now, &request, outcome(&request, answer, letter))?;
+        Ok(text)
+    }
+
+    // Claims the pod, and ends the claim with these cells.
+    pub(crate) fn lists(&mut self, cells: &str) -> Result<String, AllocError> {
+        self.number = self.number.saturating_add(1);
+        let Some(request) = self.state.next(self.now, self.number)? else {
+            return String::from_str(self.alloc, "none");
+        };
+        let text = self.call_text(&request.call)?;
+        let answer = listed_in(self.alloc, cells)?;
+        self.state
+            .ended(self.now, &request, outcome(&request, answer, b'd'))?;
+        let told = self.told()?;
+        format!(in self.alloc; "{}: {}; ", text.as_str(), told.as_str())
+    }
+
+    // The answer of the call's kind, each status as the letter says.
+    fn answer(&self, call: &Call, letter: u8) -> Result<Answer, AllocError> {
+        match call {
+            Call::ContainerStatus { .. } => Ok(Answer::Status(status(letter))),
+            Call::ContainerStatuses { .. } => self.running(letter),
+            Call::CreateContainer { .. } => Ok(Answer::Container(7)),
+            _ => Ok(Answer::Done),
+        }
+    }
+
+    // What is running is listed.
+    fn running(&self, letter: u8) -> Result<Answer, AllocError> {
+        let view = self.state.view();
+        let mut cells = Vec::new(self.alloc);
+        for (container, track) in view.pod.containers.as_slice().iter().zip(view.tracks) {
+            if let Stage::Running { attempt, .. } = track.stage {
+                let name = container.name.try_clone(self.alloc)?;
+                cells.push(ListedStatus {
+                    container: ContainerMetadata { name, attempt },
+                    status: status(letter),
+                })?;
+            }
+        }
+        Ok(listed(cells))
+    }
+
+    // A call for all statuses is written with what is running.
+    fn call_text(&self, call: &Call) -> Result<String, AllocError> {
+        let Call::ContainerStatuses { uid } = call else {
+            return call_text(self.alloc, call);
+        };
+        let view = self.state.view();
+        let mut text = format!(in self.alloc; "look {}", uid.as_str())?;
+        for (container, track) in view.pod.containers.as_slice().iter().zip(view.tracks) {
+            if let Stage::Running { attempt, .. } = track.stage {
+                write!(text, " {} {attempt}", container.name.as_str())?;
+            }
+        }
+        Ok(text)
     }
 
     // Waits until a request is due.

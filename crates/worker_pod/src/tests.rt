@@ -1,7 +1,7 @@
 use crate::test_play::begun;
 use crate::wants::want_of;
 use crate::{Outcome, Settings};
-use cri_msgs::{Answer, Reply};
+use cri_msgs::{Answer, Reply, Version};
 use lifecycle::{PastRun, Phase, RestartPolicy, Runs, Stage, Track};
 use manifest::PodFault;
 use std::alloc::{AllocError, Global};
@@ -19,12 +19,20 @@ const THREE: &str =
 const PLAIN: Settings = Settings {
     seccomp_default: false,
     poll: 0,
+    version: Version::V1,
+};
+
+// Statuses are asked for together.
+const TOGETHER: Settings = Settings {
+    seccomp_default: false,
+    poll: 0,
+    version: Version::V2,
 };
 
 // The life of a pod whose second run succeeds. Each request ends badly first, nothing is due for ten seconds,
 // and then it is asked for again.
-fn life(alloc: Global, bad: &str) -> Result<String, PodFault> {
-    let mut play = begun(alloc, FLAKY, PLAIN)?;
+fn life(alloc: Global, settings: Settings, bad: &str) -> Result<String, PodFault> {
+    let mut play = begun(alloc, FLAKY, settings)?;
     let mut text = String::new(alloc);
     for letter in b"ddddeddxddde" {
         play.tick();
@@ -66,11 +74,13 @@ const LIFE_REFUSED: &str = "run default.p: Pending 10; none: Pending 10; run def
 // A refusal; a loss, a claim given up, an answer of another kind, a reply with another number.
 #[test]
 fn lives(rt: HostRuntime) -> Result<(), Fail> {
-    let refused = life(rt.alloc(), "rd")?;
-    assert_eq!(rt; refused.as_str(), LIFE_REFUSED);
-    for bad in ["ld", "ad", "kd", "nd"] {
-        let lost = life(rt.alloc(), bad)?;
-        assert_eq!(rt; lost.as_str(), LIFE_LOST);
+    for settings in [PLAIN, TOGETHER] {
+        let refused = life(rt.alloc(), settings, "rd")?;
+        assert_eq!(rt; refused.as_str(), LIFE_REFUSED);
+        for bad in ["ld", "ad", "kd", "nd"] {
+            let lost = life(rt.alloc(), settings, bad)?;
+            assert_eq!(rt; lost.as_str(), LIFE_LOST);
+        }
     }
     Ok(())
 }
@@ -106,6 +116,7 @@ fn played(
 const POLLS: Settings = Settings {
     seccomp_default: true,
     poll: 5,
+    version: Version::V1,
 };
 
 const NEVER: &str =
@@ -206,6 +217,65 @@ fn turns(rt: HostRuntime) -> Result<(), Fail> {
     for (spec, settings, letters, want) in rows {
         let text = played(rt.alloc(), spec, settings, letters)?;
         assert_eq!(rt; text.as_str(), want, "{letters}");
+    }
+    Ok(())
+}
+
+// Between bars stand the cells of a list of statuses, each its container's name, its attempt and r, e or x:
+// it runs, or exited with 0 or 1.
+fn scripted(alloc: Global, spec: &str, poll: u64, script: &str) -> Result<String, PodFault> {
+    let settings = Settings { poll, ..TOGETHER };
+    let mut play = begun(alloc, spec, settings)?;
+    let mut text = String::new(alloc);
+    for (place, part) in script.split('|').enumerate() {
+        let told = match place % 2 {
+            0 => play.plays(part)?,
+            _ => play.lists(part)?,
+        };
+        write!(text, "{}", told.as_str())?;
+    }
+    Ok(text)
+}
+
+const ONE: &str = "\"containers\":[{\"name\":\"a\",\"image\":\"m\"}]";
+
+#[test]
+fn statuses(rt: HostRuntime) -> Result<(), Fail> {
+    let rows = [
+        // Two of three exit between two statuses. What a list lacks was seen, and all were worked on by it.
+        (
+            THREE,
+            5,
+            "ddddddd|a0e b0x c0r|dt||tddd",
+            "run default.p: Pending 0; create default.p a 0 m unconfined: Pending 0; create default.p b 0 m unconfined: Pending 0; \
+             create default.p c 0 m unconfined: Pending 0; start default.p a 0: Pending 0; start default.p b 0: Pending 0; \
+             start default.p c 0: Running 0; look default.p a 0 b 0 c 0: Running 5; none: Running 5; look default.p c 0: Running 10; \
+             clear default.p a 0: Running 10; clear default.p b 0: Running 10; look default.p c 0: Running 10; ",
+        ),
+        // An older attempt, a later one and another container are passed over, and of two cells the first counts.
+        (
+            ONE,
+            5,
+            "ddd|a0x|tddd|a0x|t|a0x a1r|t|b1x a2x|t|a1r a1x|t|a0e a1x|",
+            "run default.p: Pending 0; create default.p a 0 m unconfined: Pending 0; start default.p a 0: Running 0; \
+             look default.p a 0: Running 10; clear default.p a 0: Running 10; create default.p a 1 m unconfined: Running 0; \
+             start default.p a 1: Running 0; look default.p a 1: Running 15; look default.p a 1: Running 20; \
+             look default.p a 1: Running 25; look default.p a 1: Running 30; look default.p a 1: Running 50; ",
+        ),
+        // What was not made or not started is not seen.
+        (
+            THREE,
+            0,
+            "ddrtddrtd|a0r b0x c0x|d|b0x|d",
+            "run default.p: Pending 0; create default.p a 0 m unconfined: Pending 0; create default.p b 0 m unconfined: Pending 10; \
+             create default.p c 0 m unconfined: Pending 0; start default.p a 0: Pending 0; create default.p b 0 m unconfined: Pending 20; \
+             start default.p c 0: Pending 0; look default.p a 0 c 0: Pending 0; create default.p b 0 m unconfined: Pending 0; \
+             look default.p a 0: Pending 0; start default.p b 0: Running 0; ",
+        ),
+    ];
+    for (spec, poll, script, want) in rows {
+        let text = scripted(rt.alloc(), spec, poll, script)?;
+        assert_eq!(rt; text.as_str(), want, "{script}");
     }
     Ok(())
 }

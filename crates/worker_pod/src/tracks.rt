@@ -1,14 +1,15 @@
-ghost use Rattle.std.specs.Prelude.{◌≡◌, ◌≤◌, IfOk, OnOk, OnErr, IsOk, false, length, map, option_map};
+ghost use Rattle.std.specs.Prelude.{◌≡◌, ◌<◌, ◌≤◌, ◌++◌, ◌∷◌, [], IfOk, OnOk, OnErr, true, length, map, option_map, vec_len, vec_capacity};
 ghost use Rattle.std.specs.Option.{option_copied};
-ghost use Rattle.worker_pod.specs.News.{is_exit};
 ghost use Rattle.worker_pod.specs.Past.{fresh_tracks};
-ghost use Rattle.worker_pod.specs.Tracks.{AllStartedBy, StartedBy, fresh, key_of, place_of, run_at, stage_at, track_at, tracks_at};
+ghost use Rattle.worker_pod.specs.Tracks.{AllStartedBy, StartedBy, fresh, named_in, number_after, records_in, run_after, run_at, running_in, stage_after, stage_at, tracks_after, worked_in};
 
-use crate::news::News;
+use crate::news::{News, told_of};
+use crate::settings::Outcome;
 use cri_msgs::{Call, Key, Request};
 use lifecycle::{PastRun, Runs, Stage, Track};
 use manifest::{Container, Containers, Label};
 use std::alloc::{AllocError, Global};
+use std::mem;
 
 // A container that nothing was told of.
 fn fresh(alloc: Global, init: bool) -> Track
@@ -84,80 +85,126 @@ fn run_at(now: u64, of: u32, news: News, stage: Stage) -> Option<PastRun>
     }
 }
 
-// Only the record of an exit takes memory, so it comes first.
-fn track_ended(
-    track: &mut Track,
-    now: u64,
-    number: u64,
-    of: u32,
-    news: News,
-) -> Result<(), AllocError>
-    requires { StartedBy now track.old.stage }
-    ensures ok { OnOk result (track.new ≡ track_at now number of news track.old) }
-    ensures err { OnErr result (track.new ≡ track.old) }
-    ensures started { OnOk result (StartedBy now track.new.stage) }
-    ensures free { is_exit news ≡ false → IsOk result }
+// The attempt that is going on.
+fn running_in(stage: Stage) -> Option<u32>
+    ensures { result ≡ running_in stage }
 {
-    if let Some(run) = run_at(now, of, news, track.stage) {
-        track.runs.push(run)?;
+    match stage {
+        Stage::Running { attempt, .. } => Some(attempt),
+        _ => None,
     }
-    track.stage = stage_at(now, of, news, track.stage);
-    track.worked = number;
-    Ok(())
 }
 
-// The container that a call names.
-fn key_of(call: &Call) -> Option<&Key>
-    ensures { option_copied result ≡ key_of call.now }
+fn named_in(key: &Key, name: &Label) -> Option<u32>
+    ensures { result ≡ named_in key.now name.now }
+{
+    if key.container.name == *name {
+        Some(key.container.attempt)
+    } else {
+        None
+    }
+}
+
+// Which attempt at the container of this name a claim of the call works on.
+fn worked_in(call: &Call, name: &Label, stage: Stage) -> Option<u32>
+    ensures { result ≡ worked_in call.now name.now stage }
 {
     match call {
         Call::CreateContainer { key, .. }
         | Call::StartContainer { key }
         | Call::StopContainer { key, .. }
         | Call::RemoveContainer { key }
-        | Call::ContainerStatus { key } => Some(key),
+        | Call::ContainerStatus { key } => named_in(key, name),
+        Call::ContainerStatuses { .. } => running_in(stage),
         Call::RunPodSandbox { .. }
         | Call::StopPodSandbox { .. }
         | Call::RemovePodSandbox { .. }
-        | Call::ListContainers { .. }
-        | Call::ContainerStatuses { .. } => None,
+        | Call::ListContainers { .. } => None,
     }
 }
 
-fn place_of(containers: &[Container], name: &Label) -> Option<usize>
-    ensures { result ≡ place_of containers.now name.now }
+// The run of the container that ends by the end of the claim.
+fn run_after(
+    name: &Label,
+    stage: Stage,
+    now: u64,
+    request: &Request,
+    outcome: &Outcome,
+) -> Option<PastRun>
+    requires { StartedBy now stage }
+    ensures { result ≡ run_after now request.now outcome.now name.now stage }
 {
-    containers.iter().position(|c| c.name == *name)
+    match worked_in(&request.call, name, stage) {
+        Some(of) => run_at(now, of, told_of(name, of, request, outcome), stage),
+        None => None,
+    }
 }
 
-// What the end of the request's claim makes of the containers.
+// What changes of the container besides its runs.
+fn moved(track: &mut Track, name: &Label, now: u64, request: &Request, outcome: &Outcome)
+    ensures track { track.new ≡ record {
+      init = track.old.init;
+      stage = stage_after now request.now outcome.now name.now track.old.stage;
+      runs = track.old.runs;
+      worked = number_after request.now name.now track.old.stage track.old.worked;
+    } }
+    ensures started { StartedBy now track.old.stage → StartedBy now track.new.stage }
+{
+    if let Some(of) = worked_in(&request.call, name, track.stage) {
+        track.stage = stage_at(now, of, told_of(name, of, request, outcome), track.stage);
+        track.worked = request.id;
+    }
+}
+
+fn put(runs: &mut Vec<PastRun>, run: PastRun)
+    requires { vec_len runs.old < vec_capacity runs.old }
+    ensures { runs.new.items ≡ runs.old.items ++ run ∷ [] }
+{
+    let pushed = runs.push(run);
+    let held = pushed.is_ok();
+    prove!(held);
+    drop(pushed);
+}
+
+// What the end of the request's claim makes of the containers. Only the records of exits take memory: there
+// is room for all of them before anything changes.
+#[tactic(auto, unfolding(crate::specs::Tracks::AllStartedBy))]
 pub(crate) fn tracks_ended(
+    alloc: Global,
     containers: &[Container],
     tracks: &mut [Track],
     now: u64,
     request: &Request,
-    news: News,
+    outcome: &Outcome,
 ) -> Result<(), AllocError>
     requires { AllStartedBy now tracks.old }
     ensures ok { OnOk result
-        (tracks.new ≡ tracks_at containers.now (key_of request.now.call) now request.now.id news tracks.old) }
+        (tracks.new ≡ tracks_after now request.now outcome.now containers.now tracks.old) }
     ensures err { OnErr result (tracks.new ≡ tracks.old) }
     ensures started { OnOk result (AllStartedBy now tracks.new) }
-    ensures free { is_exit news ≡ false → IsOk result }
+    ensures free { OnErr result (records_in now request.now outcome.now containers.now tracks.old ≡ true) }
 {
-    let Some(key) = key_of(&request.call) else {
+    let Some((container, containers)) = containers.split_first() else {
         return Ok(());
     };
-    match place_of(containers, &key.container.name) {
-        Some(at) if at < tracks.len() => {
-            track_ended(
-                &mut tracks[at],
-                now,
-                request.id,
-                key.container.attempt,
-                news,
-            )
+    let Some((track, tracks)) = tracks.split_first_mut() else {
+        return Ok(());
+    };
+    match run_after(&container.name, track.stage, now, request, outcome) {
+        Some(run) => {
+            let mut runs = mem::replace(&mut track.runs, Runs::new(alloc)).into_vec();
+            let others = match runs.reserve(1) {
+                Ok(()) => tracks_ended(alloc, containers, tracks, now, request, outcome),
+                Err(refused) => Err(refused),
+            };
+            if others.is_ok() {
+                put(&mut runs, run);
+            }
+            track.runs = Runs::of(runs);
+            others?;
         }
-        _ => Ok(()),
+        None => tracks_ended(alloc, containers, tracks, now, request, outcome)?,
     }
+    moved(track, &container.name, now, request, outcome);
+    Ok(())
 }
