@@ -1,0 +1,5 @@
+pub mod Parts
+pub mod Exits
+pub mod Creations
+pub mod Every
+pub mod Steps

@@ -1,0 +1,53 @@
+ghost use Rattle.std.specs.Prelude.{◌≡◌};
+ghost use Rattle.world.specs.World.{agent_event};
+
+use manifest::{Pod, Uid};
+use runtime_core::FileAnswers;
+use worker_core::AgentEvent;
+
+/// What the agent does by itself. Workers go by numbers, moments are seconds.
+#[derive(Drop)]
+pub enum Act {
+    /// A pod is to run on the node.
+    Admit(Pod),
+    /// The pod of this uid is to go.
+    Delete(Uid),
+    /// This worker asks for a request. One that it is given is sent.
+    Claim(u32),
+    /// It is this moment now.
+    Tick(u64),
+    /// This worker gives its request up.
+    Abandon(u32),
+}
+
+impl Act {
+    // The node's event.
+    pub(crate) fn event(self) -> AgentEvent
+        ensures { result ≡ agent_event self }
+    {
+        match self {
+            Act::Admit(pod) => AgentEvent::Admit(pod),
+            Act::Delete(uid) => AgentEvent::Delete(uid),
+            Act::Claim(worker) => AgentEvent::Claim(worker),
+            Act::Tick(now) => AgentEvent::Tick(now),
+            Act::Abandon(worker) => AgentEvent::Abandon(worker),
+        }
+    }
+}
+
+/// What happens in a world. Requests and replies go by their places in the bag, from 0 in order of entry.
+#[derive(Drop)]
+pub enum WorldEvent {
+    /// The agent acts by itself.
+    Agent(Act),
+    /// The runtime serves the request at this place, whose files gave this.
+    Serve(usize, FileAnswers),
+    /// This worker reports the reply at this place, which was given to its request.
+    Report(u32, usize),
+    /// This worker reports that no reply came.
+    Lose(u32),
+    /// The cell of this id does a step.
+    StepCell(u64),
+    /// The cell of this id is ended by this code.
+    KillCell(u64, u8),
+}
