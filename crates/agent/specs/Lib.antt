@@ -1,3 +1,4 @@
-pub mod Stops
 pub mod Table
+pub mod Stops
 pub mod StopText
+pub mod Lines

@@ -1,49 +1,14 @@
--- What is told where scriptd or nodeagent ends before its work is done, this project's own: docs/SEMANTICS.md, "Programs".
--- Nothing is said of a refused command line: its text is clap's.
-use Rattle.std.specs.Prelude.{ℕ, List, [], ◌++◌, codes, Option, Some, None}
-use Rattle.bpf_code.specs.declared.fault.CodeFault.{CodeFault}
-use Rattle.bpf_code.specs.declared.fault.CodeFault.TheVariants as code
-use Rattle.bpf_verify.specs.declared.fault.Fault.{Fault}
-use Rattle.bpf_verify.specs.declared.fault.Fault.TheVariants as fault
-use Rattle.bpf_verify.specs.declared.refusal.Refusal.{Refusal}
-use Rattle.bpf_verify.specs.declared.refusal.Refusal.TheVariants as refused
+-- What is told where nodeagent ends before its work is done, this project's own: docs/SEMANTICS.md,
+-- "Programs".
+use Rattle.std.specs.Prelude.{ℕ, List, ◌++◌, codes, Option, Some}
 use Rattle.manifest.specs.Faults.{fault_text as pod_fault_text}
-use Rattle.node_io.specs.FaultText.{fault_text as file_fault_text}
 use Rattle.worker_core.specs.Answers.{refusal_text}
-use Rattle.agent.specs.declared.stops.Stop.{Stop}
-use Rattle.agent.specs.declared.stops.Stop.TheVariants.{CommandLine, BadNumber, Baseline, Manifest, Pod, File, Socket, Unwritten, HistoryFull, Memory}
+use Rattle.runtime_server.specs.StopText.{stop_text as server_text}
+use Rattle.agent.specs.declared.stops.AgentStop.{AgentStop}
+use Rattle.agent.specs.declared.stops.AgentStop.TheVariants.{Server, Manifest, Pod, HistoryFull}
 
--- the name of a filter's fault, without its place
-abbrev pub code_fault_name : CodeFault → List ℕ
-code_fault_name code.Length = codes "Length"
-code_fault_name code.TooLong = codes "TooLong"
-code_fault_name (code.BadCode at) = codes "BadCode"
-code_fault_name code.Memory = codes "Memory"
-
-abbrev pub filter_fault_name : Fault → List ℕ
-filter_fault_name fault.Empty = codes "Empty"
-filter_fault_name fault.TooLong = codes "TooLong"
-filter_fault_name (fault.BadOffset at) = codes "BadOffset"
-filter_fault_name (fault.BadJump at) = codes "BadJump"
-filter_fault_name (fault.BadWord at) = codes "BadWord"
-filter_fault_name (fault.BadShift at) = codes "BadShift"
-filter_fault_name (fault.ZeroDivisor at) = codes "ZeroDivisor"
-filter_fault_name fault.NoFinalReturn = codes "NoFinalReturn"
-filter_fault_name (fault.Unstored at) = codes "Unstored"
-
-abbrev pub refusal_name : Refusal → List ℕ
-refusal_name (refused.Code found) = code_fault_name found
-refusal_name (refused.Filter found) = filter_fault_name found
-
--- of the program with this name
-abbrev pub stop_text : List ℕ → Stop → Option (List ℕ)
-stop_text program (CommandLine error) = None
-stop_text program (BadNumber word) = Some (program ++ codes ": " ++ word.now ++ codes ": BadNumber\n")
-stop_text program (Baseline path refusal) = Some (program ++ codes ": " ++ path.now ++ codes ": " ++ refusal_name refusal ++ codes "\n")
-stop_text program (Manifest path fault) = Some (program ++ codes ": " ++ path.now ++ codes ": " ++ pod_fault_text fault ++ codes "\n")
-stop_text program (Pod path refusal) = Some (program ++ codes ": " ++ path.now ++ codes ": " ++ refusal_text refusal ++ codes "\n")
-stop_text program (File path fault) = Some (program ++ codes ": " ++ path.now ++ codes ": " ++ file_fault_text fault ++ codes "\n")
-stop_text program (Socket path) = Some (program ++ codes ": " ++ path.now ++ codes ": Failed\n")
-stop_text program Unwritten = Some []
-stop_text program HistoryFull = Some (program ++ codes ": HistoryFull\n")
-stop_text program Memory = Some (program ++ codes ": Memory\n")
+abbrev pub stop_text : AgentStop → Option (List ℕ)
+stop_text (Server stop) = server_text (codes "nodeagent") stop
+stop_text (Manifest path fault) = Some (codes "nodeagent: " ++ path.now ++ codes ": " ++ pod_fault_text fault ++ codes "\n")
+stop_text (Pod path refusal) = Some (codes "nodeagent: " ++ path.now ++ codes ": " ++ refusal_text refusal ++ codes "\n")
+stop_text HistoryFull = Some (codes "nodeagent: HistoryFull\n")

@@ -1,33 +1,12 @@
--- Why scriptd or nodeagent ends before its work is done, from the fault that was met, and with which status: this project's
--- own. docs/SEMANTICS.md, "Programs".
-use Rattle.std.specs.Prelude.{◌≡◌, ℕ, List}
-use Rattle.command_line.specs.declared.fault.LineFault.{LineFault}
-use Rattle.command_line.specs.declared.fault.LineFault.TheVariants as line
-use Rattle.node_io.specs.declared.faults.FileFault.{FileFault}
-use Rattle.node_io.specs.declared.faults.FileFault.TheVariants as file
-use Rattle.agent.specs.declared.stops.Stop.{Stop}
-use Rattle.agent.specs.declared.stops.Stop.TheVariants.{CommandLine, BadNumber, Baseline, Manifest, Pod, File, Socket, Unwritten, HistoryFull, Memory}
+-- With which status nodeagent ends before its work is done: this project's own. docs/SEMANTICS.md,
+-- "Programs".
+use Rattle.std.specs.Prelude.{ℕ}
+use Rattle.runtime_server.specs.Stops.{status_of as status_of_server}
+use Rattle.agent.specs.declared.stops.AgentStop.{AgentStop}
+use Rattle.agent.specs.declared.stops.AgentStop.TheVariants.{Server, Manifest, Pod, HistoryFull}
 
-abbrev pub status_of : Stop → ℕ
-status_of (Baseline path refusal) = 1
+abbrev pub status_of : AgentStop → ℕ
+status_of (Server stop) = status_of_server stop
 status_of (Manifest path fault) = 1
 status_of (Pod path refusal) = 1
-status_of (CommandLine error) = 2
-status_of (BadNumber word) = 2
-status_of (File path fault) = 3
-status_of (Socket path) = 3
-status_of Unwritten = 3
 status_of HistoryFull = 4
-status_of Memory = 4
-
--- a command line is refused
-abbrev pub of_line_fault : LineFault → Stop
-of_line_fault (line.Refused error) = CommandLine error
-of_line_fault (line.BadNumber word) = BadNumber word
-of_line_fault line.Memory = Memory
-
--- a file can't be read
-abbrev pub IsOfFile : List ℕ → FileFault → Stop → Type 0
-IsOfFile path file.Memory stop = stop ≡ Memory
-IsOfFile path fault (File word told) = (word.now ≡ path) × (told ≡ fault)
-IsOfFile path fault stop = ⊥

@@ -1,6 +1,6 @@
 -- The table of a node: a line for each pod, in order of admission, and below it a line for each of its
--- containers, init ones first. The names are those of Kubernetes 1.27, pod lifecycle; the layout is this project's
--- own: docs/SEMANTICS.md, "The agent: the node".
+-- containers, init ones first. The names are those of Kubernetes 1.27, pod lifecycle; the layout is this
+-- project's own: docs/SEMANTICS.md, "The agent: the node".
 use Rattle.std.specs.Prelude.{ℕ, ◌-◌, List, ◌++◌, codes}
 use Rattle.std.specs.Fmt.{decimal}
 use Rattle.std.specs.List.{flat_map, zip}

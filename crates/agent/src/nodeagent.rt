@@ -1,16 +1,21 @@
-ghost use Rattle.std.specs.Prelude.{◌≡◌, ◌<◌, ◌≤◌, IfOk, vec_len};
+ghost use Rattle.std.specs.Prelude.{◌≡◌, ◌<◌, ◌≤◌, Some, IfErr, IfOk, min, string_bytes, vec_len};
+ghost use Rattle.std.specs.List.{AllByRecursion};
+ghost use Rattle.agent.specs.Lines.{pace_for, settings_for, status_at, stop_at, text_at, version_for};
 ghost use Rattle.node_lock.specs.declared.limits.TheConstants.{PARTS};
 
-use crate::engine::start_runners;
-use crate::inputs::{baseline_at, pod_at};
+use crate::inputs::pod_at;
+use crate::limits::{MAX_WORKERS, POLL, RUNNERS, SETTLE_UNTIL};
 use crate::peers::SocketPeer;
-use crate::scriptd::tell_stop;
-use crate::site::{Address, Site, accept_all};
-use crate::stops::{Stop, socket_stop};
+use crate::quiet::Beside;
+use crate::stops::AgentStop;
 use crate::tables::table;
 use bpf_verify::Filter;
 use command_line::{NodeagentLine, nodeagent_line};
+use cri_msgs::Version;
 use node_lock::{Book, BookFault, MAX_ENTRIES, PARTS};
+use runtime_server::{
+    Address, ServerStop, Site, accept_all, baseline_at, socket_stop, start_runners,
+};
 use std::alloc::AllocError;
 use std::io::Write;
 use std::marker::Brand;
@@ -19,25 +24,13 @@ use std::sync::ledger::{Blank, Ledger};
 use std::thread::{Scope, Threads, scope, scope_env};
 use std::time::Clock;
 use worker_core::AgentEvent;
-use worker_crew::{Always, Desk, Ended, Pace, Shared, crew};
+use worker_crew::{Always, Coordinator, Ended, Pace, Shared, crew};
 use worker_pod::Settings;
 
-// How many runners there are where the runtime is in this process.
-const RUNNERS: u32 = 4;
-
-// The most workers there are.
-const MAX_WORKERS: u32 = 64;
-
-// Up to which moment `--settle` counts, where nothing is said.
-const SETTLE_UNTIL: u64 = 3_600;
-
-// How many seconds lie between two looks at a container that runs.
-const POLL: u64 = 1;
-
 /// The program `nodeagent`: runs pods by the containers of a runtime behind a socket. `words` are the command
-/// line's, the program's name first. The answer is the program's status: 0 done, 1 input refused, 2 command line
-/// refused, 3 file or socket fault, 4 out of memory or of history, 5 the last moment was reached. What became of
-/// the pods is told on `out`, why it ends on `err`.
+/// line's, the program's name first. The answer is the program's status: 0 done, 1 input refused, 2 command
+/// line refused, 3 file or socket fault, 4 out of memory or of history, 5 the last moment was reached. What
+/// became of the pods is told on `out`, why it ends on `err`.
 pub fn nodeagent_run<R: Threads + Wait + Clock + Sync, O: Write, E: Write>(
     rt: &R,
     system: &HostRuntime,
@@ -46,17 +39,25 @@ pub fn nodeagent_run<R: Threads + Wait + Clock + Sync, O: Write, E: Write>(
     err: &mut E,
 ) -> u8 {
     match run(rt, system, words) {
-        Ok(outcome) => match out.write_all(outcome.text.as_bytes()) {
-            Ok(()) => outcome.status,
-            Err(_) => tell_stop("nodeagent", &Stop::Unwritten, err),
+        Ok(end) => match out.write_all(end.text.as_bytes()) {
+            Ok(()) => end.status,
+            Err(_) => tell_stop(&AgentStop::Server(ServerStop::Unwritten), err),
         },
-        Err(stop) => tell_stop("nodeagent", &stop, err),
+        Err(stop) => tell_stop(&stop, err),
+    }
+}
+
+// Tells why the program ends, and gives its status.
+fn tell_stop<E: Write>(stop: &AgentStop<'_>, err: &mut E) -> u8 {
+    match write!(err, "{stop}") {
+        Ok(()) => stop.status(),
+        Err(_) => ServerStop::Unwritten.status(),
     }
 }
 
 // With what a run that was not stopped ends.
 #[derive(Drop)]
-struct Outcome {
+struct RunEnd {
     status: u8,
     text: String,
 }
@@ -65,19 +66,33 @@ fn run<'a, R: Threads + Wait + Clock + Sync>(
     rt: &R,
     system: &HostRuntime,
     words: &'a [String],
-) -> Result<Outcome, Stop<'a>> {
+) -> Result<RunEnd, AgentStop<'a>> {
     let line = nodeagent_line(system.alloc(), words)?;
     run_line::<Brand, R>(rt, system, &line, Blank::new(PARTS))
 }
 
-fn settings_of(line: &NodeagentLine<'_>) -> Settings {
+fn settings_of(line: &NodeagentLine<'_>) -> Settings
+    ensures { result ≡ settings_for line.now }
+{
     Settings {
         seccomp_default: line.seccomp_default,
         poll: if line.settle { 0 } else { POLL },
+        version: version_of(line),
     }
 }
 
-fn pace_of(line: &NodeagentLine<'_>) -> Pace {
+fn version_of(line: &NodeagentLine<'_>) -> Version
+    ensures { result ≡ version_for line.now }
+{
+    match line.numbers.cri {
+        1 => Version::V1,
+        _ => Version::V2,
+    }
+}
+
+fn pace_of(line: &NodeagentLine<'_>) -> Pace
+    ensures { result ≡ pace_for line.now }
+{
     let until = line.numbers.until;
     if line.settle {
         Pace::Counted(until.unwrap_or(SETTLE_UNTIL))
@@ -92,7 +107,7 @@ fn run_line<'a, L: Ledger + Send + Sync, R: Threads + Wait + Clock + Sync>(
     system: &HostRuntime,
     line: &NodeagentLine<'a>,
     blank: Blank,
-) -> Result<Outcome, Stop<'a>>
+) -> Result<RunEnd, AgentStop<'a>>
     requires name { blank.name ≡ L.name }
     requires parts { blank.parts ≡ L.parts }
     requires all { blank.parts ≡ PARTS }
@@ -105,16 +120,16 @@ fn run_line<'a, L: Ledger + Send + Sync, R: Threads + Wait + Clock + Sync>(
         blank,
     );
     let shared = Shared::new(book);
-    let mut desk = Desk::new(system.alloc(), share);
+    let mut coordinator = Coordinator::new(system.alloc(), share);
     for path in line.manifests.as_slice() {
-        admit(rt, system, &shared, &mut desk, path)?;
+        admit(rt, system, &shared, &mut coordinator, path)?;
     }
     let ended = if line.with_runtime {
-        run_beside(rt, system, line, baseline, &shared, desk)?
+        run_beside(rt, system, line, baseline, &shared, coordinator)?
     } else {
-        run_crew(rt, system, line, &shared, desk)?
+        run_crew(rt, system, line, &shared, &Beside::Other, coordinator)?
     };
-    told(system, line, ended, &shared.into_book())
+    run_end(system, line, ended, &shared.into_book())
 }
 
 // Admits the pod of a manifest.
@@ -122,17 +137,17 @@ fn admit<'a, L: Ledger, R: Wait>(
     rt: &R,
     system: &HostRuntime,
     shared: &Shared<L>,
-    desk: &mut Desk<L>,
+    coordinator: &mut Coordinator<L>,
     path: &'a str,
-) -> Result<(), Stop<'a>>
-    ensures { desk.new.parts ≡ desk.old.parts }
+) -> Result<(), AgentStop<'a>>
+    ensures { coordinator.new.parts ≡ coordinator.old.parts }
 {
     let pod = pod_at(system, path)?;
-    match desk.record(rt, shared, AgentEvent::Admit(pod)) {
+    match coordinator.record(rt, shared, AgentEvent::Admit(pod)) {
         Ok(None) => Ok(()),
-        Ok(Some(refusal)) => Err(Stop::Pod(path, refusal)),
-        Err(BookFault::HistoryFull) => Err(Stop::HistoryFull),
-        Err(BookFault::Memory) => Err(Stop::Memory),
+        Ok(Some(refusal)) => Err(AgentStop::Pod(path, refusal)),
+        Err(BookFault::HistoryFull) => Err(AgentStop::HistoryFull),
+        Err(BookFault::Memory) => Err(AgentStop::Server(ServerStop::Memory)),
     }
 }
 
@@ -142,7 +157,9 @@ fn peers<'p, L: Ledger>(
     line: &NodeagentLine<'p>,
     shared: &'p Shared<L>,
 ) -> Result<Vec<SocketPeer<'p, L>>, AllocError>
-    ensures { IfOk result (λ peers. vec_len peers < PARTS) }
+    ensures few { IfOk result (λ peers. vec_len peers < PARTS) }
+    ensures count { IfOk result (λ peers. vec_len peers ≡ min line.now.numbers.workers 64) }
+    ensures each { IfOk result (λ peers. AllByRecursion (λ peer. (peer.path.now ≡ line.now.socket.now) × (peer.version ≡ version_for line.now)) peers.items) }
 {
     let mut peers = Vec::new(system.alloc());
     for _ in 0..line.numbers.workers.min(MAX_WORKERS) {
@@ -150,6 +167,7 @@ fn peers<'p, L: Ledger>(
             system,
             alloc: system.alloc(),
             path: line.socket,
+            version: version_of(line),
             teller: if line.verbose { Some(shared) } else { None },
         })?;
     }
@@ -162,9 +180,10 @@ fn run_crew<L: Ledger + Send + Sync, R: Threads + Wait + Clock + Sync>(
     system: &HostRuntime,
     line: &NodeagentLine<'_>,
     shared: &Shared<L>,
-    desk: Desk<L>,
+    beside: &Beside<'_, R>,
+    coordinator: Coordinator<L>,
 ) -> Result<Ended, AllocError>
-    requires { desk.parts ≡ PARTS }
+    requires { coordinator.parts ≡ PARTS }
 {
     let peers = peers(system, line, shared)?;
     let (ended, tally) = crew(
@@ -172,7 +191,8 @@ fn run_crew<L: Ledger + Send + Sync, R: Threads + Wait + Clock + Sync>(
         system.alloc(),
         shared,
         &Always,
-        desk,
+        beside,
+        coordinator,
         peers,
         pace_of(line),
     );
@@ -187,9 +207,9 @@ fn run_beside<'a, L: Ledger + Send + Sync, R: Threads + Wait + Clock + Sync>(
     line: &NodeagentLine<'a>,
     baseline: Option<Filter>,
     shared: &Shared<L>,
-    desk: Desk<L>,
-) -> Result<Ended, Stop<'a>>
-    requires { desk.parts ≡ PARTS }
+    coordinator: Coordinator<L>,
+) -> Result<Ended, AgentStop<'a>>
+    requires { coordinator.parts ≡ PARTS }
 {
     let address = Address {
         socket: line.socket,
@@ -199,9 +219,9 @@ fn run_beside<'a, L: Ledger + Send + Sync, R: Threads + Wait + Clock + Sync>(
     };
     let site = match Site::open(system, address, baseline) {
         Ok(site) => site,
-        Err(error) => return Err(socket_stop(line.socket, error)),
+        Err(error) => return Err(AgentStop::Server(socket_stop(line.socket, error))),
     };
-    Ok(run_at(rt, system, line, &site, shared, desk)?)
+    Ok(run_at(rt, system, line, &site, shared, coordinator)?)
 }
 
 fn run_at<L: Ledger + Send + Sync, R: Threads + Wait + Clock + Sync>(
@@ -210,20 +230,23 @@ fn run_at<L: Ledger + Send + Sync, R: Threads + Wait + Clock + Sync>(
     line: &NodeagentLine<'_>,
     site: &Site<'_>,
     shared: &Shared<L>,
-    desk: Desk<L>,
+    coordinator: Coordinator<L>,
 ) -> Result<Ended, AllocError>
-    requires { desk.parts ≡ PARTS }
+    requires { coordinator.parts ≡ PARTS }
 {
     scope(
         scope_env(),
         rt,
         move |scope| -> Result<Ended, AllocError>
-            requires { desk.parts ≡ PARTS }
+            requires { coordinator.parts ≡ PARTS }
         {
             let ended = match start_site(scope, rt, system, site) {
-                Ok(()) => run_crew(rt, system, line, shared, desk),
+                Ok(()) => {
+                    let beside = Beside::Own(rt, &site.engine, RUNNERS);
+                    run_crew(rt, system, line, shared, &beside, coordinator)
+                }
                 Err(error) => {
-                    drop(desk);
+                    drop(coordinator);
                     Err(error)
                 }
             };
@@ -246,22 +269,26 @@ fn start_site<'s, 'e, R: Threads + Wait + Clock + Sync>(
 }
 
 // With what the program ends.
-fn told<'a, L: Ledger>(
+fn run_end<'a, L: Ledger>(
     system: &HostRuntime,
     line: &NodeagentLine<'a>,
     ended: Ended,
     book: &Book<L>,
-) -> Result<Outcome, Stop<'a>> {
+) -> Result<RunEnd, AgentStop<'a>>
+    ensures status { IfOk result (λ end. status_at ended ≡ Some end.status) }
+    ensures text { IfOk result (λ end. string_bytes end.text ≡ text_at line.now book.now.node) }
+    ensures stop { IfErr result (λ stop. stop ≡ stop_at ended) }
+{
     let status = match ended {
         Ended::Settled => 0,
         Ended::TimeUp => 5,
-        Ended::Memory => return Err(Stop::Memory),
-        Ended::HistoryFull => return Err(Stop::HistoryFull),
+        Ended::Memory => return Err(AgentStop::Server(ServerStop::Memory)),
+        Ended::HistoryFull => return Err(AgentStop::HistoryFull),
     };
     let text = if line.settle {
         table(system.alloc(), book.node())?
     } else {
         String::new(system.alloc())
     };
-    Ok(Outcome { status, text })
+    Ok(RunEnd { status, text })
 }

@@ -1,6 +1,7 @@
 //! Who answers an agent's requests.
 ghost use Rattle.std.specs.Prelude.{◌≡◌, IfOk};
 
+use crate::limits::PATIENCE;
 use crate::telling::tell_call;
 use cri_frames::{Lost, call_over};
 use cri_msgs::{Reply, Request, Version};
@@ -11,15 +12,14 @@ use std::sync::ledger::Ledger;
 use std::time::Duration;
 use worker_crew::{Peer, Shared};
 
-/// How many seconds a read or a write may take: behind that it fails.
-const PATIENCE: u64 = 120;
-
 /// The runtime behind the socket at a path. Each call has a connection of its own.
 #[derive(Drop)]
 pub(crate) struct SocketPeer<'a, L: Ledger> {
     pub(crate) system: &'a HostRuntime,
     pub(crate) alloc: Global,
     pub(crate) path: &'a str,
+    // The version in which it is spoken to.
+    pub(crate) version: Version,
     // Whose moments are told with each call, if that is asked for.
     pub(crate) teller: Option<&'a Shared<L>>,
 }
@@ -38,7 +38,7 @@ impl<L: Ledger> SocketPeer<'_, L> {
             return Err(Lost::WriteFailed(0));
         }
         let mut wire = StreamWire::new(stream);
-        call_over(self.alloc, &mut wire, request, Version::V1)
+        call_over(self.alloc, &mut wire, request, self.version)
     }
 }
 

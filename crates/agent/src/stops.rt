@@ -1,42 +1,24 @@
-ghost use Rattle.std.specs.Prelude.{◌≡◌};
-ghost use Rattle.agent.specs.StopText.{refusal_name};
-ghost use Rattle.agent.specs.Stops.{IsOfFile};
-
-use bpf_code::CodeFault;
-use bpf_verify::{Fault, Refusal};
 use command_line::LineFault;
 use manifest::PodFault;
-use node_io::FileFault;
+use runtime_server::{ServerStop, Told};
 use std::alloc::{AllocError, AllocFailed};
 use std::fmt;
-use std::io::{self, ErrorKind};
 
-/// Why a program ends before its work is done.
+/// Why `nodeagent` ends before its work is done.
 #[derive(Debug, Drop)]
-pub(crate) enum Stop<'a> {
-    /// The command line is refused, or help was asked for.
-    CommandLine(clap::Error),
-    /// A word of the command line is no number of its range.
-    BadNumber(&'a str),
-    /// The node's own filter is refused.
-    Baseline(&'a str, Refusal),
+pub(crate) enum AgentStop<'a> {
+    /// What may stop a program that serves a runtime, too: its line, its baseline, a file, the socket, what
+    /// can't be written, and memory.
+    Server(ServerStop<'a>),
     /// A manifest is refused.
     Manifest(&'a str, PodFault),
     /// The node does not admit the pod of a manifest.
     Pod(&'a str, worker_core::Refusal),
-    /// A file can't be read.
-    File(&'a str, FileFault),
-    /// No socket can be had at this path.
-    Socket(&'a str),
-    /// What is to be printed can't be written.
-    Unwritten,
     /// The history of the node has no room for a claim.
     HistoryFull,
-    /// A growth was refused, or a thread.
-    Memory,
 }
 
-impl Stop<'_> {
+impl AgentStop<'_> {
     ghost use Rattle.std.specs.Prelude.{◌≡◌};
     ghost use Rattle.agent.specs.Stops.{status_of};
 
@@ -45,124 +27,78 @@ impl Stop<'_> {
         ensures { result ≡ status_of self.now }
     {
         match self {
-            Stop::Baseline(_, _) | Stop::Manifest(_, _) | Stop::Pod(_, _) => 1,
-            Stop::CommandLine(_) | Stop::BadNumber(_) => 2,
-            Stop::File(_, _) | Stop::Socket(_) | Stop::Unwritten => 3,
-            Stop::HistoryFull | Stop::Memory => 4,
+            AgentStop::Server(stop) => stop.status(),
+            AgentStop::Manifest(_, _) | AgentStop::Pod(_, _) => 1,
+            AgentStop::HistoryFull => 4,
         }
     }
-}
-
-/// The name of a filter's fault, without its place.
-fn name_of(refusal: Refusal) -> &'static str
-    ensures { result.now ≡ refusal_name refusal }
-{
-    match refusal {
-        Refusal::Code(fault) => match fault {
-            CodeFault::Length => "Length",
-            CodeFault::TooLong => "TooLong",
-            CodeFault::BadCode(_) => "BadCode",
-            CodeFault::Memory => "Memory",
-        },
-        Refusal::Filter(fault) => match fault {
-            Fault::Empty => "Empty",
-            Fault::TooLong => "TooLong",
-            Fault::BadOffset(_) => "BadOffset",
-            Fault::BadJump(_) => "BadJump",
-            Fault::BadWord(_) => "BadWord",
-            Fault::BadShift(_) => "BadShift",
-            Fault::ZeroDivisor(_) => "ZeroDivisor",
-            Fault::NoFinalReturn => "NoFinalReturn",
-            Fault::Unstored(_) => "Unstored",
-        },
-    }
-}
-
-/// A stop as the program of this name tells it, with the end of the line.
-#[derive(Clone, Copy)]
-pub(crate) struct Told<'t, 'a> {
-    pub(crate) program: &'static str,
-    pub(crate) stop: &'t Stop<'a>,
 }
 
 /// A refused command line is told in clap's own words.
-impl fmt::Display for Told<'_, '_> {
+impl fmt::Display for AgentStop<'_> {
     ghost use Rattle.agent.specs.StopText.{stop_text};
 
-    ghost output = { λ told. stop_text told.program.now told.stop.now };
+    ghost output = { λ stop. stop_text stop };
 
     fn fmt<W: fmt::Write>(&self, f: &mut fmt::Formatter<W>) -> fmt::Result {
-        let program = self.program;
-        match self.stop {
-            Stop::CommandLine(error) => write!(f, "{error}"),
-            Stop::BadNumber(word) => writeln!(f, "{program}: {word}: BadNumber"),
-            Stop::Baseline(path, refusal) => writeln!(
+        match self {
+            AgentStop::Server(stop) => fmt::Display::fmt(
+                &Told {
+                    program: "nodeagent",
+                    stop,
+                },
                 f,
-                "{program}: {path}: {}",
-                name_of(*refusal)
             ),
-            Stop::Manifest(path, fault) => writeln!(f, "{program}: {path}: {fault}"),
-            Stop::Pod(path, refusal) => writeln!(f, "{program}: {path}: {refusal}"),
-            Stop::File(path, fault) => writeln!(f, "{program}: {path}: {fault}"),
-            Stop::Socket(path) => writeln!(f, "{program}: {path}: Failed"),
-            Stop::Unwritten => Ok(()),
-            Stop::HistoryFull => writeln!(f, "{program}: HistoryFull"),
-            Stop::Memory => writeln!(f, "{program}: Memory"),
+            AgentStop::Manifest(path, fault) => writeln!(f, "nodeagent: {path}: {fault}"),
+            AgentStop::Pod(path, refusal) => writeln!(f, "nodeagent: {path}: {refusal}"),
+            AgentStop::HistoryFull => writeln!(f, "nodeagent: HistoryFull"),
         }
     }
 }
 
-impl<'a> From<AllocError> for Stop<'a> {
+impl<'a> From<ServerStop<'a>> for AgentStop<'a> {
     ghost use Rattle.std.specs.Prelude.{◌≡◌};
-    ghost use Rattle.agent.specs.declared.stops.Stop.TheVariants.{Memory};
+    ghost use Rattle.agent.specs.declared.stops.AgentStop.TheVariants.{Server};
 
-    ghost from_gives = { λ _ stop. stop ≡ Memory };
+    ghost from_gives = { λ given stop. stop ≡ Server given };
 
-    fn from(_: AllocError) -> Stop<'a> {
-        Stop::Memory
+    fn from(stop: ServerStop<'a>) -> AgentStop<'a> {
+        AgentStop::Server(stop)
     }
 }
 
-impl<'a, T: Drop> From<AllocFailed<T>> for Stop<'a> {
+impl<'a> From<AllocError> for AgentStop<'a> {
     ghost use Rattle.std.specs.Prelude.{◌≡◌};
-    ghost use Rattle.agent.specs.declared.stops.Stop.TheVariants.{Memory};
+    ghost use Rattle.agent.specs.declared.stops.AgentStop.TheVariants.{Server};
+    ghost use Rattle.runtime_server.specs.declared.stops.ServerStop.TheVariants.{Memory};
 
-    ghost from_gives = { λ _ stop. stop ≡ Memory };
+    ghost from_gives = { λ _ stop. stop ≡ Server Memory };
 
-    fn from(_: AllocFailed<T>) -> Stop<'a> {
-        Stop::Memory
+    fn from(_: AllocError) -> AgentStop<'a> {
+        AgentStop::Server(ServerStop::Memory)
     }
 }
 
-impl<'a> From<LineFault<'a>> for Stop<'a> {
+impl<'a, T: Drop> From<AllocFailed<T>> for AgentStop<'a> {
     ghost use Rattle.std.specs.Prelude.{◌≡◌};
-    ghost use Rattle.agent.specs.Stops.{of_line_fault};
+    ghost use Rattle.agent.specs.declared.stops.AgentStop.TheVariants.{Server};
+    ghost use Rattle.runtime_server.specs.declared.stops.ServerStop.TheVariants.{Memory};
 
-    ghost from_gives = { λ fault stop. stop ≡ of_line_fault fault };
+    ghost from_gives = { λ _ stop. stop ≡ Server Memory };
 
-    fn from(fault: LineFault<'a>) -> Stop<'a> {
-        match fault {
-            LineFault::Refused(error) => Stop::CommandLine(error),
-            LineFault::BadNumber(word) => Stop::BadNumber(word),
-            LineFault::Memory => Stop::Memory,
-        }
+    fn from(_: AllocFailed<T>) -> AgentStop<'a> {
+        AgentStop::Server(ServerStop::Memory)
     }
 }
 
-/// Why a file stops the program.
-pub(crate) fn stop_at(path: &str, fault: FileFault) -> Stop<'_>
-    ensures { IsOfFile path.now fault result }
-{
-    match fault {
-        FileFault::Memory => Stop::Memory,
-        _ => Stop::File(path, fault),
-    }
-}
+impl<'a> From<LineFault<'a>> for AgentStop<'a> {
+    ghost use Rattle.std.specs.Prelude.{◌≡◌};
+    ghost use Rattle.agent.specs.declared.stops.AgentStop.TheVariants.{Server};
+    ghost use Rattle.runtime_server.specs.Stops.{of_line_fault};
 
-/// Why there is no socket at a path.
-pub(crate) fn socket_stop(path: &str, error: io::Error) -> Stop<'_> {
-    match error.kind() {
-        ErrorKind::OutOfMemory => Stop::Memory,
-        _ => Stop::Socket(path),
+    ghost from_gives = { λ fault stop. stop ≡ Server (of_line_fault fault) };
+
+    fn from(fault: LineFault<'a>) -> AgentStop<'a> {
+        AgentStop::Server(ServerStop::from(fault))
     }
 }

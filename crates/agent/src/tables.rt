@@ -6,8 +6,8 @@ use manifest::{Container, Pod};
 use std::alloc::{AllocError, Global};
 use worker_core::{MAX_PODS, Node};
 
-/// What became of a node's pods: a line for each, in order of admission, with uid and phase, and below it one for
-/// each of its containers, init ones first, with name, state, code and restarts.
+/// What became of a node's pods: a line for each, in order of admission, with uid and phase, and below it one
+/// for each of its containers, init ones first, with name, state, code and restarts.
 pub fn table(alloc: Global, node: &Node) -> Result<String, AllocError>
     ensures { IfOk result (λ text. string_bytes text ≡ table_text node.now) }
 {

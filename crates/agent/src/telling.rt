@@ -1,30 +1,11 @@
-//! One line on standard error for each event, where that is asked for: who, which pod, the request, and its answer
-//! or why there is none, the messages as they are written. A line that finds no memory is left out.
+//! One line on standard error for each call, where that is asked for: the moment, which pod, the request, and
+//! what came of it.
 
 use cri_frames::Lost;
-use cri_msgs::{Reply, Request, Version};
-use runtime_core::uid_of;
+use cri_msgs::{Reply, Request};
+use runtime_server::{answered, asked, tell_line};
 use std::alloc::{AllocError, Global};
 use std::io::Eprint;
-use std::str;
-
-// A message without its version, which stands last in it.
-fn unversioned(message: &[u8]) -> &str {
-    let text = str::from_utf8(message).unwrap_or("");
-    text.strip_suffix(",\"v\":2}").unwrap_or(text)
-}
-
-/// The pod and the text of a request.
-pub(crate) fn asked(alloc: Global, request: &Request) -> Result<String, AllocError> {
-    let text = request.write(alloc, Version::V2)?;
-    let uid = uid_of(&request.call).as_str();
-    format!(in alloc; "{uid} {}}}", unversioned(text.as_slice()))
-}
-
-fn answered(alloc: Global, reply: &Reply) -> Result<String, AllocError> {
-    let text = reply.write(alloc, Version::V2)?;
-    format!(in alloc; "{}}}", unversioned(text.as_slice()))
-}
 
 fn outcome(alloc: Global, outcome: &Result<Reply, Lost>) -> Result<String, AllocError> {
     match outcome {
@@ -44,27 +25,6 @@ fn call_line(
     format!(in alloc; "moment {moment} {} {}", asked.as_str(), came.as_str())
 }
 
-fn reply_line(
-    alloc: Global,
-    connection: u64,
-    asked: Result<String, AllocError>,
-    reply: &Reply,
-) -> Result<String, AllocError> {
-    let asked = asked?;
-    let answered = answered(alloc, reply)?;
-    format!(in alloc;
-        "connection {connection} {} {}",
-        asked.as_str(),
-        answered.as_str()
-    )
-}
-
-fn print<R: Eprint>(rt: &R, line: Result<String, AllocError>) {
-    if let Ok(line) = line {
-        let _ = eprintln!(rt; "{}", line.as_str());
-    }
-}
-
 /// What an agent called at a moment, and what came of it.
 pub(crate) fn tell_call<R: Eprint>(
     rt: &R,
@@ -73,16 +33,5 @@ pub(crate) fn tell_call<R: Eprint>(
     request: &Request,
     came: &Result<Reply, Lost>,
 ) {
-    print(rt, call_line(alloc, moment, request, came))
-}
-
-/// What a runtime was asked over a connection, and what it answered.
-pub(crate) fn tell_reply<R: Eprint>(
-    rt: &R,
-    alloc: Global,
-    connection: u64,
-    asked: Result<String, AllocError>,
-    reply: &Reply,
-) {
-    print(rt, reply_line(alloc, connection, asked, reply))
+    tell_line(rt, call_line(alloc, moment, request, came))
 }

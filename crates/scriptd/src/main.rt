@@ -1,17 +1,22 @@
 //! Runs containers behind a socket that takes CRI calls: `scriptd --help` says how.
 #![tactic(auto)]
 
-use agent::scriptd_run;
+use runtime_server::scriptd_run;
+use std::env;
+use std::io::{self, ErrorKind};
 use std::process::ExitCode;
-use std::{env, io};
 
 fn main(rt: HostRuntime) -> ExitCode {
     let status = match words(&rt) {
         Ok(words) => scriptd_run(&rt, &rt, &words, &mut io::writer(&rt), &mut rt.stderr()),
-        // A process has its words, so only the memory to copy them can be missing.
-        Err(_) => {
-            let _ = eprintln!(rt; "scriptd: Memory");
-            4
+        // A process has its words: the memory to copy them is missing, or one is no text.
+        Err(error) => {
+            let (why, status) = match error.kind() {
+                ErrorKind::InvalidData => ("a word of the command line is not UTF-8", 2),
+                _ => ("Memory", 4),
+            };
+            let _ = eprintln!(rt; "scriptd: {why}");
+            status
         }
     };
     ExitCode::from(status)

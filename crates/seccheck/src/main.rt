@@ -1,17 +1,22 @@
 //! Looks at seccomp filters, and runs them: `seccheck --help` says how.
 #![tactic(auto)]
 
-use agent::seccheck_run;
+use checker::seccheck_run;
+use std::env;
+use std::io::{self, ErrorKind};
 use std::process::ExitCode;
-use std::{env, io};
 
 fn main(rt: HostRuntime) -> ExitCode {
     let status = match words(&rt) {
         Ok(words) => seccheck_run(&rt, &words, &mut io::writer(&rt), &mut rt.stderr()),
-        // A process has its words, so only the memory to copy them can be missing.
-        Err(_) => {
-            let _ = eprintln!(rt; "seccheck: Memory");
-            4
+        // A process has its words: the memory to copy them is missing, or one is no text.
+        Err(error) => {
+            let (why, status) = match error.kind() {
+                ErrorKind::InvalidData => ("a word of the command line is not UTF-8", 2),
+                _ => ("Memory", 4),
+            };
+            let _ = eprintln!(rt; "seccheck: {why}");
+            status
         }
     };
     ExitCode::from(status)

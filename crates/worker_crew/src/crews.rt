@@ -2,11 +2,11 @@
 ghost use Rattle.std.specs.Prelude.{◌≡◌, ◌+◌, ◌<◌, IfSome, IsTrue, vec_len};
 ghost use Rattle.node_lock.specs.declared.limits.TheConstants.{PARTS};
 
-use crate::desk::Desk;
-use crate::pace::{Ended, Pace, keep_time};
-use crate::seats::Seat;
+use crate::coordinator::Coordinator;
+use crate::pace::{Ended, Pace, Quiet, keep_time};
 use crate::shared::Shared;
 use crate::worker::{Gate, Peer, work};
+use crate::worker_share::WorkerShare;
 use node_lock::Tally;
 use std::alloc::Global;
 use std::sync::Wait;
@@ -26,7 +26,7 @@ impl<L: Ledger> Promise<Tally<L>> for OnePart {
 
 // The threads that were started, and whether each worker got one.
 #[derive(Drop)]
-struct Staff<L: Ledger> {
+struct WorkerPool<L: Ledger> {
     threads: Vec<PromisedHandle<Tally<L>, OnePart>>,
     complete: bool,
 }
@@ -37,20 +37,20 @@ fn serve<L: Ledger, P: Peer + Drop, G: Gate, R: Wait>(
     alloc: Global,
     shared: &Shared<L>,
     gate: &G,
-    seat: Seat<L>,
+    own: WorkerShare<L>,
     peer: P,
 ) -> Tally<L>
     ensures { result.parts ≡ 1 }
 {
     let mut peer = peer;
-    let Seat { worker, share } = seat;
+    let WorkerShare { worker, share } = own;
     let tally = work(rt, alloc, shared, worker, share, &mut peer, gate);
     shared.end(rt);
     tally
 }
 
 // Gives each peer a worker, numbered from 1, in a thread of its own.
-fn hire<
+fn start_workers<
     's,
     'e,
     L: Ledger + Send + Sync + 's,
@@ -63,50 +63,50 @@ fn hire<
     alloc: Global,
     shared: &'e Shared<L>,
     gate: &'e G,
-    desk: &mut Desk<L>,
+    coordinator: &mut Coordinator<L>,
     peers: Vec<P>,
-) -> Staff<L>
+) -> WorkerPool<L>
     requires few { vec_len peers < PARTS }
-    requires parts { vec_len peers < desk.old.parts }
-    ensures { IsTrue result.complete → desk.new.parts + vec_len result.threads ≡ desk.old.parts }
+    requires parts { vec_len peers < coordinator.old.parts }
+    ensures { IsTrue result.complete → coordinator.new.parts + vec_len result.threads ≡ coordinator.old.parts }
 {
     let mut threads = Vec::new(alloc);
     let mut worker = 0;
     for peer in peers {
         worker += 1;
-        let seat = desk.seat(worker);
+        let own = coordinator.share_for(worker);
         shared.begin(rt);
         let started = scope.spawn_with(
             OnePart,
             move || -> Tally<L>
                 ensures { result.parts ≡ 1 }
-            { serve(rt, alloc, shared, gate, seat, peer) },
+            { serve(rt, alloc, shared, gate, own, peer) },
         );
         let Ok(thread) = started else {
             shared.end(rt);
-            return Staff {
+            return WorkerPool {
                 threads,
                 complete: false,
             };
         };
         if threads.push(thread).is_err() {
-            return Staff {
+            return WorkerPool {
                 threads,
                 complete: false,
             };
         }
     }
-    Staff {
+    WorkerPool {
         threads,
         complete: true,
     }
 }
 
 // Waits for each worker, and joins its receipts to these.
-fn gather<L: Ledger, R: Threads>(rt: &R, all: &mut Tally<L>, staff: Staff<L>) -> bool
-    ensures { IsTrue result → IsTrue staff.complete × (all.new.parts ≡ all.old.parts + vec_len staff.threads) }
+fn join_workers<L: Ledger, R: Threads>(rt: &R, all: &mut Tally<L>, pool: WorkerPool<L>) -> bool
+    ensures { IsTrue result → IsTrue pool.complete × (all.new.parts ≡ all.old.parts + vec_len pool.threads) }
 {
-    let Staff { threads, complete } = staff;
+    let WorkerPool { threads, complete } = pool;
     let mut whole = complete;
     for thread in threads {
         if all.join(thread.join(rt)).is_err() {
@@ -123,6 +123,7 @@ fn run<
     L: Ledger + Send + Sync + 's,
     P: Peer + Send + Drop + 's,
     G: Gate + Sync,
+    Q: Quiet + Sync,
     R: Threads + Wait + Clock + Sync,
 >(
     scope: &'s Scope<'s, &'e ()>,
@@ -130,24 +131,25 @@ fn run<
     alloc: Global,
     shared: &'e Shared<L>,
     gate: &'e G,
-    desk: Desk<L>,
+    quiet: &'e Q,
+    coordinator: Coordinator<L>,
     peers: Vec<P>,
     pace: Pace,
 ) -> (Ended, Option<Tally<L>>)
     requires few { vec_len peers < PARTS }
-    requires parts { vec_len peers < desk.parts }
-    ensures { IfSome result.1 (λ tally. tally.parts ≡ desk.parts) }
+    requires parts { vec_len peers < coordinator.parts }
+    ensures { IfSome result.1 (λ tally. tally.parts ≡ coordinator.parts) }
 {
-    let mut desk = desk;
-    let staff = hire(scope, rt, alloc, shared, gate, &mut desk, peers);
-    let ended = if staff.complete {
-        keep_time(rt, shared, &mut desk, pace)
+    let mut coordinator = coordinator;
+    let pool = start_workers(scope, rt, alloc, shared, gate, &mut coordinator, peers);
+    let ended = if pool.complete {
+        keep_time(rt, shared, quiet, &mut coordinator, pace)
     } else {
         Ended::Memory
     };
     shared.close(rt);
-    let mut all = desk.into_tally();
-    if gather(rt, &mut all, staff) {
+    let mut all = coordinator.into_tally();
+    if join_workers(rt, &mut all, pool) {
         (ended, Some(all))
     } else {
         (ended, None)
@@ -155,33 +157,48 @@ fn run<
 }
 
 /// Starts a worker for each of these peers, numbered from 1, in a thread of its own, and tells the time beside
-/// them until there is nothing left to wait for. The book is closed then. The tally has the receipts of all
-/// workers and the desk's, for all that was done; none where they could not be brought together.
+/// them until there is nothing left to wait for; a clock that is counted waits for `quiet` before it moves on. The
+/// book is closed then. The tally has the receipts of all
+/// workers and the coordinator's, for all that was done; none where they could not be brought together.
 pub fn crew<
     L: Ledger + Send + Sync,
     P: Peer + Send + Drop,
     G: Gate + Sync,
+    Q: Quiet + Sync,
     R: Threads + Wait + Clock + Sync,
 >(
     rt: &R,
     alloc: Global,
     shared: &Shared<L>,
     gate: &G,
-    desk: Desk<L>,
+    quiet: &Q,
+    coordinator: Coordinator<L>,
     peers: Vec<P>,
     pace: Pace,
 ) -> (Ended, Option<Tally<L>>)
     requires few { vec_len peers < PARTS }
-    requires parts { vec_len peers < desk.parts }
-    ensures { IfSome result.1 (λ tally. tally.parts ≡ desk.parts) }
+    requires parts { vec_len peers < coordinator.parts }
+    ensures { IfSome result.1 (λ tally. tally.parts ≡ coordinator.parts) }
 {
     scope(
         scope_env(),
         rt,
         move |scope| -> (Ended, Option<Tally<L>>)
             requires few { vec_len peers < PARTS }
-            requires parts { vec_len peers < desk.parts }
-            ensures { IfSome result.1 (λ tally. tally.parts ≡ desk.parts) }
-        { run(scope, rt, alloc, shared, gate, desk, peers, pace) },
+            requires parts { vec_len peers < coordinator.parts }
+            ensures { IfSome result.1 (λ tally. tally.parts ≡ coordinator.parts) }
+        {
+            run(
+                scope,
+                rt,
+                alloc,
+                shared,
+                gate,
+                quiet,
+                coordinator,
+                peers,
+                pace,
+            )
+        },
     )
 }

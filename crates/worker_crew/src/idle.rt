@@ -5,7 +5,7 @@ use worker_core::{MAX_PODS, Node};
 
 /// Why nobody at work has anything to do.
 #[derive(Clone, Copy, Debug, PartialEq, Eq)]
-pub(crate) enum Turn {
+pub(crate) enum Standstill {
     /// No worker is left.
     Deserted,
     /// Each pod is Succeeded or Failed.
@@ -36,19 +36,19 @@ fn is_over(node: &Node) -> bool {
 }
 
 /// What is to be done at this moment by the one who tells the time. None where the workers have something to do.
-pub(crate) fn turn_of(node: &Node, workers: u32, now: u64) -> Option<Turn> {
+pub(crate) fn standstill_of(node: &Node, workers: u32, now: u64) -> Option<Standstill> {
     if workers == 0 {
-        return Some(Turn::Deserted);
+        return Some(Standstill::Deserted);
     }
     if node.held() > 0 {
         return None;
     }
     if is_over(node) {
-        return Some(Turn::Over);
+        return Some(Standstill::Over);
     }
     match node.next_due() {
-        None => Some(Turn::Never),
-        Some(due) if due > now => Some(Turn::At(due)),
+        None => Some(Standstill::Never),
+        Some(due) if due > now => Some(Standstill::At(due)),
         Some(_) => None,
     }
 }

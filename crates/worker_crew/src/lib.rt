@@ -5,16 +5,16 @@
 //! book's lock touches a file or a socket. What the receipts of a worker say stands in `specs/Work.antt`.
 #![tactic(auto)]
 
+mod coordinator;
 mod crews;
-mod desk;
 mod idle;
 mod pace;
-mod seats;
 mod shared;
 mod worker;
+mod worker_share;
 
+pub use coordinator::Coordinator;
 pub use crews::crew;
-pub use desk::Desk;
-pub use pace::{Ended, Pace};
+pub use pace::{Ended, Pace, Quiet, Unknown};
 pub use shared::Shared;
 pub use worker::{Always, Gate, Peer, work};

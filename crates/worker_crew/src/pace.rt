@@ -1,8 +1,8 @@
 //! Worker 0 tells the time: by a counter that moves on where nothing else can happen, or by the machine's clock.
 ghost use Rattle.std.specs.Prelude.{◌≡◌};
 
-use crate::desk::Desk;
-use crate::idle::Turn;
+use crate::coordinator::Coordinator;
+use crate::idle::Standstill;
 use crate::shared::Shared;
 use std::sync::Wait;
 use std::sync::ledger::Ledger;
@@ -33,21 +33,36 @@ pub enum Ended {
     HistoryFull,
 }
 
+/// What the counted clock waits for before it moves on.
+pub trait Quiet {
+    /// Waits until no container of the runtime runs, where that can be known.
+    fn wait(&self);
+}
+
+/// A runtime of which nothing is known: nothing is waited for.
+#[derive(Clone, Copy)]
+pub struct Unknown;
+
+impl Quiet for Unknown {
+    fn wait(&self) {}
+}
+
 // How many milliseconds the machine's clock is not looked at.
 const NAP: u64 = 50;
 
 /// Tells the time until there is nothing left to wait for.
-pub(crate) fn keep_time<L: Ledger, R: Wait + Clock>(
+pub(crate) fn keep_time<L: Ledger, Q: Quiet, R: Wait + Clock>(
     rt: &R,
     shared: &Shared<L>,
-    desk: &mut Desk<L>,
+    quiet: &Q,
+    coordinator: &mut Coordinator<L>,
     pace: Pace,
 ) -> Ended
-    ensures { desk.new.parts ≡ desk.old.parts }
+    ensures { coordinator.new.parts ≡ coordinator.old.parts }
 {
     match pace {
-        Pace::Counted(until) => count(rt, shared, desk, until),
-        Pace::Machine(until) => watch(rt, shared, desk, until),
+        Pace::Counted(until) => count(rt, shared, quiet, coordinator, until),
+        Pace::Machine(until) => watch(rt, shared, coordinator, until),
     }
 }
 
@@ -60,24 +75,36 @@ fn fault_of<L: Ledger, R: Wait>(rt: &R, shared: &Shared<L>) -> Ended {
     }
 }
 
-fn count<L: Ledger, R: Wait>(rt: &R, shared: &Shared<L>, desk: &mut Desk<L>, until: u64) -> Ended
-    ensures { desk.new.parts ≡ desk.old.parts }
+fn count<L: Ledger, Q: Quiet, R: Wait>(
+    rt: &R,
+    shared: &Shared<L>,
+    quiet: &Q,
+    coordinator: &mut Coordinator<L>,
+    until: u64,
+) -> Ended
+    ensures { coordinator.new.parts ≡ coordinator.old.parts }
 {
     let mut now = 0;
     for _ in rt.forever() {
-        match shared.next_turn(rt, now) {
+        match shared.next_standstill(rt, now) {
             None => {}
-            Some(Turn::Over) => return Ended::Settled,
-            Some(Turn::Never) => return Ended::TimeUp,
-            Some(Turn::Deserted) => return fault_of(rt, shared),
-            Some(Turn::At(due)) => {
+            Some(Standstill::Over) => return Ended::Settled,
+            Some(Standstill::Never) => return Ended::TimeUp,
+            Some(Standstill::Deserted) => return fault_of(rt, shared),
+            Some(Standstill::At(due)) => {
                 if due > until {
                     return Ended::TimeUp;
                 }
-                if desk.record(rt, shared, AgentEvent::Tick(due)).is_err() {
+                // What is asked at the next moment does not hang on how far a runner has come.
+                quiet.wait();
+                // Workers that the tick wakes are to find the new moment.
+                shared.tell(due);
+                if coordinator
+                    .record(rt, shared, AgentEvent::Tick(due))
+                    .is_err()
+                {
                     return fault_of(rt, shared);
                 }
-                shared.tell(due);
                 now = due;
             }
         }
@@ -96,25 +123,28 @@ fn seconds_since<R: Clock>(rt: &R, start: Option<Instant>) -> u64 {
 fn watch<L: Ledger, R: Wait + Clock>(
     rt: &R,
     shared: &Shared<L>,
-    desk: &mut Desk<L>,
+    coordinator: &mut Coordinator<L>,
     until: Option<u64>,
 ) -> Ended
-    ensures { desk.new.parts ≡ desk.old.parts }
+    ensures { coordinator.new.parts ≡ coordinator.old.parts }
 {
     let start = Instant::now(rt).ok();
     let mut told = 0;
     for _ in rt.forever() {
         let now = seconds_since(rt, start);
-        match shared.turn(rt, now) {
-            Some(Turn::Deserted) => return fault_of(rt, shared),
+        match shared.standstill(rt, now) {
+            Some(Standstill::Deserted) => return fault_of(rt, shared),
             // Nothing is due, so no entry is spent on the time.
-            Some(Turn::Over | Turn::Never | Turn::At(_)) => {}
+            Some(Standstill::Over | Standstill::Never | Standstill::At(_)) => {}
             None => {
                 if now > told {
-                    if desk.record(rt, shared, AgentEvent::Tick(now)).is_err() {
+                    shared.tell(now);
+                    if coordinator
+                        .record(rt, shared, AgentEvent::Tick(now))
+                        .is_err()
+                    {
                         return fault_of(rt, shared);
                     }
-                    shared.tell(now);
                     told = now;
                 }
             }

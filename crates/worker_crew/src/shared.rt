@@ -3,7 +3,7 @@ ghost use Rattle.std.specs.Prelude.{◌≡◌, ◌+◌, ◌<◌, IfOk, IfSome, I
 ghost use Rattle.worker_core.specs.declared.events.AgentEvent.TheVariants.{Claim};
 ghost use Rattle.node_lock.specs.Books.{worker_of};
 
-use crate::idle::{Turn, turn_of};
+use crate::idle::{Standstill, standstill_of};
 use node_lock::{Book, BookFault, Receipt};
 use std::sync::atomic::{AtomicU64, Ordering};
 use std::sync::ledger::{Ledger, Share};
@@ -12,7 +12,7 @@ use worker_core::{AgentEvent, Answer};
 
 /// What stands under the lock: the book, and how many workers have not ended.
 #[derive(Drop)]
-struct Office<L: Ledger> {
+struct Guarded<L: Ledger> {
     book: Book<L>,
     workers: u32,
 }
@@ -21,7 +21,7 @@ struct Office<L: Ledger> {
 /// made or a file is read.
 #[derive(Drop)]
 pub struct Shared<L: Ledger> {
-    office: Mutex<Office<L>>,
+    guarded: Mutex<Guarded<L>>,
     // Told at each entry that is no claim, when a worker ends, and once the book is closed.
     changed: Condvar,
     // The moment that was told last, for whoever wants to name it.
@@ -55,7 +55,7 @@ impl<L: Ledger> Shared<L> {
     /// A book that is shared from now on.
     pub fn new(book: Book<L>) -> Shared<L> {
         Shared {
-            office: Mutex::new(Office { book, workers: 0 }),
+            guarded: Mutex::new(Guarded { book, workers: 0 }),
             changed: Condvar::new(),
             moment: AtomicU64::new(0),
         }
@@ -64,12 +64,12 @@ impl<L: Ledger> Shared<L> {
     /// The book, once nobody shares it any longer.
     pub fn into_book(self) -> Book<L> {
         let Shared {
-            office,
+            guarded,
             changed,
             moment: _,
         } = self;
         drop(changed);
-        let Office { book, workers: _ } = office.into_inner();
+        let Guarded { book, workers: _ } = guarded.into_inner();
         book
     }
 
@@ -91,9 +91,9 @@ impl<L: Ledger> Shared<L> {
         ensures uncounted { OnErr result (share.new.amount ≡ share.old.amount) }
         ensures parts { share.new.parts ≡ share.old.parts }
     {
-        let mut office = self.office.lock(rt);
-        let recorded = record_above(&mut office.book, share, worker, event, last);
-        drop(office);
+        let mut guarded = self.guarded.lock(rt);
+        let recorded = record_above(&mut guarded.book, share, worker, event, last);
+        drop(guarded);
         self.changed.notify_all();
         recorded
     }
@@ -115,58 +115,58 @@ impl<L: Ledger> Shared<L> {
         ensures uncounted { IfNone result (share.new.amount ≡ share.old.amount) }
         ensures parts { share.new.parts ≡ share.old.parts }
     {
-        let mut office = self.office.lock(rt);
-        if office.book.is_closed() {
+        let mut guarded = self.guarded.lock(rt);
+        if guarded.book.is_closed() {
             return None;
         }
         let event = AgentEvent::Claim(worker);
-        let claim = record_above(&mut office.book, share, worker, event, last).ok()?;
+        let claim = record_above(&mut guarded.book, share, worker, event, last).ok()?;
         if matches!(&claim.entry().answer, Answer::Nothing) {
-            let since = office.book.history().len();
-            let _office = self
+            let since = guarded.book.history().len();
+            let _guarded = self
                 .changed
-                .wait_while(rt, office, |office| office.book.is_quiet(since));
+                .wait_while(rt, guarded, |guarded| guarded.book.is_quiet(since));
         }
         Some(claim)
     }
 
     /// A worker is about to begin.
     pub(crate) fn begin<R: Wait>(&self, rt: &R) {
-        let mut office = self.office.lock(rt);
-        office.workers = office.workers.saturating_add(1);
+        let mut guarded = self.guarded.lock(rt);
+        guarded.workers = guarded.workers.saturating_add(1);
     }
 
     /// A worker has ended.
     pub(crate) fn end<R: Wait>(&self, rt: &R) {
-        let mut office = self.office.lock(rt);
-        office.workers = office.workers.saturating_sub(1);
-        drop(office);
+        let mut guarded = self.guarded.lock(rt);
+        guarded.workers = guarded.workers.saturating_sub(1);
+        drop(guarded);
         self.changed.notify_all();
     }
 
     /// What is to be done at this moment: None where workers have something to do.
-    pub(crate) fn turn<R: Wait>(&self, rt: &R, now: u64) -> Option<Turn> {
-        let office = self.office.lock(rt);
-        turn_of(office.book.node(), office.workers, now)
+    pub(crate) fn standstill<R: Wait>(&self, rt: &R, now: u64) -> Option<Standstill> {
+        let guarded = self.guarded.lock(rt);
+        standstill_of(guarded.book.node(), guarded.workers, now)
     }
 
     /// The same, once workers have nothing to do.
-    pub(crate) fn next_turn<R: Wait>(&self, rt: &R, now: u64) -> Option<Turn> {
-        let office = self.office.lock(rt);
-        let office = self.changed.wait_while(rt, office, |office| {
-            turn_of(office.book.node(), office.workers, now).is_none()
+    pub(crate) fn next_standstill<R: Wait>(&self, rt: &R, now: u64) -> Option<Standstill> {
+        let guarded = self.guarded.lock(rt);
+        let guarded = self.changed.wait_while(rt, guarded, |guarded| {
+            standstill_of(guarded.book.node(), guarded.workers, now).is_none()
         });
-        turn_of(office.book.node(), office.workers, now)
+        standstill_of(guarded.book.node(), guarded.workers, now)
     }
 
     /// Whether the book takes a claim still.
     pub fn has_room<R: Wait>(&self, rt: &R) -> bool {
-        self.office.lock(rt).book.has_room(&AgentEvent::Claim(1))
+        self.guarded.lock(rt).book.has_room(&AgentEvent::Claim(1))
     }
 
     /// How many entries the book's history has now.
     pub fn entries<R: Wait>(&self, rt: &R) -> usize {
-        self.office.lock(rt).book.history().len()
+        self.guarded.lock(rt).book.history().len()
     }
 
     /// The moment that was told last.
@@ -181,9 +181,9 @@ impl<L: Ledger> Shared<L> {
 
     /// No worker claims or waits from now on.
     pub(crate) fn close<R: Wait>(&self, rt: &R) {
-        let mut office = self.office.lock(rt);
-        office.book.close();
-        drop(office);
+        let mut guarded = self.guarded.lock(rt);
+        guarded.book.close();
+        drop(guarded);
         self.changed.notify_all();
     }
 }

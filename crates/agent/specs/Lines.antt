@@ -1,0 +1,49 @@
+-- What nodeagent does with its line, and how it ends: this project's own. docs/SEMANTICS.md, "Programs".
+use Rattle.std.specs.Prelude.{ℕ, ◌==◌, if◌then◌else◌, List, [], Option, Some, None, unwrap_or}
+use Rattle.command_line.specs.declared.nodeagent.NodeagentLine.{NodeagentLine}
+use Rattle.cri_msgs.specs.declared.version.Version.{Version}
+use Rattle.cri_msgs.specs.declared.version.Version.TheVariants.{V1, V2}
+use Rattle.runtime_server.specs.declared.stops.ServerStop.TheVariants.{Memory}
+use Rattle.worker_core.specs.Kept.{KeptNode}
+use Rattle.worker_crew.specs.declared.pace.Ended.{Ended}
+use Rattle.worker_crew.specs.declared.pace.Ended.TheVariants as ended
+use Rattle.worker_crew.specs.declared.pace.Pace.{Pace}
+use Rattle.worker_crew.specs.declared.pace.Pace.TheVariants.{Counted, Machine}
+use Rattle.worker_pod.specs.declared.settings.Settings.{Settings}
+use Rattle.agent.specs.declared.stops.AgentStop.{AgentStop}
+use Rattle.agent.specs.declared.stops.AgentStop.TheVariants.{Server, HistoryFull}
+use Rattle.agent.specs.Table.{table_text}
+
+-- the version of its requests
+abbrev pub version_for : NodeagentLine → Version
+version_for line = if line.numbers.cri == 1 then V1 else V2
+
+-- a container that runs is looked at again after a second, with --settle at the same moment
+abbrev pub settings_for : NodeagentLine → Settings
+settings_for line = record {
+  seccomp_default = line.seccomp_default;
+  poll = if line.settle then 0 else 1;
+  version = version_for line;
+}
+
+-- with --settle the time is counted, for an hour where nothing else is said; else it is the machine's
+abbrev pub pace_for : NodeagentLine → Pace
+pace_for line = if line.settle then Counted (unwrap_or line.numbers.until 3600) else Machine line.numbers.until
+
+-- the status of a run that nothing stopped
+abbrev pub status_at : Ended → Option ℕ
+status_at ended.Settled = Some 0
+status_at ended.TimeUp = Some 5
+status_at ended.Memory = None
+status_at ended.HistoryFull = None
+
+-- what is printed behind it
+abbrev pub text_at : NodeagentLine → KeptNode → List ℕ
+text_at line node = if line.settle then table_text node else []
+
+-- why a run was stopped; memory may lack for the text, too
+abbrev pub stop_at : Ended → AgentStop
+stop_at ended.HistoryFull = HistoryFull
+stop_at ended.Settled = Server Memory
+stop_at ended.TimeUp = Server Memory
+stop_at ended.Memory = Server Memory

@@ -1,0 +1,190 @@
+use crate::test_crews::{Pods, SETTLED, Trial, entries_at_call, many_told, settled};
+use cri_msgs::Version;
+use node_lock::{MAX_ENTRIES, PARTS};
+use std::alloc::Global;
+use std::marker::Brand;
+use std::sync::Wait;
+use std::sync::ledger::Blank;
+use std::test::Fail;
+use std::thread::Threads;
+use std::time::Clock;
+
+const PLAIN: Trial = Trial {
+    version: Version::V2,
+    pods: Pods::Few,
+    workers: 2,
+    limit: MAX_ENTRIES,
+    wires: 0,
+    every: 0,
+    scripts: 0,
+    profiles: 0,
+    holds: false,
+};
+
+fn tried<R: Threads + Wait + Clock + Sync>(
+    rt: &R,
+    alloc: Global,
+    trial: Trial,
+) -> Result<String, Fail> {
+    settled::<Brand, R>(rt, alloc, trial, Blank::new(PARTS))
+}
+
+// One pod by four workers, whose first call is held up.
+fn held_up<R: Threads + Wait + Clock + Sync>(rt: &R, alloc: Global) -> Result<(u64, String), Fail> {
+    entries_at_call::<Brand, R>(rt, alloc, 4, Blank::new(PARTS))
+}
+
+// Whatever number of workers there is, what is told in the end is the same, and each entry has its receipt.
+#[test]
+fn workers_settle(rt: HostRuntime) -> Result<(), Fail> {
+    for version in [Version::V1, Version::V2] {
+        for workers in [1, 2, 4, 64] {
+            let trial = Trial {
+                version,
+                workers,
+                ..PLAIN
+            };
+            let left = tried(&rt, rt.alloc(), trial)?;
+            assert_eq!(rt; left.as_str(), SETTLED, "{workers} workers, {version:?}");
+        }
+    }
+    Ok(())
+}
+
+// Each read and write of the wires fails once, and each read of a file.
+#[test]
+fn failures_change_nothing(rt: HostRuntime) -> Result<(), Fail> {
+    for round in 0..416 {
+        let place = round / 2 + 1;
+        let mut trial = PLAIN;
+        if round % 2 == 0 {
+            trial.version = Version::V1;
+        }
+        match place {
+            201..=206 => trial.scripts = place - 200,
+            207 | 208 => trial.profiles = place - 206,
+            _ => trial.wires = place,
+        }
+        let left = tried(&rt, rt.alloc(), trial)?;
+        assert_eq!(rt; left.as_str(), SETTLED, "{place}");
+    }
+    Ok(())
+}
+
+// A node with as many pods as it takes, by as many workers as there may be, settled once for each of these reads and
+// writes of the wires, which fails: the first of them behind which something else is told in the end.
+fn unsettled<R: Threads + Wait + Clock + Sync>(
+    rt: &R,
+    alloc: Global,
+    first: u64,
+    last: u64,
+) -> Result<Option<u64>, Fail> {
+    let told = many_told(alloc, 1)?;
+    for wires in first..=last {
+        let trial = Trial {
+            pods: Pods::Many(1),
+            workers: 64,
+            wires,
+            ..PLAIN
+        };
+        let left = tried(rt, alloc, trial)?;
+        if left.as_str().strip_prefix("settled, true\n") != Some(told.as_str()) {
+            return Ok(Some(wires));
+        }
+    }
+    Ok(None)
+}
+
+#[test]
+fn many_pods_settle_where_one_of_1_to_50_fails(rt: HostRuntime) -> Result<(), Fail> {
+    let found = unsettled(&rt, rt.alloc(), 1, 50)?;
+    assert_eq!(rt; found, None);
+    Ok(())
+}
+
+#[test]
+fn many_pods_settle_where_one_of_51_to_100_fails(rt: HostRuntime) -> Result<(), Fail> {
+    let found = unsettled(&rt, rt.alloc(), 51, 100)?;
+    assert_eq!(rt; found, None);
+    Ok(())
+}
+
+#[test]
+fn many_pods_settle_where_one_of_101_to_150_fails(rt: HostRuntime) -> Result<(), Fail> {
+    let found = unsettled(&rt, rt.alloc(), 101, 150)?;
+    assert_eq!(rt; found, None);
+    Ok(())
+}
+
+#[test]
+fn many_pods_settle_where_one_of_151_to_200_fails(rt: HostRuntime) -> Result<(), Fail> {
+    let found = unsettled(&rt, rt.alloc(), 151, 200)?;
+    assert_eq!(rt; found, None);
+    Ok(())
+}
+
+// A node as full as it can be.
+const FULL: Trial = Trial {
+    pods: Pods::Many(16),
+    workers: 64,
+    ..PLAIN
+};
+
+#[test]
+fn a_full_node_settles(rt: HostRuntime) -> Result<(), Fail> {
+    let told = many_told(rt.alloc(), 16)?;
+    let left = tried(&rt, rt.alloc(), FULL)?;
+    assert_eq!(rt;
+        left.as_str().strip_prefix("settled, true\n"),
+        Some(told.as_str())
+    );
+    Ok(())
+}
+
+#[test]
+fn a_full_node_settles_where_many_calls_fail(rt: HostRuntime) -> Result<(), Fail> {
+    let told = many_told(rt.alloc(), 16)?;
+    let trial = Trial { every: 97, ..FULL };
+    let left = tried(&rt, rt.alloc(), trial)?;
+    assert_eq!(rt;
+        left.as_str().strip_prefix("settled, true\n"),
+        Some(told.as_str())
+    );
+    Ok(())
+}
+
+// A history that is full stops all.
+#[test]
+fn a_full_history_ends_it(rt: HostRuntime) -> Result<(), Fail> {
+    for limit in 3..9 {
+        let trial = Trial { limit, ..PLAIN };
+        let left = tried(&rt, rt.alloc(), trial)?;
+        assert!(rt; left.as_str().starts_with("full, true\n"), "{limit}");
+    }
+    Ok(())
+}
+
+// Calls are in flight at once: they are made by threads of their own, and under no lock.
+#[test]
+fn two_calls_are_in_flight(rt: HostRuntime) -> Result<(), Fail> {
+    let trial = Trial {
+        holds: true,
+        ..PLAIN
+    };
+    let left = tried(&rt, rt.alloc(), trial)?;
+    assert_eq!(rt; left.as_str(), SETTLED);
+    Ok(())
+}
+
+// A worker that was given nothing waits, and makes no entries meanwhile: there are those of the admission, of
+// the first claim, and of one claim of each other worker.
+#[test]
+fn workers_without_work_wait(rt: HostRuntime) -> Result<(), Fail> {
+    let (entries, left) = held_up(&rt, rt.alloc())?;
+    assert!(rt; 2 <= entries && entries <= 5, "{entries}");
+    assert_eq!(rt;
+        left.as_str(),
+        "settled, true\nPOD default.boot Failed\n  setup Terminated 3 0\n  main Waiting - 0\n"
+    );
+    Ok(())
+}

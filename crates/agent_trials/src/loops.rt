@@ -1,0 +1,247 @@
+//! A runtime that calls reach without a socket, and whose wires can be made to fail.
+ghost use Rattle.std.specs.Prelude.{◌≡◌, ◌≤◌, length};
+ghost use Rattle.node_io.specs.Counts.{HasRisen};
+ghost use Rattle.cri_frames.specs.Frames.{IsLength};
+
+use bpf_verify::Filter;
+use cri_frames::{Feed, FeedFault, Lost, call_over, frame_of};
+use cri_msgs::{Reply, Request, Version};
+use node_io::{FileFault, Files, MemoryFiles, MemoryWire, Wire, WireFault};
+use runner::{Service, serve_wire};
+use runtime_server::{Engine, EngineHost};
+use std::alloc::{AllocError, Global};
+use std::sync::atomic::{AtomicU64, Ordering};
+use std::sync::{Mutex, Wait};
+use worker_crew::{Peer, Quiet};
+
+/// A runtime whose files are in memory, and the count of the reads and writes of all wires to it.
+#[derive(Drop)]
+pub(crate) struct Loop {
+    alloc: Global,
+    pub(crate) engine: Engine,
+    scripts: Mutex<MemoryFiles>,
+    profiles: Mutex<MemoryFiles>,
+    moves: AtomicU64,
+    // The number of the one that fails, and of how many one does (0: none).
+    failing: AtomicU64,
+    every: AtomicU64,
+}
+
+impl Loop {
+    /// A runtime without containers, on a node with this filter of its own. No move fails.
+    pub(crate) fn new(
+        alloc: Global,
+        baseline: Option<Filter>,
+        scripts: MemoryFiles,
+        profiles: MemoryFiles,
+    ) -> Loop {
+        Loop {
+            alloc,
+            engine: Engine::new(alloc, baseline),
+            scripts: Mutex::new(scripts),
+            profiles: Mutex::new(profiles),
+            moves: AtomicU64::new(0),
+            failing: AtomicU64::new(0),
+            every: AtomicU64::new(0),
+        }
+    }
+
+    /// The n-th read or write from the start, of whichever wire, fails once and moves nothing.
+    pub(crate) fn fail_call(&self, n: u64) {
+        self.failing.store(n, Ordering::SeqCst);
+    }
+
+    /// Of so many reads and writes, of whichever wire, each last one fails and moves nothing.
+    pub(crate) fn fail_every(&self, n: u64) {
+        self.every.store(n, Ordering::SeqCst);
+    }
+
+    /// How many reads and writes there were.
+    pub(crate) fn moves(&self) -> u64 {
+        self.moves.load(Ordering::SeqCst)
+    }
+
+    // Counts a read or a write, and tells whether it fails.
+    fn fails(&self) -> bool {
+        let number = self.moves.fetch_add(1, Ordering::SeqCst).wrapping_add(1);
+        let every = self.every.load(Ordering::SeqCst);
+        number == self.failing.load(Ordering::SeqCst) || number.checked_rem(every) == Some(0)
+    }
+
+    /// A new wire to the runtime.
+    pub(crate) fn wire<'a, R: Wait>(&'a self, rt: &'a R) -> LoopWire<'a, R> {
+        LoopWire {
+            rt,
+            runtime: self,
+            feed: Feed::new(self.alloc),
+            reply: Vec::new(self.alloc),
+            taken: 0,
+            failures: 0,
+        }
+    }
+}
+
+/// What the clock waits for: that each of so many runners is idle.
+#[derive(Drop)]
+pub(crate) struct Idle<'a, R: Wait> {
+    pub(crate) rt: &'a R,
+    pub(crate) runtime: &'a Loop,
+    pub(crate) runners: u32,
+}
+
+impl<R: Wait> Quiet for Idle<'_, R> {
+    fn wait(&self) {
+        self.runtime.engine.wait_idle(self.rt, self.runners);
+    }
+}
+
+// Files that threads share.
+#[derive(Drop)]
+struct SharedFiles<'a, R: Wait> {
+    rt: &'a R,
+    files: &'a Mutex<MemoryFiles>,
+    failures: u64,
+}
+
+impl<R: Wait> Files for SharedFiles<'_, R> {
+    ghost failed = { λ shared_files. shared_files.failures };
+
+    fn read(&mut self, path: &str, limit: u64) -> Result<Vec<u8>, FileFault> {
+        let read = self.files.lock(self.rt).read(path, limit);
+        if let Err(FileFault::Failed) = read {
+            self.failures = self.failures.saturating_add(1);
+        }
+        read
+    }
+
+    fn failures(&self) -> u64 {
+        self.failures
+    }
+}
+
+/// A wire to a runtime in this process: the first read behind a whole frame serves it.
+#[derive(Drop)]
+pub(crate) struct LoopWire<'a, R: Wait> {
+    rt: &'a R,
+    runtime: &'a Loop,
+    feed: Feed,
+    reply: Vec<u8>,
+    taken: usize,
+    failures: u64,
+}
+
+impl<'a, R: Wait> LoopWire<'a, R> {
+    fn fault(&mut self) -> WireFault
+        ensures risen { HasRisen self.old.failures self.new.failures }
+        ensures counted { self.old.failures ≤ self.new.failures }
+    {
+        self.failures = self.failures.saturating_add(1);
+        WireFault
+    }
+
+    // What the runtime writes to a frame.
+    fn served(&self, version: Version, text: &[u8]) -> Result<Vec<u8>, AllocError>
+        requires { IsLength (length text.now) }
+    {
+        let alloc = self.runtime.alloc;
+        let frame = frame_of(alloc, version, text)?;
+        let piece = frame.len().max(1);
+        let mut wire = MemoryWire::new(alloc, frame, piece);
+        let mut service = self.service();
+        serve_wire(alloc, &mut wire, &mut service);
+        Vec::from_slice(alloc, wire.written())
+    }
+
+    fn service(&self) -> Service<SharedFiles<'a, R>, SharedFiles<'a, R>, EngineHost<'a, R>> {
+        Service {
+            scripts: self.shared_files(&self.runtime.scripts),
+            profiles: self.shared_files(&self.runtime.profiles),
+            host: self.runtime.engine.host(self.rt),
+        }
+    }
+
+    fn shared_files(&self, files: &'a Mutex<MemoryFiles>) -> SharedFiles<'a, R> {
+        SharedFiles {
+            rt: self.rt,
+            files,
+            failures: 0,
+        }
+    }
+}
+
+// Moves the bytes that were not taken yet to the front of `buf`, and tells how many.
+fn give(reply: &[u8], buf: &mut [u8]) -> usize
+    ensures within { result ≤ length buf.new }
+    ensures room { length buf.new ≡ length buf.old }
+{
+    let count = buf.len().min(reply.len());
+    buf[..count].copy_from_slice(&reply[..count]);
+    count
+}
+
+// A wire of this kind tells nothing of its bytes.
+impl<R: Wait> Wire for LoopWire<'_, R> {
+    ghost failed = { λ wire. wire.failures };
+
+    fn read(&mut self, buf: &mut [u8]) -> Result<usize, WireFault> {
+        if self.runtime.fails() {
+            return Err(self.fault());
+        }
+        if let Some((version, text)) = self.feed.take() {
+            let Ok(reply) = self.served(version, text.as_slice()) else {
+                return Err(self.fault());
+            };
+            self.reply = reply;
+            self.taken = 0;
+        }
+        let left = self.reply.as_slice().get(self.taken..).unwrap_or(&[]);
+        let count = give(left, buf);
+        self.taken = self.taken.saturating_add(count);
+        Ok(count)
+    }
+
+    fn write(&mut self, bytes: &[u8]) -> Result<usize, WireFault> {
+        if self.runtime.fails() {
+            return Err(self.fault());
+        }
+        match self.feed.push(bytes) {
+            Ok(()) | Err(FeedFault::BadLength) => Ok(bytes.len()),
+            Err(FeedFault::Memory) => Err(self.fault()),
+        }
+    }
+
+    fn failures(&self) -> u64 {
+        self.failures
+    }
+}
+
+/// The runtime of a loop. Each call has a wire of its own.
+#[derive(Drop)]
+pub(crate) struct LoopPeer<'a, R: Wait> {
+    rt: &'a R,
+    runtime: &'a Loop,
+    version: Version,
+}
+
+impl<'a, R: Wait> LoopPeer<'a, R> {
+    /// Who answers by this runtime, which is spoken to in this version.
+    pub(crate) fn new(rt: &'a R, runtime: &'a Loop, version: Version) -> LoopPeer<'a, R> {
+        LoopPeer {
+            rt,
+            runtime,
+            version,
+        }
+    }
+}
+
+impl<R: Wait> Peer for LoopPeer<'_, R> {
+    ghost use Rattle.std.specs.Prelude.{◌≡◌, IfOk};
+
+    // A reply has the number of its request.
+    ghost may = { λ request outcome. IfOk outcome (λ reply. reply.id ≡ request.id) };
+
+    fn call(&mut self, request: &Request) -> Result<Reply, Lost> {
+        let mut wire = self.runtime.wire(self.rt);
+        call_over(self.runtime.alloc, &mut wire, request, self.version)
+    }
+}

@@ -1,0 +1,44 @@
+-- What is told where a program that serves a runtime ends before its work is done, this project's own:
+-- docs/SEMANTICS.md, "Programs". Nothing is said of a refused command line: its text is clap's.
+use Rattle.std.specs.Prelude.{ℕ, List, [], ◌++◌, codes, Option, Some, None}
+use Rattle.bpf_code.specs.declared.fault.CodeFault.{CodeFault}
+use Rattle.bpf_code.specs.declared.fault.CodeFault.TheVariants as code
+use Rattle.bpf_verify.specs.declared.fault.Fault.{Fault}
+use Rattle.bpf_verify.specs.declared.fault.Fault.TheVariants as fault
+use Rattle.bpf_verify.specs.declared.refusal.Refusal.{Refusal}
+use Rattle.bpf_verify.specs.declared.refusal.Refusal.TheVariants as refused
+use Rattle.node_io.specs.FaultText.{fault_text as file_fault_text}
+use Rattle.runtime_server.specs.declared.stops.ServerStop.{ServerStop}
+use Rattle.runtime_server.specs.declared.stops.ServerStop.TheVariants.{CommandLine, BadNumber, Baseline, File, Socket, Unwritten, Memory}
+
+-- the name of a filter's fault, without its place
+abbrev pub code_fault_name : CodeFault → List ℕ
+code_fault_name code.Length = codes "Length"
+code_fault_name code.TooLong = codes "TooLong"
+code_fault_name (code.BadCode at) = codes "BadCode"
+code_fault_name code.Memory = codes "Memory"
+
+abbrev pub filter_fault_name : Fault → List ℕ
+filter_fault_name fault.Empty = codes "Empty"
+filter_fault_name fault.TooLong = codes "TooLong"
+filter_fault_name (fault.BadOffset at) = codes "BadOffset"
+filter_fault_name (fault.BadJump at) = codes "BadJump"
+filter_fault_name (fault.BadWord at) = codes "BadWord"
+filter_fault_name (fault.BadShift at) = codes "BadShift"
+filter_fault_name (fault.ZeroDivisor at) = codes "ZeroDivisor"
+filter_fault_name fault.NoFinalReturn = codes "NoFinalReturn"
+filter_fault_name (fault.Unstored at) = codes "Unstored"
+
+abbrev pub refusal_name : Refusal → List ℕ
+refusal_name (refused.Code found) = code_fault_name found
+refusal_name (refused.Filter found) = filter_fault_name found
+
+-- of the program with this name
+abbrev pub stop_text : List ℕ → ServerStop → Option (List ℕ)
+stop_text program (CommandLine error) = None
+stop_text program (BadNumber word) = Some (program ++ codes ": " ++ word.now ++ codes ": BadNumber\n")
+stop_text program (Baseline path refusal) = Some (program ++ codes ": " ++ path.now ++ codes ": " ++ refusal_name refusal ++ codes "\n")
+stop_text program (File path fault) = Some (program ++ codes ": " ++ path.now ++ codes ": " ++ file_fault_text fault ++ codes "\n")
+stop_text program (Socket path) = Some (program ++ codes ": " ++ path.now ++ codes ": Failed\n")
+stop_text program Unwritten = Some []
+stop_text program Memory = Some (program ++ codes ": Memory\n")

@@ -1,0 +1,102 @@
+//! A runtime that threads share, and the runners that step its containers.
+
+use crate::notifier::Notifier;
+use bpf_verify::Filter;
+use cri_msgs::{Call, Reply, Request};
+use runner::{Host, Open, SharedHost, SharedRuntime};
+use runtime_core::FileAnswers;
+use std::alloc::{AllocError, Global};
+use std::sync::Wait;
+use std::thread::{Scope, Threads};
+
+/// A runtime, and what wakes its runners.
+#[derive(Drop)]
+pub struct Engine {
+    runtime: SharedRuntime,
+    notifier: Notifier,
+}
+
+impl Engine {
+    /// A runtime without containers, on a node with this filter of its own.
+    pub fn new(alloc: Global, baseline: Option<Filter>) -> Engine {
+        Engine {
+            runtime: SharedRuntime::new(alloc, baseline),
+            notifier: Notifier::new(),
+        }
+    }
+
+    /// What a thread asks it by.
+    pub fn host<'a, R: Wait>(&'a self, rt: &'a R) -> EngineHost<'a, R> {
+        EngineHost {
+            rt,
+            host: SharedHost::new(rt, &self.runtime),
+            notifier: &self.notifier,
+        }
+    }
+
+    /// Waits until none of its containers runs, where it has so many runners, or until it is closed.
+    pub fn wait_idle<R: Wait>(&self, rt: &R, runners: u32) {
+        self.notifier.wait_idle(rt, u64::from(runners));
+    }
+
+    /// Ends its runners.
+    pub fn close<R: Wait>(&self, rt: &R) {
+        self.notifier.close(rt);
+    }
+
+    pub(crate) fn is_closed<R: Wait>(&self, rt: &R) -> bool {
+        self.notifier.count(rt).is_none()
+    }
+
+    // Steps the containers of a runner's share, and waits where none of them runs.
+    fn run_cells<R: Wait>(&self, rt: &R, runner: u64, runners: u64) {
+        if runner >= runners {
+            return;
+        }
+        for _ in rt.forever() {
+            let Some(seen) = self.notifier.count(rt) else {
+                break;
+            };
+            if !self.runtime.step_round(rt, runner, runners, &Open) {
+                self.notifier.wait(rt, seen);
+            }
+        }
+    }
+}
+
+/// Starts the runners of an engine, each in a thread of its own.
+pub fn start_runners<'s, 'e, R: Threads + Wait + Sync>(
+    scope: &'s Scope<'s, &'e ()>,
+    rt: &'e R,
+    engine: &'e Engine,
+    runners: u32,
+) -> Result<(), AllocError> {
+    let runners = u64::from(runners);
+    for runner in 0..runners {
+        scope.spawn(move || engine.run_cells(rt, runner, runners))?;
+    }
+    Ok(())
+}
+
+/// The host of an engine's runtime, which wakes the runners for each container that is started.
+#[derive(Drop)]
+pub struct EngineHost<'a, R: Wait> {
+    rt: &'a R,
+    host: SharedHost<'a, R>,
+    notifier: &'a Notifier,
+}
+
+impl<R: Wait> Host for EngineHost<'_, R> {
+    ghost use Rattle.runner.specs.Shared.{MayServe};
+
+    ghost may = { λ _ request files reply _. MayServe request files reply };
+
+    fn serve(&mut self, request: Request, files: FileAnswers) -> Reply {
+        let starts = matches!(&request.call, Call::StartContainer { .. });
+        let reply = self.host.serve(request, files);
+        if starts {
+            self.notifier.notify(self.rt);
+        }
+        reply
+    }
+}

@@ -1,0 +1,12 @@
+ghost use Rattle.std.specs.Prelude.{◌≡◌};
+ghost use Rattle.runtime_server.specs.declared.connections.TheConstants.{MAX_CONNECTIONS};
+ghost use Rattle.runtime_server.specs.declared.site.TheConstants.{REST};
+ghost use Rattle.runtime_server.specs.declared.sockets.TheConstants.{FOLDERS};
+
+/// What the constants of this crate are.
+pub fn constants_are_as_stated()
+    ensures max_connections { MAX_CONNECTIONS ≡ 128 }
+    // milliseconds
+    ensures rest { REST ≡ 10 }
+    ensures folders { FOLDERS ≡ 100 }
+{}

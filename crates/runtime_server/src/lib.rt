@@ -1,0 +1,26 @@
+//! What serves a runtime behind a socket, and the program `scriptd`, which does nothing else.
+//!
+//! An [`Engine`] is a runtime that threads share, with the runners that step its containers; a [`Site`] is an
+//! engine behind its socket, whose connections are served in threads of their own. `stops` says why a program
+//! ends before its work is done, and `telling` what is told of each call where that is asked for.
+#![tactic(auto)]
+
+mod connections;
+mod engine;
+mod inputs;
+mod laws;
+mod notifier;
+mod scriptd;
+mod site;
+mod sockets;
+mod stops;
+mod telling;
+
+pub use connections::MAX_CONNECTIONS;
+pub use engine::{Engine, EngineHost, start_runners};
+pub use inputs::{baseline_at, bytes_at};
+pub use laws::constants_are_as_stated;
+pub use scriptd::scriptd_run;
+pub use site::{Address, Site, accept_all};
+pub use stops::{ServerStop, Told, file_stop, socket_stop};
+pub use telling::{answered, asked, tell_line};

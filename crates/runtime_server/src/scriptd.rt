@@ -1,0 +1,88 @@
+use crate::engine::start_runners;
+use crate::inputs::baseline_at;
+use crate::site::{Address, Site, accept_all};
+use crate::stops::{ServerStop, Told, socket_stop};
+use command_line::{ScriptdLine, scriptd_line};
+use std::alloc::AllocError;
+use std::io::Write;
+use std::sync::Wait;
+use std::thread::{Scope, Threads, scope, scope_env};
+use std::time::Clock;
+
+/// The program `scriptd`: runs containers, which are scripts, behind a socket that takes CRI calls. `words`
+/// are the command line's, the program's name first. It ends only where something stops it, and the answer is
+/// its status: 1 input refused, 2 command line refused, 3 file or socket fault, 4 out of memory. Why, is told
+/// on `err`; nothing is written to `_out`.
+pub fn scriptd_run<R: Threads + Wait + Clock + Sync, O: Write, E: Write>(
+    rt: &R,
+    system: &HostRuntime,
+    words: &[String],
+    _out: &mut O,
+    err: &mut E,
+) -> u8 {
+    match run(rt, system, words) {
+        Ok(()) => 0,
+        Err(stop) => tell_stop(&stop, err),
+    }
+}
+
+// Tells why the program ends, and gives its status.
+fn tell_stop<E: Write>(stop: &ServerStop<'_>, err: &mut E) -> u8 {
+    let told = Told {
+        program: "scriptd",
+        stop,
+    };
+    match write!(err, "{told}") {
+        Ok(()) => stop.status(),
+        Err(_) => ServerStop::Unwritten.status(),
+    }
+}
+
+fn run<'a, R: Threads + Wait + Clock + Sync>(
+    rt: &R,
+    system: &HostRuntime,
+    words: &'a [String],
+) -> Result<(), ServerStop<'a>> {
+    let line = scriptd_line(system.alloc(), words)?;
+    let baseline = baseline_at(system, line.baseline)?;
+    let site = match Site::open(system, address_of(&line), baseline) {
+        Ok(site) => site,
+        Err(error) => return Err(socket_stop(line.socket, error)),
+    };
+    Ok(serve(rt, system, &site, line.runners)?)
+}
+
+fn address_of<'a>(line: &ScriptdLine<'a>) -> Address<'a> {
+    Address {
+        socket: line.socket,
+        scripts: line.scripts,
+        profiles: line.profiles,
+        verbose: line.verbose,
+    }
+}
+
+// Serves until the site is closed. Where a runner finds no thread it is closed at once.
+fn serve<R: Threads + Wait + Clock + Sync>(
+    rt: &R,
+    system: &HostRuntime,
+    site: &Site<'_>,
+    runners: u32,
+) -> Result<(), AllocError> {
+    scope(scope_env(), rt, move |scope| {
+        let served = serve_in(scope, rt, system, site, runners);
+        site.close(rt, system);
+        served
+    })
+}
+
+fn serve_in<'s, 'e, R: Threads + Wait + Clock + Sync>(
+    scope: &'s Scope<'s, &'e ()>,
+    rt: &'e R,
+    system: &'e HostRuntime,
+    site: &'e Site<'e>,
+    runners: u32,
+) -> Result<(), AllocError> {
+    start_runners(scope, rt, &site.engine, runners)?;
+    accept_all(scope, rt, system, site);
+    Ok(())
+}

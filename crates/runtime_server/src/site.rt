@@ -1,0 +1,162 @@
+//! A runtime behind its socket: what accepts connections, and what serves them.
+
+use crate::connections::Connections;
+use crate::engine::{Engine, EngineHost};
+use crate::sockets::Socket;
+use crate::telling::{asked, tell_reply};
+use bpf_verify::Filter;
+use cri_msgs::{Reply, Request};
+use node_io::{StreamWire, SystemFiles};
+use runner::{Host, Service, serve_wire};
+use runtime_core::FileAnswers;
+use std::alloc::Global;
+use std::io;
+use std::os::unix::net::UnixStream;
+use std::sync::Wait;
+use std::thread::{self, Scope, Threads};
+use std::time::{Clock, Duration};
+
+// How many milliseconds the listener rests where no connection can be accepted, as where too many files are
+// open.
+pub(crate) const REST: u64 = 10;
+
+/// Where a runtime is, and what it serves.
+#[derive(Clone, Copy)]
+pub struct Address<'a> {
+    /// The path of its socket.
+    pub socket: &'a str,
+    /// The folder of scripts.
+    pub scripts: &'a str,
+    /// The folder of profiles.
+    pub profiles: &'a str,
+    /// Whether each answer is told on standard error.
+    pub verbose: bool,
+}
+
+/// A runtime that is served over a socket.
+#[derive(Drop)]
+pub struct Site<'a> {
+    alloc: Global,
+    address: Address<'a>,
+    socket: Socket,
+    connections: Connections,
+    /// The runtime.
+    pub engine: Engine,
+}
+
+impl<'a> Site<'a> {
+    /// Listens at the address. The runtime has no containers, on a node with this filter of its own.
+    pub fn open(
+        system: &HostRuntime,
+        address: Address<'a>,
+        baseline: Option<Filter>,
+    ) -> io::Result<Site<'a>> {
+        let connections = Connections::new(system.alloc())?;
+        Ok(Site {
+            alloc: system.alloc(),
+            address,
+            socket: Socket::at(system, address.socket)?,
+            connections,
+            engine: Engine::new(system.alloc(), baseline),
+        })
+    }
+
+    /// Ends what serves and steps, and takes the socket's file away.
+    pub fn close<R: Wait>(&self, rt: &R, system: &HostRuntime) {
+        self.engine.close(rt);
+        self.connections.close(rt);
+        self.socket.wake();
+        self.socket.remove(system, self.address.socket);
+    }
+}
+
+// Who answers the requests of one connection. Each answer is told once it was given.
+#[derive(Drop)]
+struct ToldHost<'a, R: Wait> {
+    system: &'a HostRuntime,
+    site: &'a Site<'a>,
+    host: EngineHost<'a, R>,
+    connection: u64,
+}
+
+impl<R: Wait> Host for ToldHost<'_, R> {
+    ghost use Rattle.runner.specs.Shared.{MayServe};
+
+    ghost may = { λ _ request files reply _. MayServe request files reply };
+
+    fn serve(&mut self, request: Request, files: FileAnswers) -> Reply {
+        if !self.site.address.verbose {
+            return self.host.serve(request, files);
+        }
+        let asked = asked(self.site.alloc, &request);
+        let reply = self.host.serve(request, files);
+        tell_reply(self.system, self.site.alloc, self.connection, asked, &reply);
+        reply
+    }
+}
+
+/// Serves a connection to its end.
+fn serve_stream<R: Wait>(
+    rt: &R,
+    system: &HostRuntime,
+    site: &Site<'_>,
+    stream: UnixStream,
+    connection: u64,
+) {
+    let mut wire = StreamWire::new(stream);
+    let mut service = Service {
+        scripts: SystemFiles::within(system, site.address.scripts),
+        profiles: SystemFiles::within(system, site.address.profiles),
+        host: ToldHost {
+            system,
+            site,
+            host: site.engine.host(rt),
+            connection,
+        },
+    };
+    serve_wire(site.alloc, &mut wire, &mut service);
+}
+
+/// Accepts connections, and serves each in a thread of its own, until the site is closed.
+pub fn accept_all<'s, 'e, R: Threads + Wait + Clock + Sync>(
+    scope: &'s Scope<'s, &'e ()>,
+    rt: &'e R,
+    system: &'e HostRuntime,
+    site: &'e Site<'e>,
+) {
+    let mut connection: u64 = 0;
+    for _ in rt.forever() {
+        let accepted = site.socket.listener.accept();
+        if site.engine.is_closed(rt) {
+            break;
+        }
+        match accepted {
+            Ok((stream, _)) => {
+                connection = connection.wrapping_add(1);
+                admit(scope, rt, system, site, stream, connection);
+            }
+            Err(_) => thread::sleep(rt, Duration::from_millis(REST)),
+        }
+    }
+}
+
+// Serves a connection in a thread of its own, if there is a place for it.
+fn admit<'s, 'e, R: Threads + Wait + Sync>(
+    scope: &'s Scope<'s, &'e ()>,
+    rt: &'e R,
+    system: &'e HostRuntime,
+    site: &'e Site<'e>,
+    stream: UnixStream,
+    connection: u64,
+) {
+    let Some(place) = site.connections.enter(rt, &stream) else {
+        return;
+    };
+    let started = scope.spawn(move || {
+        serve_stream(rt, system, site, stream, connection);
+        site.connections.leave(rt, place);
+    });
+    if started.is_err() {
+        site.connections.leave(rt, place);
+    }
+}

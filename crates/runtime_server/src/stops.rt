@@ -1,0 +1,160 @@
+ghost use Rattle.std.specs.Prelude.{◌≡◌};
+ghost use Rattle.runtime_server.specs.StopText.{refusal_name};
+ghost use Rattle.runtime_server.specs.Stops.{IsOfFile};
+
+use bpf_code::CodeFault;
+use bpf_verify::{Fault, Refusal};
+use command_line::LineFault;
+use node_io::FileFault;
+use std::alloc::{AllocError, AllocFailed};
+use std::fmt;
+use std::io::{self, ErrorKind};
+
+/// Why a program that serves a runtime ends before its work is done.
+#[derive(Debug, Drop)]
+pub enum ServerStop<'a> {
+    /// The command line is refused, or help was asked for.
+    CommandLine(clap::Error),
+    /// A word of the command line is no number of its range.
+    BadNumber(&'a str),
+    /// The node's own filter is refused.
+    Baseline(&'a str, Refusal),
+    /// A file can't be read.
+    File(&'a str, FileFault),
+    /// No socket can be had at this path.
+    Socket(&'a str),
+    /// What is to be printed can't be written.
+    Unwritten,
+    /// A growth was refused, or a thread.
+    Memory,
+}
+
+impl ServerStop<'_> {
+    ghost use Rattle.std.specs.Prelude.{◌≡◌};
+    ghost use Rattle.runtime_server.specs.Stops.{status_of};
+
+    /// The status with which the program ends.
+    pub fn status(&self) -> u8
+        ensures { result ≡ status_of self.now }
+    {
+        match self {
+            ServerStop::Baseline(_, _) => 1,
+            ServerStop::CommandLine(_) | ServerStop::BadNumber(_) => 2,
+            ServerStop::File(_, _) | ServerStop::Socket(_) | ServerStop::Unwritten => 3,
+            ServerStop::Memory => 4,
+        }
+    }
+}
+
+/// The name of a filter's fault, without its place.
+fn name_of(refusal: Refusal) -> &'static str
+    ensures { result.now ≡ refusal_name refusal }
+{
+    match refusal {
+        Refusal::Code(fault) => match fault {
+            CodeFault::Length => "Length",
+            CodeFault::TooLong => "TooLong",
+            CodeFault::BadCode(_) => "BadCode",
+            CodeFault::Memory => "Memory",
+        },
+        Refusal::Filter(fault) => match fault {
+            Fault::Empty => "Empty",
+            Fault::TooLong => "TooLong",
+            Fault::BadOffset(_) => "BadOffset",
+            Fault::BadJump(_) => "BadJump",
+            Fault::BadWord(_) => "BadWord",
+            Fault::BadShift(_) => "BadShift",
+            Fault::ZeroDivisor(_) => "ZeroDivisor",
+            Fault::NoFinalReturn => "NoFinalReturn",
+            Fault::Unstored(_) => "Unstored",
+        },
+    }
+}
+
+/// A stop as the program of this name tells it, with the end of the line.
+#[derive(Clone, Copy)]
+pub struct Told<'t, 'a> {
+    /// Its name.
+    pub program: &'static str,
+    /// Why it ends.
+    pub stop: &'t ServerStop<'a>,
+}
+
+/// A refused command line is told in clap's own words.
+impl fmt::Display for Told<'_, '_> {
+    ghost use Rattle.runtime_server.specs.StopText.{stop_text};
+
+    ghost output = { λ told. stop_text told.program.now told.stop.now };
+
+    fn fmt<W: fmt::Write>(&self, f: &mut fmt::Formatter<W>) -> fmt::Result {
+        let program = self.program;
+        match self.stop {
+            ServerStop::CommandLine(error) => write!(f, "{error}"),
+            ServerStop::BadNumber(word) => writeln!(f, "{program}: {word}: BadNumber"),
+            ServerStop::Baseline(path, refusal) => writeln!(
+                f,
+                "{program}: {path}: {}",
+                name_of(*refusal)
+            ),
+            ServerStop::File(path, fault) => writeln!(f, "{program}: {path}: {fault}"),
+            ServerStop::Socket(path) => writeln!(f, "{program}: {path}: Failed"),
+            ServerStop::Unwritten => Ok(()),
+            ServerStop::Memory => writeln!(f, "{program}: Memory"),
+        }
+    }
+}
+
+impl<'a> From<AllocError> for ServerStop<'a> {
+    ghost use Rattle.std.specs.Prelude.{◌≡◌};
+    ghost use Rattle.runtime_server.specs.declared.stops.ServerStop.TheVariants.{Memory};
+
+    ghost from_gives = { λ _ stop. stop ≡ Memory };
+
+    fn from(_: AllocError) -> ServerStop<'a> {
+        ServerStop::Memory
+    }
+}
+
+impl<'a, T: Drop> From<AllocFailed<T>> for ServerStop<'a> {
+    ghost use Rattle.std.specs.Prelude.{◌≡◌};
+    ghost use Rattle.runtime_server.specs.declared.stops.ServerStop.TheVariants.{Memory};
+
+    ghost from_gives = { λ _ stop. stop ≡ Memory };
+
+    fn from(_: AllocFailed<T>) -> ServerStop<'a> {
+        ServerStop::Memory
+    }
+}
+
+impl<'a> From<LineFault<'a>> for ServerStop<'a> {
+    ghost use Rattle.std.specs.Prelude.{◌≡◌};
+    ghost use Rattle.runtime_server.specs.Stops.{of_line_fault};
+
+    ghost from_gives = { λ fault stop. stop ≡ of_line_fault fault };
+
+    fn from(fault: LineFault<'a>) -> ServerStop<'a> {
+        match fault {
+            LineFault::Refused(error) => ServerStop::CommandLine(error),
+            LineFault::BadNumber(word) => ServerStop::BadNumber(word),
+            LineFault::Memory => ServerStop::Memory,
+        }
+    }
+}
+
+/// Why a file stops the program.
+pub fn file_stop(path: &str, fault: FileFault) -> ServerStop<'_>
+    ensures { IsOfFile path.now fault result }
+{
+    match fault {
+        FileFault::Memory => ServerStop::Memory,
+        _ => ServerStop::File(path, fault),
+    }
+}
+
+/// Why there is no socket at a path.
+pub fn socket_stop(path: &str, error: io::Error) -> ServerStop<'_> {
+    match error.kind() {
+        ErrorKind::OutOfMemory => ServerStop::Memory,
+        _ => ServerStop::Socket(path),
+    }
+}

@@ -1,7 +1,0 @@
--- As long as nothing was lost, what was joined and what is left are all parts.
-use Rattle.std.proofs.Common.{◌≡◌, ◌+◌, IsTrue, length}
-use Rattle.worker_crew.proofs.crews.gather.Given as goal
-
-abbrev pub invariant-loop-thread : goal.invariant-loop-thread
-invariant-loop-thread g l = IsTrue l.whole → IsTrue l.complete
-    × (l.all.parts + length l.thread-iterator.rest.items ≡ l.initial.all.parts + length l.initial.thread-iterator.rest.items)
