@@ -2,31 +2,20 @@
 //! under them, and picks the profiles of pods.
 //!
 //! The functions are generic over the runtime and over the writers for standard output and standard
-//! error, so that tests run them over memory. What is printed is made by functions of `line`, `show`
-//! and `stop`, whose texts stand in `specs/`. `playing` plays the cell of a script to its end; it prints
-//! nothing.
+//! error. What is printed is made by functions of `line`, `show` and `stop`, whose texts stand in
+//! `specs/`. `playing` plays the cell of a script to its end; it prints nothing.
 #![tactic(auto)]
 
 mod call_words;
-#[cfg(test)]
-mod compile_tests;
 mod file;
 mod judging;
 mod laws;
 mod line;
-#[cfg(test)]
-mod pick_tests;
 mod picked;
-#[cfg(test)]
-mod play_tests;
 mod playing;
 mod seccheck;
 mod show;
 mod stop;
-#[cfg(test)]
-mod test_play;
-#[cfg(test)]
-mod tests;
 mod words;
 
 pub use file::MAX_FILE_BYTES;

@@ -1,4 +1,4 @@
-use crate::tests::{call, entry, filter_of, profile_of};
+use crate::test_profiles::{call, entry, filter_of, profile_of};
 use crate::{CompileFault, compile};
 use bpf_machine::run;
 use bpf_verify::Filter;

@@ -1,24 +1,8 @@
-use crate::tests::{call, entry, filter_of, profile_of};
+use crate::test_profiles::{call, filter_of};
 use bpf_machine::run;
 use bpf_verify::Filter;
 use oci_profile::runtime_default;
-use std::alloc::{AllocError, Global};
 use std::test::Fail;
-use sys_table::name;
-
-/// The names of the even numbers up to 100.
-fn even_names(alloc: Global) -> Result<String, AllocError> {
-    let mut names = String::from_str(alloc, "\"read\"")?;
-    for nr in 1..101 {
-        if let Some(name) = name(nr) {
-            if nr % 2 == 0 {
-                let item = format!(in alloc; ",\"{name}\"")?;
-                names.push_str(item.as_str())?;
-            }
-        }
-    }
-    Ok(names)
-}
 
 /// The most steps over the numbers of the table and behind it, and their sum.
 fn steps_of(filter: &Filter) -> (u32, u32) {
@@ -30,27 +14,6 @@ fn steps_of(filter: &Filter) -> (u32, u32) {
         all = all.saturating_add(steps);
     }
     (most, all)
-}
-
-// Two steps for each binary digit of 2 w + 1, where w numbers are named, and five more.
-#[test]
-fn few_steps(rt: HostRuntime) -> Result<(), Fail> {
-    let three = entry(rt.alloc(), "\"read\",\"write\",\"close\"", "ALLOW", "")?;
-    let even = entry(rt.alloc(), even_names(rt.alloc())?.as_str(), "ALLOW", "")?;
-    let one = entry(rt.alloc(), "\"ptrace\"", "KILL_PROCESS", "")?;
-    let cases = [
-        ("ALLOW", "", 7),
-        ("ERRNO", three.as_str(), 11),
-        ("ALLOW", one.as_str(), 9),
-        ("ERRNO", even.as_str(), 19),
-    ];
-    for (default, entries, limit) in cases {
-        let profile = profile_of(&rt, default, entries)?;
-        let filter = filter_of(&rt, &profile)?;
-        let (most, _) = steps_of(&filter);
-        assert!(rt; most <= limit, "{entries} {most}");
-    }
-    Ok(())
 }
 
 // The length of the filter, and the steps that it takes: within what other compilers need.

@@ -20,7 +20,7 @@ mod leaf;
 mod ranges;
 mod singles;
 #[cfg(test)]
-mod tests;
+mod test_profiles;
 mod tree;
 mod weight;
 

@@ -6,8 +6,6 @@
 
 mod containers;
 mod contexts;
-#[cfg(test)]
-mod fault_tests;
 mod faults;
 mod fields;
 mod heads;

@@ -12,15 +12,11 @@ mod decision;
 mod default_profile;
 #[cfg(test)]
 mod default_tests;
-#[cfg(test)]
-mod fault_tests;
 mod faults;
 mod laws;
 mod meaning;
 mod profile;
 mod reader;
-#[cfg(test)]
-mod tests;
 
 pub use conditions::{Cond, Conds, Op};
 pub use decision::{Decision, Errno};

@@ -5,7 +5,5 @@
 #![tactic(auto)]
 
 mod choice;
-#[cfg(test)]
-mod tests;
 
 pub use choice::{Choice, pick};

@@ -10,8 +10,6 @@ mod install;
 mod laws;
 mod reader;
 mod scripts;
-#[cfg(test)]
-mod tests;
 
 pub use faults::ScriptFault;
 pub use laws::constants_are_as_stated;
