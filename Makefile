@@ -1,13 +1,4 @@
-# make test: the gate, which proves every crate from nothing, tries the must-fail edits, and runs the
-# tests, the stored runs and the examples in C. make times: the processor seconds that the last gate
-# spent, crate by crate. make planted [CRATE=..]: more wrong bodies, which the gate leaves out. make demo:
-# a profile is compiled, a verified filter judges a call, scripts are played, one of which adds a filter, the
-# profiles of a pod's containers are picked, and two pods are settled over a socket. make lib: the C library, proved, and its header, in out/c.
-# make install PREFIX=..: the proved programs in PREFIX/bin, their manual pages in PREFIX/share/man, the library in PREFIX/lib and
-# PREFIX/include. make copy PREFIX=..: the same of what is built already.
-# make bench [ENGINES=..]: the machine and the compiler beside others, the profiles of the engines whose
-# Debian packages lie below ENGINES, the runtime with few and with many uids, and
-# calls over a socket, by the programs that make test or make install built. make kernel [COUNT=..]: the running kernel beside the library.
+# `make` alone says what there is and how long it takes; tools/help.sh has the text.
 
 PREFIX ?= /usr/local
 PROGRAMS := seccheck scriptd nodeagent
@@ -16,7 +7,10 @@ ENGINES ?= /
 BENCH_FLAGS := -std=gnu11 -O2 -Wall -Wextra
 EXAMPLES := ../../examples
 
-.PHONY: test times planted demo lib install copy bench kernel table clean
+.PHONY: help test quick cases times planted demo lib install copy bench kernel table clean
+
+help:
+	@tools/help.sh
 
 test:
 	@tools/gate.sh
@@ -25,16 +19,24 @@ times:
 	@tools/gate_times.py out/gate_times
 
 planted:
-	@tools/planted.sh $(CRATE)
+	@tools/planted.py $(CRATE)
+
+quick:
+	@tools/quick.py
+
+# The cases of tests/ by the programs that make test or make install built, or by those in the folder BIN.
+cases:
+	@tests/run $(CASES)
 
 # Waits for no proof: the program is compiled with checks at run time in the place of proofs.
 demo:
 	@echo "demo: built without waiting for the proofs; 'make test' proves what it runs"
+	@echo "demo: seccheck, 1 of 2 programs"
 	@cd crates/seccheck && rt try --data x86_64_only.bpf=$(EXAMPLES)/x86_64_only.bpf \
 	  --data no_ptrace.bpf=$(EXAMPLES)/no_ptrace.bpf --data tries_ptrace.json=$(EXAMPLES)/tries_ptrace.json \
 	  --data adds_a_filter.json=$(EXAMPLES)/adds_a_filter.json --data no_ptrace.json=$(EXAMPLES)/no_ptrace.json --data two_profiles.json=$(EXAMPLES)/two_profiles.json \
 	  --cases $(EXAMPLES)/demo
-	@echo "demo: two pods over a socket; one container asks for ptrace under RuntimeDefault, one under a profile that lets it"
+	@echo "demo: nodeagent, 2 of 2 programs: two pods over a socket; one container asks for ptrace under RuntimeDefault, one under a profile that lets it"
 	@cd crates/nodeagent && rt try --data confined_pod.json=$(EXAMPLES)/confined_pod.json \
 	  --data tracing_pod.json=$(EXAMPLES)/tracing_pod.json --data wants_ptrace.json=$(EXAMPLES)/wants_ptrace.json \
 	  --data lets_ptrace.json=$(EXAMPLES)/lets_ptrace.json \
@@ -44,10 +46,9 @@ lib:
 	@cd crates/motchidu_c && rt lib
 	@tools/pack_library.sh crates/motchidu_c/out/libmotchidu_c.a out/c
 
-install: lib
-	@set -e; for program in $(PROGRAMS); do \
-	  (cd crates/$$program && rm -f out/$$program && { rt run -- --help > /dev/null 2>&1 || test -x out/$$program; }); \
-	done
+install:
+	@tools/build.py $(PROGRAMS) motchidu_c
+	@$(MAKE) --no-print-directory lib
 	@$(MAKE) --no-print-directory copy
 
 # What make install or make test built, into PREFIX.

@@ -2,9 +2,10 @@
  * The compiler, the checker and the machine of seccomp filters, classic BPF as seccomp(2) takes it: the
  * filter of a profile, whether a filter is safe to run, why it is not, and what it returns on a call.
  *
- * A profile is the JSON text of the linux.seccomp object of the OCI runtime specification 1.1. A filter is the bytes of its struct sock_filter (linux/filter.h), 8 each, numbers little-endian, so an
- * array of them as it lies in memory on x86-64. A call is the 64 bytes of a struct seccomp_data
- * (linux/seccomp.h), likewise. docs/SEMANTICS.md of the project has each rule.
+ * A profile is the JSON text of the linux.seccomp object of the OCI runtime specification 1.1. A filter is
+ * the bytes of its struct sock_filter (linux/filter.h), 8 each, numbers little-endian, so an array of them as
+ * it lies in memory on x86-64. A call is the 64 bytes of a struct seccomp_data (linux/seccomp.h), likewise.
+ * docs/SEMANTICS.md of the project has each rule.
  *
  * What the functions answer and write is proved, against the clauses of crates/motchidu_c that this page
  * retells. What no proof sees is the caller, who owes this: each pointer points at as much memory as its
@@ -13,8 +14,10 @@
  * 0 may be NULL, `at` may not.
  *
  * The functions take memory by malloc while they run, and give it back by free; the two are C's own, or
- * keep C's promises. They need 16 KiB of stack, keep nothing between two calls, and may run in many threads
- * at once, but not in a signal handler, nor in the forked child of a process with threads.
+ * keep C's promises. motchidu_compile needs 128 KiB of stack, as a profile's text may have 127 objects in
+ * one another (32 KiB on profiles as engines write them), the others 24 KiB. They keep nothing between two
+ * calls, and may run in many threads at once, but not in a signal handler, nor in the forked child of a
+ * process with threads.
  *
  * Link with -lmotchidu. The library is for x86-64, as of x86-64-v2.
  */

@@ -1,7 +1,7 @@
 #!/usr/bin/env python3
 """bench_calls.py ECHO: times scriptd and nodeagent. Calls a second over a Unix socket (connect, request, reply) beside
-those of the plain server ECHO with the same frames, and how long nodes of 10, 50 and 110 pods take to settle. The
-programs are crates/NAME/out/NAME, or those in the folder BIN names.
+those of the plain server ECHO with the same frames, how long nodes of 10, 50 and 110 pods take to settle, and with how
+many requests a full node does, by either version of the messages. The programs are crates/NAME/out/NAME, or those in the folder BIN names.
 """
 import json
 import os
@@ -14,6 +14,7 @@ import time
 ROOT = os.path.dirname(os.path.dirname(os.path.abspath(__file__)))
 CALLS, ROUNDS = "5000", 7
 CONTAINERS = 4
+UNTIL = "10"
 
 
 def program(name):
@@ -44,24 +45,51 @@ def calls(echo, folder):
     print(f"calls a second: scriptd {ours}, plain C {plain}, ratio {ours / plain:.2f}", flush=True)
 
 
-def settle(folder, pods):
-    with open(f"{folder}/zero.s", "w", encoding="utf-8") as it:
-        json.dump({"steps": [{"call": "getpid"}, {"exit": 0}]}, it)
+def pods_of(folder, pods, containers, calls):
+    """The manifests of so many pods, each of whose containers makes so many calls and ends."""
+    with open(f"{folder}/some.s", "w", encoding="utf-8") as it:
+        json.dump({"steps": [{"call": "getpid"}] * calls + [{"exit": 0}]}, it)
     names = []
     for at in range(pods):
-        containers = [{"name": f"c{place}", "image": "zero.s"} for place in range(CONTAINERS)]
-        pod = {"apiVersion": "v1", "kind": "Pod", "metadata": {"name": f"p{at}"}, "spec": {"restartPolicy": "Never", "containers": containers}}
+        listed = [{"name": f"c{place}", "image": "some.s"} for place in range(containers)]
+        pod = {"apiVersion": "v1", "kind": "Pod", "metadata": {"name": f"p{at}"}, "spec": {"restartPolicy": "Never", "containers": listed}}
         names.append(f"{folder}/p{at}.json")
         with open(names[-1], "w", encoding="utf-8") as it:
             json.dump(pod, it)
+    return names
+
+
+def agent(folder, *words):
+    return [program("nodeagent"), "--socket", f"{folder}/s", "--scripts", folder, "--with-runtime", *words]
+
+
+def seconds(words):
     took = []
     for _ in range(3):
-        words = [program("nodeagent"), "--socket", f"{folder}/s", "--scripts", folder, "--with-runtime", "--settle", *names]
         start = time.monotonic()
         subprocess.run(words, check=True, stdout=subprocess.DEVNULL)
         took.append(time.monotonic() - start)
-    best = statistics.median(took)
-    print(f"{pods} pods of {CONTAINERS} containers settle in {best:.3f} s, {best / pods * 1000:.2f} ms a pod", flush=True)
+    return statistics.median(took)
+
+
+def settle(folder, pods):
+    took = seconds(agent(folder, "--settle", *pods_of(folder, pods, CONTAINERS, 1)))
+    print(f"{pods} pods of {CONTAINERS} containers settle in {took:.3f} s, {took / pods * 1000:.2f} ms a pod", flush=True)
+
+
+def requests(words):
+    """How many requests were made: each is a line on standard error."""
+    return len(subprocess.run([*words, "--verbose"], stdout=subprocess.DEVNULL, stderr=subprocess.PIPE, check=False).stderr.splitlines())
+
+
+def versions(folder):
+    """A full node by either version of the messages: settled with the clock counted, and looked after by the machine's."""
+    for cri in ("1", "2"):
+        words = agent(folder, "--cri", cri, "--settle", *pods_of(folder, 110, 16, 1))
+        print(f"110 pods of 16 containers settle by --cri {cri} with {requests(words)} requests, in {seconds(words):.3f} s", flush=True)
+    for cri in ("1", "2"):
+        words = agent(folder, "--cri", cri, "--until", UNTIL, *pods_of(folder, 110, 16, 4095))
+        print(f"110 pods of 16 containers are looked after for {UNTIL} s by --cri {cri} with {requests(words)} requests", flush=True)
 
 
 def main():
@@ -69,6 +97,7 @@ def main():
         calls(os.path.abspath(sys.argv[1]), folder)
         for pods in (10, 50, 110):
             settle(folder, pods)
+        versions(folder)
 
 
 main()

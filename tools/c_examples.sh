@@ -42,6 +42,9 @@ count c/judge $?
 build every_status -I$library $library/libmotchidu.a -Wl,--wrap=malloc && "$out/every_status"
 count c/every_status $?
 
+build small_stacks "${shared[@]}" -pthread && "$out/small_stacks"
+count c/small_stacks $?
+
 if build confine "${shared[@]}"; then
   "$out/confine" examples/c/confine.json > "$out/confine.stdout"
   case $? in

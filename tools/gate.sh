@@ -1,7 +1,7 @@
 #!/bin/bash
-# What make test runs: the gate (rt ci), the program with no memory and with a pipe, scriptd and nodeagent in
-# processes of their own, the examples in C over the library, and README and the manual pages over what would be
-# installed. Each says what it counted, and the last line has the sum of all.
+# What make test runs: the gate (rt ci), a program without memory, the examples in C over the library, and the
+# cases of tests/ with README and the manual pages over what would be installed. Each says what it counted, and
+# the last line has the sum of all.
 set -u
 cd "$(dirname "$0")/.."
 said=$(mktemp)
@@ -29,10 +29,8 @@ c_examples() {
 
 part "rt ci" tools/gate_times.py out/gate_times rt ci
 part "memory" tools/no_memory.sh
-part "pipe" tools/pipe.sh
-part "daemons" tools/daemons.py
 part "C examples" c_examples
-part "pages" tools/pages.py
+part "cases" tests/run
 # In one line, so that it stands near the end of what a log keeps.
 echo "processor seconds of proofs, tests, edits: $(tools/gate_times.py out/gate_times | awk 'NR > 1 && NF == 5 { printf "%s %s %s %s; ", $1, $2, $3, $4 }')"
 echo "$all_passed passed, $all_failed failed"

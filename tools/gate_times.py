@@ -1,12 +1,16 @@
 #!/usr/bin/env python3
-"""gate_times.py FILE COMMAND..: runs the command, and writes to FILE the processor seconds that the
-prover spent below it, crate by crate: on the crate, on its tests, and on its must-fail edits.
-gate_times.py FILE: prints that table. A process is seen five times a second, so its last fifth is lost.
+"""gate_times.py FILE COMMAND..: runs the command, says which crate of how many is under way, and writes to
+FILE the processor seconds that the prover spent below it, crate by crate: on the crate, on its tests, and on
+its must-fail edits. gate_times.py FILE: prints that table. A process is seen five times a second, so its last
+fifth is lost.
 """
 import os
 import subprocess
 import sys
 import time
+
+sys.dont_write_bytecode = True
+from side_by_side import ROOT, crates_of, has_tests
 
 PARTS = ("proofs", "tests", "edits")
 TICKS = os.sysconf("SC_CLK_TCK")
@@ -49,14 +53,27 @@ def part_of(words):
     return crate, "tests" if "--test" in words or crate.endswith("_tests") else "proofs"
 
 
-def watch(command):
+def totals(crates):
+    """How many crates there are, with tests, and with must-fail edits."""
+    edits = {name: f"{ROOT}/crates/{name}/must-fail" for name in crates}
+    with_edits = [name for name, folder in edits.items() if os.path.isdir(folder) and os.listdir(folder)]
+    return {"proofs": len(crates), "tests": len([*filter(has_tests, crates)]), "edits": len(with_edits)}
+
+
+def watch(command, crates):
     """Runs the command, and answers its status and the seconds of each part of each crate."""
-    started, spent = subprocess.Popen(command), {}
+    started, spent, all_of = subprocess.Popen(command), {}, totals(crates)
+    began = {part: [] for part in PARTS}
     while started.poll() is None:
         for pid, words in children_of(started.pid).items():
             part = part_of(words)
             if part:
                 spent[pid, part] = max(spent.get((pid, part), 0), seconds_of(pid))
+                name, what = part[0].removesuffix("_tests"), part[1]
+                if name not in began[what]:
+                    began[what].append(name)
+                    place = f"{len(began[what])} of {all_of[what]} crates"
+                    print(f"under way: {what} of {name}, {place}", flush=True)
         time.sleep(0.2)
     table = {}
     for (_, (crate, part)), seconds in spent.items():
@@ -81,9 +98,8 @@ def lines_of(table, order):
 def main():
     file, command = sys.argv[1], sys.argv[2:]
     if command:
-        with open("crates.txt", encoding="utf-8") as it:
-            order = [line.split(":")[0].split()[0] for line in it if line.strip() and not line.startswith("#")]
-        status, table = watch(command)
+        order = [*crates_of()]
+        status, table = watch(command, order)
         os.makedirs(os.path.dirname(file), exist_ok=True)
         with open(file, "w", encoding="utf-8") as it:
             it.write("\n".join(lines_of(table, order)) + "\n")

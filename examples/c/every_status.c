@@ -1,5 +1,5 @@
-/* One filter, and one profile, for each status of motchidu.h, so that the numbers of the header and those of the library
- * can't part. Prints each row that is not as it should be, and ends with their number. */
+/* One filter, and one profile, for each status of motchidu.h, so that the numbers of the header and those of
+ * the library can't part. Prints each row that is not as it should be, and ends with their number. */
 #include <linux/filter.h>
 #include <linux/seccomp.h>
 #include <motchidu.h>
@@ -8,6 +8,10 @@
 #include <string.h>
 
 enum { NOWHERE = 4711 };
+
+/* A program may use any names but the header's, such as this one of the toolchain that makes the library. */
+void rattle_alloc(void);
+void rattle_alloc(void) {}
 
 /* The linker puts this in the place of malloc, to see what the library says where there is no memory. */
 static int no_memory;

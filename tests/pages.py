@@ -1,22 +1,29 @@
-#!/usr/bin/env python3
-"""Copies the programs, the library and the manual pages into a folder as make install does, from what make test built,
-and holds README.md, docs/ and man/ to what is there: each command of README's sessions is run and has to print what
-stands below it, each line that is quoted stands where it is said to, each link and each file that is named leads
-somewhere; each manual page names each command and option that --help prints, and each status.
-With a folder as word, what is installed there is used. The last line has the counts.
+"""Copies the programs, the library and the manual pages into a folder as make install does, from what make
+test built, and holds README.md, docs/ and man/ to what is there: each command of README's sessions is run and
+has to print what stands below it, each line that is quoted stands where it is said to, each link and each
+file that is named leads somewhere; each manual page names each command and option that --help prints, and
+each status. tests/run calls it. With programs of another folder (BIN) there is no library, and the session in
+C is left out.
 """
 import os
 import re
 import shutil
 import subprocess
-import sys
 import tempfile
-
-sys.dont_write_bytecode = True
-from counting import check, counted
 
 ROOT = os.path.dirname(os.path.dirname(os.path.abspath(__file__)))
 MAX_LINES = 100  # two screens
+ENDINGS = "antt|rt|c|h|py|sh|json|bpf|edit|case|md"
+PATHS = rf"`((?!src/|specs/|proofs/|asm/)[a-z_]+/[A-Za-z0-9_./-]+\.(?:{ENDINGS}))`"
+COUNTS = {"passed": 0, "failed": 0}
+
+
+def check(what, found, want=True):
+    if found == want:
+        COUNTS["passed"] += 1
+    else:
+        COUNTS["failed"] += 1
+        print(f"    {what}: {found!r} is not {want!r}", flush=True)
 
 
 def text_of(path):
@@ -24,7 +31,12 @@ def text_of(path):
         return it.read()
 
 
-def installed(folder):
+def installed(folder, programs):
+    if os.environ.get("BIN"):
+        os.makedirs(f"{folder}/share/man")
+        os.symlink(programs, f"{folder}/bin")
+        os.symlink(f"{ROOT}/man", f"{folder}/share/man/man1")
+        return
     words = ["make", "--no-print-directory", "-C", ROOT, "copy", f"PREFIX={folder}"]
     ran = subprocess.run(words, capture_output=True, text=True, errors="replace")
     check("make copy", ran.returncode, 0)
@@ -50,6 +62,8 @@ def commands(block):
 def check_sessions(readme, prefix, room):
     shutil.copytree(f"{ROOT}/examples", f"{room}/examples")
     for block in blocks(readme, "console"):
+        if "pkg-config" in block and not os.path.isdir(f"{prefix}/lib"):
+            continue
         for command, below in commands(block):
             how = {"shell": True, "cwd": f"{room}/examples", "env": environment(prefix), "timeout": 300}
             ran = subprocess.run(command, stdout=subprocess.PIPE, stderr=subprocess.STDOUT, text=True, **how)
@@ -65,12 +79,16 @@ def check_readme(readme):
         check(f"the Makefile has {target}", target in targets)
 
 
+def is_there(path):
+    return any(os.path.exists(f"{ROOT}{below}/{path}") for below in ("", "/crates"))
+
+
 def check_paths():
     """The files that the pages name are there."""
     for page in ["README.md", *(f"docs/{name}" for name in sorted(os.listdir(f"{ROOT}/docs")))]:
         # (what begins with src or the like is said of the crate that the text speaks of)
-        named = set(re.findall(r"`((?!src/|specs/|proofs/|asm/)[a-z_]+/[A-Za-z0-9_./-]+\.(?:antt|rt|c|h|py|sh|json|bpf|edit))`", text_of(page)))
-        lost = [path for path in sorted(named) if not any(os.path.exists(f"{ROOT}{below}/{path}") for below in ("", "/crates"))]
+        named = set(re.findall(PATHS, text_of(page)))
+        lost = [path for path in sorted(named) if not is_there(path)]
         check(f"{page} names files that are there", lost, [])
 
 
@@ -90,12 +108,17 @@ def help_of(prefix, *words):
     return ran.stdout + ran.stderr
 
 
-def stated_statuses(crate):
-    return set(map(int, re.findall(r"^status_of .* = ([0-9])$", text_of(f"crates/{crate}/specs/Stops.antt"), re.M)))
+def stated_statuses(crates):
+    stops = "".join(text_of(f"crates/{crate}/specs/Stops.antt") for crate in crates)
+    return set(map(int, re.findall(r"^status_of .* = ([0-9])$", stops, re.M)))
 
 
 # What a program ends with besides what stops it: done, and the last moment.
-STATUSES = {"seccheck": ("checker", {0}), "scriptd": ("agent", set()), "nodeagent": ("agent", {0, 5})}
+STATUSES = {
+    "seccheck": (["checker"], {0}),
+    "scriptd": (["runtime_server"], set()),
+    "nodeagent": (["runtime_server", "agent"], {0, 5}),
+}
 
 
 def check_page(prefix, program):
@@ -113,16 +136,16 @@ def check_page(prefix, program):
     check(f"{program} --help names options", "--help" in options)
     for option in options:
         check(f"{program}.1 has {option}", bool(re.search(rf"^\.(B|BI|BR) .*{option}\b", plain, re.M)))
-    crate, more = STATUSES[program]
+    crates, more = STATUSES[program]
     told = set(map(int, re.findall(r"^\.B ([0-9])$", page, re.M)))
-    check(f"{program}.1 has each status", told, stated_statuses(crate) | more)
+    check(f"{program}.1 has each status", told, stated_statuses(crates) | more)
 
 
-def main():
+def checked(programs):
+    """How many things are as they should be, and how many not, by the programs of this folder."""
     with tempfile.TemporaryDirectory(prefix="motchidu-pages-") as room:
-        prefix = os.path.abspath(sys.argv[1]) if len(sys.argv) > 1 else f"{room}/installed"
-        if len(sys.argv) < 2:
-            installed(prefix)
+        prefix = f"{room}/installed"
+        installed(prefix, programs)
         readme = text_of("README.md")
         check_readme(readme)
         check_paths()
@@ -130,7 +153,4 @@ def main():
         check_sessions(readme, prefix, room)
         for program in STATUSES:
             check_page(prefix, program)
-    return counted()
-
-
-sys.exit(main())
+    return COUNTS["passed"], COUNTS["failed"]

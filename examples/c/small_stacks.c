@@ -1,0 +1,75 @@
+/* Each function in a thread with no more stack than motchidu.h asks for, and 8 KiB that a thread takes by
+ * itself: where more is needed, the program is ended. Ends with 0 where all answers are right. */
+#include <linux/filter.h>
+#include <linux/seccomp.h>
+#include <motchidu.h>
+#include <pthread.h>
+#include <stdio.h>
+#include <string.h>
+
+enum { DEPTH = 126, LONGEST_FILTER = 4096, SMALL = (24 + 8) * 1024, LARGE = (128 + 8) * 1024 };
+
+static int wrong;
+
+static void expect(const char *name, uint32_t found, uint32_t want) {
+    if (found == want)
+        return;
+    printf("%s: %u, not %u\n", name, found, want);
+    wrong++;
+}
+
+/* A profile with as many objects in one another as a JSON text may have, and one that has one more. */
+static uint32_t compiled(int depth) {
+    static char text[2048];
+    static uint8_t filter[32768];
+    size_t length;
+    strcpy(text, "{\"defaultAction\":\"SCMP_ACT_ALLOW\",\"more\":");
+    for (int i = 0; i < depth; i++)
+        strcat(text, "{\"a\":");
+    strcat(text, "1");
+    for (int i = 0; i <= depth; i++)
+        strcat(text, "}");
+    return motchidu_compile((const uint8_t *)text, strlen(text), filter, sizeof filter, &length);
+}
+
+static void *compile_both(void *unused) {
+    expect("the deepest profile", compiled(DEPTH), MOTCHIDU_ACCEPTED);
+    expect("a deeper profile", compiled(DEPTH + 1), MOTCHIDU_NOT_JSON);
+    return unused;
+}
+
+/* A filter of the greatest length, each of whose instructions but the last two is a test. */
+static void *check_and_run(void *unused) {
+    static struct sock_filter code[LONGEST_FILTER];
+    static const struct seccomp_data call;
+    uint32_t longest, value, steps;
+    size_t at;
+    for (size_t i = 1; i < LONGEST_FILTER - 1; i++)
+        code[i] = (struct sock_filter)BPF_JUMP(BPF_JMP | BPF_JEQ | BPF_K, i, 0, 0);
+    code[0] = (struct sock_filter)BPF_STMT(BPF_LD | BPF_W | BPF_ABS, 0);
+    code[LONGEST_FILTER - 1] = (struct sock_filter)BPF_STMT(BPF_RET | BPF_K, SECCOMP_RET_ALLOW);
+    const uint8_t *bytes = (const uint8_t *)code;
+    expect("verify", motchidu_verify(bytes, sizeof code, &at), MOTCHIDU_ACCEPTED);
+    expect("longest", motchidu_longest(bytes, sizeof code, &longest, &at), MOTCHIDU_ACCEPTED);
+    expect("the longest way", longest, LONGEST_FILTER);
+    expect("run_all", motchidu_run_all(bytes, sizeof code, (const uint8_t *)&call, 64, &value, 1, &steps, 1), MOTCHIDU_ACCEPTED);
+    expect("its value", value, SECCOMP_RET_ALLOW);
+    expect("its steps", steps, LONGEST_FILTER);
+    return unused;
+}
+
+static void in_a_thread(size_t stack, void *(*work)(void *)) {
+    pthread_attr_t how;
+    pthread_t thread;
+    pthread_attr_init(&how);
+    if (pthread_attr_setstacksize(&how, stack) || pthread_create(&thread, &how, work, NULL) || pthread_join(thread, NULL)) {
+        printf("no thread of %zu bytes\n", stack);
+        wrong++;
+    }
+}
+
+int main(void) {
+    in_a_thread(LARGE, compile_both);
+    in_a_thread(SMALL, check_and_run);
+    return wrong;
+}

@@ -1,0 +1,68 @@
+/* Built as a shared library and preloaded, it writes each call by which a program makes, moves or removes a
+ * file or a socket to the file that the variable CALLS names, and its answer.
+ *
+ * FAIL_ACCEPT=N lets the first N calls of accept4 fail for want of descriptors. */
+#define _GNU_SOURCE
+#include <dlfcn.h>
+#include <errno.h>
+#include <stdio.h>
+#include <stdlib.h>
+#include <sys/socket.h>
+#include <sys/stat.h>
+#include <sys/un.h>
+#include <unistd.h>
+
+#define NEXT(name) ((__typeof__(&name))dlsym(RTLD_NEXT, #name))
+
+static int told(int answer, const char *call, const char *path, const char *more)
+{
+  int error = errno;
+  FILE *calls = getenv("CALLS") ? fopen(getenv("CALLS"), "a") : NULL;
+  if (calls) {
+    fprintf(calls, "%s %s%s %s\n", call, path, more, answer ? "failed" : "done");
+    fclose(calls);
+  }
+  errno = error;
+  return answer;
+}
+
+static int told_mode(int answer, const char *call, const char *path, mode_t mode)
+{
+  char text[16];
+  snprintf(text, sizeof text, " %o", mode);
+  return told(answer, call, path, text);
+}
+
+int mkdir(const char *path, mode_t mode) { return told_mode(NEXT(mkdir)(path, mode), "mkdir", path, mode); }
+
+int chmod(const char *path, mode_t mode) { return told_mode(NEXT(chmod)(path, mode), "chmod", path, mode); }
+
+int link(const char *from, const char *to)
+{
+  char text[256];
+  snprintf(text, sizeof text, " %s", to);
+  return told(NEXT(link)(from, to), "link", from, text);
+}
+
+int unlink(const char *path) { return told(NEXT(unlink)(path), "unlink", path, ""); }
+
+int rmdir(const char *path) { return told(NEXT(rmdir)(path), "rmdir", path, ""); }
+
+int bind(int socket, const struct sockaddr *address, socklen_t length)
+{
+  const char *path = address->sa_family == AF_UNIX ? ((const struct sockaddr_un *)address)->sun_path : "";
+  return told(NEXT(bind)(socket, address, length), "bind", path, "");
+}
+
+int accept4(int socket, struct sockaddr *address, socklen_t *length, int flags)
+{
+  static int left = -1;
+  if (left < 0)
+    left = getenv("FAIL_ACCEPT") ? atoi(getenv("FAIL_ACCEPT")) : 0;
+  if (left > 0) {
+    left--;
+    errno = EMFILE;
+    return -1;
+  }
+  return NEXT(accept4)(socket, address, length, flags);
+}

@@ -1,0 +1,111 @@
+"""Commands for crates, side by side: as many as there are processors, and as memory allows."""
+import os
+import re
+import subprocess
+import sys
+import time
+from concurrent.futures import FIRST_COMPLETED, ThreadPoolExecutor, wait
+
+ROOT = os.path.dirname(os.path.dirname(os.path.abspath(__file__)))
+ROOM = 4_000_000_000  # what a check may take
+
+
+def crates_of(root=ROOT):
+    """Each crate of crates.txt, lowest first, with those of the repository that it stands on."""
+    lines = {}
+    with open(f"{root}/crates.txt", encoding="utf-8") as it:
+        for line in it:
+            head, _, below = line.partition("#")[0].partition(":")
+            if head.strip():
+                lines[head.split()[0]] = below.split()
+    found = {}
+
+    def visit(name):
+        if name not in found:
+            for below in filter(lines.__contains__, lines[name]):
+                visit(below)
+            found[name] = [it for it in lines[name] if it in lines]
+
+    for name in lines:
+        visit(name)
+    return found
+
+
+def with_below(crates, names):
+    """The crates with these names and all that they stand on, lowest first."""
+    wanted = set(names)
+    for name in reversed(crates):
+        if name in wanted:
+            wanted |= set(crates[name])
+    return [name for name in crates if name in wanted]
+
+
+def is_program(name, root=ROOT):
+    return os.path.isfile(f"{root}/crates/{name}/src/main.rt")
+
+
+def has_tests(name, root=ROOT):
+    folder = f"{root}/crates/{name}/src"
+    files = [os.path.join(at, it) for at, _, names in os.walk(folder) for it in names if it.endswith(".rt")]
+    return any(re.search(r"^\s*#\[test\]", open(it, encoding="utf-8").read(), re.M) for it in files)
+
+
+def lanes():
+    """How many checks there may be at a time."""
+    with open("/proc/meminfo", encoding="ascii") as it:
+        free = 1024 * int(re.search(r"MemAvailable:\s+(\d+)", it.read())[1])
+    return max(1, min(len(os.sched_getaffinity(0)), free // ROOM))
+
+
+def run(words, folder, env=None):
+    """The status of a command, and what it printed on both streams."""
+    how = {"stdin": subprocess.DEVNULL, "stdout": subprocess.PIPE, "stderr": subprocess.STDOUT}
+    ran = subprocess.run(words, cwd=folder, env=env, errors="replace", **how)
+    return ran.returncode, ran.stdout
+
+
+def run_all(what, tasks):
+    """Runs tasks, each a name, the names of those that it waits for, and a call; gives what each call gave,
+    and None where one that a task waits for gave something false."""
+    given, running, began = {}, {}, 0
+    left = {name: (after, call) for name, after, call in tasks}
+    with ThreadPoolExecutor(lanes()) as pool:
+        room = pool._max_workers
+        while left or running:
+            for name in list(left):
+                after, call = left[name]
+                if any(it in given and not given[it] for it in after):
+                    given[name] = None
+                    del left[name]
+                elif len(running) < room and all(it in given for it in after):
+                    began += 1
+                    print(f"{what}: {name}, {began} of {len(tasks)}", flush=True)
+                    running[pool.submit(call)] = name
+                    del left[name]
+            if running:
+                for it in wait(running, return_when=FIRST_COMPLETED).done:
+                    given[running.pop(it)] = it.result()
+    return given
+
+
+def timed(start):
+    seconds = int(time.monotonic() - start)
+    return f"{seconds // 60} min {seconds % 60} s"
+
+
+def build_libraries(what, root, crates, names):
+    """Proves and builds the libraries with these names and those that they stand on; what is built and has
+    not changed is taken. Tells whether all is well."""
+    libraries = [name for name in with_below(crates, names) if not is_program(name, root)]
+
+    def build(name):
+        status, said = run(["rt", "lib"], f"{root}/crates/{name}")
+        told = f"{what}: {name} is proved" if status == 0 else f"{said}{what}: {name} IS NOT PROVED"
+        print(told, flush=True)
+        return status == 0
+
+    tasks = [(name, crates[name], lambda name=name: build(name)) for name in libraries]
+    return all(run_all(what, tasks).values())
+
+
+sys.dont_write_bytecode = True
