@@ -22,7 +22,10 @@ struct Guarded<L: Ledger> {
 #[derive(Drop)]
 pub struct Shared<L: Ledger> {
     guarded: Mutex<Guarded<L>>,
-    // Told at each entry that is no claim, when a worker ends, and once the book is closed.
+    // Wakes the workers that were given nothing: at each entry of worker 0, when a worker ends, and once the book
+    // is closed. The end of a claim makes nothing due but its own pod, and whoever held that claims next.
+    due: Condvar,
+    // Wakes worker 0: at each entry that is no claim, when a worker ends, and once the book is closed.
     changed: Condvar,
     // The moment that was told last, for whoever wants to name it.
     moment: AtomicU64,
@@ -56,6 +59,7 @@ impl<L: Ledger> Shared<L> {
     pub fn new(book: Book<L>) -> Shared<L> {
         Shared {
             guarded: Mutex::new(Guarded { book, workers: 0 }),
+            due: Condvar::new(),
             changed: Condvar::new(),
             moment: AtomicU64::new(0),
         }
@@ -65,15 +69,17 @@ impl<L: Ledger> Shared<L> {
     pub fn into_book(self) -> Book<L> {
         let Shared {
             guarded,
+            due,
             changed,
             moment: _,
         } = self;
-        drop(changed);
+        drop((due, changed));
         let Guarded { book, workers: _ } = guarded.into_inner();
         book
     }
 
-    /// Records an event of the worker, whose last entry has this number, and wakes those that wait.
+    /// Records an event of the worker, whose last entry has this number, and wakes those that may have something to
+    /// do now.
     pub(crate) fn record<R: Wait>(
         &self,
         rt: &R,
@@ -94,11 +100,14 @@ impl<L: Ledger> Shared<L> {
         let mut guarded = self.guarded.lock(rt);
         let recorded = record_above(&mut guarded.book, share, worker, event, last);
         drop(guarded);
+        if worker == 0 {
+            self.due.notify_all();
+        }
         self.changed.notify_all();
         recorded
     }
 
-    /// Claims for the worker. Where nothing is due it waits until something other than a claim was recorded.
+    /// Claims for the worker. Where nothing is due it waits until worker 0 recorded something or a worker ended.
     /// None where the book is closed, or takes no claim.
     pub(crate) fn claim<R: Wait>(
         &self,
@@ -124,7 +133,7 @@ impl<L: Ledger> Shared<L> {
         if matches!(&claim.entry().answer, Answer::Nothing) {
             let since = guarded.book.history().len();
             let _guarded = self
-                .changed
+                .due
                 .wait_while(rt, guarded, |guarded| guarded.book.is_quiet(since));
         }
         Some(claim)
@@ -141,6 +150,7 @@ impl<L: Ledger> Shared<L> {
         let mut guarded = self.guarded.lock(rt);
         guarded.workers = guarded.workers.saturating_sub(1);
         drop(guarded);
+        self.due.notify_all();
         self.changed.notify_all();
     }
 
@@ -184,6 +194,7 @@ impl<L: Ledger> Shared<L> {
         let mut guarded = self.guarded.lock(rt);
         guarded.book.close();
         drop(guarded);
+        self.due.notify_all();
         self.changed.notify_all();
     }
 }
