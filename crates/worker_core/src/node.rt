@@ -67,6 +67,33 @@ impl Node {
     }
 }
 
+fn admit_answer(refusal: Option<Refusal>) -> Answer
+    ensures { result ≡ admit_answer refusal }
+{
+    match refusal {
+        Some(refusal) => Answer::Refused(refusal),
+        None => Answer::Done,
+    }
+}
+
+fn delete_answer(place: Option<usize>) -> Answer
+    ensures { result ≡ delete_answer place }
+{
+    match place {
+        Some(_) => Answer::Done,
+        None => Answer::Refused(Refusal::NoSuchPod),
+    }
+}
+
+fn end_answer(held: Option<usize>) -> Answer
+    ensures { result ≡ end_answer held }
+{
+    match held {
+        Some(_) => Answer::Done,
+        None => Answer::Refused(Refusal::NotYours),
+    }
+}
+
 impl Node {
     /// A node without pods, at moment 0.
     pub fn new(alloc: Global, settings: Settings) -> Node
@@ -109,16 +136,12 @@ impl Node {
         ensures err { OnErr result (self.new ≡ self.old) }
         ensures only { OnErr result (changes (admit_answer (refusal_of self.old pod)) ≡ true) }
     {
-        match self.refusal_of(&pod) {
-            Some(refusal) => {
-                drop(pod);
-                Ok(Answer::Refused(refusal))
-            }
-            None => {
-                self.add(pod)?;
-                Ok(Answer::Done)
-            }
+        let refusal = self.refusal_of(&pod);
+        match refusal {
+            Some(_) => drop(pod),
+            None => self.add(pod)?,
         }
+        Ok(admit_answer(refusal))
     }
 
     // All that takes memory comes before the first change.
@@ -137,29 +160,30 @@ impl Node {
         ensures answer { result ≡ delete_answer (place_of uid.now self.old.slots) }
         ensures node { self.new ≡ after_delete self.old (place_of uid.now self.old.slots) }
     {
-        match place_of(uid, self.slots.as_slice()) {
-            Some(place) => {
-                deleted_at(self.slots.as_mut_slice(), place);
-                Answer::Done
-            }
-            None => Answer::Refused(Refusal::NoSuchPod),
+        let place = place_of(uid, self.slots.as_slice());
+        if let Some(place) = place {
+            deleted_at(self.slots.as_mut_slice(), place);
         }
-    }
-
-    fn is_past(&self, moment: u64) -> bool
-        ensures { result ≡ nat_lt moment self.now.moment }
-    {
-        moment < self.moment
+        delete_answer(place)
     }
 
     fn tick(&mut self, now: u64) -> Answer
         ensures answer { result ≡ tick_answer self.old now }
         ensures node { self.new ≡ after_tick self.old now }
     {
-        if self.is_past(now) {
+        let answer = self.tick_answer(now);
+        if let Answer::Done = answer {
+            self.moment = now;
+        }
+        answer
+    }
+
+    fn tick_answer(&self, now: u64) -> Answer
+        ensures { result ≡ tick_answer self.now now }
+    {
+        if now < self.moment {
             Answer::Refused(Refusal::ClockBack)
         } else {
-            self.moment = now;
             Answer::Done
         }
     }
@@ -246,16 +270,12 @@ impl Node {
         ensures records { OnErr result (records self.old outcome (holder_of worker self.old.slots) ≡ true) }
         ensures abandoned { outcome ≡ Outcome.Abandoned → IsOk result }
     {
-        match holder_of(worker, self.slots.as_slice()) {
-            Some(place) => {
-                ended_at(&mut self.slots, place, self.moment, outcome)?;
-                Ok(Answer::Done)
-            }
-            None => {
-                drop(outcome);
-                Ok(Answer::Refused(Refusal::NotYours))
-            }
+        let place = holder_of(worker, self.slots.as_slice());
+        match place {
+            Some(place) => ended_at(&mut self.slots, place, self.moment, outcome)?,
+            None => drop(outcome),
         }
+        Ok(end_answer(place))
     }
 
     fn report(&mut self, worker: u32, reported: Reported) -> Answer
@@ -307,54 +327,19 @@ impl Node {
         self.take(event)
     }
 
-    fn admit_answer(&self, pod: &Pod) -> Answer
-        ensures { result ≡ admit_answer (refusal_of self.now pod.now) }
-    {
-        match self.refusal_of(pod) {
-            Some(refusal) => Answer::Refused(refusal),
-            None => Answer::Done,
-        }
-    }
-
-    fn delete_answer(&self, uid: &Uid) -> Answer
-        ensures { result ≡ delete_answer (place_of uid.now self.now.slots) }
-    {
-        match place_of(uid, self.slots.as_slice()) {
-            Some(_) => Answer::Done,
-            None => Answer::Refused(Refusal::NoSuchPod),
-        }
-    }
-
-    fn end_answer(&self, worker: u32) -> Answer
-        ensures { result ≡ end_answer (holder_of worker self.now.slots) }
-    {
-        match holder_of(worker, self.slots.as_slice()) {
-            Some(_) => Answer::Done,
-            None => Answer::Refused(Refusal::NotYours),
-        }
-    }
-
-    fn tick_answer(&self, now: u64) -> Answer
-        ensures { result ≡ tick_answer self.now now }
-    {
-        if self.is_past(now) {
-            Answer::Refused(Refusal::ClockBack)
-        } else {
-            Answer::Done
-        }
-    }
-
     fn foreseen(&self, event: &AgentEvent) -> Answer
         ensures { Foresees self.now event.now result }
     {
         match event {
-            AgentEvent::Admit(pod) => self.admit_answer(pod),
-            AgentEvent::Delete(uid) => self.delete_answer(uid),
+            AgentEvent::Admit(pod) => admit_answer(self.refusal_of(pod)),
+            AgentEvent::Delete(uid) => delete_answer(place_of(uid, self.slots.as_slice())),
             AgentEvent::Claim(worker) => match self.claim_answer(*worker) {
                 Ok(answer) => answer,
                 Err(_) => Answer::Refused(Refusal::Memory),
             },
-            AgentEvent::Report(worker, _) | AgentEvent::Abandon(worker) => self.end_answer(*worker),
+            AgentEvent::Report(worker, _) | AgentEvent::Abandon(worker) => {
+                end_answer(holder_of(*worker, self.slots.as_slice()))
+            }
             AgentEvent::Tick(now) => self.tick_answer(*now),
         }
     }
