@@ -1,4 +1,4 @@
-use crate::test_crews::{Pods, SETTLED, Trial, entries_at_call, many_told, settled};
+use crate::test_crews::{Left, Pods, SETTLED, Trial, entries_at_call, many_told, settled};
 use cri_msgs::Version;
 use node_lock::{MAX_ENTRIES, PARTS};
 use std::alloc::Global;
@@ -25,7 +25,7 @@ fn tried<R: Threads + Wait + Clock + Sync>(
     rt: &R,
     alloc: Global,
     trial: Trial,
-) -> Result<String, Fail> {
+) -> Result<Left, Fail> {
     settled::<Brand, R>(rt, alloc, trial, Blank::new(PARTS))
 }
 
@@ -45,7 +45,11 @@ fn workers_settle(rt: HostRuntime) -> Result<(), Fail> {
                 ..PLAIN
             };
             let left = tried(&rt, rt.alloc(), trial)?;
-            assert_eq!(rt; left.as_str(), SETTLED, "{workers} workers, {version:?}");
+            assert_eq!(rt;
+                left.text.as_str(),
+                SETTLED,
+                "{workers} workers, {version:?}"
+            );
         }
     }
     Ok(())
@@ -66,7 +70,20 @@ fn failures_change_nothing(rt: HostRuntime) -> Result<(), Fail> {
             _ => trial.wires = place,
         }
         let left = tried(&rt, rt.alloc(), trial)?;
-        assert_eq!(rt; left.as_str(), SETTLED, "{place}");
+        assert_eq!(rt; left.text.as_str(), SETTLED, "{place}");
+    }
+    Ok(())
+}
+
+// The first attempt begins where its script can be read: at once, or behind the rest of a refusal. The others come
+// behind their back-off.
+#[test]
+fn runs_are_recorded_behind_back_off(rt: HostRuntime) -> Result<(), Fail> {
+    for (scripts, wanted) in [(0, [0, 10, 30]), (1, [10, 20, 40])] {
+        let trial = Trial { scripts, ..PLAIN };
+        let left = tried(&rt, rt.alloc(), trial)?;
+        assert_eq!(rt; left.text.as_str(), SETTLED);
+        assert_eq!(rt; left.recorded.as_slice(), wanted.as_slice());
     }
     Ok(())
 }
@@ -88,7 +105,7 @@ fn unsettled<R: Threads + Wait + Clock + Sync>(
             ..PLAIN
         };
         let left = tried(rt, alloc, trial)?;
-        if left.as_str().strip_prefix("settled, true\n") != Some(told.as_str()) {
+        if left.text.as_str().strip_prefix("settled, true\n") != Some(told.as_str()) {
             return Ok(Some(wires));
         }
     }
@@ -135,7 +152,7 @@ fn a_full_node_settles(rt: HostRuntime) -> Result<(), Fail> {
     let told = many_told(rt.alloc(), 16)?;
     let left = tried(&rt, rt.alloc(), FULL)?;
     assert_eq!(rt;
-        left.as_str().strip_prefix("settled, true\n"),
+        left.text.as_str().strip_prefix("settled, true\n"),
         Some(told.as_str())
     );
     Ok(())
@@ -147,7 +164,7 @@ fn a_full_node_settles_where_many_calls_fail(rt: HostRuntime) -> Result<(), Fail
     let trial = Trial { every: 97, ..FULL };
     let left = tried(&rt, rt.alloc(), trial)?;
     assert_eq!(rt;
-        left.as_str().strip_prefix("settled, true\n"),
+        left.text.as_str().strip_prefix("settled, true\n"),
         Some(told.as_str())
     );
     Ok(())
@@ -159,7 +176,7 @@ fn a_full_history_ends_it(rt: HostRuntime) -> Result<(), Fail> {
     for limit in 3..9 {
         let trial = Trial { limit, ..PLAIN };
         let left = tried(&rt, rt.alloc(), trial)?;
-        assert!(rt; left.as_str().starts_with("full, true\n"), "{limit}");
+        assert!(rt; left.text.as_str().starts_with("full, true\n"), "{limit}");
     }
     Ok(())
 }
@@ -172,7 +189,7 @@ fn two_calls_are_in_flight(rt: HostRuntime) -> Result<(), Fail> {
         ..PLAIN
     };
     let left = tried(&rt, rt.alloc(), trial)?;
-    assert_eq!(rt; left.as_str(), SETTLED);
+    assert_eq!(rt; left.text.as_str(), SETTLED);
     Ok(())
 }
 

@@ -16,7 +16,7 @@ use std::sync::ledger::{Blank, Ledger};
 use std::test::Fail;
 use std::thread::{Threads, scope, scope_env, sleep};
 use std::time::{Clock, Duration};
-use worker_core::{AgentEvent, MAX_PODS};
+use worker_core::{AgentEvent, MAX_PODS, Node};
 use worker_crew::{Coordinator, Ended, Gate, Pace, Peer, Shared, crew};
 use worker_pod::Settings;
 
@@ -209,14 +209,32 @@ pub(crate) fn worked<
     )
 }
 
-// How a crew ended, whether there is a receipt for each entry and each stands where it says, and the pods'
-// table.
+/// What is left of a trial.
+#[derive(Drop)]
+pub(crate) struct Left {
+    /// How the crew ended, whether there is a receipt for each entry and each stands where it says, and the pods'
+    /// table.
+    pub(crate) text: String,
+    /// At which moments the runs of the first pod's first container were recorded.
+    pub(crate) recorded: Vec<u64>,
+}
+
+fn recorded_first(alloc: Global, node: &Node) -> Result<Vec<u64>, AllocError> {
+    let mut recorded = Vec::new(alloc);
+    if let Some(track) = node.pod(0).and_then(|pod| pod.tracks.first()) {
+        for run in track.runs.as_slice().iter() {
+            recorded.push(run.recorded())?;
+        }
+    }
+    Ok(recorded)
+}
+
 fn left_of<L: Ledger>(
     alloc: Global,
     shared: Shared<L>,
     ended: Ended,
     tally: Option<Tally<L>>,
-) -> Result<String, Fail> {
+) -> Result<Left, Fail> {
     let mut tally = tally.ok_or("a tally")?;
     let mut book = shared.into_book();
     let entries = book.entries(&mut tally);
@@ -229,7 +247,10 @@ fn left_of<L: Ledger>(
         Ended::Memory => "memory",
         Ended::HistoryFull => "full",
     };
-    Ok(format!(in alloc; "{ended}, {}\n{}", whole && stand, table.as_str())?)
+    Ok(Left {
+        text: format!(in alloc; "{ended}, {}\n{}", whole && stand, table.as_str())?,
+        recorded: recorded_first(alloc, book.node())?,
+    })
 }
 
 // How long anything is waited for: so many turns of a millisecond.
@@ -329,7 +350,7 @@ pub(crate) fn entries_at_call<L: Ledger + Send + Sync, R: Threads + Wait + Clock
     let (ended, tally) = worked(rt, alloc, &runtime, &shared, coordinator, peers, &gate);
     let entries = gate.entries.load(Ordering::SeqCst);
     drop(gate);
-    Ok((entries, left_of(alloc, shared, ended, tally)?))
+    Ok((entries, left_of(alloc, shared, ended, tally)?.text))
 }
 
 /// The pods of a trial.
@@ -378,7 +399,7 @@ pub(crate) fn settled<L: Ledger + Send + Sync, R: Threads + Wait + Clock + Sync>
     alloc: Global,
     trial: Trial,
     blank: Blank,
-) -> Result<String, Fail>
+) -> Result<Left, Fail>
     requires name { blank.name ≡ L.name }
     requires parts { blank.parts ≡ L.parts }
     requires all { blank.parts ≡ PARTS }

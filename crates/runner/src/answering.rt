@@ -4,12 +4,12 @@ ghost use Rattle.std.specs.Io.KnownBytes.{Appends, Keeps};
 ghost use Rattle.node_io.specs.Counts.{HasRisen};
 ghost use Rattle.cri_msgs.specs.Written.{reply_text};
 ghost use Rattle.cri_frames.specs.Frames.{IsLength, frame_of};
-ghost use Rattle.runner.specs.declared.ending.Cut.{Cut};
+ghost use Rattle.runner.specs.declared.ending.ServeFault.{ServeFault};
 ghost use Rattle.runner.specs.Gathered.{Gave};
 ghost use Rattle.runner.specs.Connection.{Answers, IsServed, Talk};
 ghost use Rattle.runner.specs.Steps.{CutsTalk, SendsPart};
 
-use crate::ending::Cut;
+use crate::ending::ServeFault;
 use crate::gathering::gather;
 use crate::service::{Host, Service};
 use cri_frames::{frame_of, write_all};
@@ -24,13 +24,13 @@ pub(crate) fn answer<W: Wire, S: Files, P: Files, H: Host>(
     service: &mut Service<S, P, H>,
     version: Version,
     text: &[u8],
-) -> Result<(), Cut>
+) -> Result<(), ServeFault>
     requires { IsLength (length text.now) }
     ensures ok { OnOk result (Talk (Answers (Gave S.held S.failed) (Gave P.held P.failed) H.may) service.old service.new
         (frame_of version text.now) [] [] (W.output wire.old) (W.output wire.new)) }
     ensures cut { OnErr result (CutsTalk (Answers (Gave S.held S.failed) (Gave P.held P.failed) H.may) service.old service.new
         (frame_of version text.now) (W.output wire.old) (W.output wire.new)) }
-    ensures failed { IfErr result (λ cut. cut ≡ Cut.Failed → HasRisen (W.failed wire.old) (W.failed wire.new)) }
+    ensures failed { IfErr result (λ cut. cut ≡ ServeFault.Failed → HasRisen (W.failed wire.old) (W.failed wire.new)) }
     ensures counted { W.failed wire.old ≤ W.failed wire.new }
     ensures input { Keeps (W.input wire.old) (W.input wire.new) }
 {
@@ -68,10 +68,15 @@ fn serve<S: Files, P: Files, H: Host>(service: &mut Service<S, P, H>, request: R
 }
 
 // Writes the frame of a reply.
-fn send<W: Wire>(alloc: Global, wire: &mut W, version: Version, reply: &Reply) -> Result<(), Cut>
+fn send<W: Wire>(
+    alloc: Global,
+    wire: &mut W,
+    version: Version,
+    reply: &Reply,
+) -> Result<(), ServeFault>
     ensures ok { OnOk result (Appends (W.output wire.old) (W.output wire.new) (frame_of version (reply_text version reply.now))) }
     ensures cut { OnErr result (SendsPart (frame_of version (reply_text version reply.now)) (W.output wire.old) (W.output wire.new)) }
-    ensures failed { IfErr result (λ cut. cut ≡ Cut.Failed → HasRisen (W.failed wire.old) (W.failed wire.new)) }
+    ensures failed { IfErr result (λ cut. cut ≡ ServeFault.Failed → HasRisen (W.failed wire.old) (W.failed wire.new)) }
     ensures counted { W.failed wire.old ≤ W.failed wire.new }
     ensures input { Keeps (W.input wire.old) (W.input wire.new) }
 {
@@ -79,6 +84,6 @@ fn send<W: Wire>(alloc: Global, wire: &mut W, version: Version, reply: &Reply) -
     let frame = frame_of(alloc, version, text.as_slice())?;
     match write_all(wire, frame.as_slice()) {
         Ok(()) => Ok(()),
-        Err(_) => Err(Cut::Failed),
+        Err(_) => Err(ServeFault::Failed),
     }
 }

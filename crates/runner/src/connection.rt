@@ -4,14 +4,14 @@ ghost use Rattle.std.specs.Io.KnownBytes.{Consumes, IsAtEnd, Keeps};
 ghost use Rattle.node_io.specs.Counts.{HasRisen};
 ghost use Rattle.cri_frames.specs.Frames.{BeginsNone};
 ghost use Rattle.cri_frames.specs.Streams.{HasBadRest};
-ghost use Rattle.runner.specs.declared.ending.Cut.{Cut};
+ghost use Rattle.runner.specs.declared.ending.ServeFault.{ServeFault};
 ghost use Rattle.runner.specs.declared.ending.Ending.{Ending};
 ghost use Rattle.runner.specs.Gathered.{Gave};
 ghost use Rattle.runner.specs.Connection.{Answers, Ends, PartTalk, Talk};
 ghost use Rattle.runner.specs.Steps.{CutsTalk, ReadsPiece};
 
 use crate::answering::answer;
-use crate::ending::{Cut, Ending};
+use crate::ending::{Ending, ServeFault};
 use crate::service::{Host, Service};
 use cri_frames::{Feed, FeedFault};
 use node_io::{Files, Wire};
@@ -38,8 +38,8 @@ pub fn serve_wire<W: Wire, S: Files, P: Files, H: Host>(
 {
     match serve_all(alloc, wire, service) {
         Ok(ending) => ending,
-        Err(Cut::Failed) => Ending::Failed,
-        Err(Cut::Memory) => Ending::Memory,
+        Err(ServeFault::Failed) => Ending::Failed,
+        Err(ServeFault::Memory) => Ending::Memory,
     }
 }
 
@@ -47,13 +47,13 @@ fn serve_all<W: Wire, S: Files, P: Files, H: Host>(
     alloc: Global,
     wire: &mut W,
     service: &mut Service<S, P, H>,
-) -> Result<Ending, Cut>
+) -> Result<Ending, ServeFault>
     ensures ending { IfOk result (Ends (Answers (Gave S.held S.failed) (Gave P.held P.failed) H.may) service.old service.new
         (W.input wire.old) (W.input wire.new) (W.output wire.old) (W.output wire.new)) }
     ensures good { IfOk result (λ ending. ending ≡ Ending.Failed → ⊥) }
     ensures cut { OnErr result (PartTalk (Answers (Gave S.held S.failed) (Gave P.held P.failed) H.may) service.old service.new
         (W.input wire.old) (W.input wire.new) (W.output wire.old) (W.output wire.new)) }
-    ensures failed { IfErr result (λ cut. cut ≡ Cut.Failed → HasRisen (W.failed wire.old) (W.failed wire.new)) }
+    ensures failed { IfErr result (λ cut. cut ≡ ServeFault.Failed → HasRisen (W.failed wire.old) (W.failed wire.new)) }
     ensures counted { W.failed wire.old ≤ W.failed wire.new }
 {
     let mut feed = Feed::new(alloc);
@@ -67,25 +67,25 @@ fn serve_all<W: Wire, S: Files, P: Files, H: Host>(
         }
     }
     // No run comes to so many reads.
-    Err(Cut::Memory)
+    Err(ServeFault::Memory)
 }
 
 // Reads what has come into the feed, and tells how many bytes that was: none at the end.
-fn read_piece<W: Wire>(wire: &mut W, feed: &mut Feed) -> Result<usize, Cut>
+fn read_piece<W: Wire>(wire: &mut W, feed: &mut Feed) -> Result<usize, ServeFault>
     requires { HasBadRest feed.old → ⊥ }
     ensures ok { IfOk result (ReadsPiece (W.input wire.old) (W.input wire.new) feed.old feed.new) }
     ensures cut { OnErr result ((more : List ℕ) × Consumes (W.input wire.old) (W.input wire.new) more) }
-    ensures failed { IfErr result (λ cut. cut ≡ Cut.Failed → HasRisen (W.failed wire.old) (W.failed wire.new)) }
+    ensures failed { IfErr result (λ cut. cut ≡ ServeFault.Failed → HasRisen (W.failed wire.old) (W.failed wire.new)) }
     ensures counted { W.failed wire.old ≤ W.failed wire.new }
     ensures output { Keeps (W.output wire.old) (W.output wire.new) }
 {
     let mut piece = [0u8; PIECE];
     let Ok(count) = wire.read(&mut piece) else {
-        return Err(Cut::Failed);
+        return Err(ServeFault::Failed);
     };
     match feed.push(&piece[..count]) {
         Ok(()) | Err(FeedFault::BadLength) => Ok(count),
-        Err(FeedFault::Memory) => Err(Cut::Memory),
+        Err(FeedFault::Memory) => Err(ServeFault::Memory),
     }
 }
 
@@ -95,13 +95,13 @@ fn answer_whole<W: Wire, S: Files, P: Files, H: Host>(
     wire: &mut W,
     service: &mut Service<S, P, H>,
     feed: &mut Feed,
-) -> Result<(), Cut>
+) -> Result<(), ServeFault>
     ensures ok { OnOk result (Talk (Answers (Gave S.held S.failed) (Gave P.held P.failed) H.may) service.old service.new
         feed.old feed.new [] (W.output wire.old) (W.output wire.new)) }
     ensures begins_none { OnOk result (BeginsNone feed.new) }
     ensures cut { OnErr result (CutsTalk (Answers (Gave S.held S.failed) (Gave P.held P.failed) H.may) service.old service.new
         feed.old (W.output wire.old) (W.output wire.new)) }
-    ensures failed { IfErr result (λ cut. cut ≡ Cut.Failed → HasRisen (W.failed wire.old) (W.failed wire.new)) }
+    ensures failed { IfErr result (λ cut. cut ≡ ServeFault.Failed → HasRisen (W.failed wire.old) (W.failed wire.new)) }
     ensures counted { W.failed wire.old ≤ W.failed wire.new }
     ensures input { Keeps (W.input wire.old) (W.input wire.new) }
 {

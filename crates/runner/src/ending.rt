@@ -17,18 +17,18 @@ pub enum Ending {
 
 /// Why a connection is cut off before all that was read is answered.
 #[derive(Clone, Copy, PartialEq, Eq)]
-pub(crate) enum Cut {
+pub(crate) enum ServeFault {
     Failed,
     Memory,
 }
 
-impl From<AllocError> for Cut {
+impl From<AllocError> for ServeFault {
     ghost use Rattle.std.specs.Prelude.{◌≡◌};
-    ghost use Rattle.runner.specs.declared.ending.Cut.TheVariants.{Memory};
+    ghost use Rattle.runner.specs.declared.ending.ServeFault.TheVariants.{Memory};
 
     ghost from_gives = { λ _ cut. cut ≡ Memory };
 
-    fn from(_: AllocError) -> Cut {
-        Cut::Memory
+    fn from(_: AllocError) -> ServeFault {
+        ServeFault::Memory
     }
 }

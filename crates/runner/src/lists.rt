@@ -22,12 +22,12 @@ pub(crate) struct SandboxCells {
 
 /// The cells of the sandboxes that are there, each under its uid. Contracts see how many there are.
 #[derive(Drop)]
-pub(crate) struct Lists {
+pub(crate) struct CellLists {
     alloc: Global,
     map: BTreeMap<String, Arc<SandboxCells, Global>>,
 }
 
-impl Model for Lists {
+impl Model for CellLists {
     ghost use Rattle.std.specs.Prelude.{ℕ, length};
     ghost use Rattle.std.specs.Arc.{arc_value};
     ghost use Rattle.runtime_core.specs.Kept.{by_bytes};
@@ -41,10 +41,10 @@ impl Model for Lists {
     ghost invariant = { λ l. AreLabelled (λ list. (arc_value {X = SandboxCells} list).uid) (by_bytes l.map.entries) };
 }
 
-impl Lists {
+impl CellLists {
     /// No sandboxes.
-    pub(crate) fn new(alloc: Global) -> Lists {
-        Lists {
+    pub(crate) fn new(alloc: Global) -> CellLists {
+        CellLists {
             alloc,
             map: BTreeMap::new(alloc),
         }

@@ -6,7 +6,7 @@ ghost use Rattle.runner.specs.Labelled.{of_share};
 ghost use Rattle.runner.specs.Rounds.{IsRound, StepsAt, moves_on};
 
 use crate::lists::SandboxCells;
-use crate::shared::{Node, SharedRuntime};
+use crate::shared::{Sandboxes, SharedRuntime};
 use runtime_cell::Did;
 use runtime_core::Cells;
 use std::alloc::Global;
@@ -32,7 +32,7 @@ impl StepGate for Open {
 }
 
 // A step that a round owes. It is neither copied nor dropped, so it is done once.
-struct Turn {
+struct NextCell {
     id: u64,
     // Where the cell is; none where that can't be held on to.
     list: Option<Arc<SandboxCells, Global>>,
@@ -54,35 +54,35 @@ impl SharedRuntime {
     {
         let mut last = 0;
         let mut went_on = false;
-        while let Some(turn) = self.next_turn(rt, last, runner, runners) {
-            last = turn.id;
-            let moved = step(rt, turn, gate);
+        while let Some(next) = self.next_cell(rt, last, runner, runners) {
+            last = next.id;
+            let moved = step(rt, next, gate);
             went_on = went_on || moved;
         }
         went_on
     }
 
     // The runner's next step, behind the one of this id.
-    fn next_turn<R: Wait>(&self, rt: &R, above: u64, runner: u64, runners: u64) -> Option<Turn>
+    fn next_cell<R: Wait>(&self, rt: &R, above: u64, runner: u64, runners: u64) -> Option<NextCell>
         requires { runner < runners }
-        ensures { (homes : List (ℕ × List ℕ)) × IsNextIn (of_share runner runners (home_in homes)) above (option_map (λ turn. turn.id) result) }
+        ensures { (homes : List (ℕ × List ℕ)) × IsNextIn (of_share runner runners (home_in homes)) above (option_map (λ next. next.id) result) }
     {
-        self.node.lock(rt).next_turn(above, runner, runners)
+        self.sandboxes.lock(rt).next_cell(above, runner, runners)
     }
 }
 
-impl Node {
+impl Sandboxes {
     // The step of the least id above this one that is of the share.
     #[tactic(auto, using(crate::proofs::Shares::next_is_own, crate::proofs::Shares::next_is_none, crate::proofs::Shares::next_is_passed))]
-    fn next_turn(&self, above: u64, runner: u64, runners: u64) -> Option<Turn>
+    fn next_cell(&self, above: u64, runner: u64, runners: u64) -> Option<NextCell>
         requires { runner < runners }
-        ensures { IsNextIn (of_share runner runners (home_in self.now.registry.homes)) above (option_map (λ turn. turn.id) result) }
+        ensures { IsNextIn (of_share runner runners (home_in self.now.registry.homes)) above (option_map (λ next. next.id) result) }
     {
         let mut last = above;
         while let Some(id) = self.registry.next_id(last) {
             if id % runners == runner {
                 let list = self.list_of(id);
-                return Some(Turn { id, list });
+                return Some(NextCell { id, list });
             }
             last = id;
         }
@@ -98,10 +98,10 @@ impl Node {
 }
 
 // Does a step that is owed, and tells whether the cell went on.
-fn step<R: Wait, G: StepGate>(rt: &R, turn: Turn, gate: &G) -> bool
-    ensures { (did : Option Did) × StepsAt turn.id did × (result ≡ moves_on did) }
+fn step<R: Wait, G: StepGate>(rt: &R, next: NextCell, gate: &G) -> bool
+    ensures { (did : Option Did) × StepsAt next.id did × (result ≡ moves_on did) }
 {
-    let Turn { id, list } = turn;
+    let NextCell { id, list } = next;
     let Some(list) = list else {
         return false;
     };

@@ -5,7 +5,7 @@ ghost use Rattle.runtime_core.specs.Serves.{uid_of};
 ghost use Rattle.runtime_core.specs.Stands.{AreBound};
 ghost use Rattle.runner.specs.Shared.{MayServe, Wakes};
 
-use crate::lists::{Lists, SandboxCells};
+use crate::lists::{CellLists, SandboxCells};
 use crate::service::Host;
 use bpf_verify::Filter;
 use cri_msgs::{Answer, Call, Refusal, Reply, Request};
@@ -15,18 +15,18 @@ use std::sync::{Mutex, Wait};
 
 /// What is known of all uids, and where their cells are.
 #[derive(Drop)]
-pub(crate) struct Node {
+pub(crate) struct Sandboxes {
     pub(crate) registry: Registry,
-    pub(crate) lists: Lists,
+    pub(crate) lists: CellLists,
     alloc: Global,
     ghost bound: { AreBound registry },
 }
 
-impl Node {
-    fn new(alloc: Global, baseline: Option<Filter>) -> Node {
-        Node {
+impl Sandboxes {
+    fn new(alloc: Global, baseline: Option<Filter>) -> Sandboxes {
+        Sandboxes {
             registry: Registry::new(alloc, baseline),
-            lists: Lists::new(alloc),
+            lists: CellLists::new(alloc),
             alloc,
         }
     }
@@ -48,14 +48,14 @@ impl Node {
 /// A runtime that threads share.
 #[derive(Drop)]
 pub struct SharedRuntime {
-    pub(crate) node: Mutex<Node>,
+    pub(crate) sandboxes: Mutex<Sandboxes>,
 }
 
 impl SharedRuntime {
     /// A runtime that knows of nothing, on a node with this filter of its own.
     pub fn new(alloc: Global, baseline: Option<Filter>) -> SharedRuntime {
         SharedRuntime {
-            node: Mutex::new(Node::new(alloc, baseline)),
+            sandboxes: Mutex::new(Sandboxes::new(alloc, baseline)),
         }
     }
 
@@ -64,7 +64,7 @@ impl SharedRuntime {
     pub fn serve<R: Wait>(&self, rt: &R, request: Request, files: FileAnswers) -> Reply
         ensures { MayServe request files result }
     {
-        self.node.lock(rt).serve(rt, request, files)
+        self.sandboxes.lock(rt).serve(rt, request, files)
     }
 }
 
@@ -96,7 +96,7 @@ fn serve<R: Wait>(
     rt: &R,
     alloc: Global,
     registry: &mut Registry,
-    lists: &mut Lists,
+    lists: &mut CellLists,
     request: Request,
     files: FileAnswers,
 ) -> Reply
@@ -136,7 +136,7 @@ fn removes(call: &Call) -> bool {
 fn wake<R: Wait>(
     rt: &R,
     registry: &mut Registry,
-    lists: &mut Lists,
+    lists: &mut CellLists,
     request: Request,
     files: FileAnswers,
 ) -> Reply
@@ -166,7 +166,7 @@ fn remove<R: Wait>(
     rt: &R,
     alloc: Global,
     registry: &mut Registry,
-    lists: &mut Lists,
+    lists: &mut CellLists,
     request: Request,
     files: FileAnswers,
 ) -> Reply

@@ -2,7 +2,7 @@
 use Rattle.std.proofs.Common.{◌-◌, ◌^◌}
 use Rattle.runtime_core.specs.Kept.{home_in}
 use Rattle.runner.specs.Labelled.{Passed, of_share}
-use Rattle.runner.proofs.shared.Node.next_turn.Given as goal
+use Rattle.runner.proofs.shared.Sandboxes.next_cell.Given as goal
 
 abbrev pub invariant-loop-id : goal.invariant-loop-id
 invariant-loop-id l = Passed (of_share l.runner l.runners (home_in l.self.registry.homes)) l.above l.last
