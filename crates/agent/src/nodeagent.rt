@@ -200,6 +200,20 @@ fn run_crew<L: Ledger + Send + Sync, R: Threads + Wait + Clock + Sync>(
     Ok(ended)
 }
 
+// The calls of a runtime beside the agent are told by the agent.
+fn address_of<'a>(line: &NodeagentLine<'a>) -> Address<'a>
+    ensures socket { result.socket ≡ line.now.socket }
+    ensures scripts { result.scripts ≡ line.now.scripts }
+    ensures profiles { result.profiles ≡ line.now.profiles }
+{
+    Address {
+        socket: line.socket,
+        scripts: line.scripts,
+        profiles: line.profiles,
+        verbose: false,
+    }
+}
+
 // The same, with the runtime in threads beside the workers.
 fn run_beside<'a, L: Ledger + Send + Sync, R: Threads + Wait + Clock + Sync>(
     rt: &R,
@@ -211,13 +225,7 @@ fn run_beside<'a, L: Ledger + Send + Sync, R: Threads + Wait + Clock + Sync>(
 ) -> Result<Ended, AgentStop<'a>>
     requires { coordinator.parts ≡ PARTS }
 {
-    let address = Address {
-        socket: line.socket,
-        scripts: line.scripts,
-        profiles: line.profiles,
-        verbose: false,
-    };
-    let site = match Site::open(system, address, baseline) {
+    let site = match Site::open(system, address_of(line), baseline) {
         Ok(site) => site,
         Err(error) => return Err(AgentStop::Server(socket_stop(line.socket, error))),
     };

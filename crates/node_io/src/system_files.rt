@@ -1,9 +1,13 @@
-ghost use Rattle.std.specs.Prelude.{◌≡◌, ◌==◌, ◌≤◌, true, false, Err, IfOk, length, slice_index};
-ghost use Rattle.node_io.specs.System.{climbs, descends};
+ghost use Rattle.std.specs.Prelude.{◌≡◌, ◌==◌, ◌≤◌, Some, None, Err, IfOk, OnErr, is_some, true, length, slice_index};
+ghost use Rattle.std.specs.Option.{option_map};
+ghost use Rattle.std.specs.String.{string_bytes};
+ghost use Rattle.node_io.specs.System.{climbs, descends, opened_in};
 
 use crate::faults::FileFault;
 use crate::files::Files;
 use crate::reading::read_all;
+use std::alloc::AllocError;
+use std::fs::{Metadata, OpenFile};
 use std::io::{self, ErrorKind};
 use std::marker::Model;
 use std::{fs, rt};
@@ -18,18 +22,19 @@ pub struct SystemFiles<'a, R> {
 }
 
 impl<'a, R> Model for SystemFiles<'a, R> {
-    ghost use Rattle.std.specs.Prelude.{is_some};
+    ghost use Rattle.std.specs.Prelude.{option_copied};
     ghost use Rattle.node_io.specs.System.{System};
 
     ghost Value = { System };
 
-    ghost view = { λ s. record { bounded = is_some s.folder; failures = s.failures } };
+    ghost view = { λ s. record { folder = option_copied s.folder; failures = s.failures } };
 }
 
 impl<'a, R: rt::Files + AllocGlobal> SystemFiles<'a, R> {
-    /// Those below a folder: a path that is empty, absolute or has a part `..` leads to none.
+    /// Those below a folder: a path that is empty, absolute or has a part `..` leads to none, and below the empty
+    /// folder none does.
     pub fn within(rt: &'a R, folder: &'a str) -> SystemFiles<'a, R>
-        ensures { result ≡ record { bounded = true; failures = 0 } }
+        ensures { result ≡ record { folder = Some folder.now; failures = 0 } }
     {
         SystemFiles {
             rt,
@@ -40,7 +45,7 @@ impl<'a, R: rt::Files + AllocGlobal> SystemFiles<'a, R> {
 
     /// All of them, by any path, from the folder that the process runs in.
     pub fn anywhere(rt: &'a R) -> SystemFiles<'a, R>
-        ensures { result ≡ record { bounded = false; failures = 0 } }
+        ensures { result ≡ record { folder = None; failures = 0 } }
     {
         SystemFiles {
             rt,
@@ -49,18 +54,29 @@ impl<'a, R: rt::Files + AllocGlobal> SystemFiles<'a, R> {
         }
     }
 
+    // The path that is opened.
+    fn opened(&self, path: &str) -> Result<Option<String>, AllocError>
+        ensures value { IfOk result (λ opened. option_map string_bytes opened ≡ opened_in self.now.folder path.now) }
+        ensures only { OnErr result (is_some (opened_in self.now.folder path.now) ≡ true) }
+    {
+        let alloc = self.rt.alloc();
+        match self.folder {
+            None => Ok(Some(String::from_str(alloc, path)?)),
+            Some(folder) if !folder.is_empty() && descends(path) => {
+                Ok(Some(format!(in alloc; "{folder}/{path}")?))
+            }
+            Some(_) => Ok(None),
+        }
+    }
+
     fn look_up(&self, path: &str, limit: u64) -> Result<Vec<u8>, FileFault>
         ensures within { IfOk result (λ bytes. length bytes.items ≤ limit) }
-        ensures outside { self.now.bounded ≡ true → descends path.now ≡ false → result ≡ Err FileFault.NotFound }
+        ensures outside { opened_in self.now.folder path.now ≡ None → result ≡ Err FileFault.NotFound }
     {
-        let Some(folder) = self.folder else {
-            return read_regular(self.rt, path, limit);
-        };
-        if !descends(path) {
-            return Err(FileFault::NotFound);
+        match self.opened(path)? {
+            Some(opened) => read_regular(self.rt, opened.as_str(), limit),
+            None => Err(FileFault::NotFound),
         }
-        let path = format!(in self.rt.alloc(); "{folder}/{path}")?;
-        read_regular(self.rt, path.as_str(), limit)
     }
 }
 
@@ -95,15 +111,22 @@ fn read_regular<R: rt::Files + AllocGlobal>(
     ensures within { IfOk result (λ bytes. length bytes.items ≤ limit) }
 {
     // A pipe is not opened: that would wait for its writer.
-    let about = fs::metadata(rt, path).map_err(fault_of)?;
-    if !about.is_file() {
-        return Err(FileFault::Failed);
-    }
-    if about.len() > limit {
-        return Err(FileFault::TooLarge);
-    }
+    judge(&fs::metadata(rt, path).map_err(fault_of)?, limit)?;
     let mut file = fs::open(rt, path).map_err(fault_of)?;
+    // Another file may stand at the path by now.
+    judge(&file.metadata().map_err(fault_of)?, limit)?;
     read_all(rt.alloc(), &mut file, limit)
+}
+
+// Whether a file is read.
+fn judge(about: &Metadata, limit: u64) -> Result<(), FileFault> {
+    if !about.is_file() {
+        Err(FileFault::Failed)
+    } else if about.len() > limit {
+        Err(FileFault::TooLarge)
+    } else {
+        Ok(())
+    }
 }
 
 fn fault_of(error: io::Error) -> FileFault {
@@ -115,17 +138,17 @@ fn fault_of(error: io::Error) -> FileFault {
 }
 
 impl<'a, R: rt::Files + AllocGlobal> Files for SystemFiles<'a, R> {
-    ghost use Rattle.std.specs.Prelude.{◌≡◌, ◌<◌, ◌≤◌, true, false, None, Some, Err, IfOk, IfErr, IsSomeAnd, length};
+    ghost use Rattle.std.specs.Prelude.{◌≡◌, ◌<◌, ◌≤◌, None, Some, Err, IfOk, IfErr, IsSomeAnd, length};
     ghost use Rattle.node_io.specs.Counts.{HasRisen};
     ghost use Rattle.node_io.specs.Held.{Tells};
-    ghost use Rattle.node_io.specs.System.{descends};
+    ghost use Rattle.node_io.specs.System.{opened_in};
 
     ghost failed = { λ s. s.failures };
 
     fn read(&mut self, path: &str, limit: u64) -> Result<Vec<u8>, FileFault>
         // No path leads out of the folder.
-        ensures outside { self.old.bounded ≡ true → descends path.now ≡ false → result ≡ Err FileFault.NotFound }
-        ensures bounded { self.new.bounded ≡ self.old.bounded }
+        ensures outside { opened_in self.old.folder path.now ≡ None → result ≡ Err FileFault.NotFound }
+        ensures folder { self.new.folder ≡ self.old.folder }
 
         // What each device promises. What the system holds is not known, so the first three say nothing.
         ensures bytes { IfOk result (λ bytes. Tells None path.now (λ found. found ≡ Some bytes.items)) }

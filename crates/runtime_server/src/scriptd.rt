@@ -1,3 +1,5 @@
+ghost use Rattle.std.specs.Prelude.{◌≡◌};
+
 use crate::engine::start_runners;
 use crate::inputs::baseline_at;
 use crate::site::{Address, Site, accept_all};
@@ -52,7 +54,12 @@ fn run<'a, R: Threads + Wait + Clock + Sync>(
     Ok(serve(rt, system, &site, line.runners)?)
 }
 
-fn address_of<'a>(line: &ScriptdLine<'a>) -> Address<'a> {
+fn address_of<'a>(line: &ScriptdLine<'a>) -> Address<'a>
+    ensures socket { result.socket ≡ line.now.socket }
+    ensures scripts { result.scripts ≡ line.now.scripts }
+    ensures profiles { result.profiles ≡ line.now.profiles }
+    ensures verbose { result.verbose ≡ line.now.verbose }
+{
     Address {
         socket: line.socket,
         scripts: line.scripts,

@@ -1,4 +1,5 @@
 //! A runtime behind its socket: what accepts connections, and what serves them.
+ghost use Rattle.std.specs.Prelude.{◌≡◌, IfOk, Some};
 
 use crate::connections::Connections;
 use crate::engine::{Engine, EngineHost};
@@ -50,7 +51,9 @@ impl<'a> Site<'a> {
         system: &HostRuntime,
         address: Address<'a>,
         baseline: Option<Filter>,
-    ) -> io::Result<Site<'a>> {
+    ) -> io::Result<Site<'a>>
+        ensures { IfOk result (λ site. site.address ≡ address.entry) }
+    {
         let connections = Connections::new(system.alloc())?;
         Ok(Site {
             alloc: system.alloc(),
@@ -95,6 +98,28 @@ impl<R: Wait> Host for ToldHost<'_, R> {
     }
 }
 
+// What a connection is served by: the scripts and the profiles of the address.
+fn service_for<'a, R: Wait>(
+    rt: &'a R,
+    system: &'a HostRuntime,
+    site: &'a Site<'a>,
+    connection: u64,
+) -> Service<SystemFiles<'a, HostRuntime>, SystemFiles<'a, HostRuntime>, ToldHost<'a, R>>
+    ensures scripts { result.scripts.folder ≡ Some site.now.address.scripts.now }
+    ensures profiles { result.profiles.folder ≡ Some site.now.address.profiles.now }
+{
+    Service {
+        scripts: SystemFiles::within(system, site.address.scripts),
+        profiles: SystemFiles::within(system, site.address.profiles),
+        host: ToldHost {
+            system,
+            site,
+            host: site.engine.host(rt),
+            connection,
+        },
+    }
+}
+
 /// Serves a connection to its end.
 fn serve_stream<R: Wait>(
     rt: &R,
@@ -104,16 +129,7 @@ fn serve_stream<R: Wait>(
     connection: u64,
 ) {
     let mut wire = StreamWire::new(stream);
-    let mut service = Service {
-        scripts: SystemFiles::within(system, site.address.scripts),
-        profiles: SystemFiles::within(system, site.address.profiles),
-        host: ToldHost {
-            system,
-            site,
-            host: site.engine.host(rt),
-            connection,
-        },
-    };
+    let mut service = service_for(rt, system, site, connection);
     serve_wire(site.alloc, &mut wire, &mut service);
 }
 
