@@ -1,6 +1,6 @@
 /*
  * Times the machine of libmotchidu beside two other interpreters of classic BPF, on the same filters and
- * calls: nanoseconds for each executed instruction. docs/ARCHITECTURE.md has the table of one machine;
+ * calls: nanoseconds for each executed instruction. docs/BENCHMARKS.md has the table of one machine;
  * only the ratios carry over to another.
  *
  * The rounds are interleaved, so that what slows one slows all, and a time is the median of its rounds.

@@ -2,8 +2,8 @@
 test built, and holds README.md, docs/ and man/ to what is there: each command of README's sessions is run and
 has to print what stands below it, each line that is quoted stands where it is said to, each link and each
 file that is named leads somewhere; each manual page names each command and option that --help prints, and
-each status. tests/run calls it. With programs of another folder (BIN) there is no library, and the session in
-C is left out.
+each status, and its examples run. tests/run calls it. With programs of another folder (BIN) there is no
+library, and the session in C is left out.
 """
 import os
 import re
@@ -141,6 +141,25 @@ def check_page(prefix, program):
     check(f"{program}.1 has each status", told, stated_statuses(crates) | more)
 
 
+def runs(command, how):
+    """Whether a command ends as one that was not refused, or goes on, if it is scriptd's."""
+    try:
+        seconds = 2 if command.startswith("scriptd") else 60
+        ran = subprocess.run(command.split(), capture_output=True, timeout=seconds, **how)
+        return ran.returncode in (0, 5)
+    except subprocess.TimeoutExpired:
+        return command.startswith("scriptd")
+
+
+def check_examples(prefix, program, room):
+    part = text_of(f"man/{program}.1").replace("\\-", "-").partition("\n.SH EXAMPLES\n")[2].partition("\n.SH ")[0]
+    examples = [line for block in re.findall(r"^\.nf\n(.*?)^\.fi$", part, re.M | re.S) for line in block.splitlines()]
+    check(f"{program}.1 has two examples", len(examples) >= 2)
+    how = {"cwd": f"{room}/examples", "env": environment(prefix)}
+    for example in examples:
+        check(f"{program}.1: {example}", runs(example, how))
+
+
 def checked(programs):
     """How many things are as they should be, and how many not, by the programs of this folder."""
     with tempfile.TemporaryDirectory(prefix="motchidu-pages-") as room:
@@ -153,4 +172,5 @@ def checked(programs):
         check_sessions(readme, prefix, room)
         for program in STATUSES:
             check_page(prefix, program)
+            check_examples(prefix, program, room)
     return COUNTS["passed"], COUNTS["failed"]
