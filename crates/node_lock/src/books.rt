@@ -1,6 +1,5 @@
-ghost use Rattle.std.specs.Prelude.{◌≡◌, ◌↔◌, ◌+◌, ◌<◌, ◌≤◌, ◌++◌, [], ◌∷◌, ◌&&◌, not, true, false, drop, length, nat_le, IfOk, OnOk, OnErr, IsOk};
-ghost use Rattle.std.specs.List.{list_all};
-ghost use Rattle.worker_core.specs.Kept.{after_event, answer_of, fresh_node, gives_request};
+ghost use Rattle.std.specs.Prelude.{◌≡◌, ◌↔◌, ◌+◌, ◌<◌, ◌≤◌, ◌++◌, [], ◌∷◌, true, false, length, nat_le, IfOk, OnOk, OnErr, IsOk};
+ghost use Rattle.worker_core.specs.Kept.{after_event, answer_of, fresh_node};
 ghost use Rattle.worker_core.specs.Slots.{held_in};
 ghost use Rattle.node_lock.specs.declared.limits.TheConstants.{MAX_ENTRIES};
 ghost use Rattle.node_lock.specs.Books.{needed, worker_of};
@@ -182,14 +181,6 @@ impl<L: Ledger> Book<L> {
         self.closed
     }
 
-    /// Whether a worker that was given nothing has to wait on: the book is open, and behind this many
-    /// entries there are claims alone.
-    pub fn is_quiet(&self, since: usize) -> bool
-        ensures { result ≡ (not self.now.closed && list_all (λ e. gives_request e.event) (drop since self.now.history)) }
-    {
-        !self.closed && are_claims(self.history.as_slice(), since)
-    }
-
     /// How many entries there are. That is the number of the tally's receipts too, where it has all parts
     /// of the ledger. Nothing changes.
     pub fn entries(&mut self, tally: &mut Tally<L>) -> u64
@@ -201,14 +192,4 @@ impl<L: Ledger> Book<L> {
         tally.counted(&mut self.count);
         self.history.len() as u64
     }
-}
-
-// Whether all entries behind these are claims.
-fn are_claims(history: &[Entry], since: usize) -> bool
-    ensures { result ≡ list_all (λ e. gives_request e.event) (drop since history.now) }
-{
-    history
-        .iter()
-        .skip(since)
-        .all(|entry| entry.event.is_claim())
 }

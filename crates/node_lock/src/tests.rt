@@ -154,32 +154,6 @@ fn tallies(rt: HostRuntime) -> Result<(), Fail> {
     Ok(())
 }
 
-// Whether a worker waits that was told nothing as entry 1: while others claim, once the time was told, of one
-// that was told nothing behind that, and once the book is closed.
-fn waits<L: Ledger>(alloc: Global, blank: Blank) -> Result<[bool; 4], PodFault>
-    requires name { blank.name ≡ L.name }
-    requires parts { blank.parts ≡ L.parts }
-    requires some { 0 < blank.parts }
-{
-    let mut play: Play<L> = played(alloc, settings(false), "c1 c2", blank)?;
-    let others = play.book.is_quiet(1);
-    play.plays("t1 c2")?;
-    let told = play.book.is_quiet(1);
-    let behind = play.book.is_quiet(3);
-    play.book.close();
-    Ok([others, told, behind, play.book.is_quiet(3)])
-}
-
-fn waiting(alloc: Global) -> Result<[bool; 4], PodFault> {
-    waits::<Brand>(alloc, Blank::new(PARTS))
-}
-
-#[test]
-fn quiet(rt: HostRuntime) -> Result<(), Fail> {
-    assert_eq!(rt; waiting(rt.alloc())?, [true, false, true, false]);
-    Ok(())
-}
-
 #[test]
 fn faults(rt: HostRuntime) -> Result<(), Fail> {
     let rows = [

@@ -54,6 +54,12 @@ fn record_above<L: Ledger>(
     book.record(share, worker, event)
 }
 
+// Whether the worker has to wait: the book is open, and a claim would be given nothing.
+fn has_nothing<L: Ledger>(book: &Book<L>, worker: u32) -> bool {
+    let claim = AgentEvent::Claim(worker);
+    !book.is_closed() && matches!(book.node().answer(&claim), Answer::Nothing)
+}
+
 impl<L: Ledger> Shared<L> {
     /// A book that is shared from now on.
     pub fn new(book: Book<L>) -> Shared<L> {
@@ -107,8 +113,8 @@ impl<L: Ledger> Shared<L> {
         recorded
     }
 
-    /// Claims for the worker. Where nothing is due it waits until worker 0 recorded something or a worker ended.
-    /// None where the book is closed, or takes no claim.
+    /// Waits until a request is due, and claims it for the worker. None where the book is closed, or takes no claim.
+    /// A worker that waits makes no entry.
     pub(crate) fn claim<R: Wait>(
         &self,
         rt: &R,
@@ -124,19 +130,15 @@ impl<L: Ledger> Shared<L> {
         ensures uncounted { IfNone result (share.new.amount ≡ share.old.amount) }
         ensures parts { share.new.parts ≡ share.old.parts }
     {
-        let mut guarded = self.guarded.lock(rt);
+        let guarded = self.guarded.lock(rt);
+        let mut guarded = self
+            .due
+            .wait_while(rt, guarded, |guarded| has_nothing(&guarded.book, worker));
         if guarded.book.is_closed() {
             return None;
         }
         let event = AgentEvent::Claim(worker);
-        let claim = record_above(&mut guarded.book, share, worker, event, last).ok()?;
-        if matches!(&claim.entry().answer, Answer::Nothing) {
-            let since = guarded.book.history().len();
-            let _guarded = self
-                .due
-                .wait_while(rt, guarded, |guarded| guarded.book.is_quiet(since));
-        }
-        Some(claim)
+        record_above(&mut guarded.book, share, worker, event, last).ok()
     }
 
     /// A worker is about to begin.
