@@ -2,8 +2,10 @@
 test built, and holds README.md, docs/ and man/ to what is there: each command of README's sessions is run and
 has to print what stands below it, each line that is quoted stands where it is said to, each link and each
 file that is named leads somewhere; each manual page names each command and option that --help prints, and
-each status, and its examples run. tests/run calls it. With programs of another folder (BIN) there is no
-library, and the session in C is left out.
+each status, and its examples run; where --help tells a range or a default of an option, the page tells the
+same, a case of tests/ tries both ends of the range, and the program takes these and refuses what is next to
+them. tests/run calls it. With programs of another folder (BIN) there is no library, and the session in C is
+left out.
 """
 import os
 import re
@@ -132,6 +134,7 @@ def check_page(prefix, program):
         if name != "help":
             check(f"{program}.1 has {name}", bool(re.search(rf"^\.BI {name} ", plain, re.M)))
             said += help_of(prefix, program, name)
+    check_numbers(program, said, plain, prefix)
     options = sorted(set(re.findall(r"--[a-z][a-z-]*", said)))
     check(f"{program} --help names options", "--help" in options)
     for option in options:
@@ -139,6 +142,58 @@ def check_page(prefix, program):
     crates, more = STATUSES[program]
     told = set(map(int, re.findall(r"^\.B ([0-9])$", page, re.M)))
     check(f"{program}.1 has each status", told, stated_statuses(crates) | more)
+
+
+# Command lines that are refused once their numbers are read.
+LINES = {
+    "scriptd": ["scriptd", "--socket", "none/s"],
+    "nodeagent": ["nodeagent", "--socket", "s", "none.json"],
+    "seccheck": ["seccheck", "run", "none.bpf", "0"],
+}
+
+
+def told_in_help(said):
+    """The ranges and defaults of options that --help tells."""
+    found = {}
+    for option, text in re.findall(r"^ +(--[a-z-]+)(?: <[A-Z]+>)? +(.*)$", said, re.M):
+        limits = re.search(r"(\d+) (?:to|or) (\d+)", text)
+        default = re.search(r"\[default(?: with --settle)?: (\S+)\]", text)
+        if limits or default:
+            found[option] = (limits and limits.groups(), default and default[1])
+    return found
+
+
+def told_in_page(plain, option):
+    """The range and the default that a manual page tells of an option."""
+    part = re.search(rf"^\.(?:BI|B) {option}\b.*\n((?:(?!\.TP|\.SH).*\n)*)", plain, re.M)
+    text = " ".join(part[1].split()) if part else ""
+    limits = re.search(r"(\d+) (?:to|or) (\d+)", text)
+    default = re.search(r"(?:By default|\.B --settle) (\d+|the folder)", text)
+    return limits and limits.groups(), default and default[1].replace("the folder", ".")
+
+
+def check_numbers(program, said, plain, prefix):
+    for option, (limits, default) in told_in_help(said).items():
+        check(f"{program}.1 tells of {option} what --help does", told_in_page(plain, option), (limits, default))
+        if limits:
+            check_ends(program, option, *map(int, limits), prefix)
+
+
+def check_ends(program, option, least, most, prefix):
+    """The program takes both ends, and refuses what is next to them; cases try that too."""
+    cases = "".join(text_of(f"tests/{name}") for name in case_names())
+    for word, is_taken in ((least, True), (most, True), (least - 1, False), (most + 1, False)):
+        line = [*LINES[program], option, str(word)]
+        ran = subprocess.run([f"{prefix}/bin/{line[0]}", *line[1:]], capture_output=True, text=True)
+        check(f"{program} {option} {word}", "BadNumber" not in ran.stderr, is_taken)
+        word = rf"{option}[ =](?:{word}|{hex(word)})\b"
+        check(f"a case has {program} with {word}", bool(re.search(rf"{program} .*{word}", cases)))
+
+
+def case_names():
+    at = f"{ROOT}/tests"
+    return [f"{folder}/{name}" for folder in sorted(os.listdir(at)) if os.path.isdir(f"{at}/{folder}")
+            for name in sorted(os.listdir(f"{at}/{folder}")) if name.endswith(".case")]
 
 
 def runs(command, how):

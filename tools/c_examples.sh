@@ -42,6 +42,19 @@ count c/judge $?
 build every_status -I$library $library/libmotchidu.a -Wl,--wrap=malloc && "$out/every_status"
 count c/every_status $?
 
+# The second library is the first one with other names for its exports, so that any other name which it shows
+# stands twice in the program.
+if lacks objcopy; then
+  echo "examples/c/two_libraries: skipped, there is no objcopy"
+else
+  renamed=$(sed -n -E 's/^uint32_t motchidu_([a-z_]+)\(.*/--redefine-sym motchidu_\1=other_\1/p' include/motchidu.h)
+  # shellcheck disable=SC2086
+  objcopy $renamed $library/libmotchidu.a "$out/libother.a" \
+    && build two_libraries -I$library $library/libmotchidu.a -Wl,--whole-archive "$out/libother.a" -Wl,--no-whole-archive \
+    && "$out/two_libraries"
+  count c/two_libraries $?
+fi
+
 build small_stacks "${shared[@]}" -pthread && "$out/small_stacks"
 count c/small_stacks $?
 

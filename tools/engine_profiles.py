@@ -21,19 +21,42 @@ CONTAINERD = f"{SOURCES}/containerd/containerd/contrib/seccomp/seccomp_default.g
 # The CLONE_NEW.. flags of linux/sched.h that containerd's entry for clone is written with.
 NAMESPACES = {"NS": 0x20000, "CGROUP": 0x2000000, "UTS": 0x4000000, "IPC": 0x8000000, "USER": 0x10000000,
               "PID": 0x20000000, "NET": 0x40000000}
-OPERATORS = {"OpEqualTo": "SCMP_CMP_EQ", "OpMaskedEqual": "SCMP_CMP_MASKED_EQ"}
+# Families of sockets by which containerd's entries for socket are written since 1.7 (linux/socket.h).
+FAMILIES = {"AF_ALG": 38, "AF_VSOCK": 40}
+OPERATORS = {"OpEqualTo": "SCMP_CMP_EQ", "OpNotEqual": "SCMP_CMP_NE", "OpMaskedEqual": "SCMP_CMP_MASKED_EQ",
+             "OpLessThan": "SCMP_CMP_LT", "OpLessEqual": "SCMP_CMP_LE", "OpGreaterThan": "SCMP_CMP_GT",
+             "OpGreaterEqual": "SCMP_CMP_GE"}
 ENOSYS = 38
 
 
 def number(text):
+    """What a number is, or names of flags with `|` between them."""
     flags = re.findall(r"CLONE_NEW(\w+)", text)
-    return sum(NAMESPACES[flag] for flag in flags) if flags else int(text, 0)
+    if flags:
+        return sum(NAMESPACES[flag] for flag in flags)
+    name = text.strip().removeprefix("unix.").removeprefix("syscall.")
+    return FAMILIES[name] if name in FAMILIES else int(name, 0)
+
+
+def block(text):
+    """What stands between the first brace and the one that closes it."""
+    depth, begun = 0, text.index("{")
+    for at, letter in enumerate(text[begun:], begun):
+        depth += (letter == "{") - (letter == "}")
+        if depth == 0:
+            return text[begun + 1:at]
+    raise ValueError("a brace is not closed")
 
 
 def arguments(text):
-    found = re.findall(r"Index:\s*(\d+),\s*Value:\s*([^,]+),(?:\s*ValueTwo:\s*(\d+),)?\s*Op:\s*specs\.(\w+)", text)
-    return [{"index": int(index), "value": number(value), "valueTwo": int(two or 0), "op": OPERATORS[op]}
-            for index, value, two, op in found]
+    """The conditions of an entry, whatever the order of their fields."""
+    found = []
+    for inner in re.findall(r"\{([^{}]*\bOp:[^{}]*)\}", text):
+        fields = dict(re.findall(r"(\w+):\s*([^,]+?)\s*(?:,|$)", inner.strip()))
+        found.append({"index": int(fields["Index"]), "value": number(fields["Value"]),
+                      "valueTwo": number(fields.get("ValueTwo", "0")),
+                      "op": OPERATORS[fields["Op"].removeprefix("specs.")]})
+    return found
 
 
 def entries(text):
@@ -48,11 +71,14 @@ def entries(text):
 
 
 def containerd(source):
-    by_arch, others = source.split("switch runtime.GOARCH", 3)[2:]
-    always = source[source.index("func DefaultProfile"):source.index("// include by arch")]
-    amd64 = by_arch[by_arch.index('case "amd64"'):by_arch.index('case "386"')]
-    unprivileged = others[others.index("default:"):]
-    syscalls = [entry for part in (always, amd64, unprivileged) for entry in entries(part)]
+    """Its profile has entries for all, a switch over architectures with entries for some, and behind that entries
+    for containers without capabilities, in a switch over architectures whose default is x86-64's too."""
+    source = source[source.index("func DefaultProfile"):]
+    places = [it.start() for it in re.finditer(r"switch \w+\.GOARCH", source)]
+    by_arch, others = block(source[places[0]:]), source[places[-1]:]
+    amd64 = re.search(r'^\s*case "amd64":(.*?)(?=^\s*(?:case |default:)|\Z)', by_arch, re.S | re.M)[1]
+    parts = (source[:places[0]], amd64, others[others.index("default:"):])
+    syscalls = [entry for part in parts for entry in entries(part)]
     return json.dumps({"defaultAction": "SCMP_ACT_ERRNO", "syscalls": syscalls})
 
 

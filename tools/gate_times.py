@@ -69,7 +69,8 @@ def watch(command, crates):
             part = part_of(words)
             if part:
                 spent[pid, part] = max(spent.get((pid, part), 0), seconds_of(pid))
-                name, what = part[0].removesuffix("_tests"), part[1]
+                what = part[1]
+                name = part[0] if part[0] in crates else part[0].removesuffix("_tests")
                 if name not in began[what]:
                     began[what].append(name)
                     place = f"{len(began[what])} of {all_of[what]} crates"

@@ -18,23 +18,26 @@ static void expect(const char *name, uint32_t found, uint32_t want) {
     wrong++;
 }
 
-/* A profile with as many objects in one another as a JSON text may have, and one that has one more. */
-static uint32_t compiled(int depth) {
+/* A profile with as many objects in one another as a JSON text may have, and one that has one more. In the
+ * innermost stands a number, whose digits may be more than a float has. */
+static uint32_t compiled(int depth, const char *number) {
     static char text[2048];
     static uint8_t filter[32768];
     size_t length;
     strcpy(text, "{\"defaultAction\":\"SCMP_ACT_ALLOW\",\"more\":");
     for (int i = 0; i < depth; i++)
         strcat(text, "{\"a\":");
-    strcat(text, "1");
+    strcat(text, number);
     for (int i = 0; i <= depth; i++)
         strcat(text, "}");
     return motchidu_compile((const uint8_t *)text, strlen(text), filter, sizeof filter, &length);
 }
 
 static void *compile_both(void *unused) {
-    expect("the deepest profile", compiled(DEPTH), MOTCHIDU_ACCEPTED);
-    expect("a deeper profile", compiled(DEPTH + 1), MOTCHIDU_NOT_JSON);
+    static const char long_number[] = "123456789012345678901234567890.123456789012345678901234567890e-20";
+    expect("the deepest profile", compiled(DEPTH, "1"), MOTCHIDU_ACCEPTED);
+    expect("a long number in it", compiled(DEPTH, long_number), MOTCHIDU_ACCEPTED);
+    expect("a deeper profile", compiled(DEPTH + 1, "1"), MOTCHIDU_NOT_JSON);
     return unused;
 }
 

@@ -1,10 +1,12 @@
 /* Built as a shared library and preloaded, it writes each call by which a program makes, moves or removes a
  * file or a socket to the file that the variable CALLS names, and its answer.
  *
- * FAIL_ACCEPT=N lets the first N calls of accept4 fail for want of descriptors. */
+ * FAIL_ACCEPT=N lets the first N calls of accept4 fail for want of descriptors, FAIL_THREAD=N the N-th and each
+ * later call that starts a thread. SLOW_UNLINK=N has each unlink wait for N seconds first. */
 #define _GNU_SOURCE
 #include <dlfcn.h>
 #include <errno.h>
+#include <pthread.h>
 #include <stdio.h>
 #include <stdlib.h>
 #include <sys/socket.h>
@@ -44,7 +46,12 @@ int link(const char *from, const char *to)
   return told(NEXT(link)(from, to), "link", from, text);
 }
 
-int unlink(const char *path) { return told(NEXT(unlink)(path), "unlink", path, ""); }
+int unlink(const char *path)
+{
+  if (getenv("SLOW_UNLINK"))
+    sleep(atoi(getenv("SLOW_UNLINK")));
+  return told(NEXT(unlink)(path), "unlink", path, "");
+}
 
 int rmdir(const char *path) { return told(NEXT(rmdir)(path), "rmdir", path, ""); }
 
@@ -65,4 +72,13 @@ int accept4(int socket, struct sockaddr *address, socklen_t *length, int flags)
     return -1;
   }
   return NEXT(accept4)(socket, address, length, flags);
+}
+
+int pthread_create(pthread_t *thread, const pthread_attr_t *how, void *(*work)(void *), void *with)
+{
+  static int begun;
+  int failing = getenv("FAIL_THREAD") ? atoi(getenv("FAIL_THREAD")) : 0;
+  if (++begun >= failing && failing)
+    return EAGAIN;
+  return NEXT(pthread_create)(thread, how, work, with);
 }

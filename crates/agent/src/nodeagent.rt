@@ -13,6 +13,7 @@ use bpf_verify::Filter;
 use command_line::{NodeagentLine, nodeagent_line};
 use cri_msgs::Version;
 use node_lock::{Book, BookFault, MAX_ENTRIES, PARTS};
+use runner::Baseline;
 use runtime_server::{
     Address, ServerStop, Site, accept_all, baseline_at, socket_stop, start_runners,
 };
@@ -125,9 +126,10 @@ fn run_line<'a, L: Ledger + Send + Sync, R: Threads + Wait + Clock + Sync>(
         admit(rt, system, &shared, &mut coordinator, path)?;
     }
     let ended = if line.with_runtime {
-        run_beside(rt, system, line, baseline, &shared, coordinator)?
+        run_beside::<L, Brand, R>(rt, system, line, baseline, &shared, coordinator)?
     } else {
-        run_crew(rt, system, line, &shared, &Beside::Other, coordinator)?
+        let other: Beside<'_, Brand, R> = Beside::Other;
+        run_crew(rt, system, line, &shared, &other, coordinator)?
     };
     run_end(system, line, ended, &shared.into_book())
 }
@@ -175,12 +177,12 @@ fn peers<'p, L: Ledger>(
 }
 
 // Works until there is nothing left to wait for.
-fn run_crew<L: Ledger + Send + Sync, R: Threads + Wait + Clock + Sync>(
+fn run_crew<L: Ledger + Send + Sync, B: Baseline + Send + Sync, R: Threads + Wait + Clock + Sync>(
     rt: &R,
     system: &HostRuntime,
     line: &NodeagentLine<'_>,
     shared: &Shared<L>,
-    beside: &Beside<'_, R>,
+    beside: &Beside<'_, B, R>,
     coordinator: Coordinator<L>,
 ) -> Result<Ended, AllocError>
     requires { coordinator.parts ≡ PARTS }
@@ -215,7 +217,12 @@ fn address_of<'a>(line: &NodeagentLine<'a>) -> Address<'a>
 }
 
 // The same, with the runtime in threads beside the workers.
-fn run_beside<'a, L: Ledger + Send + Sync, R: Threads + Wait + Clock + Sync>(
+fn run_beside<
+    'a,
+    L: Ledger + Send + Sync,
+    B: Baseline + Send + Sync,
+    R: Threads + Wait + Clock + Sync,
+>(
     rt: &R,
     system: &HostRuntime,
     line: &NodeagentLine<'a>,
@@ -223,20 +230,21 @@ fn run_beside<'a, L: Ledger + Send + Sync, R: Threads + Wait + Clock + Sync>(
     shared: &Shared<L>,
     coordinator: Coordinator<L>,
 ) -> Result<Ended, AgentStop<'a>>
-    requires { coordinator.parts ≡ PARTS }
+    requires parts { coordinator.parts ≡ PARTS }
+    requires own { baseline ≡ B.filter }
 {
-    let site = match Site::open(system, address_of(line), baseline) {
+    let site = match Site::<B>::open(system, address_of(line), baseline) {
         Ok(site) => site,
         Err(error) => return Err(AgentStop::Server(socket_stop(line.socket, error))),
     };
     Ok(run_at(rt, system, line, &site, shared, coordinator)?)
 }
 
-fn run_at<L: Ledger + Send + Sync, R: Threads + Wait + Clock + Sync>(
+fn run_at<L: Ledger + Send + Sync, B: Baseline + Send + Sync, R: Threads + Wait + Clock + Sync>(
     rt: &R,
     system: &HostRuntime,
     line: &NodeagentLine<'_>,
-    site: &Site<'_>,
+    site: &Site<'_, B>,
     shared: &Shared<L>,
     coordinator: Coordinator<L>,
 ) -> Result<Ended, AllocError>
@@ -265,11 +273,11 @@ fn run_at<L: Ledger + Send + Sync, R: Threads + Wait + Clock + Sync>(
 }
 
 // Starts the runners, and what accepts connections.
-fn start_site<'s, 'e, R: Threads + Wait + Clock + Sync>(
+fn start_site<'s, 'e, B: Baseline + Send + Sync, R: Threads + Wait + Clock + Sync>(
     scope: &'s Scope<'s, &'e ()>,
     rt: &'e R,
     system: &'e HostRuntime,
-    site: &'e Site<'e>,
+    site: &'e Site<'e, B>,
 ) -> Result<(), AllocError> {
     start_runners(scope, rt, &site.engine, RUNNERS)?;
     scope.spawn(move || accept_all(scope, rt, system, site))?;

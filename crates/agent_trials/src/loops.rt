@@ -3,13 +3,13 @@ ghost use Rattle.std.specs.Prelude.{◌≡◌, ◌≤◌, length};
 ghost use Rattle.node_io.specs.Counts.{HasRisen};
 ghost use Rattle.cri_frames.specs.Frames.{IsLength};
 
-use bpf_verify::Filter;
 use cri_frames::{Feed, FeedFault, Lost, call_over, frame_of};
 use cri_msgs::{Reply, Request, Version};
 use node_io::{FileFault, Files, MemoryFiles, MemoryWire, Wire, WireFault};
 use runner::{Service, serve_wire};
 use runtime_server::{Engine, EngineHost};
 use std::alloc::{AllocError, Global};
+use std::marker::Brand;
 use std::sync::atomic::{AtomicU64, Ordering};
 use std::sync::{Mutex, Wait};
 use worker_crew::{Peer, Quiet};
@@ -18,7 +18,7 @@ use worker_crew::{Peer, Quiet};
 #[derive(Drop)]
 pub(crate) struct Loop {
     alloc: Global,
-    pub(crate) engine: Engine,
+    pub(crate) engine: Engine<Brand>,
     scripts: Mutex<MemoryFiles>,
     profiles: Mutex<MemoryFiles>,
     moves: AtomicU64,
@@ -28,16 +28,11 @@ pub(crate) struct Loop {
 }
 
 impl Loop {
-    /// A runtime without containers, on a node with this filter of its own. No move fails.
-    pub(crate) fn new(
-        alloc: Global,
-        baseline: Option<Filter>,
-        scripts: MemoryFiles,
-        profiles: MemoryFiles,
-    ) -> Loop {
+    /// A runtime without containers, on a node without a filter of its own. No move fails.
+    pub(crate) fn new(alloc: Global, scripts: MemoryFiles, profiles: MemoryFiles) -> Loop {
         Loop {
             alloc,
-            engine: Engine::new(alloc, baseline),
+            engine: Engine::new(alloc, None),
             scripts: Mutex::new(scripts),
             profiles: Mutex::new(profiles),
             moves: AtomicU64::new(0),
@@ -152,7 +147,7 @@ impl<'a, R: Wait> LoopWire<'a, R> {
         Vec::from_slice(alloc, wire.written())
     }
 
-    fn service(&self) -> Service<SharedFiles<'a, R>, SharedFiles<'a, R>, EngineHost<'a, R>> {
+    fn service(&self) -> Service<SharedFiles<'a, R>, SharedFiles<'a, R>, EngineHost<'a, Brand, R>> {
         Service {
             scripts: self.shared_files(&self.runtime.scripts),
             profiles: self.shared_files(&self.runtime.profiles),

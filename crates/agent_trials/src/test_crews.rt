@@ -107,7 +107,7 @@ pub(crate) fn runtime(
 ) -> Result<Loop, AllocError> {
     let scripts = files(alloc, SCRIPTS, script)?;
     let profiles = files(alloc, PROFILES, profile)?;
-    let runtime = Loop::new(alloc, None, scripts, profiles);
+    let runtime = Loop::new(alloc, scripts, profiles);
     runtime.fail_call(failing);
     Ok(runtime)
 }

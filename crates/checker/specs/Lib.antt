@@ -1,5 +1,6 @@
 pub mod ArrowText
 pub mod CallWords
+pub mod Compared
 pub mod LineText
 pub mod PickText
 pub mod PickedText

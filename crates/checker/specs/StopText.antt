@@ -8,8 +8,9 @@ use Rattle.oci_profile.specs.Faults.{fault_text as profile_fault_text}
 use Rattle.script.specs.FaultText.{fault_text as script_fault_text}
 use Rattle.verdict.specs.FaultText.{fault_text as stack_fault_text}
 use Rattle.node_io.specs.FaultText.{fault_text as file_fault_text}
+use Rattle.checker.specs.Compared.{difference_text, reason_of}
 use Rattle.checker.specs.declared.stop.Stop.{Stop}
-use Rattle.checker.specs.declared.stop.Stop.TheVariants.{Refused, Profile, Compile, Manifest, Script, StackFilter, Stack, CommandLine, BadNumber, File, Unwritten, Memory}
+use Rattle.checker.specs.declared.stop.Stop.TheVariants.{Refused, Profile, Compile, Manifest, Script, StackFilter, Stack, Differ, Undecided, CommandLine, BadNumber, File, Unwritten, Memory}
 
 abbrev pub stop_text : Stop → Option (List ℕ)
 stop_text (Refused refusal) = Some (codes "refused " ++ refusal_text refusal ++ codes "\n")
@@ -19,6 +20,8 @@ stop_text (Manifest fault) = Some (codes "refused " ++ pod_fault_text fault ++ c
 stop_text (Script fault) = Some (codes "refused script " ++ script_fault_text fault ++ codes "\n")
 stop_text (StackFilter refusal) = Some (codes "refused filter " ++ refusal_text refusal ++ codes "\n")
 stop_text (Stack fault) = Some (codes "refused filter " ++ stack_fault_text fault ++ codes "\n")
+stop_text (Differ difference) = Some (difference_text difference ++ codes "\n")
+stop_text (Undecided doubt) = Some (codes "undecided: " ++ reason_of doubt ++ codes "\n")
 stop_text (CommandLine error) = None
 stop_text (BadNumber word) = Some (codes "seccheck: " ++ word.now ++ codes ": BadNumber\n")
 stop_text (File path fault) = Some (codes "seccheck: " ++ path.now ++ codes ": " ++ file_fault_text fault ++ codes "\n")

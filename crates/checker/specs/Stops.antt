@@ -67,7 +67,7 @@ IsOfFile path file.Memory stop = stop ≡ why.Memory
 IsOfFile path fault (why.File word told) = (word.now ≡ path) × (told ≡ fault)
 IsOfFile path fault stop = ⊥
 
--- input refused 1; command line refused 2; a file that can't be read, and what can't be written 3; want of
+-- input refused, and filters that differ or may differ 1; command line refused 2; a file that can't be read, and what can't be written 3; want of
 -- memory 4
 abbrev pub status_of : Stop → ℕ
 status_of (why.Refused refusal) = 1
@@ -77,13 +77,15 @@ status_of (why.Manifest fault) = 1
 status_of (why.Script fault) = 1
 status_of (why.StackFilter refusal) = 1
 status_of (why.Stack fault) = 1
+status_of (why.Differ difference) = 1
+status_of (why.Undecided doubt) = 1
 status_of (why.CommandLine error) = 2
 status_of (why.BadNumber word) = 2
 status_of (why.File path fault) = 3
 status_of why.Unwritten = 3
 status_of why.Memory = 4
 
--- that input is refused is the program's answer
+-- that input is refused, or differs, is the program's answer
 abbrev pub is_refusal : Stop → Bool
 is_refusal (why.Refused refusal) = true
 is_refusal (why.Profile fault) = true
@@ -92,6 +94,8 @@ is_refusal (why.Manifest fault) = true
 is_refusal (why.Script fault) = true
 is_refusal (why.StackFilter refusal) = true
 is_refusal (why.Stack fault) = true
+is_refusal (why.Differ difference) = true
+is_refusal (why.Undecided doubt) = true
 is_refusal (why.CommandLine error) = false
 is_refusal (why.BadNumber word) = false
 is_refusal (why.File path fault) = false

@@ -1,12 +1,13 @@
-//! What `seccheck` does: compiles profiles, judges calls by filters, shows filters, plays scripts
-//! under them, and picks the profiles of pods.
+//! What `seccheck` does: compiles profiles, judges calls by filters, shows and compares filters, plays
+//! scripts under them, and picks the profiles of pods.
 //!
 //! The functions are generic over the runtime and over the writers for standard output and standard
-//! error. What is printed is made by functions of `line`, `show` and `stop`, whose texts stand in
+//! error. What is printed is made by functions of `line`, `show`, `compared` and `stop`, whose texts stand in
 //! `specs/`. `playing` plays the cell of a script to its end; it prints nothing.
 #![tactic(auto)]
 
 mod call_words;
+mod compared;
 mod file;
 mod judging;
 mod laws;

@@ -1,3 +1,4 @@
+use crate::compared::{BUDGET, is_profile, same_line, told};
 use crate::file::{MAX_FILE_BYTES, write_file};
 use crate::judging::judge;
 use crate::line::{accepted, compiled, judged_line, longest, outcome_lines};
@@ -6,6 +7,7 @@ use crate::playing::play;
 use crate::show::code_lines;
 use crate::stop::{Stop, stop_at};
 use crate::words::{attempt_at, call_at, command, word_at};
+use bpf_compare::{Scope, compare};
 use bpf_verify::{Filter, Refusal, filter_of};
 use call_data::SysCall;
 use clap::error::ErrorKind;
@@ -15,8 +17,8 @@ use std::io::{self, Write};
 use std::rt;
 use verdict::Stack;
 
-/// The program `seccheck`: compiles profiles, looks at filters, runs them, plays scripts under them, and
-/// picks the profiles of pods. `words` are the command line's, the program's name first. The answer is
+/// The program `seccheck`: compiles profiles, looks at filters, runs and compares them, plays scripts under
+/// them, and picks the profiles of pods. `words` are the command line's, the program's name first. The answer is
 /// the program's status: 0 done, 1 input refused, 2 command line refused, 3 file fault, 4 out of memory.
 /// What can't be written counts as a file fault.
 pub fn seccheck_run<R: rt::Files + AllocGlobal, O: Write, E: Write>(
@@ -65,6 +67,14 @@ fn text_of<'a, R: rt::Files + AllocGlobal>(
         Some(("verify", matches)) => verify_text(rt, word_at(matches, "FILTER")),
         Some(("budget", matches)) => budget_text(rt, word_at(matches, "FILTER")),
         Some(("show", matches)) => show_text(rt, word_at(matches, "FILTER")),
+        Some(("compare", matches)) => {
+            let scope = if matches.get_flag("native") {
+                Scope::NativeCalls
+            } else {
+                Scope::EveryCall
+            };
+            compare_text(rt, word_at(matches, "A"), word_at(matches, "B"), scope)
+        }
         Some(("play", matches)) => {
             let attempt = attempt_at(matches).map_err(Stop::BadNumber)?;
             let filters = matches.get_strs("FILTER").unwrap_or(&[]);
@@ -125,6 +135,19 @@ fn run_text<'a, R: rt::Files + AllocGlobal>(
     Ok(judged_line(rt.alloc(), &judge(&filter, &call))?)
 }
 
+/// That the filters of two files are the same on the calls that are asked about.
+fn compare_text<'a, R: rt::Files + AllocGlobal>(
+    rt: &R,
+    first: &'a str,
+    second: &'a str,
+    scope: Scope,
+) -> Result<String, Stop<'a>> {
+    let first = filter_or_profile_at(rt, first)?;
+    let second = filter_or_profile_at(rt, second)?;
+    told(compare(rt.alloc(), &first, &second, scope, BUDGET)?)?;
+    Ok(same_line(rt.alloc(), scope)?)
+}
+
 /// The record of a script that is played under the filters, and the code with which it ends.
 fn play_text<'a, R: rt::Files + AllocGlobal>(
     rt: &R,
@@ -168,6 +191,20 @@ fn stack_at<'a, R: rt::Files + AllocGlobal>(rt: &R, paths: &[&'a str]) -> Result
 fn filter_at<'a, R: rt::Files + AllocGlobal>(rt: &R, path: &'a str) -> Result<Filter, Stop<'a>> {
     let bytes = bytes_at(rt, path)?;
     Ok(filter_of(rt.alloc(), &bytes)?)
+}
+
+/// The filter in a file, or that of the profile in it.
+fn filter_or_profile_at<'a, R: rt::Files + AllocGlobal>(
+    rt: &R,
+    path: &'a str,
+) -> Result<Filter, Stop<'a>> {
+    let bytes = bytes_at(rt, path)?;
+    if is_profile(&bytes) {
+        let profile = oci_profile::read(rt.alloc(), &bytes)?;
+        Ok(compile(rt.alloc(), &profile)?)
+    } else {
+        Ok(filter_of(rt.alloc(), &bytes)?)
+    }
 }
 
 /// The bytes of a file.

@@ -1,6 +1,8 @@
 ghost use Rattle.checker.specs.Stops.{IsOfFile};
 
+use crate::compared::{Difference, reason};
 use bpf_code::CodeFault;
+use bpf_compare::Doubt;
 use bpf_verify::{Filter, Refusal};
 use compile::CompileFault;
 use manifest::PodFault;
@@ -28,6 +30,10 @@ pub(crate) enum Stop<'a> {
     StackFilter(Refusal),
     /// A stack does not take a filter.
     Stack(StackFault),
+    /// The two filters differ.
+    Differ(Difference),
+    /// Whether the two filters differ was not found out.
+    Undecided(Doubt),
     /// The command line is refused, or help was asked for.
     CommandLine(clap::Error),
     /// A word of the command line is no number of its range.
@@ -51,13 +57,14 @@ impl Stop<'_> {
         match self {
             Stop::Refused(_) | Stop::Profile(_) | Stop::Compile(_) | Stop::Manifest(_) => 1,
             Stop::Script(_) | Stop::StackFilter(_) | Stop::Stack(_) => 1,
+            Stop::Differ(_) | Stop::Undecided(_) => 1,
             Stop::CommandLine(_) | Stop::BadNumber(_) => 2,
             Stop::File(_, _) | Stop::Unwritten => 3,
             Stop::Memory => 4,
         }
     }
 
-    /// Whether it is told on standard output: that what was given is refused is the program's answer.
+    /// Whether it is told on standard output: that what was given is refused, or differs, is the program's answer.
     /// All else goes to standard error.
     pub(crate) fn is_answer(&self) -> bool
         ensures { result ≡ is_refusal self.now }
@@ -71,6 +78,8 @@ impl Stop<'_> {
                 | Stop::Script(_)
                 | Stop::StackFilter(_)
                 | Stop::Stack(_)
+                | Stop::Differ(_)
+                | Stop::Undecided(_)
         )
     }
 }
@@ -90,6 +99,8 @@ impl fmt::Display for Stop<'_> {
             Stop::Script(fault) => writeln!(f, "refused script {fault}"),
             Stop::StackFilter(refusal) => writeln!(f, "refused filter {refusal}"),
             Stop::Stack(fault) => writeln!(f, "refused filter {fault}"),
+            Stop::Differ(difference) => writeln!(f, "{difference}"),
+            Stop::Undecided(doubt) => writeln!(f, "undecided: {}", reason(*doubt)),
             Stop::CommandLine(error) => write!(f, "{error}"),
             Stop::BadNumber(word) => writeln!(f, "seccheck: {word}: BadNumber"),
             Stop::File(path, fault) => writeln!(f, "seccheck: {path}: {fault}"),

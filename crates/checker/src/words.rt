@@ -30,6 +30,7 @@ pub(crate) fn command<'a>(alloc: Global) -> Result<Command<'a>, AllocError> {
             "Prints the instructions of a filter, sound or not",
         )?)?
         .subcommand(run(alloc)?)?
+        .subcommand(compare(alloc)?)?
         .subcommand(play(alloc)?)?
         .subcommand(pick(alloc)?)
 }
@@ -68,6 +69,19 @@ fn run<'a>(alloc: Global) -> Result<Command<'a>, AllocError> {
         )?
         .arg(option(alloc, "arch", "A", "its architecture"))?
         .arg(option(alloc, "ip", "I", "its instruction pointer"))
+}
+
+fn compare<'a>(alloc: Global) -> Result<Command<'a>, AllocError> {
+    Command::new(alloc, "compare")
+        .about("Says whether two filters, or profiles, are the same on every call")
+        .arg(given(alloc, "A", "a filter file or a profile"))?
+        .arg(given(alloc, "B", "another one"))?
+        .arg(
+            Arg::new(alloc, "native")
+                .long("native")
+                .action(ArgAction::SetTrue)
+                .help("asks of the calls of x86-64 alone, without those of x32"),
+        )
 }
 
 fn play<'a>(alloc: Global) -> Result<Command<'a>, AllocError> {

@@ -1,5 +1,6 @@
--- The programs' command lines are of those for which clap says what the matches are.
+-- The programs' command lines are of those for which clap says what the matches are, and which faults.
 use Rattle.std.proofs.Common.{◌≡◌, true, refl}
+use Rattle.clap.specs.Faults.{is_simple_and_free}
 use Rattle.clap.specs.Simple.{is_simple}
 use Rattle.command_line.specs.Nodeagent.{nodeagent}
 use Rattle.command_line.specs.Scriptd.{scriptd}
@@ -8,6 +9,14 @@ pub scriptd_is_simple : is_simple scriptd ≡ true
 unfolding scriptd
 scriptd_is_simple = refl
 
+pub scriptd_is_free : is_simple_and_free scriptd ≡ true
+unfolding scriptd
+scriptd_is_free = refl
+
 pub nodeagent_is_simple : is_simple nodeagent ≡ true
 unfolding nodeagent
 nodeagent_is_simple = refl
+
+pub nodeagent_is_free : is_simple_and_free nodeagent ≡ true
+unfolding nodeagent
+nodeagent_is_free = refl

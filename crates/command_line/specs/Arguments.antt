@@ -1,6 +1,6 @@
 -- What a command line's arguments are to clap: options with a value, flags, words that stand by themselves. What a
 -- line says of them is read off the matches that clap's definition of a simple command gives.
-use Rattle.std.specs.Prelude.{ℕ, ◌∷◌, [], List, true, Bool, codes, Option, Some, None, unwrap_or}
+use Rattle.std.specs.Prelude.{ℕ, [], List, true, Bool, codes, Some, unwrap_or}
 use Rattle.std.specs.Str.{bytes_eq}
 use Rattle.clap.specs.Lexer.{usize_max}
 use Rattle.clap.specs.Simple.{new_rule}

@@ -1,9 +1,10 @@
 ghost use Rattle.std.specs.Prelude.{◌≡◌, [], IfErr, IfOk, Ok, map, option_map, unwrap_or};
 ghost use Rattle.std.specs.String.{string_bytes};
 ghost use Rattle.clap.specs.Matches.{found_of};
+ghost use Rattle.clap.specs.Faults.{fault_of};
 ghost use Rattle.clap.specs.Simple.{app_of, matches_of};
 ghost use Rattle.clap.specs.Walk.{rows_of};
-ghost use Rattle.command_line.specs.Faults.{TellsWord};
+ghost use Rattle.command_line.specs.Faults.{TellsFault};
 ghost use Rattle.command_line.specs.Words.{told};
 ghost use Rattle.command_line.specs.Nodeagent.{choosing, naming, nodeagent, nodeagent_in, nodeagent_of, nodeagent_with, numbers_in, running, settling, speaking};
 
@@ -51,13 +52,16 @@ pub struct NodeagentLine<'a> {
 }
 
 /// What the words say, the program's name first.
-#[tactic(auto, using(crate::proofs::Simple::nodeagent_is_simple))]
+#[tactic(auto, using(crate::proofs::Simple::nodeagent_is_simple, crate::proofs::Simple::nodeagent_is_free))]
 pub fn nodeagent_line<'a>(
     alloc: Global,
     words: &'a [String],
 ) -> Result<NodeagentLine<'a>, LineFault<'a>>
+    // A line is said exactly where clap takes the words and all of their numbers are in range, but for want of
+    // memory.
+    ensures taken { IfOk result (λ _. fault_of nodeagent (map string_bytes words.now) ≡ []) }
     ensures line { IfOk result (λ line. nodeagent_in (matches_of nodeagent (map string_bytes words.now)) ≡ Ok (nodeagent_of line)) }
-    ensures fault { IfErr result (TellsWord (nodeagent_in (matches_of nodeagent (map string_bytes words.now)))) }
+    ensures fault { IfErr result (TellsFault (fault_of nodeagent (map string_bytes words.now)) (nodeagent_in (matches_of nodeagent (map string_bytes words.now)))) }
 {
     let matches = matches_in(nodeagent(alloc)?, words)?;
     match line_numbers(&matches) {

@@ -1,10 +1,11 @@
-ghost use Rattle.std.specs.Prelude.{◌≡◌, true, IfErr, IfOk, Ok, map};
+ghost use Rattle.std.specs.Prelude.{◌≡◌, [], true, IfErr, IfOk, Ok, map};
 ghost use Rattle.std.specs.Result.{result_map_both};
 ghost use Rattle.std.specs.String.{string_bytes};
 ghost use Rattle.clap.specs.Matches.{found_of};
+ghost use Rattle.clap.specs.Faults.{fault_of, is_simple_and_free};
 ghost use Rattle.clap.specs.Simple.{app_of, is_simple, matches_of};
 ghost use Rattle.clap.specs.Walk.{rows_of};
-ghost use Rattle.command_line.specs.Faults.{IsNoNumber, TellsWord};
+ghost use Rattle.command_line.specs.Faults.{IsRefusal, TellsFault};
 ghost use Rattle.command_line.specs.Scriptd.{folders, scriptd, scriptd_in, scriptd_of, serving, stepping};
 
 use crate::arguments::{with_flag, with_option, with_required};
@@ -32,13 +33,16 @@ pub struct ScriptdLine<'a> {
 }
 
 /// What the words say, the program's name first.
-#[tactic(auto, using(crate::proofs::Simple::scriptd_is_simple))]
+#[tactic(auto, using(crate::proofs::Simple::scriptd_is_simple, crate::proofs::Simple::scriptd_is_free))]
 pub fn scriptd_line<'a>(
     alloc: Global,
     words: &'a [String],
 ) -> Result<ScriptdLine<'a>, LineFault<'a>>
+    // A line is said exactly where clap takes the words and all of their numbers are in range, but for want of
+    // memory.
+    ensures taken { IfOk result (λ _. fault_of scriptd (map string_bytes words.now) ≡ []) }
     ensures line { IfOk result (λ line. scriptd_in (matches_of scriptd (map string_bytes words.now)) ≡ Ok (scriptd_of line)) }
-    ensures fault { IfErr result (TellsWord (scriptd_in (matches_of scriptd (map string_bytes words.now)))) }
+    ensures fault { IfErr result (TellsFault (fault_of scriptd (map string_bytes words.now)) (scriptd_in (matches_of scriptd (map string_bytes words.now)))) }
 {
     let matches = matches_in(scriptd(alloc)?, words)?;
     match said(&matches) {
@@ -114,9 +118,11 @@ pub(crate) fn matches_in<'a>(
     mut command: Command<'a>,
     words: &'a [String],
 ) -> Result<ArgMatches<'a>, LineFault<'a>>
-    requires { is_simple (app_of command) ≡ true }
+    requires simple { is_simple (app_of command) ≡ true }
+    requires free { is_simple_and_free (app_of command) ≡ true }
+    ensures taken { IfOk result (λ _. fault_of (app_of command.entry) (map string_bytes words.now) ≡ []) }
     ensures rows { IfOk result (λ m. rows_of (found_of m) ≡ matches_of (app_of command.entry) (map string_bytes words.now)) }
-    ensures fault { IfErr result IsNoNumber }
+    ensures fault { IfErr result (IsRefusal (fault_of (app_of command.entry) (map string_bytes words.now))) }
 {
     Ok(command.try_get_matches_from_mut(words)?)
 }

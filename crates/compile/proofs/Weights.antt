@@ -12,7 +12,7 @@ use Rattle.oci_profile.specs.declared.profile.Profile.{Profile}
 use Rattle.oci_profile.specs.Entries.{AreEntries, IsFit}
 use Rattle.oci_profile.specs.Meaning.{names, entry_weight, weight}
 use Rattle.compile.specs.Bounds.{named, named_below}
-use Rattle.compile.specs.Sizes.{added_of, added_below}
+use Rattle.compile.specs.Sizes.{IsAsLong, added_of, added_below}
 
 -- how many numbers below this one stand in a list, each counted once
 once_in : List ℕ → ℕ → ℕ
@@ -131,6 +131,19 @@ light_fits profile n big limit end fit few short light =
     elim (cases_lt (pairs profile.entries) 3) [
       | inl none ↦ omega (arith, small_added profile.entries fit)
       | inr some ↦ omega arith
+    ]
+
+-- a filter that is no longer than these ranges ask for is no longer than the weight
+pub no_heavier : (profile : Profile) (n big limit end long : ℕ) → AreEntries profile.entries → n ≤ 2 + 2 * named_below profile.entries limit
+    → big ≤ 3 * n + added_below profile.entries end → IsAsLong big long → long ≤ weight profile
+unfolding weight
+no_heavier profile n big limit end long fit few short is =
+    let counted = named_most profile.entries limit in
+    let sized = added_most profile.entries end in
+    let parts = weight-parts profile.entries in
+    elim (cases_lt (pairs profile.entries) 2) [
+      | inl none ↦ omega (arith, is.1 (omega (arith, small_added profile.entries fit)))
+      | inr some ↦ omega (arith, is.0)
     ]
 
 grows_above : (n : ℕ) → suc n ≤ 2 ^ n

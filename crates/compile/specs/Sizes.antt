@@ -1,10 +1,11 @@
 -- This project's own: bounds of the code and of the steps that a profile's numbers lead to. Only private
 -- functions cite this.
-use Rattle.std.specs.Prelude.{ℕ, zero, suc, ◌+◌, ◌*◌, ◌≤◌, ◌==◌, ◌⊎◌, if◌then◌else◌, List, [], ◌∷◌, length, slice_index}
+use Rattle.std.specs.Prelude.{ℕ, zero, suc, ◌+◌, ◌*◌, ◌≤◌, ◌<◌, ◌==◌, ◌⊎◌, if◌then◌else◌, List, [], ◌∷◌, length, slice_index}
 use Rattle.oci_profile.specs.declared.profile.Entry.{Entry}
 use Rattle.oci_profile.specs.declared.profile.Profile.{Profile}
 use Rattle.oci_profile.specs.Meaning.{names}
 use Rattle.compile.specs.Bounds.{AreBare}
+use Rattle.compile.specs.declared.code.TheConstants.{RECENT}
 
 -- the instructions of the entries that name the number
 abbrev pub added_of : List Entry → ℕ → ℕ
@@ -35,3 +36,7 @@ unfoldable pub split_size : Profile → List ℕ → List ℕ → ℕ → ℕ �
 split_size profile starts singles at zero = 0
 split_size profile starts singles at (suc n) =
     split_size profile starts singles at n + (range_size profile (slice_index starts (at + n)) (slice_index singles (at + n)) + 2)
+
+-- the length of the code whose ranges ask for so much: in little code no jump is too far
+abbrev pub IsAsLong : ℕ → ℕ → Type 0
+IsAsLong size long = (long ≤ size + 3) × (size < RECENT → long ≤ size + 1)

@@ -235,6 +235,7 @@ impl Code {
         requires some { 0 < length self }
         requires short { length self ≤ MAX_INSNS }
         ensures sound { IsSound result }
+        ensures long { length result ≡ length self }
         ensures runs { (call : SysCall) (value most : ℕ) → Gives self call (length self - 1) 0 value most
             → (steps : ℕ) × (steps ≤ most) × Runs result call value steps }
     {

@@ -9,7 +9,7 @@ ghost use Rattle.sys_table.specs.declared.table.TheConstants.{NUMBER_LIMIT};
 ghost use Rattle.compile.specs.declared.fault.CompileFault.{CompileFault};
 ghost use Rattle.compile.specs.Bounds.{AreBare, HasDigits, named_below};
 ghost use Rattle.compile.specs.Ranges.{AreSplit};
-ghost use Rattle.compile.specs.Sizes.{IsEnough, split_size};
+ghost use Rattle.compile.specs.Sizes.{IsAsLong, IsEnough, split_size};
 
 use crate::code::{Code, REACH, Test};
 use crate::fault::CompileFault;
@@ -34,6 +34,7 @@ fn assemble(
     requires many { 2 ≤ length starts.now }
     requires short { split_size profile.now starts.now singles.now 0 (length starts.now) + 4 ≤ MAX_INSNS }
     ensures sound { IfOk result (λ filter. IsSound filter) }
+    ensures long { IfOk result (λ filter. IsAsLong (split_size profile.now starts.now singles.now 0 (length starts.now)) (length filter)) }
     ensures runs { IfOk result (λ filter. (call : SysCall) (levels most : ℕ) → IsCall call → IsEnough profile.now most → length starts.now ≤ 2 ^ levels
         → (steps : ℕ) × (steps ≤ most + 2 * levels + 3) × Runs filter call (meaning profile.now call) steps) }
 {
@@ -52,6 +53,7 @@ fn assemble(
 fn light_filter(alloc: Global, profile: &Profile) -> Result<Filter, AllocError>
     requires { weight profile.now ≤ MAX_INSNS }
     ensures sound { IfOk result (λ filter. IsSound filter) }
+    ensures long { IfOk result (λ filter. length filter ≤ weight profile.now) }
     ensures means { IfOk result (λ filter. (call : SysCall) → IsCall call → (steps : ℕ) × Runs filter call (meaning profile.now call) steps) }
     ensures few { IfOk result (λ filter. AreBare profile.now.entries → (call : SysCall) (d : ℕ) → IsCall call
         → HasDigits (2 * named_below profile.now.entries NUMBER_LIMIT + 1) d → (steps : ℕ) × (steps ≤ 5 + 2 * d) × Runs filter call (meaning profile.now call) steps) }
@@ -74,6 +76,9 @@ pub fn compile(alloc: Global, profile: &Profile) -> Result<Filter, CompileFault>
     // Told whether there is memory or not; what else is refused is refused for want of memory.
     ensures long { (result ≡ Err CompileFault.TooLong) ↔ (MAX_INSNS < weight profile.now) }
     ensures sound { IfOk result (λ filter. IsSound filter) }
+
+    // A filter is no longer than its profile's weight.
+    ensures weighed { IfOk result (λ filter. length filter ≤ weight profile.now) }
 
     // At every call the filter's value is what the profile says.
     ensures means { IfOk result (λ filter. (call : SysCall) → IsCall call → (steps : ℕ) × Runs filter call (meaning profile.now call) steps) }

@@ -10,17 +10,11 @@ mod chain;
 mod code;
 mod compiler;
 mod condition;
-#[cfg(test)]
-mod drawn_tests;
 mod fault;
-#[cfg(test)]
-mod figure_tests;
 mod halves;
 mod leaf;
 mod ranges;
 mod singles;
-#[cfg(test)]
-mod test_profiles;
 mod tree;
 mod weight;
 

@@ -67,6 +67,10 @@ pub(crate) fn tree(
     ensures recent { IfOk result (λ at. length code.new ≤ at + RECENT) }
     ensures front { IfOk result (λ at. 1 < to - from → at + 1 ≡ length code.new) }
     ensures longer { OnOk result (length code.new + 2 ≤ length code.old + split_size profile.now starts.now singles.now from (to - from)) }
+
+    // In little code no jump is too far.
+    ensures compact { OnOk result (1 < to - from → length code.old + split_size profile.now starts.now singles.now from (to - from) ≤ RECENT
+        → length code.new + 3 ≤ length code.old + split_size profile.now starts.now singles.now from (to - from)) }
     ensures keeps { Keeps code.old code.new }
     ensures grows { length code.old ≤ length code.new }
 {

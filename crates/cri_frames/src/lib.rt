@@ -1,8 +1,6 @@
 //! Frames: how messages cross a socket, in whatever pieces their bytes come.
 #![tactic(auto)]
 
-#[cfg(test)]
-mod call_tests;
 mod calls;
 mod faults;
 mod feed;
@@ -12,8 +10,6 @@ mod laws;
 mod moving;
 mod receiving;
 mod splitting;
-#[cfg(test)]
-mod tests;
 
 pub use calls::call_over;
 pub use faults::{FeedFault, Lost};

@@ -9,8 +9,6 @@
 
 mod calls;
 mod faults;
-#[cfg(test)]
-mod field_tests;
 mod fields;
 mod keys;
 mod laws;
@@ -25,10 +23,6 @@ mod request_reader;
 mod request_writer;
 mod states;
 mod tells;
-#[cfg(test)]
-mod test_texts;
-#[cfg(test)]
-mod tests;
 mod version;
 
 pub use calls::{Call, Request};

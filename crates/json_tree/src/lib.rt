@@ -12,8 +12,6 @@ mod lists;
 mod members;
 mod optional;
 mod required;
-#[cfg(test)]
-mod tests;
 mod text_lists;
 
 pub use document::read;

@@ -12,8 +12,6 @@ mod policy;
 mod rules;
 mod runs;
 mod state;
-#[cfg(test)]
-mod tests;
 mod track;
 
 pub use back_off::ready_at;

@@ -20,15 +20,13 @@ pub enum Stage {
         started: u64,
         polled: Option<u64>,
     },
-    /// It ended with this code, and was not removed.
+    /// It ended, as the last of the runs says, and was not removed.
     Exited {
         attempt: u32,
-        code: u8,
     },
-    /// It ended with this code, and was removed.
+    /// It ended, and was removed.
     Removed {
         attempt: u32,
-        code: u8,
     },
 }
 

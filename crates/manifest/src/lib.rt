@@ -18,8 +18,6 @@ mod pods;
 mod profiles;
 mod reader;
 mod rules;
-#[cfg(test)]
-mod tests;
 mod uids;
 
 pub use containers::{Container, Containers, MAX_CONTAINERS};

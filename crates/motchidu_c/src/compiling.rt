@@ -43,14 +43,7 @@ pub extern "C" fn motchidu_compile(
         → result ≢ number_of Memory → (result ≡ number_of Accepted) ⊎ (result ≡ number_of NoRoom) }
 {
     match bytes_of(alloc, profile) {
-        Ok(bytes) => {
-            *len = bytes.len();
-            if bytes.len() > filter.len() {
-                return Status::NoRoom.number();
-            }
-            put(filter, &bytes);
-            Status::Accepted.number()
-        }
+        Ok(bytes) => place(&bytes, filter, len).number(),
         Err(status) => status.number(),
     }
 }
@@ -79,6 +72,21 @@ fn bytes_of(alloc: Global, text: &[u8]) -> Result<Vec<u8>, Status>
         Ok(bytes) => Ok(bytes),
         Err(_) => Err(Status::Memory),
     }
+}
+
+/// Puts the bytes where the room begins if there is room for them, and tells how many they are, whether there
+/// is or not: what is told without room is what the same bytes take with room.
+fn place(bytes: &[u8], room: &mut [u8], len: &mut usize) -> Status
+    ensures tells { len.new ≡ length bytes.now }
+    ensures fits { length bytes.now ≤ length room.old → (result ≡ Accepted) × (room.new ≡ bytes.now ++ drop (length bytes.now) room.old) }
+    ensures no_room { length room.old < length bytes.now → (result ≡ NoRoom) × (room.new ≡ room.old) }
+{
+    *len = bytes.len();
+    if bytes.len() > room.len() {
+        return Status::NoRoom;
+    }
+    put(room, bytes);
+    Status::Accepted
 }
 
 /// Puts the bytes where the room begins.

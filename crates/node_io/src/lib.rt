@@ -12,8 +12,6 @@ mod memory_wire;
 mod reading;
 mod stream_wire;
 mod system_files;
-#[cfg(test)]
-mod tests;
 mod wire;
 
 pub use faults::FileFault;

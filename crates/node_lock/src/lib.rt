@@ -17,10 +17,6 @@ mod limits;
 mod receipts;
 mod steps;
 mod tallies;
-#[cfg(test)]
-mod test_play;
-#[cfg(test)]
-mod tests;
 
 pub use audits::audit;
 pub use books::Book;

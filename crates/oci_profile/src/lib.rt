@@ -10,8 +10,6 @@ mod args;
 mod conditions;
 mod decision;
 mod default_profile;
-#[cfg(test)]
-mod default_tests;
 mod faults;
 mod laws;
 mod meaning;

@@ -1,5 +1,6 @@
 -- What a request may get of a runtime that threads share, this project's own: docs/SEMANTICS.md, "Threads".
-use Rattle.std.specs.Prelude.{◌≡◌, List}
+use Rattle.std.specs.Prelude.{◌≡◌, List, Option}
+use Rattle.bpf_code.specs.declared.insn.Insn.{Insn}
 use Rattle.cri_msgs.specs.declared.calls.Call.{Call}
 use Rattle.cri_msgs.specs.declared.calls.Call.TheVariants.{RunPodSandbox}
 use Rattle.cri_msgs.specs.declared.calls.Request.{Request}
@@ -11,10 +12,11 @@ use Rattle.runtime_core.specs.declared.stage.Stage.TheVariants.{Unknown}
 use Rattle.runtime_core.specs.Serves.{IsFull}
 use Rattle.runtime_core.specs.Stands.{AreBound, LendsTo, stages_in}
 
--- One event: a registry and a list of cells were held while the request was served. What other threads did before,
--- and will do, is not known.
-pub record MayServe (request : Request) (files : FileAnswers) (reply : Reply) : Type 0 where
+-- One event on a node with this filter of its own: a registry and a list of cells were held while the request was
+-- served. What other threads did before, and will do, is not known.
+pub record MayServe (baseline : Option (List Insn)) (request : Request) (files : FileAnswers) (reply : Reply) : Type 0 where
   pub registry : Registry
+  pub own : registry.baseline ≡ baseline
   pub registry' : Registry
   pub cells : List Cell
   pub cells' : List Cell

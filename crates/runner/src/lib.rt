@@ -7,25 +7,17 @@
 mod answering;
 mod connection;
 mod ending;
-#[cfg(test)]
-mod gather_tests;
 mod gathering;
-#[cfg(test)]
-mod life_tests;
+mod laws;
 mod lists;
-#[cfg(test)]
-mod round_tests;
 mod rounds;
 mod service;
 mod shared;
-#[cfg(test)]
-mod test_wires;
-#[cfg(test)]
-mod thread_tests;
 
 pub use connection::serve_wire;
 pub use ending::Ending;
 pub use gathering::{MAX_FILE, gather};
+pub use laws::constants_are_as_stated;
 pub use rounds::{Open, StepGate};
 pub use service::{Host, Service};
-pub use shared::{SharedHost, SharedRuntime};
+pub use shared::{Baseline, SharedHost, SharedRuntime};

@@ -1,12 +1,12 @@
 //! Runners: each steps the cells of its share, round after round.
-ghost use Rattle.std.specs.Prelude.{◌≡◌, ◌<◌, ℕ, List, Option, option_map};
+ghost use Rattle.std.specs.Prelude.{◌≡◌, ◌<◌, ◌++◌, ◌∷◌, ℕ, List, Option, None, option_map};
 ghost use Rattle.runtime_cell.specs.declared.cell.Did.{Did};
 ghost use Rattle.runtime_core.specs.Kept.{IsNextIn, MayStepIn, home_in};
 ghost use Rattle.runner.specs.Labelled.{of_share};
-ghost use Rattle.runner.specs.Rounds.{IsRound, StepsAt, moves_on};
+ghost use Rattle.runner.specs.Rounds.{Asked, IsRound, MayVisit, StepsAt, moves_on};
 
 use crate::lists::SandboxCells;
-use crate::shared::{Sandboxes, SharedRuntime};
+use crate::shared::{Baseline, Sandboxes, SharedRuntime};
 use runtime_cell::Did;
 use runtime_core::Cells;
 use std::alloc::Global;
@@ -31,6 +31,46 @@ impl StepGate for Open {
     fn after(&self, _id: u64) {}
 }
 
+/// What came of a visit: the cell with this id was to do a step, and whether it went on.
+#[derive(Clone, Copy)]
+pub(crate) struct Visit {
+    pub(crate) id: u64,
+    pub(crate) went_on: bool,
+}
+
+/// Who tells a round which cell comes next, and lets it do its step.
+pub(crate) trait Visits {
+    // The runner's number, and how many there are.
+    ghost runner: { Self → ℕ };
+
+    ghost runners: { Self → ℕ };
+
+    // What was asked so far, the latest first; None where nobody keeps it.
+    ghost asked: { Self → Option (List Asked) } = { λ _. None };
+
+    /// Steps the cell of the runner's share with the least id above this one; None where there is none.
+    fn visit(&mut self, above: u64) -> Option<Visit>
+        ensures may { MayVisit (runner self.old) (runners self.old) (record { above = above; visit = result }) }
+        ensures runner { runner self.new ≡ runner self.old }
+        ensures runners { runners self.new ≡ runners self.old }
+        ensures asked { asked self.new ≡ option_map (λ before. record { above = above; visit = result } ∷ before) (asked self.old) };
+}
+
+// A round: each visit is asked for above the id of the one before, until there is none. It tells whether a cell went
+// on.
+fn round<V: Visits>(visits: &mut V) -> bool
+    ensures { (asked : List Asked) × IsRound (V.runner visits.old) (V.runners visits.old) asked result
+        × (V.asked visits.new ≡ option_map (λ before. asked ++ before) (V.asked visits.old)) }
+{
+    let mut last = 0;
+    let mut went_on = false;
+    while let Some(visit) = visits.visit(last) {
+        last = visit.id;
+        went_on = went_on || visit.went_on;
+    }
+    went_on
+}
+
 // A step that a round owes. It is neither copied nor dropped, so it is done once.
 struct NextCell {
     id: u64,
@@ -38,7 +78,7 @@ struct NextCell {
     list: Option<Arc<SandboxCells, Global>>,
 }
 
-impl SharedRuntime {
+impl<B: Baseline> SharedRuntime<B> {
     /// A round of one runner of so many, who are numbered from 0: each running cell whose id leaves the runner's
     /// number on division by how many there are is stepped once, in the order of ids, each in a critical section
     /// of its own. It takes no memory, and tells whether a cell went on.
@@ -50,16 +90,15 @@ impl SharedRuntime {
         gate: &G,
     ) -> bool
         requires { runner < runners }
-        ensures { IsRound runner runners result }
+        ensures { (asked : List Asked) × IsRound runner runners asked result }
     {
-        let mut last = 0;
-        let mut went_on = false;
-        while let Some(next) = self.next_cell(rt, last, runner, runners) {
-            last = next.id;
-            let moved = step(rt, next, gate);
-            went_on = went_on || moved;
-        }
-        went_on
+        round(&mut RunnerVisits {
+            rt,
+            runtime: self,
+            gate,
+            runner,
+            runners,
+        })
     }
 
     // The runner's next step, behind the one of this id.
@@ -71,7 +110,33 @@ impl SharedRuntime {
     }
 }
 
-impl Sandboxes {
+// The visits of one of a shared runtime's runners. Nobody keeps what was asked.
+#[derive(Drop)]
+struct RunnerVisits<'a, B: Baseline, R: Wait, G: StepGate> {
+    rt: &'a R,
+    runtime: &'a SharedRuntime<B>,
+    gate: &'a G,
+    runner: u64,
+    runners: u64,
+    ghost fit: { runner < runners },
+}
+
+impl<'a, B: Baseline, R: Wait, G: StepGate> Visits for RunnerVisits<'a, B, R, G> {
+    ghost runner = { λ v. v.runner };
+
+    ghost runners = { λ v. v.runners };
+
+    fn visit(&mut self, above: u64) -> Option<Visit> {
+        let next = self
+            .runtime
+            .next_cell(self.rt, above, self.runner, self.runners)?;
+        let id = next.id;
+        let went_on = step(self.rt, next, self.gate);
+        Some(Visit { id, went_on })
+    }
+}
+
+impl<B: Baseline> Sandboxes<B> {
     // The step of the least id above this one that is of the share.
     #[tactic(auto, using(crate::proofs::Shares::next_is_own, crate::proofs::Shares::next_is_none, crate::proofs::Shares::next_is_passed))]
     fn next_cell(&self, above: u64, runner: u64, runners: u64) -> Option<NextCell>

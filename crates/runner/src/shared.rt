@@ -1,6 +1,7 @@
 //! A runtime that threads share. The registry stands under one lock and each sandbox's cells under one of their
 //! own, so that a step of a cell holds up nothing but its own sandbox.
-ghost use Rattle.std.specs.Prelude.{◌≡◌, IsTrue};
+ghost use Rattle.std.specs.Prelude.{◌≡◌, IsTrue, List, None, Option};
+ghost use Rattle.bpf_code.specs.declared.insn.Insn.{Insn};
 ghost use Rattle.runtime_core.specs.Serves.{uid_of};
 ghost use Rattle.runtime_core.specs.Stands.{AreBound};
 ghost use Rattle.runner.specs.Shared.{MayServe, Wakes};
@@ -11,28 +12,45 @@ use bpf_verify::Filter;
 use cri_msgs::{Answer, Call, Refusal, Reply, Request};
 use runtime_core::{Cells, FileAnswers, Registry, Stage, uid_of};
 use std::alloc::{AllocError, Global};
+use std::marker::{Brand, PhantomData};
 use std::sync::{Mutex, Wait};
+
+/// A node's own filter, which confines each of its containers, as a type: whoever makes a runtime picks it, so
+/// that what the runtime's lock holds has this filter and no other.
+pub trait Baseline {
+    ghost filter: { Option (List Insn) };
+}
+
+/// No filter, where none is picked.
+impl Baseline for Brand {
+    ghost filter = { None };
+}
 
 /// What is known of all uids, and where their cells are.
 #[derive(Drop)]
-pub(crate) struct Sandboxes {
+pub(crate) struct Sandboxes<B: Baseline> {
     pub(crate) registry: Registry,
     pub(crate) lists: CellLists,
     alloc: Global,
+    node: PhantomData<B>,
     ghost bound: { AreBound registry },
+    ghost own: { registry.baseline ≡ B.filter },
 }
 
-impl Sandboxes {
-    fn new(alloc: Global, baseline: Option<Filter>) -> Sandboxes {
+impl<B: Baseline> Sandboxes<B> {
+    fn new(alloc: Global, baseline: Option<Filter>) -> Sandboxes<B>
+        requires { baseline ≡ B.filter }
+    {
         Sandboxes {
             registry: Registry::new(alloc, baseline),
             lists: CellLists::new(alloc),
             alloc,
+            node: PhantomData,
         }
     }
 
     fn serve<R: Wait>(&mut self, rt: &R, request: Request, files: FileAnswers) -> Reply
-        ensures { MayServe request files result }
+        ensures { MayServe B.filter request files result }
     {
         serve(
             rt,
@@ -45,15 +63,17 @@ impl Sandboxes {
     }
 }
 
-/// A runtime that threads share.
+/// A runtime that threads share, on a node with this filter of its own.
 #[derive(Drop)]
-pub struct SharedRuntime {
-    pub(crate) sandboxes: Mutex<Sandboxes>,
+pub struct SharedRuntime<B: Baseline> {
+    pub(crate) sandboxes: Mutex<Sandboxes<B>>,
 }
 
-impl SharedRuntime {
-    /// A runtime that knows of nothing, on a node with this filter of its own.
-    pub fn new(alloc: Global, baseline: Option<Filter>) -> SharedRuntime {
+impl<B: Baseline> SharedRuntime<B> {
+    /// A runtime that knows of nothing.
+    pub fn new(alloc: Global, baseline: Option<Filter>) -> SharedRuntime<B>
+        requires { baseline ≡ B.filter }
+    {
         SharedRuntime {
             sandboxes: Mutex::new(Sandboxes::new(alloc, baseline)),
         }
@@ -62,7 +82,7 @@ impl SharedRuntime {
     /// Serves a request, with what the reads of its files gave. The registry's lock, and then that of the
     /// sandbox's cells, are held until the reply is made.
     pub fn serve<R: Wait>(&self, rt: &R, request: Request, files: FileAnswers) -> Reply
-        ensures { MayServe request files result }
+        ensures { MayServe B.filter request files result }
     {
         self.sandboxes.lock(rt).serve(rt, request, files)
     }
@@ -70,22 +90,22 @@ impl SharedRuntime {
 
 /// What a thread serves a shared runtime's connections by.
 #[derive(Drop)]
-pub struct SharedHost<'a, R: Wait> {
+pub struct SharedHost<'a, B: Baseline, R: Wait> {
     rt: &'a R,
-    runtime: &'a SharedRuntime,
+    runtime: &'a SharedRuntime<B>,
 }
 
-impl<'a, R: Wait> SharedHost<'a, R> {
+impl<'a, B: Baseline, R: Wait> SharedHost<'a, B, R> {
     /// A host of this runtime.
-    pub fn new(rt: &'a R, runtime: &'a SharedRuntime) -> SharedHost<'a, R> {
+    pub fn new(rt: &'a R, runtime: &'a SharedRuntime<B>) -> SharedHost<'a, B, R> {
         SharedHost { rt, runtime }
     }
 }
 
-impl<'a, R: Wait> Host for SharedHost<'a, R> {
+impl<'a, B: Baseline, R: Wait> Host for SharedHost<'a, B, R> {
     ghost use Rattle.runner.specs.Shared.{MayServe};
 
-    ghost may = { λ _ request files reply _. MayServe request files reply };
+    ghost may = { λ _ request files reply _. MayServe B.filter request files reply };
 
     fn serve(&mut self, request: Request, files: FileAnswers) -> Reply {
         self.runtime.serve(self.rt, request, files)
@@ -101,8 +121,9 @@ fn serve<R: Wait>(
     files: FileAnswers,
 ) -> Reply
     requires { AreBound registry.old }
-    ensures may { MayServe request files result }
+    ensures may { MayServe registry.old.baseline request files result }
     ensures bound { AreBound registry.new }
+    ensures own { registry.new.baseline ≡ registry.old.baseline }
 {
     if wakes(registry, &request.call) {
         return wake(rt, registry, lists, request, files);
@@ -142,8 +163,9 @@ fn wake<R: Wait>(
 ) -> Reply
     requires wakes { Wakes registry.old request.call }
     requires bound { AreBound registry.old }
-    ensures may { MayServe request files result }
+    ensures may { MayServe registry.old.baseline request files result }
     ensures bound { AreBound registry.new }
+    ensures own { registry.new.baseline ≡ registry.old.baseline }
 {
     match lists.put(uid_of(&request.call)) {
         Ok(list) => {
@@ -171,8 +193,9 @@ fn remove<R: Wait>(
     files: FileAnswers,
 ) -> Reply
     requires { AreBound registry.old }
-    ensures may { MayServe request files result }
+    ensures may { MayServe registry.old.baseline request files result }
     ensures bound { AreBound registry.new }
+    ensures own { registry.new.baseline ≡ registry.old.baseline }
 {
     match lists.take(uid_of(&request.call).as_str()) {
         Some(list) => serve_under(rt, registry, &list, request, files),
@@ -190,8 +213,9 @@ fn serve_under<R: Wait>(
 ) -> Reply
     requires own { list.now.uid ≡ uid_of request.call }
     requires bound { AreBound registry.old }
-    ensures may { MayServe request files result }
+    ensures may { MayServe registry.old.baseline request files result }
     ensures bound { AreBound registry.new }
+    ensures own { registry.new.baseline ≡ registry.old.baseline }
 {
     let mut cells = list.cells.lock(rt);
     registry.serve_lent(&mut cells, request, files)
@@ -205,8 +229,9 @@ fn serve_absent(
     files: FileAnswers,
 ) -> Reply
     requires { AreBound registry.old }
-    ensures may { MayServe request files result }
+    ensures may { MayServe registry.old.baseline request files result }
     ensures bound { AreBound registry.new }
+    ensures own { registry.new.baseline ≡ registry.old.baseline }
 {
     let mut none = Cells::new(alloc);
     registry.serve_lent(&mut none, request, files)

@@ -12,8 +12,6 @@ mod cell;
 mod copies;
 mod label;
 mod laws;
-#[cfg(test)]
-mod tests;
 
 pub use calls::{ENOMEM, Entry, KILLED, SECCOMP, SET_MODE_FILTER, install_call};
 pub use cell::{Cell, Counts, Did, State};

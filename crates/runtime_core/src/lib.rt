@@ -3,26 +3,18 @@
 
 mod building;
 mod calls;
-#[cfg(test)]
-mod cell_tests;
 mod cells;
 mod containers;
 mod files;
 mod homes;
 mod known;
 pub mod laws;
-#[cfg(test)]
-mod limit_tests;
 mod limits;
 mod listing;
 mod lists;
 mod registry;
 mod runtime;
 mod stage;
-#[cfg(test)]
-mod test_play;
-#[cfg(test)]
-mod tests;
 mod uids;
 mod used;
 

@@ -1,24 +1,27 @@
 //! A runtime that threads share, and the runners that step its containers.
+ghost use Rattle.std.specs.Prelude.{◌≡◌};
 
 use crate::notifier::Notifier;
 use bpf_verify::Filter;
 use cri_msgs::{Call, Reply, Request};
-use runner::{Host, Open, SharedHost, SharedRuntime};
+use runner::{Baseline, Host, Open, SharedHost, SharedRuntime};
 use runtime_core::FileAnswers;
 use std::alloc::{AllocError, Global};
 use std::sync::Wait;
 use std::thread::{Scope, Threads};
 
-/// A runtime, and what wakes its runners.
+/// A runtime on a node with this filter of its own, and what wakes its runners.
 #[derive(Drop)]
-pub struct Engine {
-    runtime: SharedRuntime,
+pub struct Engine<B: Baseline> {
+    runtime: SharedRuntime<B>,
     notifier: Notifier,
 }
 
-impl Engine {
-    /// A runtime without containers, on a node with this filter of its own.
-    pub fn new(alloc: Global, baseline: Option<Filter>) -> Engine {
+impl<B: Baseline> Engine<B> {
+    /// A runtime without containers.
+    pub fn new(alloc: Global, baseline: Option<Filter>) -> Engine<B>
+        requires { baseline ≡ B.filter }
+    {
         Engine {
             runtime: SharedRuntime::new(alloc, baseline),
             notifier: Notifier::new(),
@@ -26,7 +29,7 @@ impl Engine {
     }
 
     /// What a thread asks it by.
-    pub fn host<'a, R: Wait>(&'a self, rt: &'a R) -> EngineHost<'a, R> {
+    pub fn host<'a, R: Wait>(&'a self, rt: &'a R) -> EngineHost<'a, B, R> {
         EngineHost {
             rt,
             host: SharedHost::new(rt, &self.runtime),
@@ -65,10 +68,10 @@ impl Engine {
 }
 
 /// Starts the runners of an engine, each in a thread of its own.
-pub fn start_runners<'s, 'e, R: Threads + Wait + Sync>(
+pub fn start_runners<'s, 'e, B: Baseline + Send + Sync, R: Threads + Wait + Sync>(
     scope: &'s Scope<'s, &'e ()>,
     rt: &'e R,
-    engine: &'e Engine,
+    engine: &'e Engine<B>,
     runners: u32,
 ) -> Result<(), AllocError> {
     let runners = u64::from(runners);
@@ -80,16 +83,16 @@ pub fn start_runners<'s, 'e, R: Threads + Wait + Sync>(
 
 /// The host of an engine's runtime, which wakes the runners for each container that is started.
 #[derive(Drop)]
-pub struct EngineHost<'a, R: Wait> {
+pub struct EngineHost<'a, B: Baseline, R: Wait> {
     rt: &'a R,
-    host: SharedHost<'a, R>,
+    host: SharedHost<'a, B, R>,
     notifier: &'a Notifier,
 }
 
-impl<R: Wait> Host for EngineHost<'_, R> {
+impl<B: Baseline, R: Wait> Host for EngineHost<'_, B, R> {
     ghost use Rattle.runner.specs.Shared.{MayServe};
 
-    ghost may = { λ _ request files reply _. MayServe request files reply };
+    ghost may = { λ _ request files reply _. MayServe B.filter request files reply };
 
     fn serve(&mut self, request: Request, files: FileAnswers) -> Reply {
         let starts = matches!(&request.call, Call::StartContainer { .. });

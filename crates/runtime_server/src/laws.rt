@@ -1,7 +1,7 @@
 ghost use Rattle.std.specs.Prelude.{◌≡◌};
 ghost use Rattle.runtime_server.specs.declared.connections.TheConstants.{MAX_CONNECTIONS};
 ghost use Rattle.runtime_server.specs.declared.site.TheConstants.{REST};
-ghost use Rattle.runtime_server.specs.declared.sockets.TheConstants.{FOLDERS};
+ghost use Rattle.runtime_server.specs.declared.sockets.TheConstants.{FOLDERS, LOCKS, MAX_NAME};
 
 /// What the constants of this crate are.
 pub fn constants_are_as_stated()
@@ -9,4 +9,7 @@ pub fn constants_are_as_stated()
     // milliseconds
     ensures rest { REST ≡ 10 }
     ensures folders { FOLDERS ≡ 100 }
+    ensures locks { LOCKS ≡ 100 }
+    // unix(7)
+    ensures max_name { MAX_NAME ≡ 107 }
 {}

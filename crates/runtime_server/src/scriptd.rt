@@ -4,9 +4,12 @@ use crate::engine::start_runners;
 use crate::inputs::baseline_at;
 use crate::site::{Address, Site, accept_all};
 use crate::stops::{ServerStop, Told, socket_stop};
+use bpf_verify::Filter;
 use command_line::{ScriptdLine, scriptd_line};
+use runner::Baseline;
 use std::alloc::AllocError;
 use std::io::Write;
+use std::marker::Brand;
 use std::sync::Wait;
 use std::thread::{Scope, Threads, scope, scope_env};
 use std::time::Clock;
@@ -47,7 +50,19 @@ fn run<'a, R: Threads + Wait + Clock + Sync>(
 ) -> Result<(), ServerStop<'a>> {
     let line = scriptd_line(system.alloc(), words)?;
     let baseline = baseline_at(system, line.baseline)?;
-    let site = match Site::open(system, address_of(&line), baseline) {
+    run_line::<Brand, R>(rt, system, &line, baseline)
+}
+
+// Does what the line says, on a node with this filter of its own.
+fn run_line<'a, B: Baseline + Send + Sync, R: Threads + Wait + Clock + Sync>(
+    rt: &R,
+    system: &HostRuntime,
+    line: &ScriptdLine<'a>,
+    baseline: Option<Filter>,
+) -> Result<(), ServerStop<'a>>
+    requires { baseline ≡ B.filter }
+{
+    let site = match Site::<B>::open(system, address_of(line), baseline) {
         Ok(site) => site,
         Err(error) => return Err(socket_stop(line.socket, error)),
     };
@@ -69,10 +84,10 @@ fn address_of<'a>(line: &ScriptdLine<'a>) -> Address<'a>
 }
 
 // Serves until the site is closed. Where a runner finds no thread it is closed at once.
-fn serve<R: Threads + Wait + Clock + Sync>(
+fn serve<B: Baseline + Send + Sync, R: Threads + Wait + Clock + Sync>(
     rt: &R,
     system: &HostRuntime,
-    site: &Site<'_>,
+    site: &Site<'_, B>,
     runners: u32,
 ) -> Result<(), AllocError> {
     scope(scope_env(), rt, move |scope| {
@@ -82,11 +97,11 @@ fn serve<R: Threads + Wait + Clock + Sync>(
     })
 }
 
-fn serve_in<'s, 'e, R: Threads + Wait + Clock + Sync>(
+fn serve_in<'s, 'e, B: Baseline + Send + Sync, R: Threads + Wait + Clock + Sync>(
     scope: &'s Scope<'s, &'e ()>,
     rt: &'e R,
     system: &'e HostRuntime,
-    site: &'e Site<'e>,
+    site: &'e Site<'e, B>,
     runners: u32,
 ) -> Result<(), AllocError> {
     start_runners(scope, rt, &site.engine, runners)?;

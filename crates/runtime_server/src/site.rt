@@ -8,7 +8,7 @@ use crate::telling::{asked, tell_reply};
 use bpf_verify::Filter;
 use cri_msgs::{Reply, Request};
 use node_io::{StreamWire, SystemFiles};
-use runner::{Host, Service, serve_wire};
+use runner::{Baseline, Host, Service, serve_wire};
 use runtime_core::FileAnswers;
 use std::alloc::Global;
 use std::io;
@@ -34,24 +34,25 @@ pub struct Address<'a> {
     pub verbose: bool,
 }
 
-/// A runtime that is served over a socket.
+/// A runtime that is served over a socket, on a node with this filter of its own.
 #[derive(Drop)]
-pub struct Site<'a> {
+pub struct Site<'a, B: Baseline> {
     alloc: Global,
     address: Address<'a>,
     socket: Socket,
     connections: Connections,
     /// The runtime.
-    pub engine: Engine,
+    pub engine: Engine<B>,
 }
 
-impl<'a> Site<'a> {
-    /// Listens at the address. The runtime has no containers, on a node with this filter of its own.
+impl<'a, B: Baseline> Site<'a, B> {
+    /// Listens at the address. The runtime has no containers.
     pub fn open(
         system: &HostRuntime,
         address: Address<'a>,
         baseline: Option<Filter>,
-    ) -> io::Result<Site<'a>>
+    ) -> io::Result<Site<'a, B>>
+        requires { baseline ≡ B.filter }
         ensures { IfOk result (λ site. site.address ≡ address.entry) }
     {
         let connections = Connections::new(system.alloc())?;
@@ -75,17 +76,17 @@ impl<'a> Site<'a> {
 
 // Who answers the requests of one connection. Each answer is told once it was given.
 #[derive(Drop)]
-struct ToldHost<'a, R: Wait> {
+struct ToldHost<'a, B: Baseline, R: Wait> {
     system: &'a HostRuntime,
-    site: &'a Site<'a>,
-    host: EngineHost<'a, R>,
+    site: &'a Site<'a, B>,
+    host: EngineHost<'a, B, R>,
     connection: u64,
 }
 
-impl<R: Wait> Host for ToldHost<'_, R> {
+impl<B: Baseline, R: Wait> Host for ToldHost<'_, B, R> {
     ghost use Rattle.runner.specs.Shared.{MayServe};
 
-    ghost may = { λ _ request files reply _. MayServe request files reply };
+    ghost may = { λ _ request files reply _. MayServe B.filter request files reply };
 
     fn serve(&mut self, request: Request, files: FileAnswers) -> Reply {
         if !self.site.address.verbose {
@@ -99,12 +100,12 @@ impl<R: Wait> Host for ToldHost<'_, R> {
 }
 
 // What a connection is served by: the scripts and the profiles of the address.
-fn service_for<'a, R: Wait>(
+fn service_for<'a, B: Baseline, R: Wait>(
     rt: &'a R,
     system: &'a HostRuntime,
-    site: &'a Site<'a>,
+    site: &'a Site<'a, B>,
     connection: u64,
-) -> Service<SystemFiles<'a, HostRuntime>, SystemFiles<'a, HostRuntime>, ToldHost<'a, R>>
+) -> Service<SystemFiles<'a, HostRuntime>, SystemFiles<'a, HostRuntime>, ToldHost<'a, B, R>>
     ensures scripts { result.scripts.folder ≡ Some site.now.address.scripts.now }
     ensures profiles { result.profiles.folder ≡ Some site.now.address.profiles.now }
 {
@@ -121,10 +122,10 @@ fn service_for<'a, R: Wait>(
 }
 
 /// Serves a connection to its end.
-fn serve_stream<R: Wait>(
+fn serve_stream<B: Baseline, R: Wait>(
     rt: &R,
     system: &HostRuntime,
-    site: &Site<'_>,
+    site: &Site<'_, B>,
     stream: UnixStream,
     connection: u64,
 ) {
@@ -134,11 +135,11 @@ fn serve_stream<R: Wait>(
 }
 
 /// Accepts connections, and serves each in a thread of its own, until the site is closed.
-pub fn accept_all<'s, 'e, R: Threads + Wait + Clock + Sync>(
+pub fn accept_all<'s, 'e, B: Baseline + Send + Sync, R: Threads + Wait + Clock + Sync>(
     scope: &'s Scope<'s, &'e ()>,
     rt: &'e R,
     system: &'e HostRuntime,
-    site: &'e Site<'e>,
+    site: &'e Site<'e, B>,
 ) {
     let mut connection: u64 = 0;
     for _ in rt.forever() {
@@ -157,11 +158,11 @@ pub fn accept_all<'s, 'e, R: Threads + Wait + Clock + Sync>(
 }
 
 // Serves a connection in a thread of its own, if there is a place for it.
-fn admit<'s, 'e, R: Threads + Wait + Sync>(
+fn admit<'s, 'e, B: Baseline + Send + Sync, R: Threads + Wait + Sync>(
     scope: &'s Scope<'s, &'e ()>,
     rt: &'e R,
     system: &'e HostRuntime,
-    site: &'e Site<'e>,
+    site: &'e Site<'e, B>,
     stream: UnixStream,
     connection: u64,
 ) {

@@ -1,18 +1,26 @@
 //! The socket at a path.
 //!
 //! It is made in a folder of its own that nobody else may look into, gets its mode there, and only then its
-//! name: so there is no moment at which another user could connect.
+//! name: so there is no moment at which another user could connect. Whoever has the path holds a lock beside
+//! it from before it looks at what stands there until after it took its own socket away: so no program takes
+//! the socket of another for one that was left over.
 
-use std::fs::{DirBuilder, Metadata, Permissions};
+use std::fs::{DirBuilder, File, Metadata, OpenOptions, Permissions};
 use std::io::{self, ErrorKind};
 use std::net::{Net, Shutdown};
-use std::os::fd::OwnedFd;
-use std::os::unix::fs::{DirBuilderExt, FileTypeExt, MetadataExt, PermissionsExt};
+use std::os::fd::{AsRawFd, OwnedFd};
+use std::os::unix::fs::{DirBuilderExt, FileTypeExt, MetadataExt, OpenOptionsExt, PermissionsExt};
 use std::os::unix::net::{UnixListener, UnixStream};
 use std::{fs, rt};
 
 // How many folders are tried, of which other runs may have left some.
 pub(crate) const FOLDERS: u32 = 100;
+
+// How often a lock is asked for whose file goes away meanwhile.
+pub(crate) const LOCKS: u32 = 100;
+
+// How many bytes the name of a socket has at most, by unix(7): there is room for 108, the last of which is 0.
+pub(crate) const MAX_NAME: usize = 107;
 
 /// A socket that listens, and what its file is known by.
 #[derive(Drop)]
@@ -20,24 +28,29 @@ pub(crate) struct Socket {
     pub(crate) listener: UnixListener,
     device: u64,
     inode: u64,
+    lock: PathLock,
 }
 
 impl Socket {
     /// Listens at this path. A left-over socket there, to which nobody listens, is replaced; one that is
     /// live, and anything else, is left alone, and refused.
-    pub(crate) fn at<R: rt::Files + Net + AllocGlobal>(rt: &R, path: &str) -> io::Result<Socket> {
-        make_way(rt, path)?;
-        let folder = own_folder(rt, path)?;
-        let made = made_in(rt, folder.as_str(), path);
-        let removed = fs::remove_dir(rt, folder.as_str());
-        let listener = made?;
-        removed?;
-        let about = fs::symlink_metadata(rt, path)?;
-        Ok(Socket {
-            listener,
-            device: about.dev(),
-            inode: about.ino(),
-        })
+    pub(crate) fn at(rt: &HostRuntime, path: &str) -> io::Result<Socket> {
+        if path.len() > MAX_NAME {
+            return Err(io::Error::from(ErrorKind::InvalidInput));
+        }
+        let lock = PathLock::of(rt, path)?;
+        match listener_at(rt, path) {
+            Ok((listener, about)) => Ok(Socket {
+                listener,
+                device: about.dev(),
+                inode: about.ino(),
+                lock,
+            }),
+            Err(error) => {
+                lock.remove(rt);
+                Err(error)
+            }
+        }
     }
 
     /// Whoever waits for a connection gets none, from now on. The system does that to a listener that is shut
@@ -48,14 +61,67 @@ impl Socket {
         }
     }
 
-    /// Takes the file away, if it is this socket's still.
+    /// Takes the file away, if it is this socket's still, and gives the path up.
     pub(crate) fn remove<R: rt::Files>(&self, rt: &R, path: &str) {
         if let Ok(about) = fs::symlink_metadata(rt, path) {
             if about.dev() == self.device && about.ino() == self.inode {
                 let _ = fs::remove_file(rt, path);
             }
         }
+        self.lock.remove(rt);
     }
+}
+
+/// That no other program has the path. The system gives it up where the process ends, however that comes.
+#[derive(Drop)]
+struct PathLock {
+    _file: File,
+    name: String,
+}
+
+impl PathLock {
+    // Takes the lock beside this path; nobody is waited for who has it.
+    fn of(rt: &HostRuntime, path: &str) -> io::Result<PathLock> {
+        let name = format!(in rt.alloc(); "{path}.lock")?;
+        for _ in 0..LOCKS {
+            let file = OpenOptions::new()
+                .write(true)
+                .create(true)
+                .mode(0o600)
+                .open(rt, name.as_str())?;
+            file.try_lock()?;
+            if is_named(rt, &file, name.as_str())? {
+                return Ok(PathLock { _file: file, name });
+            }
+        }
+        Err(io::Error::from(ErrorKind::AddrInUse))
+    }
+
+    // Takes its file away. Only who has the lock may do that.
+    fn remove<R: rt::Files>(&self, rt: &R) {
+        let _ = fs::remove_file(rt, self.name.as_str());
+    }
+}
+
+// Whether this is the file of that name still. One that was taken away before it was locked locks nobody out.
+fn is_named(rt: &HostRuntime, file: &File, name: &str) -> io::Result<bool> {
+    let own = file.metadata()?;
+    match fs::symlink_metadata(rt, name) {
+        Ok(about) => Ok(about.dev() == own.dev() && about.ino() == own.ino()),
+        Err(error) if error.kind() == ErrorKind::NotFound => Ok(false),
+        Err(error) => Err(error),
+    }
+}
+
+// A new socket that listens at this path, and what its file is known by.
+fn listener_at(rt: &HostRuntime, path: &str) -> io::Result<(UnixListener, Metadata)> {
+    make_way(rt, path)?;
+    let folder = own_folder(rt, path)?;
+    let made = made_in(rt, folder.as_str(), path);
+    let removed = fs::remove_dir(rt, folder.as_str());
+    let listener = made?;
+    removed?;
+    Ok((listener, fs::symlink_metadata(rt, path)?))
 }
 
 // Nothing stands at the path from here on, or it can't be had.
@@ -94,18 +160,24 @@ fn own_folder<R: rt::Files + AllocGlobal>(rt: &R, path: &str) -> io::Result<Stri
 
 // A socket that is made in this folder, and named by the path where nothing has come to stand there
 // meanwhile.
-fn made_in<R: rt::Files + Net + AllocGlobal>(
-    rt: &R,
-    folder: &str,
-    path: &str,
-) -> io::Result<UnixListener> {
+fn made_in(rt: &HostRuntime, folder: &str, path: &str) -> io::Result<UnixListener> {
     let own = format!(in rt.alloc(); "{folder}/s")?;
-    let listener = UnixListener::bind(rt, own.as_str())?;
+    let listener = listener_in(rt, folder, own.as_str())?;
     let named = named_by(rt, own.as_str(), path);
     let removed = fs::remove_file(rt, own.as_str());
     named?;
     removed?;
     Ok(listener)
+}
+
+// A name that is too long for a socket is told by the folder's number among the open files.
+fn listener_in(rt: &HostRuntime, folder: &str, own: &str) -> io::Result<UnixListener> {
+    if own.len() <= MAX_NAME {
+        return UnixListener::bind(rt, own);
+    }
+    let open = File::open(rt, folder)?;
+    let short = format!(in rt.alloc(); "/proc/self/fd/{}/s", open.as_raw_fd())?;
+    UnixListener::bind(rt, short.as_str())
 }
 
 fn named_by<R: rt::Files>(rt: &R, own: &str, path: &str) -> io::Result<()> {

@@ -7,8 +7,6 @@
 mod judging;
 mod laws;
 mod stack;
-#[cfg(test)]
-mod tests;
 
 pub use laws::{added_filters_widen_nothing, constants_are_as_stated, stacks_judge_every_call};
 pub use stack::{MAX_STACK_INSNS, Stack, StackFault};

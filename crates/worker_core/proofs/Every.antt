@@ -1,7 +1,7 @@
 -- The laws of every run of a node.
 use Rattle.std.proofs.Common.{◌≡◌, inl, inr, ℕ, ◌+◌, ◌-◌, ◌<◌, nat_le, nat_lt, Bool, true, false, if◌then◌else◌, List, [], ◌∷◌, length, Option, Some, None, slice_get, refl, sym, ◌∙◌, ap, subst, arith}
 use Rattle.std.proofs.lemmas.Bool.{ltb-false}
-use Rattle.std.proofs.lemmas.Option.{get_or_from_slice_get, slice_get_cases, slice_get_within}
+use Rattle.std.proofs.lemmas.Option.{get_or_from_slice_get, same_Some, slice_get_cases, slice_get_within}
 use Rattle.std.specs.Option.{is_some, option_map}
 use Rattle.lifecycle.specs.BackOff.{Run, last_of}
 use Rattle.lifecycle.specs.Restart.{may_restart}
@@ -247,15 +247,15 @@ module _
           inits = init_ended old ls good g.place p g.here key image profile c;
           again = λ k next.
               let f : Follows (state_of old p).pod.policy c.track k old.moment = c.follows k next in
-              let l : LastRun p.past.pod.uid p.past.claims c.container.name c.track k f.code =
-              told.ended k f.code (subst (λ (s : Stage). HasEnded k f.code s) (sym f.stage) (refl, refl)) in
+              let l : LastRun p.past.pod.uid p.past.claims c.container.name c.track k =
+              told.ended k (subst (λ (s : Stage). HasEnded k s) (sym f.stage) refl) in
               record {
                 run = l.run;
                 last = l.last;
                 was_told = l.told;
                 may = ap (λ (b : Bool). may_restart p.past.pod.policy b l.run.code) (sym (inits old.settings p.past.pod p.past.claims c.place c.track c.here))
-                    ∙ ap (λ (n : ℕ). may_restart p.past.pod.policy c.track.init n) l.with_code
-                    ∙ ap (λ (pod : Pod). may_restart pod.policy c.track.init f.code) (sym pod_same)
+                    ∙ ap (λ (r : Run). may_restart p.past.pod.policy c.track.init r.code) (same_Some l.run f.run (sym l.last ∙ f.last))
+                    ∙ ap (λ (pod : Pod). may_restart pod.policy c.track.init f.run.code) (sym pod_same)
                     ∙ f.may;
                 ready = f.ready;
               };

@@ -1,7 +1,11 @@
 //! What holds of every run of a node, for what stands above.
-ghost use Rattle.std.specs.Prelude.{◌≡◌, ◌+◌, ◌^◌, List, ◌∷◌};
+ghost use Rattle.std.specs.Prelude.{◌≡◌, ◌+◌, ◌^◌, true, false, List, ◌∷◌, length, None, Some};
+ghost use Rattle.manifest.specs.declared.pods.Pod.{Pod};
 ghost use Rattle.worker_pod.specs.declared.settings.Settings.{Settings};
+ghost use Rattle.worker_core.specs.declared.answers.Refusal.{Refusal};
 ghost use Rattle.worker_core.specs.declared.limits.TheConstants.{LAST_NUMBER, MAX_PODS, MAX_UIDS};
+ghost use Rattle.worker_core.specs.Kept.{KeptNode, grant_of, refusal_of};
+ghost use Rattle.worker_core.specs.Known.{is_known};
 ghost use Rattle.worker_core.specs.Laws.{IsNodeRun, NodeLaws, NodeLink, NodeLinkLaws};
 
 use worker_pod::{
@@ -24,6 +28,20 @@ pub fn every_run()
     runs_are_numbered();
     containers_have_tracks();
 }
+
+/// Where as many uids were admitted as may ever be, one of them is told as known and any other finds the node
+/// full, whatever pods are there.
+pub fn uids_end()
+    ensures known { (kept : KeptNode) (pod : Pod) → length kept.known ≡ MAX_UIDS → is_known pod.uid kept.known ≡ true
+        → refusal_of kept pod ≡ Some Refusal.KnownUid }
+    ensures new { (kept : KeptNode) (pod : Pod) → length kept.known ≡ MAX_UIDS → is_known pod.uid kept.known ≡ false
+        → refusal_of kept pod ≡ Some Refusal.Full }
+{}
+
+/// Behind the last number nothing is given.
+pub fn numbers_end()
+    ensures { (kept : KeptNode) → kept.number ≡ LAST_NUMBER → grant_of kept ≡ None }
+{}
 
 /// What the constants of this crate are.
 pub fn constants_are_as_stated()

@@ -13,10 +13,6 @@ pub mod laws;
 mod limits;
 mod node;
 mod slots;
-#[cfg(test)]
-mod test_play;
-#[cfg(test)]
-mod tests;
 mod turns;
 
 pub use answers::{Answer, Refusal};

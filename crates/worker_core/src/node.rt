@@ -54,19 +54,6 @@ impl Model for Node {
     ghost invariant = { λ n. record { ended : AllEndedBy n.moment n.slots.items; few : length n.slots.items ≤ MAX_PODS } };
 }
 
-#[cfg(test)]
-impl Node {
-    // As if a pod of this uid had been there.
-    pub(crate) fn know(&mut self, uid: &Uid) -> Result<(), AllocError> {
-        self.known.add(String::from_str(self.alloc, uid.as_str())?)
-    }
-
-    // As if this many requests had been given.
-    pub(crate) fn count_from(&mut self, number: u64) {
-        self.number = number;
-    }
-}
-
 fn admit_answer(refusal: Option<Refusal>) -> Answer
     ensures { result ≡ admit_answer refusal }
 {

@@ -17,7 +17,6 @@ use worker_core::{AgentEvent, Answer, Refusal};
 pub struct Coordinator<L: Ledger> {
     share: Share<L>,
     receipts: Vec<Receipt>,
-    last: u64,
 }
 
 impl<L: Ledger> Model for Coordinator<L> {
@@ -53,7 +52,6 @@ impl<L: Ledger> Coordinator<L> {
         Coordinator {
             share,
             receipts: Vec::new(alloc),
-            last: 0,
         }
     }
 
@@ -70,12 +68,11 @@ impl<L: Ledger> Coordinator<L> {
         ensures err { OnErr result (self.new.receipts ≡ self.old.receipts) }
     {
         self.receipts.reserve(1)?;
-        let receipt = shared.record(rt, &mut self.share, 0, event, self.last)?;
+        let receipt = shared.record(rt, &mut self.share, event)?;
         let refusal = match &receipt.entry().answer {
             Answer::Refused(refusal) => Some(*refusal),
             Answer::Done | Answer::Nothing | Answer::Claimed { .. } => None,
         };
-        self.last = receipt.number();
         add(&mut self.receipts, receipt);
         Ok(refusal)
     }
@@ -93,11 +90,7 @@ impl<L: Ledger> Coordinator<L> {
     pub fn into_tally(self) -> Tally<L>
         ensures { result ≡ self }
     {
-        let Coordinator {
-            share,
-            receipts,
-            last: _,
-        } = self;
+        let Coordinator { share, receipts } = self;
         Tally::of(share, receipts)
     }
 }

@@ -8,6 +8,7 @@
 mod coordinator;
 mod crews;
 mod idle;
+mod laws;
 mod pace;
 mod shared;
 mod worker;
@@ -15,6 +16,7 @@ mod worker_share;
 
 pub use coordinator::Coordinator;
 pub use crews::crew;
+pub use laws::constants_are_as_stated;
 pub use pace::{Ended, Pace, Quiet, Unknown};
 pub use shared::Shared;
 pub use worker::{Always, Gate, Peer, work};

@@ -48,7 +48,7 @@ impl Quiet for Unknown {
 }
 
 // How many milliseconds the machine's clock is not looked at.
-const NAP: u64 = 50;
+pub(crate) const NAP: u64 = 50;
 
 /// Tells the time until there is nothing left to wait for.
 pub(crate) fn keep_time<L: Ledger, Q: Quiet, R: Wait + Clock>(

@@ -31,27 +31,28 @@ pub struct Shared<L: Ledger> {
     moment: AtomicU64,
 }
 
-// No fact spans two locks, so that the numbers of a worker's entries rise is looked at again.
-fn record_above<L: Ledger>(
+// Records an event, behind the entry of this number. No fact spans two locks, so that the entry is there is
+// looked at again.
+fn record_behind<L: Ledger>(
     book: &mut Book<L>,
     share: &mut Share<L>,
     worker: u32,
     event: AgentEvent,
     last: u64,
-) -> Result<Receipt, BookFault>
+) -> Option<Receipt>
     requires part { 0 < share.old.parts }
     requires own { worker_of event ≡ worker }
-    ensures above { IfOk result (λ r. last < r.number) }
-    ensures worker { IfOk result (λ r. r.entry.worker ≡ worker) }
-    ensures event { IfOk result (λ r. r.entry.event ≡ event) }
-    ensures counted { OnOk result (share.new.amount ≡ share.old.amount + 1) }
-    ensures uncounted { OnErr result (share.new.amount ≡ share.old.amount) }
+    ensures above { IfSome result (λ r. last < r.number) }
+    ensures worker { IfSome result (λ r. r.entry.worker ≡ worker) }
+    ensures event { IfSome result (λ r. r.entry.event ≡ event) }
+    ensures counted { OnSome result (share.new.amount ≡ share.old.amount + 1) }
+    ensures uncounted { IfNone result (share.new.amount ≡ share.old.amount) }
     ensures parts { share.new.parts ≡ share.old.parts }
 {
     if (book.history().len() as u64) < last {
-        return Err(BookFault::Memory);
+        return None;
     }
-    book.record(share, worker, event)
+    book.record(share, worker, event).ok()
 }
 
 // Whether the worker has to wait: the book is open, and a claim would be given nothing.
@@ -84,31 +85,51 @@ impl<L: Ledger> Shared<L> {
         book
     }
 
-    /// Records an event of the worker, whose last entry has this number, and wakes those that may have something to
-    /// do now.
+    /// Records an event of worker 0, and wakes all that wait.
     pub(crate) fn record<R: Wait>(
         &self,
         rt: &R,
         share: &mut Share<L>,
-        worker: u32,
         event: AgentEvent,
-        last: u64,
     ) -> Result<Receipt, BookFault>
         requires part { 0 < share.old.parts }
-        requires own { worker_of event ≡ worker }
-        ensures above { IfOk result (λ r. last < r.number) }
-        ensures worker { IfOk result (λ r. r.entry.worker ≡ worker) }
+        requires own { worker_of event ≡ 0 }
+        ensures worker { IfOk result (λ r. r.entry.worker ≡ 0) }
         ensures event { IfOk result (λ r. r.entry.event ≡ event) }
         ensures counted { OnOk result (share.new.amount ≡ share.old.amount + 1) }
         ensures uncounted { OnErr result (share.new.amount ≡ share.old.amount) }
         ensures parts { share.new.parts ≡ share.old.parts }
     {
         let mut guarded = self.guarded.lock(rt);
-        let recorded = record_above(&mut guarded.book, share, worker, event, last);
+        let recorded = guarded.book.record(share, 0, event);
         drop(guarded);
-        if worker == 0 {
-            self.due.notify_all();
-        }
+        self.due.notify_all();
+        self.changed.notify_all();
+        recorded
+    }
+
+    /// Records how a worker's claim ended, whose last entry has this number, and wakes worker 0. None where the
+    /// book took no entry.
+    pub(crate) fn report<R: Wait>(
+        &self,
+        rt: &R,
+        share: &mut Share<L>,
+        worker: u32,
+        event: AgentEvent,
+        last: u64,
+    ) -> Option<Receipt>
+        requires part { 0 < share.old.parts }
+        requires own { worker_of event ≡ worker }
+        ensures above { IfSome result (λ r. last < r.number) }
+        ensures worker { IfSome result (λ r. r.entry.worker ≡ worker) }
+        ensures event { IfSome result (λ r. r.entry.event ≡ event) }
+        ensures counted { OnSome result (share.new.amount ≡ share.old.amount + 1) }
+        ensures uncounted { IfNone result (share.new.amount ≡ share.old.amount) }
+        ensures parts { share.new.parts ≡ share.old.parts }
+    {
+        let mut guarded = self.guarded.lock(rt);
+        let recorded = record_behind(&mut guarded.book, share, worker, event, last);
+        drop(guarded);
         self.changed.notify_all();
         recorded
     }
@@ -138,7 +159,7 @@ impl<L: Ledger> Shared<L> {
             return None;
         }
         let event = AgentEvent::Claim(worker);
-        record_above(&mut guarded.book, share, worker, event, last).ok()
+        record_behind(&mut guarded.book, share, worker, event, last)
     }
 
     /// A worker is about to begin.

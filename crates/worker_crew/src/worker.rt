@@ -88,11 +88,9 @@ fn report<L: Ledger, P: Peer, R: Wait>(
     ensures uncounted { IfNone result (share.new.amount ≡ share.old.amount) }
     ensures parts { share.new.parts ≡ share.old.parts }
 {
-    match shared.record(rt, share, worker, event, last) {
-        Ok(told) => Some(told),
-        Err(_) => shared
-            .record(rt, share, worker, AgentEvent::Abandon(worker), last)
-            .ok(),
+    match shared.report(rt, share, worker, event, last) {
+        Some(told) => Some(told),
+        None => shared.report(rt, share, worker, AgentEvent::Abandon(worker), last),
     }
 }
 

@@ -1,7 +1,7 @@
 -- Where an attempt at a container is made, and what is sent.
 use Rattle.std.proofs.Common.{◌≡◌, ℕ, ◌+◌, ◌≤◌, nat_le, nat_lt, Bool, true, false, ◌&&◌, if◌then◌else◌, List, Option, Some, None, slice_get, inl, inr, refl, sym, ◌∙◌, ap, arith}
 use Rattle.std.specs.Option.{option_map}
-use Rattle.lifecycle.specs.BackOff.{ready_at}
+use Rattle.lifecycle.specs.BackOff.{Run, last_of, ready_at}
 use Rattle.lifecycle.specs.Restart.{may_restart}
 use Rattle.lifecycle.specs.declared.policy.RestartPolicy.{RestartPolicy}
 use Rattle.lifecycle.specs.declared.track.Stage.{Stage}
@@ -26,7 +26,7 @@ use Rattle.worker_pod.specs.declared.wants.Work.TheVariants.{Create, Start, Look
 use Rattle.worker_pod.specs.Laws.{Creation, Follows}
 use Rattle.worker_pod.specs.Next.{call_by, call_of, duty_of, key_in, look_by, next_by, next_of}
 use Rattle.worker_pod.specs.Past.{Kept}
-use Rattle.worker_pod.specs.Wants.{again, chosen, front_of, is_in_turn, turn_of, want_in, want_of, wanted}
+use Rattle.worker_pod.specs.Wants.{again, again_behind, chosen, front_of, is_in_turn, turn_of, want_in, want_of, wanted}
 use Rattle.worker_pod.proofs.Inits.{in_front}
 use Rattle.worker_pod.proofs.Offers.{IsAmong, and_left, chosen_among}
 
@@ -53,11 +53,21 @@ record IsMade (policy : RestartPolicy) (now : ℕ) (t : Track) (attempt : ℕ) :
   first : attempt ≡ 0 → t.stage ≡ stage.Absent
   follows : (k : ℕ) → attempt ≡ k + 1 → Follows policy t k now
 
-again_is : (policy : RestartPolicy) (t : Track) (k code from : ℕ) → again policy t k code ≡ Some from → (may_restart policy t.init code ≡ true) × (ready_at t.runs ≡ from)
-again_is policy t k code from e = by_test (may_restart policy t.init code && nat_lt k LAST_ATTEMPT) refl e where
-  by_test : (b : Bool) → (may_restart policy t.init code && nat_lt k LAST_ATTEMPT) ≡ b → (if b then Some (ready_at t.runs) else None) ≡ Some from
-      → (may_restart policy t.init code ≡ true) × (ready_at t.runs ≡ from)
-  by_test true test h = (and_left (may_restart policy t.init code) (nat_lt k LAST_ATTEMPT) test, cc)
+-- why there may be another attempt
+record IsAgain (policy : RestartPolicy) (t : Track) (from : ℕ) : Type 0 where
+  run : Run
+  last : last_of t.runs ≡ Some run
+  may : may_restart policy t.init run.code ≡ true
+  ready : ready_at t.runs ≡ from
+
+again_is : (policy : RestartPolicy) (t : Track) (k from : ℕ) (last : Option Run) → last_of t.runs ≡ last → again_behind policy t k last ≡ Some from
+    → IsAgain policy t from
+again_is policy t k from None is e = absurd cc
+again_is policy t k from (Some run) is e = by_test (may_restart policy t.init run.code && nat_lt k LAST_ATTEMPT) refl e where
+  by_test : (b : Bool) → (may_restart policy t.init run.code && nat_lt k LAST_ATTEMPT) ≡ b
+      → (if b then Some (ready_at t.runs) else None) ≡ Some from → IsAgain policy t from
+  by_test true test h =
+      record { run = run; last = is; may = and_left (may_restart policy t.init run.code) (nat_lt k LAST_ATTEMPT) test; ready = cc }
   by_test false test h = absurd cc
 
 wanted_is : (work : Work) (from : Option ℕ) (want : Want) → option_map (wanted work) from ≡ Some want → (from ≡ Some want.from) × (want.work ≡ work)
@@ -85,18 +95,24 @@ by_stage policy poll now t (stage.Running of started polled) is want e due attem
     work_or : Option Want → Work
     work_or None = Look of
     work_or (Some w) = w.work
-by_stage policy poll now t (stage.Exited of code) is want e due attempt work =
-    let found : (again policy t of code ≡ Some want.from) × (want.work ≡ Clear of) = wanted_is (Clear of) (again policy t of code) want e in
+by_stage policy poll now t (stage.Exited of) is want e due attempt work =
+    let found : (again policy t of ≡ Some want.from) × (want.work ≡ Clear of) = wanted_is (Clear of) (again policy t of) want e in
     let differ : Clear of ≡ Create attempt = sym found.1 ∙ work in absurd cc
-by_stage policy poll now t (stage.Removed of code) is want e due attempt work =
-    let found : (again policy t of code ≡ Some want.from) × (want.work ≡ Create (of + 1)) = wanted_is (Create (of + 1)) (again policy t of code) want e in
+by_stage policy poll now t (stage.Removed of) is want e due attempt work =
+    let found : (again policy t of ≡ Some want.from) × (want.work ≡ Create (of + 1)) = wanted_is (Create (of + 1)) (again policy t of) want e in
     let next_is : of + 1 ≡ attempt = create_is (of + 1) attempt (sym found.1 ∙ work) in
-    let why : (may_restart policy t.init code ≡ true) × (ready_at t.runs ≡ want.from) = again_is policy t of code want.from found.0 in
+    let why : IsAgain policy t want.from = again_is policy t of want.from (last_of t.runs) refl found.0 in
     record {
       first = λ none. absurd (omega (arith, next_is, none));
       follows = λ k next.
           let same : of ≡ k = omega (arith, next_is, next) in
-          record { code = code; stage = is ∙ ap (λ (n : ℕ). stage.Removed n code) same; may = why.0; ready = omega (arith, due, why.1) };
+          record {
+            stage = is ∙ ap (λ (n : ℕ). stage.Removed n) same;
+            run = why.run;
+            last = why.last;
+            may = why.may;
+            ready = omega (arith, due, why.ready);
+          };
     }
 
 turn_is : (policy : RestartPolicy) (poll : ℕ) (front : Option ℕ) (at : ℕ) (t : Track) (want : Want) → turn_of policy poll front at t ≡ Some want

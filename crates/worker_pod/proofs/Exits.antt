@@ -152,44 +152,44 @@ told_more uid c cs name k run t = (suc t.0, t.1, omega (arith, t.2), t.3, t.4)
 
 -- a track with the same runs, none of whose attempts ended but those that had
 unchanged : (uid : List ℕ) (c : Claimed) (cs : List Claimed) (name : List ℕ) (old new : Track) → new.runs ≡ old.runs
-    → ((k code : ℕ) → HasEnded k code new.stage → HasEnded k code old.stage) → WasTold uid cs name old → WasTold uid (c ∷ cs) name new
+    → ((k : ℕ) → HasEnded k new.stage → HasEnded k old.stage) → WasTold uid cs name old → WasTold uid (c ∷ cs) name new
 unchanged uid c cs name old new runs same was = record {
-  ended = λ k code h.
-      let l : LastRun uid cs name old k code = was.ended k code (same k code h) in
-      record { run = l.run; last = ap last_of runs ∙ l.last; with_code = l.with_code; told = told_more uid c cs name k l.run l.told };
+  ended = λ k h.
+      let l : LastRun uid cs name old k = was.ended k (same k h) in
+      record { run = l.run; last = ap last_of runs ∙ l.last; told = told_more uid c cs name k l.run l.told };
   runs = rw runs (All-weaker (λ (run : Run). (k : ℕ) × Told uid cs name k run) (λ (run : Run). (k : ℕ) × Told uid (c ∷ cs) name k run)
       (λ run t. (t.0, told_more uid c cs name t.0 run t.1)) old.runs was.runs);
 }
 
-started_same : (now of : ℕ) (s : Stage) (k code : ℕ) → HasEnded k code (started_at now of s) → HasEnded k code s
-started_same now of stage.Absent k code h = h
-started_same now of (stage.Made attempt) k code h = by_test (attempt == of) h where
-  by_test : (b : Bool) → HasEnded k code (if b then stage.Running attempt now None else stage.Made attempt) → ⊥
+started_same : (now of : ℕ) (s : Stage) (k : ℕ) → HasEnded k (started_at now of s) → HasEnded k s
+started_same now of stage.Absent k h = h
+started_same now of (stage.Made attempt) k h = by_test (attempt == of) h where
+  by_test : (b : Bool) → HasEnded k (if b then stage.Running attempt now None else stage.Made attempt) → ⊥
   by_test true e = e
   by_test false e = e
-started_same now of (stage.Running attempt started polled) k code h = h
-started_same now of (stage.Exited attempt its) k code h = h
-started_same now of (stage.Removed attempt its) k code h = h
+started_same now of (stage.Running attempt started polled) k h = h
+started_same now of (stage.Exited attempt) k h = h
+started_same now of (stage.Removed attempt) k h = h
 
-seen_same : (now of : ℕ) (s : Stage) (k code : ℕ) → HasEnded k code (seen_at now of s) → HasEnded k code s
-seen_same now of stage.Absent k code h = h
-seen_same now of (stage.Made attempt) k code h = h
-seen_same now of (stage.Running attempt started polled) k code h = by_test (attempt == of) h where
-  by_test : (b : Bool) → HasEnded k code (if b then stage.Running attempt started (Some now) else stage.Running attempt started polled) → ⊥
+seen_same : (now of : ℕ) (s : Stage) (k : ℕ) → HasEnded k (seen_at now of s) → HasEnded k s
+seen_same now of stage.Absent k h = h
+seen_same now of (stage.Made attempt) k h = h
+seen_same now of (stage.Running attempt started polled) k h = by_test (attempt == of) h where
+  by_test : (b : Bool) → HasEnded k (if b then stage.Running attempt started (Some now) else stage.Running attempt started polled) → ⊥
   by_test true e = e
   by_test false e = e
-seen_same now of (stage.Exited attempt its) k code h = h
-seen_same now of (stage.Removed attempt its) k code h = h
+seen_same now of (stage.Exited attempt) k h = h
+seen_same now of (stage.Removed attempt) k h = h
 
-cleared_same : (of : ℕ) (s : Stage) (k code : ℕ) → HasEnded k code (cleared_at of s) → HasEnded k code s
-cleared_same of stage.Absent k code h = h
-cleared_same of (stage.Made attempt) k code h = h
-cleared_same of (stage.Running attempt started polled) k code h = h
-cleared_same of (stage.Exited attempt its) k code h = by_test (attempt == of) h where
-  by_test : (b : Bool) → HasEnded k code (if b then stage.Removed attempt its else stage.Exited attempt its) → HasEnded k code (stage.Exited attempt its)
+cleared_same : (of : ℕ) (s : Stage) (k : ℕ) → HasEnded k (cleared_at of s) → HasEnded k s
+cleared_same of stage.Absent k h = h
+cleared_same of (stage.Made attempt) k h = h
+cleared_same of (stage.Running attempt started polled) k h = h
+cleared_same of (stage.Exited attempt) k h = by_test (attempt == of) h where
+  by_test : (b : Bool) → HasEnded k (if b then stage.Removed attempt else stage.Exited attempt) → HasEnded k (stage.Exited attempt)
   by_test true e = e
   by_test false e = e
-cleared_same of (stage.Removed attempt its) k code h = h
+cleared_same of (stage.Removed attempt) k h = h
 
 at_end : (runs : List Run) (run : Run) → slice_get (runs ++ run ∷ []) (length runs) ≡ Some run
 at_end [] run = refl
@@ -206,7 +206,7 @@ exited : (uid : List ℕ) (c : Claimed) (cs : List Claimed) (name : List ℕ) (o
     → (b : Bool) → (attempt == of) ≡ b → old.stage ≡ stage.Running attempt started polled → WasTold uid cs name old
     → WasTold uid (c ∷ cs) name (record {
       init = old.init;
-      stage = if b then stage.Exited attempt code else stage.Running attempt started polled;
+      stage = if b then stage.Exited attempt else stage.Running attempt started polled;
       runs = with_run (if b then Some (record { started = started; code = code; recorded = c.moment }) else None) old.runs;
       worked = c.request.id;
     })
@@ -215,11 +215,10 @@ exited uid c cs name of old attempt started code polled tells true test at was =
     let same : of ≡ attempt = sym (eqb-true attempt of test) in
     let here : Told uid (c ∷ cs) name attempt run = rw (← same) (0, c, omega arith, refl, tells) in
     record {
-      ended = λ k its h. record {
+      ended = λ k h. record {
         run = run;
         last = last_pushed old.runs run;
-        with_code = h.1;
-        told = rw (← h.0) here;
+        told = rw (← h) here;
       };
       runs = All-push (λ (run : Run). (k : ℕ) × Told uid (c ∷ cs) name k run) old.runs run
           (All-weaker (λ (run : Run). (k : ℕ) × Told uid cs name k run) (λ (run : Run). (k : ℕ) × Told uid (c ∷ cs) name k run)
@@ -227,23 +226,23 @@ exited uid c cs name of old attempt started code polled tells true test at was =
           (attempt, here);
     }
 exited uid c cs name of old attempt started code polled tells false test at was =
-    unchanged uid c cs name old (record { init = old.init; stage = stage.Running attempt started polled; runs = old.runs; worked = c.request.id }) refl (λ k its h. absurd h) was
+    unchanged uid c cs name old (record { init = old.init; stage = stage.Running attempt started polled; runs = old.runs; worked = c.request.id }) refl (λ k h. absurd h) was
 
 by_stage : (uid : List ℕ) (c : Claimed) (cs : List Claimed) (name : List ℕ) (of code : ℕ) (old : Track)
     → ((started : ℕ) → TellsRun (key_named uid name of) (record { started = started; code = code; recorded = c.moment }) c)
     → (s : Stage) → old.stage ≡ s → WasTold uid cs name old
     → WasTold uid (c ∷ cs) name (record {
       init = old.init;
-      stage = exited_at of code s;
+      stage = exited_at of s;
       runs = with_run (exit_at c.moment of code s) old.runs;
       worked = c.request.id;
     })
 by_stage uid c cs name of code old tells (stage.Running attempt started polled) at was =
     exited uid c cs name of old attempt started code polled (tells started) (attempt == of) refl at was
-by_stage uid c cs name of code old tells stage.Absent at was = unchanged uid c cs name old _ refl (λ k its h. absurd h) was
-by_stage uid c cs name of code old tells (stage.Made attempt) at was = unchanged uid c cs name old _ refl (λ k its h. absurd h) was
-by_stage uid c cs name of code old tells (stage.Exited attempt its) at was = unchanged uid c cs name old _ refl (λ k code h. rw at h) was
-by_stage uid c cs name of code old tells (stage.Removed attempt its) at was = unchanged uid c cs name old _ refl (λ k code h. rw at h) was
+by_stage uid c cs name of code old tells stage.Absent at was = unchanged uid c cs name old _ refl (λ k h. absurd h) was
+by_stage uid c cs name of code old tells (stage.Made attempt) at was = unchanged uid c cs name old _ refl (λ k h. absurd h) was
+by_stage uid c cs name of code old tells (stage.Exited attempt) at was = unchanged uid c cs name old _ refl (λ k h. rw at h) was
+by_stage uid c cs name of code old tells (stage.Removed attempt) at was = unchanged uid c cs name old _ refl (λ k h. rw at h) was
 
 -- the track behind a claim that worked on this attempt, and told this of it
 abbrev behind : Claimed → ℕ → News → Track → Track
@@ -258,16 +257,16 @@ by_news : (uid : List ℕ) (c : Claimed) (cs : List Claimed) (name : List ℕ) (
     → ((code : ℕ) → n ≡ news.Exited code → (started : ℕ) → TellsRun (key_named uid name of) (record { started = started; code = code; recorded = c.moment }) c)
     → WasTold uid cs name old → WasTold uid (c ∷ cs) name (behind c of n old)
 by_news uid c cs name of old (news.Exited code) tells was = by_stage uid c cs name of code old (tells code refl) old.stage refl was
-by_news uid c cs name of old news.Made tells was = unchanged uid c cs name old _ refl (λ k its h. absurd h) was
+by_news uid c cs name of old news.Made tells was = unchanged uid c cs name old _ refl (λ k h. absurd h) was
 by_news uid c cs name of old news.Started tells was = unchanged uid c cs name old _ refl (started_same c.moment of old.stage) was
 by_news uid c cs name of old news.NotExited tells was = unchanged uid c cs name old _ refl (seen_same c.moment of old.stage) was
 by_news uid c cs name of old news.Cleared tells was = unchanged uid c cs name old _ refl (cleared_same of old.stage) was
-by_news uid c cs name of old news.Lost tells was = unchanged uid c cs name old _ refl (λ k its h. h) was
-by_news uid c cs name of old news.Refused tells was = unchanged uid c cs name old _ refl (λ k its h. h) was
-by_news uid c cs name of old news.SandboxReady tells was = unchanged uid c cs name old _ refl (λ k its h. h) was
-by_news uid c cs name of old news.SandboxStopped tells was = unchanged uid c cs name old _ refl (λ k its h. h) was
-by_news uid c cs name of old news.SandboxRemoved tells was = unchanged uid c cs name old _ refl (λ k its h. h) was
-by_news uid c cs name of old news.Nothing tells was = unchanged uid c cs name old _ refl (λ k its h. h) was
+by_news uid c cs name of old news.Lost tells was = unchanged uid c cs name old _ refl (λ k h. h) was
+by_news uid c cs name of old news.Refused tells was = unchanged uid c cs name old _ refl (λ k h. h) was
+by_news uid c cs name of old news.SandboxReady tells was = unchanged uid c cs name old _ refl (λ k h. h) was
+by_news uid c cs name of old news.SandboxStopped tells was = unchanged uid c cs name old _ refl (λ k h. h) was
+by_news uid c cs name of old news.SandboxRemoved tells was = unchanged uid c cs name old _ refl (λ k h. h) was
+by_news uid c cs name of old news.Nothing tells was = unchanged uid c cs name old _ refl (λ k h. h) was
 
 -- a claim of the pod
 pub told_behind : (uid : List ℕ) (c : Claimed) (cs : List Claimed) (name : List ℕ) (old : Track) → uid_of c.request.call ≡ uid → WasTold uid cs name old
@@ -279,7 +278,7 @@ told_behind uid c cs name old same was = by_attempt (worked_in c.request.call na
     runs = with_run (run_by c.moment c.request c.outcome name old.stage works) old.runs;
     worked = number_by c.request old.worked works;
   })
-  by_attempt None is = unchanged uid c cs name old _ refl (λ k its h. h) was
+  by_attempt None is = unchanged uid c cs name old _ refl (λ k h. h) was
   by_attempt (Some of) is =
       by_news uid c cs name of old (told_of name of c.request c.outcome)
       (λ code e started.

@@ -21,8 +21,8 @@ started_later : (now later : ℕ) → now ≤ later → (s : Stage) → StartedB
 started_later now later l stage.Absent b = b
 started_later now later l (stage.Made attempt) b = b
 started_later now later l (stage.Running attempt started polled) b = omega (arith, l, b)
-started_later now later l (stage.Exited attempt code) b = b
-started_later now later l (stage.Removed attempt code) b = b
+started_later now later l (stage.Exited attempt) b = b
+started_later now later l (stage.Removed attempt) b = b
 
 -- by a moment, and so by a later one
 pub all_later : (now later : ℕ) → now ≤ later → (tracks : List Track) → AllStartedBy now tracks → AllStartedBy later tracks

@@ -33,8 +33,8 @@ last_is : (s : Stage) (runs : List Run) → ended_in s runs ≡ Some 0 → (r : 
 last_is (stage.Running attempt started polled) runs e = absurd cc
 last_is stage.Absent runs e = run_is (last_of runs) e
 last_is (stage.Made attempt) runs e = run_is (last_of runs) e
-last_is (stage.Exited attempt code) runs e = run_is (last_of runs) e
-last_is (stage.Removed attempt code) runs e = run_is (last_of runs) e
+last_is (stage.Exited attempt) runs e = run_is (last_of runs) e
+last_is (stage.Removed attempt) runs e = run_is (last_of runs) e
 
 ended_well : (policy : RestartPolicy) (t : Track) → is_succeeded policy t ≡ true → EndedWell policy t
 ended_well policy t e =

@@ -34,8 +34,8 @@ abbrev CountIs : Stage → ℕ → Type 0
 CountIs stage.Absent n = n ≡ 0
 CountIs (stage.Made k) n = k ≡ n
 CountIs (stage.Running k started polled) n = k ≡ n
-CountIs (stage.Exited k code) n = k + 1 ≡ n
-CountIs (stage.Removed k code) n = k + 1 ≡ n
+CountIs (stage.Exited k) n = k + 1 ≡ n
+CountIs (stage.Removed k) n = k + 1 ≡ n
 
 record Counted (uid : List ℕ) (cs : List Claimed) (name : List ℕ) (track : Track) : Type 0 where
   count : CountIs track.stage (length track.runs)
@@ -119,8 +119,8 @@ started_count now of (stage.Made attempt) n h = by_test (attempt == of) where
   by_test true = h
   by_test false = h
 started_count now of (stage.Running attempt started polled) n h = h
-started_count now of (stage.Exited attempt code) n h = h
-started_count now of (stage.Removed attempt code) n h = h
+started_count now of (stage.Exited attempt) n h = h
+started_count now of (stage.Removed attempt) n h = h
 
 seen_count : (now of : ℕ) (s : Stage) (n : ℕ) → CountIs s n → CountIs (seen_at now of s) n
 seen_count now of stage.Absent n h = h
@@ -129,18 +129,18 @@ seen_count now of (stage.Running attempt started polled) n h = by_test (attempt 
   by_test : (b : Bool) → CountIs (if b then stage.Running attempt started (Some now) else stage.Running attempt started polled) n
   by_test true = h
   by_test false = h
-seen_count now of (stage.Exited attempt code) n h = h
-seen_count now of (stage.Removed attempt code) n h = h
+seen_count now of (stage.Exited attempt) n h = h
+seen_count now of (stage.Removed attempt) n h = h
 
 cleared_count : (of : ℕ) (s : Stage) (n : ℕ) → CountIs s n → CountIs (cleared_at of s) n
 cleared_count of stage.Absent n h = h
 cleared_count of (stage.Made attempt) n h = h
 cleared_count of (stage.Running attempt started polled) n h = h
-cleared_count of (stage.Exited attempt code) n h = by_test (attempt == of) where
-  by_test : (b : Bool) → CountIs (if b then stage.Removed attempt code else stage.Exited attempt code) n
+cleared_count of (stage.Exited attempt) n h = by_test (attempt == of) where
+  by_test : (b : Bool) → CountIs (if b then stage.Removed attempt else stage.Exited attempt) n
   by_test true = h
   by_test false = h
-cleared_count of (stage.Removed attempt code) n h = h
+cleared_count of (stage.Removed attempt) n h = h
 
 in_push : (runs : List Run) (run : Run) (k : ℕ) (r : Run) → slice_get (runs ++ run ∷ []) k ≡ Some r → (slice_get runs k ≡ Some r) ⊎ ((k ≡ length runs) × (r ≡ run))
 in_push [] run zero r e = inr (refl, cc)
@@ -161,7 +161,7 @@ module _ (uid : List ℕ) (c : Claimed) (cs : List Claimed) (name : List ℕ) (o
       → TellsRun (key_named uid name of) (record { started = started; code = code; recorded = c.moment }) c → (b : Bool) → (attempt == of) ≡ b
       → Counted uid (c ∷ cs) name (record {
         init = old.init;
-        stage = if b then stage.Exited attempt code else stage.Running attempt started polled;
+        stage = if b then stage.Exited attempt else stage.Running attempt started polled;
         runs = with_run (if b then Some (record { started = started; code = code; recorded = c.moment }) else None) old.runs;
         worked = c.request.id;
       })
@@ -187,15 +187,15 @@ module _ (uid : List ℕ) (c : Claimed) (cs : List Claimed) (name : List ℕ) (o
       → (s : Stage) → old.stage ≡ s
       → Counted uid (c ∷ cs) name (record {
         init = old.init;
-        stage = exited_at of code s;
+        stage = exited_at of s;
         runs = with_run (exit_at c.moment of code s) old.runs;
         worked = c.request.id;
       })
   by_stage of code tells (stage.Running attempt started polled) at = exited of code attempt started polled at (tells started) (attempt == of) refl
   by_stage of code tells stage.Absent at = same_runs stage.Absent c.request.id (subst (λ (s : Stage). CountIs s (length old.runs)) at was.count)
   by_stage of code tells (stage.Made attempt) at = same_runs (stage.Made attempt) c.request.id (subst (λ (s : Stage). CountIs s (length old.runs)) at was.count)
-  by_stage of code tells (stage.Exited attempt its) at = same_runs (stage.Exited attempt its) c.request.id (subst (λ (s : Stage). CountIs s (length old.runs)) at was.count)
-  by_stage of code tells (stage.Removed attempt its) at = same_runs (stage.Removed attempt its) c.request.id (subst (λ (s : Stage). CountIs s (length old.runs)) at was.count)
+  by_stage of code tells (stage.Exited attempt) at = same_runs (stage.Exited attempt) c.request.id (subst (λ (s : Stage). CountIs s (length old.runs)) at was.count)
+  by_stage of code tells (stage.Removed attempt) at = same_runs (stage.Removed attempt) c.request.id (subst (λ (s : Stage). CountIs s (length old.runs)) at was.count)
 
   by_news : (of : ℕ) (n : News) → ((code : ℕ) → n ≡ news.Exited code → (started : ℕ) → TellsRun (key_named uid name of) (record { started = started; code = code; recorded = c.moment }) c)
       → (n ≡ news.Made → of ≡ length old.runs)

@@ -14,7 +14,7 @@ use Rattle.worker_pod.proofs.Exits.{told_behind}
 use Rattle.worker_pod.proofs.Places.{changes, fresh_at, pod_is}
 
 never_ended : (uid : List ℕ) (name : List ℕ) (init : Bool) → WasTold uid [] name (fresh init)
-never_ended uid name init = record { ended = λ k code h. absurd h; runs = All-nil (λ (run : Run). (k : ℕ) × Told uid [] name k run) }
+never_ended uid name init = record { ended = λ k h. absurd h; runs = All-nil (λ (run : Run). (k : ℕ) × Told uid [] name k run) }
 
 pub was_told : (settings : Settings) (pod : Pod) (cs : List Claimed) → AreOf pod.uid cs → (at : ℕ) (track : Track) (container : Container)
     → slice_get (read_off pod settings cs).tracks at ≡ Some track → slice_get pod.containers.all at ≡ Some container → WasTold pod.uid cs container.name track

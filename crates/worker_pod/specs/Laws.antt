@@ -52,9 +52,10 @@ pub record EndedWell (policy : RestartPolicy) (track : Track) : Type 0 where
 
 -- attempt k ended and was removed, another may be, and its back-off is over
 pub record Follows (policy : RestartPolicy) (track : Track) (k now : ℕ) : Type 0 where
-  pub code : ℕ
-  pub stage : track.stage ≡ stage.Removed k code
-  pub may : may_restart policy track.init code ≡ true
+  pub stage : track.stage ≡ stage.Removed k
+  pub run : Run
+  pub last : last_of track.runs ≡ Some run
+  pub may : may_restart policy track.init run.code ≡ true
   pub ready : ready_at track.runs ≤ now
 
 -- an attempt at a container is made
@@ -89,22 +90,21 @@ key_named uid name attempt = record { uid = uid; container = record { name = nam
 abbrev pub Told : List ℕ → List Claimed → List ℕ → ℕ → Run → Type 0
 Told uid cs name k run = Any (TellsRun (key_named uid name k) run) cs
 
--- attempt k has ended with this code
-abbrev pub HasEnded : ℕ → ℕ → Stage → Type 0
-HasEnded k code (stage.Exited attempt its) = (attempt ≡ k) × (its ≡ code)
-HasEnded k code (stage.Removed attempt its) = (attempt ≡ k) × (its ≡ code)
-HasEnded k code s = ⊥
+-- attempt k has ended
+abbrev pub HasEnded : ℕ → Stage → Type 0
+HasEnded k (stage.Exited attempt) = attempt ≡ k
+HasEnded k (stage.Removed attempt) = attempt ≡ k
+HasEnded k s = ⊥
 
--- the last run is that of attempt k, with this code
-pub record LastRun (uid : List ℕ) (cs : List Claimed) (name : List ℕ) (track : Track) (k code : ℕ) : Type 0 where
+-- the last run is that of attempt k
+pub record LastRun (uid : List ℕ) (cs : List Claimed) (name : List ℕ) (track : Track) (k : ℕ) : Type 0 where
   pub run : Run
   pub last : last_of track.runs ≡ Some run
-  pub with_code : run.code ≡ code
   pub told : Told uid cs name k run
 
 -- what is held of a container's runs was told by replies to claims of its attempts
 pub record WasTold (uid : List ℕ) (cs : List Claimed) (name : List ℕ) (track : Track) : Type 0 where
-  pub ended : (k code : ℕ) → HasEnded k code track.stage → LastRun uid cs name track k code
+  pub ended : (k : ℕ) → HasEnded k track.stage → LastRun uid cs name track k
   pub runs : All (λ (run : Run). (k : ℕ) × Told uid cs name k run) track.runs
 
 -- the container's turn has come, and so has the moment from which on something is to be done for it

@@ -36,20 +36,20 @@ seen_at now of (stage.Running attempt started polled) =
     if attempt == of then stage.Running attempt started (Some now) else stage.Running attempt started polled
 seen_at now of s = s
 
-abbrev pub exited_at : ℕ → ℕ → Stage → Stage
-exited_at of code (stage.Running attempt started polled) =
-    if attempt == of then stage.Exited attempt code else stage.Running attempt started polled
-exited_at of code s = s
+abbrev pub exited_at : ℕ → Stage → Stage
+exited_at of (stage.Running attempt started polled) =
+    if attempt == of then stage.Exited attempt else stage.Running attempt started polled
+exited_at of s = s
 
 abbrev pub cleared_at : ℕ → Stage → Stage
-cleared_at of (stage.Exited attempt code) = if attempt == of then stage.Removed attempt code else stage.Exited attempt code
+cleared_at of (stage.Exited attempt) = if attempt == of then stage.Removed attempt else stage.Exited attempt
 cleared_at of s = s
 
 abbrev pub stage_at : ℕ → ℕ → News → Stage → Stage
 stage_at now of news.Made s = made_at of s
 stage_at now of news.Started s = started_at now of s
 stage_at now of news.NotExited s = seen_at now of s
-stage_at now of (news.Exited code) s = exited_at of code s
+stage_at now of (news.Exited code) s = exited_at of s
 stage_at now of news.Cleared s = cleared_at of s
 stage_at now of n s = s
 

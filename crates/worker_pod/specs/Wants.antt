@@ -2,7 +2,7 @@
 -- containers and restarts of Kubernetes 1.27, pod lifecycle. docs/SEMANTICS.md, "The agent: one pod".
 use Rattle.std.specs.Prelude.{ℕ, ◌+◌, ◌==◌, nat_le, nat_lt, min, Bool, true, not, ◌&&◌, if◌then◌else◌, List, [], ◌∷◌, Option, Some, None, position}
 use Rattle.std.specs.Option.{option_map}
-use Rattle.lifecycle.specs.BackOff.{later, ready_at}
+use Rattle.lifecycle.specs.BackOff.{Run, last_of, later, ready_at}
 use Rattle.lifecycle.specs.Restart.{may_restart}
 use Rattle.lifecycle.specs.Tracks.{is_succeeded}
 use Rattle.lifecycle.specs.declared.policy.RestartPolicy.{RestartPolicy}
@@ -20,10 +20,14 @@ abbrev pub look_from : ℕ → Option ℕ → ℕ
 look_from poll None = 0
 look_from poll (Some polled) = later polled poll
 
--- from when on there may be another attempt behind one that ended with this code, if there may be one
-abbrev pub again : RestartPolicy → Track → ℕ → ℕ → Option ℕ
-again policy track attempt code =
-    if may_restart policy track.init code && nat_lt attempt LAST_ATTEMPT then Some (ready_at track.runs) else None
+-- from when on there may be another attempt behind this one, whose run is the last, if there may be one
+abbrev pub again_behind : RestartPolicy → Track → ℕ → Option Run → Option ℕ
+again_behind policy track attempt None = None
+again_behind policy track attempt (Some run) =
+    if may_restart policy track.init run.code && nat_lt attempt LAST_ATTEMPT then Some (ready_at track.runs) else None
+
+abbrev pub again : RestartPolicy → Track → ℕ → Option ℕ
+again policy track attempt = again_behind policy track attempt (last_of track.runs)
 
 abbrev pub wanted : Work → ℕ → Want
 wanted work from = record { from = from; work = work }
@@ -33,8 +37,8 @@ abbrev pub want_in : RestartPolicy → ℕ → Track → Stage → Option Want
 want_in policy poll track stage.Absent = Some (record { from = 0; work = Create 0 })
 want_in policy poll track (stage.Made attempt) = Some (record { from = 0; work = Start attempt })
 want_in policy poll track (stage.Running attempt started polled) = Some (record { from = look_from poll polled; work = Look attempt })
-want_in policy poll track (stage.Exited attempt code) = option_map (wanted (Clear attempt)) (again policy track attempt code)
-want_in policy poll track (stage.Removed attempt code) = option_map (wanted (Create (attempt + 1))) (again policy track attempt code)
+want_in policy poll track (stage.Exited attempt) = option_map (wanted (Clear attempt)) (again policy track attempt)
+want_in policy poll track (stage.Removed attempt) = option_map (wanted (Create (attempt + 1))) (again policy track attempt)
 
 abbrev pub want_of : RestartPolicy → ℕ → Track → Option Want
 want_of policy poll track = want_in policy poll track track.stage

@@ -1,7 +1,8 @@
-ghost use Rattle.std.specs.Prelude.{◌≡◌, ◌+◌, ◌^◌, ℕ, List, Some, slice_get, length, nat_lt};
+ghost use Rattle.std.specs.Prelude.{◌≡◌, ◌+◌, ◌^◌, ℕ, false, List, [], ◌∷◌, Some, None, slice_get, length, nat_lt};
 ghost use Rattle.std.specs.Option.{is_some};
 ghost use Rattle.lifecycle.specs.BackOff.{Run};
 ghost use Rattle.lifecycle.specs.declared.policy.RestartPolicy.{RestartPolicy};
+ghost use Rattle.lifecycle.specs.declared.track.Stage.TheVariants as stage;
 ghost use Rattle.lifecycle.specs.declared.track.Track.{Track};
 ghost use Rattle.manifest.specs.declared.containers.Container.{Container};
 ghost use Rattle.manifest.specs.declared.pods.Pod.{Pod};
@@ -11,10 +12,11 @@ ghost use Rattle.cri_msgs.specs.declared.keys.Key.{Key};
 ghost use Rattle.worker_pod.specs.declared.settings.Settings.{Settings};
 ghost use Rattle.worker_pod.specs.declared.settings.TheConstants.{LAST_ATTEMPT, REST};
 ghost use Rattle.worker_pod.specs.declared.wants.Pick.{Pick};
+ghost use Rattle.worker_pod.specs.declared.wants.Work.TheVariants.{Create};
 ghost use Rattle.worker_pod.specs.Laws.{AreNumbered, AreOf, Creation, IsNumberedIn, Told, WaitedLongest, WasTold, uid_of};
 ghost use Rattle.worker_pod.specs.Next.{due_of, has_come, next_of};
 ghost use Rattle.worker_pod.specs.Past.{Claimed, Kept, Past, held_of, read_off};
-ghost use Rattle.worker_pod.specs.Wants.{chosen};
+ghost use Rattle.worker_pod.specs.Wants.{chosen, want_of};
 
 /// An attempt at a container is made as the manifest says, once the init containers in front have succeeded,
 /// and, behind an attempt that ended, where another may be and not before its back-off is over.
@@ -52,6 +54,20 @@ pub fn containers_have_tracks()
         → length (read_off pod settings claims).tracks ≡ length pod.containers.all }
     ensures inits { (settings : Settings) (pod : Pod) (claims : List Claimed) (at : ℕ) (track : Track)
         → slice_get (read_off pod settings claims).tracks at ≡ Some track → track.init ≡ nat_lt at pod.containers.inits }
+{}
+
+/// Behind the last attempt at a container there is no other; behind the one before it there is.
+pub fn attempts_end_at_the_last()
+    ensures exited { (policy : RestartPolicy) (poll : ℕ) (track : Track)
+        → track.stage ≡ stage.Exited LAST_ATTEMPT → want_of policy poll track ≡ None }
+    ensures removed { (policy : RestartPolicy) (poll : ℕ) (track : Track)
+        → track.stage ≡ stage.Removed LAST_ATTEMPT → want_of policy poll track ≡ None }
+    ensures one_more { (poll worked : ℕ) → want_of RestartPolicy.Always poll (record {
+      init = false;
+      stage = stage.Removed 4294967294;
+      runs = record { started = 0; code = 1; recorded = 5 } ∷ [];
+      worked = worked;
+    }) ≡ Some (record { from = 15; work = Create LAST_ATTEMPT }) }
 {}
 
 /// A request is due from the moment on that is told.

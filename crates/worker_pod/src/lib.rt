@@ -12,17 +12,14 @@ mod news;
 mod pod;
 mod sandbox;
 mod settings;
-#[cfg(test)]
-mod test_play;
-#[cfg(test)]
-mod tests;
 mod tracks;
 mod turns;
 mod wants;
 
 pub use laws::{
-    calls_are_of_the_pod, constants_are_as_stated, containers_have_tracks, creations_are_numbered,
-    creations_follow, due_is_when_next_is, longest_waits_first, runs_are_numbered, runs_were_told,
+    attempts_end_at_the_last, calls_are_of_the_pod, constants_are_as_stated,
+    containers_have_tracks, creations_are_numbered, creations_follow, due_is_when_next_is,
+    longest_waits_first, runs_are_numbered, runs_were_told,
 };
 pub use pod::{PodState, PodView};
 pub use settings::{Outcome, Settings};

@@ -57,12 +57,10 @@ fn stage_at(now: u64, of: u32, news: News, stage: Stage) -> Stage
             started,
             polled: Some(now),
         },
-        (News::Exited(code), Stage::Running { attempt, .. }) if attempt == of => {
-            Stage::Exited { attempt, code }
+        (News::Exited(_), Stage::Running { attempt, .. }) if attempt == of => {
+            Stage::Exited { attempt }
         }
-        (News::Cleared, Stage::Exited { attempt, code }) if attempt == of => {
-            Stage::Removed { attempt, code }
-        }
+        (News::Cleared, Stage::Exited { attempt }) if attempt == of => Stage::Removed { attempt },
         _ => stage,
     }
 }

@@ -1,9 +1,8 @@
-ghost use Rattle.std.specs.Prelude.{◌≡◌, ◌<◌, ◌≤◌, IfSome, length};
-ghost use Rattle.lifecycle.specs.BackOff.{ready_at};
+ghost use Rattle.std.specs.Prelude.{◌≡◌, ◌<◌, ◌≤◌, IfSome};
 ghost use Rattle.worker_pod.specs.Wants.{again, look_from, want_of};
 
 use crate::settings::LAST_ATTEMPT;
-use lifecycle::{PastRun, RestartPolicy, Stage, Track, may_restart, ready_at};
+use lifecycle::{RestartPolicy, Stage, Track, may_restart, ready_at};
 
 // What is done for a container, at one of its attempts.
 #[derive(Clone, Copy)]
@@ -40,20 +39,15 @@ fn look_from(poll: u64, polled: Option<u64>) -> u64
     }
 }
 
-// A container that never ran has no back-off.
-fn ready_from(runs: &[PastRun]) -> u64
-    ensures { result ≡ ready_at runs.now }
-{
-    if runs.is_empty() { 0 } else { ready_at(runs) }
-}
-
-// From when on there may be another attempt behind one that ended with this code.
-fn again(policy: RestartPolicy, track: &Track, attempt: u32, code: u8) -> Option<u64>
-    ensures value { result ≡ again policy track.now attempt code }
+// From when on there may be another attempt behind this one, whose run is the last.
+fn again(policy: RestartPolicy, track: &Track, attempt: u32) -> Option<u64>
+    ensures value { result ≡ again policy track.now attempt }
     ensures more { IfSome result (λ _. attempt < LAST_ATTEMPT) }
 {
+    let runs = track.runs.as_slice();
+    let code = runs.last()?.code();
     if may_restart(policy, track.init, code) && attempt < LAST_ATTEMPT {
-        Some(ready_from(track.runs.as_slice()))
+        Some(ready_at(runs))
     } else {
         None
     }
@@ -79,12 +73,12 @@ pub(crate) fn want_of(policy: RestartPolicy, poll: u64, track: &Track) -> Option
             from: look_from(poll, polled),
             work: Work::Look(attempt),
         }),
-        Stage::Exited { attempt, code } => again(policy, track, attempt, code).map(|from| Want {
+        Stage::Exited { attempt } => again(policy, track, attempt).map(|from| Want {
             from,
             work: Work::Clear(attempt),
         }),
-        Stage::Removed { attempt, code } => {
-            let from = again(policy, track, attempt, code)?;
+        Stage::Removed { attempt } => {
+            let from = again(policy, track, attempt)?;
             Some(Want {
                 from,
                 work: Work::Create(attempt + 1),

@@ -1,4 +1,4 @@
-use Rattle.std.proofs.Common.{rules, ap, codes, ◌∙◌}
+use Rattle.std.proofs.Common.{ap, codes, ◌∙◌}
 use Rattle.std.proofs.lemmas.Result.{IfOk-weaker}
 use Rattle.clap.specs.Simple.{App, with_rule}
 use Rattle.command_line.specs.Arguments.{flag_rule}

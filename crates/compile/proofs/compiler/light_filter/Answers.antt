@@ -5,11 +5,11 @@ use Rattle.bpf_machine.specs.Runs.{Runs}
 use Rattle.call_data.specs.declared.sys_call.SysCall.{SysCall}
 use Rattle.call_data.specs.CallData.{IsCall}
 use Rattle.oci_profile.specs.declared.profile.Profile.{Profile}
-use Rattle.oci_profile.specs.Meaning.{meaning}
+use Rattle.oci_profile.specs.Meaning.{meaning, weight}
 use Rattle.sys_table.specs.declared.table.TheConstants.{NUMBER_LIMIT}
 use Rattle.compile.specs.Bounds.{AreBare, HasDigits, named_below}
-use Rattle.compile.specs.Sizes.{IsEnough, split_size, steps_of}
-use Rattle.compile.proofs.Weights.{light_fits, levels_enough}
+use Rattle.compile.specs.Sizes.{IsAsLong, IsEnough, added_below, split_size, steps_of}
+use Rattle.compile.proofs.Weights.{light_fits, levels_enough, no_heavier}
 use Rattle.compile.proofs.compiler.light_filter.Goals as goal
 
 pub assemble-requires-clause-short : goal.assemble-requires-clause-short
@@ -22,6 +22,22 @@ assemble-requires-clause-short c =
     rw (c.as_slice-2.ensures.value, c.as_slice-3.ensures.value)
     (light_fits profile (length plain) (split_size profile starts singles 0 (length starts)) NUMBER_LIMIT (NUMBER_LIMIT + 1) c.in_ok-plain.ensures.fit c.in_ok-plain.ensures.few
     (omega (arith, c.in_ok-split.ensures.short, same, c.in_ok-plain.ensures.short)) c.requires)
+
+pub returns-clause-long : goal.returns-clause-long
+returns-clause-long c =
+    let profile : Profile = c.args.profile.now in
+    let starts : List ℕ = c.as_slice-2.result.now in
+    let singles : List ℕ = c.as_slice-3.result.now in
+    let plain : List ℕ = c.in_ok-plain.plain.items in
+    let size : ℕ = split_size profile starts singles 0 (length starts) in
+    let same = ap (λ s. split_size profile s s 0 (length s)) c.as_slice.ensures.value in
+    let small : size ≤ 3 * length plain + added_below profile.entries (NUMBER_LIMIT + 1) =
+    rw (c.as_slice-2.ensures.value, c.as_slice-3.ensures.value) (omega (arith, c.in_ok-split.ensures.short, same, c.in_ok-plain.ensures.short)) in
+    let Found : List Insn → Type 0 = λ filter. IsAsLong size (length filter) in
+    let Wanted : List Insn → Type 0 = λ filter. length filter ≤ weight profile in
+    IfOk-weaker c.assemble.result Found Wanted
+    (λ filter found. no_heavier profile (length plain) size NUMBER_LIMIT (NUMBER_LIMIT + 1) (length filter) c.in_ok-plain.ensures.fit c.in_ok-plain.ensures.few small found)
+    c.assemble.ensures.long
 
 pub returns-clause-means : goal.returns-clause-means
 returns-clause-means c =

@@ -1,4 +1,4 @@
-use Rattle.std.proofs.Common.{ℕ, ◌-◌, List, arith}
+use Rattle.std.proofs.Common.{ℕ, ◌-◌, List, length, ap, arith}
 use Rattle.std.proofs.lemmas.Result.{on_ok_weaker}
 use Rattle.bpf_code.specs.declared.insn.Insn.{Insn}
 use Rattle.oci_profile.specs.declared.profile.Profile.{Profile}
@@ -45,6 +45,18 @@ returns-clause-gives t c =
     node_gives profile starts c.tree.new.code c.tree-2.new.code c.near.new.self new c.args.from middle c.args.to c.in_ok-low.low c.in_ok-high.high c.in_ok-miss.miss
     c.half_way-middle.ensures.inside.0 c.half_way-middle.ensures.inside.1 (omega (arith, c.requires.to_in, c.half_way-middle.ensures.inside.1)) c.half_way-middle.ensures.half.0 c.half_way-middle.ensures.half.1 c.in_ok-low.ensures.gives c.in_ok-high.ensures.gives c.in_ok-high.ensures.keeps
     (λ call a v m. c.in_ok-miss.ensures.gives call a v m) c.in_ok-miss.ensures.keeps (λ call a v m. jumps call a v m)) c.jump.ensures.gives)
+
+pub returns-then-to-from-eq1-clause-compact : goal.returns-then-to-from-eq1-clause-compact
+returns-then-to-from-eq1-clause-compact t c =
+    on_ok_weaker c.range_leaf.result (λ longer many. absurd (omega (arith, many, c.if-to-from-eq1.true))) c.range_leaf.ensures.longer
+
+pub returns-clause-compact : goal.returns-clause-compact
+returns-clause-compact t c =
+    let middle : ℕ = c.half_way-middle.result in
+    let sizes = split_at c.args.profile.now c.args.starts.now c.args.singles.now c.args.from middle c.args.to (omega arith) (omega arith) in
+    on_ok_weaker c.jump.result (λ longer many small.
+    let same = c.in_ok-miss.ensures.same (omega (arith, small, c.in_ok-low.ensures.longer, c.in_ok-high.ensures.longer)) in
+    omega (arith, longer, ap length same.1, c.in_ok-low.ensures.longer, c.in_ok-high.ensures.longer)) c.jump.ensures.longer
 
 pub returns-clause-longer : goal.returns-clause-longer
 returns-clause-longer t c =

@@ -5,6 +5,7 @@ use Rattle.runner.proofs.shared.wake.Goals as goal
 pub returns-in-Err-clause-may : goal.returns-in-Err-clause-may
 returns-in-Err-clause-may g c = record {
   registry = c.args.registry.now;
+  own = refl;
   registry' = c.args.registry.now;
   cells = [];
   cells' = [];

@@ -1,0 +1,40 @@
+-- Whether two filters return the same value on a call, each by its own run: bpf_machine, Runs.
+use Rattle.std.specs.Prelude.{◌≡◌, ◌≢◌, ◌<◌, ◌^◌, ℕ, List}
+use Rattle.bpf_code.specs.declared.insn.Insn.{Insn}
+use Rattle.call_data.specs.declared.sys_call.SysCall.{SysCall}
+use Rattle.call_data.specs.declared.sys_call.TheConstants.{NATIVE_ARCH}
+use Rattle.call_data.specs.CallData.{IsCall}
+use Rattle.bpf_machine.specs.Runs.{Runs}
+use Rattle.bpf_compare.specs.declared.comparison.Comparison.{Comparison}
+use Rattle.bpf_compare.specs.declared.comparison.Comparison.TheVariants.{Same, Differs, Undecided}
+use Rattle.bpf_compare.specs.declared.scope.Scope.{Scope}
+use Rattle.bpf_compare.specs.declared.scope.Scope.TheVariants.{EveryCall, NativeCalls}
+
+-- on this call the filter returns this value
+pub record Returns (code : List Insn) (call : SysCall) (value : ℕ) : Type 0 where
+  pub steps : ℕ
+  pub run : Runs code call value steps
+
+-- both return the same value on this call
+pub record Agree (first second : List Insn) (call : SysCall) : Type 0 where
+  pub value : ℕ
+  pub of_first : Returns first call value
+  pub of_second : Returns second call value
+
+-- they return these values on this call, which are not the same
+pub record Disagree (first second : List Insn) (call : SysCall) (one other : ℕ) : Type 0 where
+  pub of_first : Returns first call one
+  pub of_second : Returns second call other
+  pub differ : one ≢ other
+
+-- the call is one of those that are asked about: any at all, or one of x86-64's own, whose numbers lie
+-- below the x32 bit, linux/audit.h and asm/unistd.h
+abbrev pub IsOf : Scope → SysCall → Type 0
+IsOf EveryCall call = IsCall call
+IsOf NativeCalls call = IsCall call × (call.arch ≡ NATIVE_ARCH) × (call.nr < 2 ^ 30)
+
+-- what a comparison says of two filters
+abbrev pub Says : Comparison → Scope → List Insn → List Insn → Type 0
+Says Same scope first second = (call : SysCall) → IsOf scope call → Agree first second call
+Says (Differs call one other) scope first second = IsOf scope call × Disagree first second call one other
+Says (Undecided why) scope first second = Unit {0}

@@ -1,0 +1,78 @@
+ghost use Rattle.std.specs.Prelude.{◌≡◌, IfOk, IfSome, IfNone};
+ghost use Rattle.bpf_compare.specs.Agree.{Says};
+
+use crate::comparison::{Comparison, Doubt};
+use crate::known::Known;
+use crate::path::{Path, Progress};
+use crate::scope::Scope;
+use crate::witness::witness;
+use bpf_machine::run;
+use bpf_verify::Filter;
+use call_data::SysCall;
+use std::alloc::{AllocError, Global};
+
+/// Compares two filters on all calls of the scope, by following so many instructions at most.
+///
+/// A path runs the first filter to its return and then the second one. At a test that may go either way for
+/// its calls it splits in two, and one of them waits. The error is want of memory.
+pub fn compare(
+    alloc: Global,
+    first: &Filter,
+    second: &Filter,
+    scope: Scope,
+    budget: u64,
+) -> Result<Comparison, AllocError>
+    ensures { IfOk result (λ found. Says found scope first.now second.now) }
+{
+    let mut waiting = Vec::new(alloc);
+    let mut path = Path::start(alloc, scope);
+    let mut doubt = None;
+    for _ in 0..budget {
+        let ended = match path.advance(alloc, first, second)? {
+            Progress::Goes => continue,
+            Progress::Splits(other) => {
+                waiting.push(other)?;
+                continue;
+            }
+            Progress::Agrees => None,
+            Progress::Differs => {
+                if let Some(found) = difference(first, second, scope, &path.walk.known) {
+                    return Ok(found);
+                }
+                Some(Doubt::NoCall)
+            }
+            Progress::Unclear => Some(Doubt::Arithmetic),
+        };
+        doubt = ended.or(doubt);
+        match waiting.pop() {
+            Some(next) => path = next,
+            None => return Ok(ending(doubt)),
+        }
+    }
+    Ok(Comparison::Undecided(Doubt::Budget))
+}
+
+/// What is found where no difference was.
+fn ending(doubt: Option<Doubt>) -> Comparison
+    ensures told { IfSome doubt (λ why. result ≡ Comparison.Undecided why) }
+    ensures none { IfNone doubt (result ≡ Comparison.Same) }
+{
+    match doubt {
+        None => Comparison::Same,
+        Some(why) => Comparison::Undecided(why),
+    }
+}
+
+/// A call of the scope on which the filters return different values, by running both on one of these calls.
+fn difference(first: &Filter, second: &Filter, scope: Scope, known: &Known) -> Option<Comparison>
+    ensures { IfSome result (λ found. Says found scope first.now second.now) }
+{
+    let call = witness(known);
+    let one = run(first, &call).value;
+    let other = run(second, &call).value;
+    if one != other && scope.has(call) {
+        Some(Comparison::Differs(call, one, other))
+    } else {
+        None
+    }
+}

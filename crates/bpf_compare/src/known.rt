@@ -1,0 +1,159 @@
+ghost use Rattle.std.specs.Prelude.{◌≡◌, ◌≢◌, ◌<◌, ℕ, IfOk, IfSome, IsSomeAnd, IsTrue, length};
+ghost use Rattle.std.specs.List.{All};
+ghost use Rattle.call_data.specs.declared.sys_call.SysCall.{SysCall};
+ghost use Rattle.bpf_compare.specs.Agree.{IsOf};
+ghost use Rattle.bpf_compare.specs.Known.{Avoids, FallsIn, IsAmong, IsIn, answer_on, number_at};
+
+use crate::laws::words_fit;
+use crate::question::{Excluded, Question};
+use crate::range::Range;
+use crate::scope::Scope;
+use crate::word::Word;
+use std::alloc::{AllocError, Global};
+
+/// What is known of the calls of a set, word by word.
+#[derive(Drop)]
+pub(crate) struct Known {
+    pub(crate) ranges: [Range; 16],
+    pub(crate) excluded: Vec<Excluded>,
+}
+
+/// How a set of calls falls in two by a question.
+#[derive(Drop)]
+pub(crate) enum Split {
+    /// The test holds on all.
+    Holds,
+    /// It fails on all.
+    Fails,
+    /// It may do either. It fails on these, and holds on those that are left.
+    Both(Known),
+}
+
+impl Known {
+    /// The calls of a scope.
+    pub(crate) fn new(alloc: Global, scope: Scope) -> Known
+        ensures { (call : SysCall) → IsOf scope call → IsAmong result call }
+    {
+        words_fit();
+        let mut ranges = [Range::ALL; 16];
+        if scope == Scope::NativeCalls {
+            ranges[0] = Range::BELOW_X32;
+            ranges[1] = Range::NATIVE;
+        }
+        Known {
+            ranges,
+            excluded: Vec::new(alloc),
+        }
+    }
+
+    /// Whether this number is excluded of the word at this place.
+    pub(crate) fn excludes(&self, place: usize, number: u32) -> bool {
+        let excluded = self.excluded.as_slice();
+        excluded
+            .iter()
+            .any(|it| it.word.place == place && number & it.mask == it.bits)
+    }
+
+    fn try_clone(&self, alloc: Global) -> Result<Known, AllocError>
+        ensures { (call : SysCall) → IsAmong self.now call → IfOk result (λ copy. IsAmong copy call) }
+    {
+        Ok(Known {
+            ranges: self.ranges,
+            excluded: Vec::from_slice(alloc, self.excluded.as_slice())?,
+        })
+    }
+
+    /// Splits the set by a question. Where the test may do either, those are left on which it holds.
+    pub(crate) fn split(&mut self, alloc: Global, question: Question) -> Result<Split, AllocError>
+        ensures { IfOk result (λ split. (call : SysCall) → IsAmong self.old call
+            → FallsIn split call question self.new) }
+    {
+        let Some(held) = self.part(question, true) else {
+            return Ok(Split::Fails);
+        };
+        let Some(failed) = self.part(question, false) else {
+            return Ok(Split::Holds);
+        };
+        let mut other = self.try_clone(alloc)?;
+        other.narrow(question, failed, false)?;
+        self.narrow(question, held, true)?;
+        Ok(Split::Both(other))
+    }
+
+    /// The numbers that the question's word may be where this is the answer, if there may be one.
+    fn part(&self, question: Question, holds: bool) -> Option<Range>
+        ensures { (call : SysCall) → IsAmong self.now call → answer_on call question ≡ holds
+            → IsSomeAnd result (λ range. IsIn range (number_at call question.word.place)) }
+    {
+        let range = question.narrow(self.ranges[question.word.place], holds)?;
+        if is_ruled_out(self.excluded.as_slice(), question.word, range) {
+            None
+        } else {
+            Some(range)
+        }
+    }
+
+    /// Takes in that this is the answer, so that the question's word is in this range.
+    fn narrow(&mut self, question: Question, range: Range, holds: bool) -> Result<(), AllocError>
+        ensures { IfOk result (λ _. (call : SysCall) → IsAmong self.old call → answer_on call question ≡ holds
+            → IsIn range (number_at call question.word.place) → IsAmong self.new call) }
+    {
+        self.ranges[question.word.place] = range;
+        if let Some(excluded) = question.excluded(holds)
+            && range.with_bits(excluded.mask, excluded.bits).is_some()
+        {
+            self.excluded.push(excluded)?;
+        }
+        Ok(())
+    }
+}
+
+/// Whether all numbers of the range are excluded of this word, where that is soon found out.
+fn is_ruled_out(excluded: &[Excluded], word: Word, range: Range) -> bool
+    ensures { IsTrue result → (call : SysCall) → All (Avoids call) excluded.now
+        → IsIn range (number_at call word.place) → ⊥ }
+{
+    if is_excluded(excluded, word, range) {
+        return true;
+    }
+    if range.low > range.high || (range.high - range.low) as usize >= excluded.len() {
+        return false;
+    }
+    for number in range.low..=range.high {
+        if !lacks_number(excluded, word, range, number) {
+            return false;
+        }
+    }
+    true
+}
+
+/// Whether the number is excluded of this word, or does not have the range's bits.
+fn lacks_number(excluded: &[Excluded], word: Word, range: Range, number: u32) -> bool
+    ensures { IsTrue result → (call : SysCall) → All (Avoids call) excluded.now
+        → IsIn range (number_at call word.place)
+        → number_at call word.place ≢ number }
+{
+    if number & range.mask != range.bits {
+        return true;
+    }
+    let single = Range {
+        low: number,
+        high: number,
+        mask: u32::MAX,
+        bits: number,
+    };
+    is_excluded(excluded, word, single)
+}
+
+/// Whether what is excluded of this word has all numbers of the range at once.
+fn is_excluded(excluded: &[Excluded], word: Word, range: Range) -> bool
+    ensures { IsTrue result → (call : SysCall) → All (Avoids call) excluded.now
+        → IsIn range (number_at call word.place) → ⊥ }
+{
+    for it in excluded {
+        if it.word == word && it.covers(range) {
+            return true;
+        }
+    }
+    false
+}

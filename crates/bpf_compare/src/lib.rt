@@ -1,0 +1,25 @@
+//! Compares two seccomp filters on every call, or on every native one: classic BPF over a call's data,
+//! seccomp(2).
+//!
+//! What is said of two filters stands in `specs/Agree.antt`. `compare` follows paths through both, each for
+//! a set of calls (`path.rt`, `walk.rt`, `step.rt`), of which it knows bounds and bits word by word
+//! (`known.rt`, `range.rt`, `question.rt`).
+#![tactic(auto)]
+
+mod comparer;
+mod comparison;
+mod known;
+mod laws;
+mod path;
+mod question;
+mod range;
+mod scope;
+mod step;
+mod value;
+mod walk;
+mod witness;
+mod word;
+
+pub use comparer::compare;
+pub use comparison::{Comparison, Doubt};
+pub use scope::Scope;

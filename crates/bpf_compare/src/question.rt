@@ -1,0 +1,84 @@
+ghost use Rattle.std.specs.Prelude.{◌≡◌, ℕ, ◌^◌, IsTrue, IfSome, IsSomeAnd, bit_and};
+ghost use Rattle.bpf_compare.specs.Known.{IsIn, Lacks, answer, answer_of};
+
+use crate::range::Range;
+use crate::word::Word;
+
+/// How a number is compared with another one.
+#[derive(Clone, Copy)]
+pub(crate) enum Test {
+    /// It is that one.
+    Equal,
+    /// It is greater.
+    Greater,
+}
+
+impl Test {
+    /// Whether it holds of this number.
+    pub(crate) fn holds(self, number: u32, against: u32) -> bool
+        ensures { result ≡ answer_of self number against }
+    {
+        match self {
+            Test::Equal => number == against,
+            Test::Greater => number > against,
+        }
+    }
+}
+
+/// A question about a word of the call's data: whether a test holds of what a mask leaves of it.
+#[derive(Clone, Copy)]
+pub(crate) struct Question {
+    pub(crate) word: Word,
+    pub(crate) mask: u32,
+    pub(crate) test: Test,
+    pub(crate) against: u32,
+}
+
+/// Bits that a word of the call's data does not have.
+#[derive(Clone, Copy)]
+pub(crate) struct Excluded {
+    pub(crate) word: Word,
+    pub(crate) mask: u32,
+    pub(crate) bits: u32,
+}
+
+impl Question {
+    /// Those numbers of a range for which this is the answer, if there may be one.
+    pub(crate) fn narrow(self, range: Range, holds: bool) -> Option<Range>
+        ensures { (n : ℕ) → IsIn range n → answer self n ≡ holds
+            → IsSomeAnd result (λ narrowed. IsIn narrowed n) }
+    {
+        match (self.test, holds) {
+            (Test::Equal, true) => range.with_bits(self.mask, self.against),
+            (Test::Equal, false) => range.without_bits(self.mask, self.against),
+            (Test::Greater, true) => range.above(self.mask, self.against),
+            (Test::Greater, false) => range.at_most(self.mask, self.against),
+        }
+    }
+
+    /// The bits that the word lacks for which this is the answer, where that is all that follows.
+    pub(crate) fn excluded(self, holds: bool) -> Option<Excluded>
+        ensures word { IfSome result (λ it. it.word ≡ self.word) }
+        ensures lacks { (n : ℕ) → answer self n ≡ holds → IfSome result (λ it. Lacks it n) }
+    {
+        let bits = match (self.test, holds) {
+            (Test::Equal, false) => self.against,
+            (Test::Greater, true) if self.against == 0 => 0,
+            _ => return None,
+        };
+        Some(Excluded {
+            word: self.word,
+            mask: self.mask,
+            bits,
+        })
+    }
+}
+
+impl Excluded {
+    /// Whether all numbers of the range have these bits.
+    pub(crate) fn covers(&self, range: Range) -> bool
+        ensures { IsTrue result → (n : ℕ) → IsIn range n → bit_and n self.now.mask ≡ self.now.bits }
+    {
+        self.mask & range.mask == self.mask && range.bits & self.mask == self.bits
+    }
+}

@@ -1,0 +1,171 @@
+ghost use Rattle.std.specs.Prelude.{◌≡◌, ◌≢◌, ◌<◌, ◌≤◌, ◌^◌, ℕ, bit_and, IsSomeAnd, IsTrue, ◌==◌, Bool};
+ghost use Rattle.bpf_compare.specs.Known.{IsIn};
+
+use call_data::NATIVE_ARCH;
+
+/// Numbers between two bounds, both included, that have certain bits.
+#[derive(Clone, Copy)]
+pub(crate) struct Range {
+    pub(crate) low: u32,
+    pub(crate) high: u32,
+    /// Which bits are known.
+    pub(crate) mask: u32,
+    /// What they are. Bits that are not known are 0 here.
+    pub(crate) bits: u32,
+}
+
+impl Range {
+    /// All numbers.
+    pub(crate) const ALL: Range = Range {
+        low: 0,
+        high: u32::MAX,
+        mask: 0,
+        bits: 0,
+    };
+
+    /// The numbers of calls of x86-64, without those of x32.
+    pub(crate) const BELOW_X32: Range = Range {
+        low: 0,
+        high: 0x3fff_ffff,
+        mask: 0,
+        bits: 0,
+    };
+
+    /// The architecture of x86-64.
+    pub(crate) const NATIVE: Range = Range {
+        low: NATIVE_ARCH,
+        high: NATIVE_ARCH,
+        mask: u32::MAX,
+        bits: NATIVE_ARCH,
+    };
+
+    /// The same numbers, if the bounds leave one. Of a single number all bits are known.
+    fn settled(self) -> Option<Range>
+        ensures { (n : ℕ) → IsIn self n → IsSomeAnd result (λ range. IsIn range n) }
+    {
+        if self.low > self.high {
+            return None;
+        }
+        if self.low < self.high {
+            return Some(self);
+        }
+        if self.low & self.mask != self.bits {
+            return None;
+        }
+        Some(Range {
+            low: self.low,
+            high: self.high,
+            mask: u32::MAX,
+            bits: self.low,
+        })
+    }
+
+    /// Those of its numbers that are at least this one.
+    fn from(self, least: u32) -> Option<Range>
+        ensures { (n : ℕ) → IsIn self n → least ≤ n → IsSomeAnd result (λ range. IsIn range n) }
+    {
+        let range = Range {
+            low: self.low.max(least),
+            high: self.high,
+            mask: self.mask,
+            bits: self.bits,
+        };
+        range.settled()
+    }
+
+    /// Those of its numbers that are at most this one.
+    fn to(self, most: u32) -> Option<Range>
+        ensures { (n : ℕ) → IsIn self n → n ≤ most → IsSomeAnd result (λ range. IsIn range n) }
+    {
+        let range = Range {
+            low: self.low,
+            high: self.high.min(most),
+            mask: self.mask,
+            bits: self.bits,
+        };
+        range.settled()
+    }
+
+    /// Those of its numbers that have these bits under the mask.
+    pub(crate) fn with_bits(self, mask: u32, bits: u32) -> Option<Range>
+        ensures { (n : ℕ) → IsIn self n → bit_and n mask ≡ bits → IsSomeAnd result (λ range. IsIn range n) }
+    {
+        if bits & mask != bits {
+            return None;
+        }
+        if self.bits & mask != bits & self.mask {
+            return None;
+        }
+        let range = Range {
+            low: self.low.max(bits),
+            high: self.high.min(u32::MAX - (mask - bits)),
+            mask: self.mask | mask,
+            bits: self.bits | bits,
+        };
+        range.settled()
+    }
+
+    /// Those of its numbers that do not have these bits under the mask, and maybe others.
+    pub(crate) fn without_bits(self, mask: u32, bits: u32) -> Option<Range>
+        ensures { (n : ℕ) → IsIn self n → bit_and n mask ≢ bits → IsSomeAnd result (λ range. IsIn range n) }
+    {
+        if mask == u32::MAX {
+            self.without(bits)
+        } else if bits == 0 && is_one_bit(mask) {
+            self.with_bits(mask, mask)
+        } else if bits == mask && is_one_bit(mask) {
+            self.with_bits(mask, 0)
+        } else {
+            Some(self)
+        }
+    }
+
+    /// Those of its numbers that are not this one, and maybe this one where it is no bound.
+    fn without(self, number: u32) -> Option<Range>
+        ensures { (n : ℕ) → IsIn self n → n ≢ number → IsSomeAnd result (λ range. IsIn range n) }
+    {
+        if self.low == self.high && self.low == number {
+            None
+        } else if self.low == number && number < u32::MAX {
+            self.from(number + 1)
+        } else if self.high == number && number > 0 {
+            self.to(number - 1)
+        } else {
+            Some(self)
+        }
+    }
+
+    /// Those of its numbers that are greater than this one under the mask, and maybe others.
+    pub(crate) fn above(self, mask: u32, number: u32) -> Option<Range>
+        ensures { (n : ℕ) → IsIn self n → number < bit_and n mask → IsSomeAnd result (λ range. IsIn range n) }
+    {
+        if number >= mask {
+            None
+        } else if is_one_bit(mask) {
+            self.with_bits(mask, mask)
+        } else {
+            self.from(number + 1)
+        }
+    }
+
+    /// Those of its numbers that are at most this one under the mask, and maybe others.
+    pub(crate) fn at_most(self, mask: u32, number: u32) -> Option<Range>
+        ensures { (n : ℕ) → IsIn self n → bit_and n mask ≤ number → IsSomeAnd result (λ range. IsIn range n) }
+    {
+        if mask == u32::MAX {
+            self.to(number)
+        } else if number == 0 {
+            self.with_bits(mask, 0)
+        } else {
+            Some(self)
+        }
+    }
+}
+
+/// Whether the mask is a single bit.
+fn is_one_bit(mask: u32) -> bool
+    ensures { IsTrue result → (n : ℕ) → bit_and n mask ≢ 0 → bit_and n mask ≡ mask }
+{
+    let place = mask.trailing_zeros();
+    place < 32 && mask == 1 << place
+}

@@ -1,0 +1,176 @@
+ghost use Rattle.std.specs.Prelude.{◌≡◌, ◌<◌, ◌+◌, ◌==◌, ℕ, bit_and, nat_le, not};
+ghost use Rattle.bpf_code.specs.declared.limits.TheConstants.{MAX_INSNS};
+ghost use Rattle.call_data.specs.declared.sys_call.SysCall.{SysCall};
+ghost use Rattle.call_data.specs.CallData.{IsCall};
+ghost use Rattle.bpf_verify.specs.Sound.{KeepsNumber};
+ghost use Rattle.bpf_machine.specs.Machine.{Executes, Next, State};
+ghost use Rattle.bpf_compare.specs.Known.{answer_of};
+ghost use Rattle.bpf_compare.specs.Stands.{Answers, LeadsTo, StandsFor};
+ghost use Rattle.bpf_compare.specs.Value.{Denotes};
+
+use crate::question::{Question, Test};
+use crate::value::Value;
+use bpf_code::{DATA_LEN, Insn, Operation};
+
+/// A place in code, and what is known of the registers there.
+#[derive(Clone, Copy)]
+pub(crate) struct Registers {
+    pub(crate) place: usize,
+    pub(crate) a: Value,
+    pub(crate) x: Value,
+}
+
+impl Registers {
+    /// Where a filter starts.
+    pub(crate) const START: Registers = Registers {
+        place: 0,
+        a: Value::Constant(0),
+        x: Value::Constant(0),
+    };
+
+    /// At the next instruction, with these values.
+    pub(crate) fn next(self, a: Value, x: Value) -> Registers
+        requires { self.place < MAX_INSNS }
+        ensures { result ≡ record { place = self.place + 1; a = a; x = x } }
+    {
+        Registers {
+            place: self.place + 1,
+            a,
+            x,
+        }
+    }
+
+    /// Past so many instructions behind this one.
+    pub(crate) fn skip(self, count: u32) -> Registers
+        requires { self.place < MAX_INSNS }
+        ensures { result ≡ record { place = self.place + 1 + count; a = self.a; x = self.x } }
+    {
+        Registers {
+            place: self.place + 1 + count as usize,
+            a: self.a,
+            x: self.x,
+        }
+    }
+}
+
+/// What an instruction leads to.
+pub(crate) enum After {
+    /// On to the next instruction, with these values in A and X.
+    Goes(Value, Value),
+    /// On past jt instructions, as a test holds.
+    Holds,
+    /// On past jf instructions, as a test fails.
+    Fails,
+    /// Past jt or jf instructions, as the data tell.
+    Asks(Question),
+    /// On past k instructions.
+    Skips,
+    /// The end, with this value.
+    Ends(u32),
+    /// To what is not followed.
+    Unclear,
+}
+
+/// What a test of this value leads to.
+fn asked(value: Value, test: Test, against: u32) -> After
+    ensures { (call : SysCall) (n : ℕ) → Denotes call value n
+        → Answers call result (answer_of test n against) }
+{
+    match value {
+        Value::Constant(number) => {
+            if test.holds(number, against) {
+                After::Holds
+            } else {
+                After::Fails
+            }
+        }
+        Value::Data(word, mask) => After::Asks(Question {
+            word,
+            mask,
+            test,
+            against,
+        }),
+        Value::Unknown => After::Unclear,
+    }
+}
+
+/// What a test whether A is at least this number leads to.
+fn at_least(a: Value, least: u32) -> After
+    ensures { (call : SysCall) (n : ℕ) → Denotes call a n → Answers call result (nat_le least n) }
+{
+    if least == 0 {
+        After::Holds
+    } else {
+        asked(a, Test::Greater, least - 1)
+    }
+}
+
+/// What a test whether A has one of these bits leads to.
+fn any_bit(a: Value, bits: u32) -> After
+    ensures { (call : SysCall) (n : ℕ) → Denotes call a n → Answers call result (not (bit_and n bits == 0)) }
+{
+    asked(a.masked(bits), Test::Greater, 0)
+}
+
+/// Executes one instruction that keeps the rules of sound code.
+pub(crate) fn step(registers: Registers, insn: &Insn, words: &mut [Value; 16]) -> After
+    requires { KeepsNumber insn.now.op insn.now.k }
+    ensures follows { (call : SysCall) (s : State) (next : Next) → IsCall call
+        → StandsFor call registers words.old s → Executes insn.now.op call insn.now s next
+        → LeadsTo call registers insn.now result words.new next }
+{
+    let (a, x) = (registers.a, registers.x);
+    match insn.op {
+        Operation::LoadImmediate => After::Goes(Value::Constant(insn.k), x),
+        Operation::LoadData => After::Goes(Value::loaded(insn.k), x),
+        Operation::LoadWord => After::Goes(words[insn.k as usize], x),
+        Operation::LoadLength => After::Goes(Value::Constant(DATA_LEN), x),
+        Operation::LoadXImmediate => After::Goes(a, Value::Constant(insn.k)),
+        Operation::LoadXWord => After::Goes(a, words[insn.k as usize]),
+        Operation::LoadXLength => After::Goes(a, Value::Constant(DATA_LEN)),
+        Operation::Store => {
+            words[insn.k as usize] = a;
+            After::Goes(a, x)
+        }
+        Operation::StoreX => {
+            words[insn.k as usize] = x;
+            After::Goes(a, x)
+        }
+        Operation::AndK => After::Goes(a.masked(insn.k), x),
+        Operation::AndX => match x {
+            Value::Constant(mask) => After::Goes(a.masked(mask), x),
+            Value::Data(..) | Value::Unknown => After::Goes(Value::Unknown, x),
+        },
+        Operation::DivX => After::Unclear,
+        Operation::JumpEqualK => asked(a, Test::Equal, insn.k),
+        Operation::JumpEqualX => match x {
+            Value::Constant(against) => asked(a, Test::Equal, against),
+            Value::Data(..) | Value::Unknown => After::Unclear,
+        },
+        Operation::JumpGreaterK => asked(a, Test::Greater, insn.k),
+        Operation::JumpGreaterX => match x {
+            Value::Constant(against) => asked(a, Test::Greater, against),
+            Value::Data(..) | Value::Unknown => After::Unclear,
+        },
+        Operation::JumpGreaterOrEqualK => at_least(a, insn.k),
+        Operation::JumpGreaterOrEqualX => match x {
+            Value::Constant(least) => at_least(a, least),
+            Value::Data(..) | Value::Unknown => After::Unclear,
+        },
+        Operation::JumpAnyBitK => any_bit(a, insn.k),
+        Operation::JumpAnyBitX => match x {
+            Value::Constant(bits) => any_bit(a, bits),
+            Value::Data(..) | Value::Unknown => After::Unclear,
+        },
+        Operation::Jump => After::Skips,
+        Operation::ReturnK => After::Ends(insn.k),
+        Operation::ReturnA => match a {
+            Value::Constant(value) => After::Ends(value),
+            Value::Data(..) | Value::Unknown => After::Unclear,
+        },
+        Operation::MoveToX => After::Goes(a, a),
+        Operation::MoveToA => After::Goes(x, x),
+        // Arithmetic other than masks.
+        _ => After::Goes(Value::Unknown, x),
+    }
+}

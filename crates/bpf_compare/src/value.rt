@@ -1,0 +1,42 @@
+ghost use Rattle.std.specs.Prelude.{◌≡◌, ◌<◌, ◌%◌, ℕ, bit_and};
+ghost use Rattle.call_data.specs.declared.sys_call.SysCall.{SysCall};
+ghost use Rattle.call_data.specs.CallData.{IsCall, word_at};
+ghost use Rattle.bpf_compare.specs.Value.{Denotes};
+
+use crate::laws::words_fit;
+use crate::word::Word;
+
+/// What is known of a register or a scratch word.
+#[derive(Clone, Copy)]
+pub(crate) enum Value {
+    /// It is this number.
+    Constant(u32),
+    /// It is what a mask leaves of a word of the call's data.
+    Data(Word, u32),
+    /// It may be any number.
+    Unknown,
+}
+
+impl Value {
+    /// What is loaded from this offset of the call's data, in bytes.
+    pub(crate) fn loaded(offset: u32) -> Value
+        requires inside { offset < 64 }
+        requires aligned { offset % 4 ≡ 0 }
+        ensures { (call : SysCall) → IsCall call → Denotes call result (word_at call offset) }
+    {
+        words_fit();
+        Value::Data(Word::at(offset), u32::MAX)
+    }
+
+    /// What is known of the same bits under a mask.
+    #[tactic(auto, using(std::proofs::lemmas::Nat::and_assoc))]
+    pub(crate) fn masked(self, mask: u32) -> Value
+        ensures { (call : SysCall) (n : ℕ) → Denotes call self n → Denotes call result (bit_and n mask) }
+    {
+        match self {
+            Value::Constant(number) => Value::Constant(number & mask),
+            Value::Data(word, known) => Value::Data(word, known & mask),
+            Value::Unknown => Value::Unknown,
+        }
+    }
+}

@@ -1,0 +1,117 @@
+use cri_msgs::{Request, Version};
+use node_io::{FileFault, Files, MemoryFiles, StoredFile};
+use runner::{MAX_FILE, gather};
+use runtime_core::Contents;
+use std::alloc::{AllocError, Global};
+use std::test::Fail;
+
+// A folder of files, two of which are as long as a file may be, and one byte longer.
+fn folder(alloc: Global, fails: bool) -> Result<MemoryFiles, AllocError> {
+    let mut stored = Vec::new(alloc);
+    for (path, length) in [
+        ("a", 3),
+        ("b", 4),
+        ("full", MAX_FILE),
+        ("long", MAX_FILE + 1),
+    ] {
+        let path = String::from_str(alloc, path)?;
+        let bytes = vec![in alloc; b'x'; length as usize]?;
+        stored.push(StoredFile::new(path, bytes))?;
+    }
+    let mut files = MemoryFiles::new(stored);
+    if fails {
+        files.fail_call(1);
+    }
+    Ok(files)
+}
+
+fn request(alloc: Global, members: &str) -> Result<Request, Fail> {
+    let text = format!(in alloc;
+        "{{\"v\":2,\"id\":1,\"uid\":\"u1\",\"name\":\"a\",\"attempt\":0,\"grace\":1,{members}}}"
+    )?;
+    match Request::read(alloc, Version::V2, text.as_bytes()) {
+        Ok(request) => Ok(request),
+        Err(_) => Err("a request")?,
+    }
+}
+
+// How many bytes a read gave, or its fault.
+fn told(alloc: Global, answer: &Option<Result<Contents, FileFault>>) -> Result<String, AllocError> {
+    match answer {
+        None => String::from_str(alloc, "none"),
+        Some(Ok(contents)) => format!(in alloc; "{}", contents.as_slice().len()),
+        Some(Err(fault)) => format!(in alloc; "{fault}"),
+    }
+}
+
+// What became of the script and of the profile, and of how many reads that were to fail.
+fn gathered(alloc: Global, members: &str, fails: bool) -> Result<String, Fail> {
+    let request = request(alloc, members)?;
+    let mut scripts = folder(alloc, fails)?;
+    let mut profiles = folder(alloc, fails)?;
+    let answers = gather(&mut scripts, &mut profiles, &request);
+    let script = told(alloc, &answers.script)?;
+    let profile = told(alloc, &answers.profile)?;
+    let (first, second) = (scripts.failures(), profiles.failures());
+    Ok(format!(in alloc; "{} {} {first} {second}", script.as_str(), profile.as_str())?)
+}
+
+// What a request asks for beside its key, what came of its files, and what where each folder's first read fails.
+const ROWS: [(&str, &str, &str); 9] = [
+    (
+        "\"call\":\"RunPodSandbox\"",
+        "none none 0 0",
+        "none none 0 0",
+    ),
+    (
+        "\"call\":\"StartContainer\"",
+        "none none 0 0",
+        "none none 0 0",
+    ),
+    (
+        "\"call\":\"ContainerStatuses\"",
+        "none none 0 0",
+        "none none 0 0",
+    ),
+    (
+        "\"call\":\"CreateContainer\",\"image\":\"a\",\"profile\":{\"type\":\"Unconfined\"}",
+        "3 none 0 0",
+        "Failed none 1 0",
+    ),
+    (
+        "\"call\":\"CreateContainer\",\"image\":\"b\",\"profile\":{\"type\":\"RuntimeDefault\"}",
+        "4 none 0 0",
+        "Failed none 1 0",
+    ),
+    (
+        "\"call\":\"CreateContainer\",\"image\":\"a\",\"profile\":{\"type\":\"Localhost\",\"path\":\"b\"}",
+        "3 4 0 0",
+        "Failed Failed 1 1",
+    ),
+    (
+        "\"call\":\"CreateContainer\",\"image\":\"none\",\"profile\":{\"type\":\"Localhost\",\"path\":\"a\"}",
+        "NotFound 3 0 0",
+        "Failed Failed 1 1",
+    ),
+    (
+        "\"call\":\"CreateContainer\",\"image\":\"a\",\"profile\":{\"type\":\"Localhost\",\"path\":\"none\"}",
+        "3 NotFound 0 0",
+        "Failed Failed 1 1",
+    ),
+    (
+        "\"call\":\"CreateContainer\",\"image\":\"long\",\"profile\":{\"type\":\"Localhost\",\"path\":\"full\"}",
+        "TooLarge 1048576 0 0",
+        "Failed Failed 1 1",
+    ),
+];
+
+#[test]
+fn files_are_gathered(rt: HostRuntime) -> Result<(), Fail> {
+    for (members, want, failed) in ROWS {
+        let found = gathered(rt.alloc(), members, false)?;
+        assert_eq!(rt; found.as_str(), want, "{members}");
+        let found = gathered(rt.alloc(), members, true)?;
+        assert_eq!(rt; found.as_str(), failed, "{members}");
+    }
+    Ok(())
+}

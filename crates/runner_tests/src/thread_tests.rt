@@ -1,0 +1,210 @@
+use crate::wires::{PROFILES, SCRIPTS, add, asks, files, wire};
+use node_io::{FileFault, Files, MemoryFiles};
+use runner::{Ending, Service, SharedHost, SharedRuntime, StepGate, serve_wire};
+use std::alloc::{AllocError, Global};
+use std::marker::Brand;
+use std::sync::Wait;
+use std::sync::atomic::{AtomicBool, Ordering};
+use std::test::Fail;
+use std::thread::{Threads, join, sleep};
+use std::time::{Clock, Duration};
+
+// How long anything is waited for: so many turns of a millisecond.
+const TURNS: u32 = 10_000;
+
+// Waits until a flag is set, and tells whether it was.
+fn waits<R: Clock>(rt: &R, flag: &AtomicBool) -> bool {
+    for _ in 0..TURNS {
+        if flag.load(Ordering::SeqCst) {
+            return true;
+        }
+        sleep(rt, Duration::from_millis(1));
+    }
+    false
+}
+
+// Holds the step of container 1 up until another connection was answered behind the step of container 2.
+#[derive(Drop)]
+struct Hold<'a, R: Clock> {
+    rt: &'a R,
+    held: AtomicBool,
+    stepped: AtomicBool,
+    answered: AtomicBool,
+    passed: AtomicBool,
+}
+
+impl<'a, R: Clock> StepGate for Hold<'a, R> {
+    fn before(&self, id: u64) {
+        if id == 1 {
+            self.held.store(true, Ordering::SeqCst);
+            if waits(self.rt, &self.answered) {
+                self.passed.store(true, Ordering::SeqCst);
+            }
+        }
+    }
+
+    fn after(&self, id: u64) {
+        if id == 2 {
+            self.stepped.store(true, Ordering::SeqCst);
+        }
+    }
+}
+
+// Two pods of one running container each.
+const PODS: &str = r#"{"call":"RunPodSandbox","id":1,"uid":"u1","v":1}
+{"attempt":0,"call":"CreateContainer","id":2,"image":"a.json","name":"main","profile":{"type":"Unconfined"},"uid":"u1","v":1}
+{"attempt":0,"call":"StartContainer","id":3,"name":"main","uid":"u1","v":1}
+{"call":"RunPodSandbox","id":4,"uid":"u2","v":1}
+{"attempt":0,"call":"CreateContainer","id":5,"image":"a.json","name":"main","profile":{"path":"p.json","type":"Localhost"},"uid":"u2","v":1}
+{"attempt":0,"call":"StartContainer","id":6,"name":"main","uid":"u2","v":1}"#;
+
+const STATUS: &str =
+    r#"{"attempt":0,"call":"ContainerStatus","id":7,"name":"main","uid":"u2","v":1}"#;
+
+// The status of a container whose first call was performed.
+const STEPPED: &str =
+    r#"{"id":7,"ok":{"denied":0,"exit":null,"performed":1,"state":"RUNNING"},"v":1}"#;
+
+// Steps container 2 once the step of container 1 is held, then asks for its status.
+fn goes_by<R: Wait + Clock>(
+    rt: &R,
+    alloc: Global,
+    runtime: &SharedRuntime<Brand>,
+    gate: &Hold<'_, R>,
+) -> Result<bool, AllocError> {
+    if !waits(rt, &gate.held) {
+        return Ok(false);
+    }
+    runtime.step_round(rt, 0, 2, gate);
+    let told = asks(rt, alloc, runtime, STATUS)?;
+    gate.answered.store(true, Ordering::SeqCst);
+    let mut want = Vec::new(alloc);
+    add(&mut want, alloc, STEPPED)?;
+    Ok(gate.stepped.load(Ordering::SeqCst) && told.as_slice() == want.as_slice())
+}
+
+// Whether the step of container 1 waited for the other pod, and whether that one went by meanwhile.
+fn held_up<R: Threads + Wait + Clock + Sync>(
+    rt: &R,
+    alloc: Global,
+) -> Result<(bool, bool), AllocError> {
+    let runtime = SharedRuntime::<Brand>::new(alloc, None);
+    asks(rt, alloc, &runtime, PODS)?;
+    let gate = Hold {
+        rt,
+        held: AtomicBool::new(false),
+        stepped: AtomicBool::new(false),
+        answered: AtomicBool::new(false),
+        passed: AtomicBool::new(false),
+    };
+    let (_, other) = join(
+        rt,
+        || runtime.step_round(rt, 1, 2, &gate),
+        || goes_by(rt, alloc, &runtime, &gate),
+    );
+    Ok((gate.passed.load(Ordering::SeqCst), other?))
+}
+
+// A step of one sandbox's cell holds up no other sandbox: one lock round all cells would.
+#[test]
+fn sandboxes_have_locks_of_their_own(rt: HostRuntime) -> Result<(), Fail> {
+    let found = held_up(&rt, rt.alloc())?;
+    assert!(rt; found == (true, true));
+    Ok(())
+}
+
+// Files whose reads wait until another connection was answered.
+#[derive(Drop)]
+struct Slow<'a, R: Clock> {
+    rt: &'a R,
+    files: MemoryFiles,
+    answered: &'a AtomicBool,
+    waited: bool,
+}
+
+impl<'a, R: Clock> Files for Slow<'a, R> {
+    ghost use Rattle.std.specs.Prelude.{None};
+
+    ghost failed = { λ slow. slow.files.failures };
+
+    fn read(&mut self, path: &str, limit: u64) -> Result<Vec<u8>, FileFault> {
+        self.waited = waits(self.rt, self.answered);
+        self.files.read(path, limit)
+    }
+
+    fn failures(&self) -> u64 {
+        self.files.failures()
+    }
+}
+
+const CREATE: &str =
+    r#"{"attempt":1,"call":"CreateContainer","id":8,"image":"a.json","name":"main","profile":{"type":"Unconfined"},"uid":"u1","v":1}"#;
+
+// Whether the script of a CreateContainer was read only once another connection was answered.
+fn creates_slowly<R: Wait + Clock>(
+    rt: &R,
+    alloc: Global,
+    runtime: &SharedRuntime<Brand>,
+    answered: &AtomicBool,
+) -> Result<bool, AllocError> {
+    let mut input = Vec::new(alloc);
+    add(&mut input, alloc, CREATE)?;
+    let mut wire = wire(alloc, input.as_slice(), 20, 0)?;
+    let scripts = Slow {
+        rt,
+        files: files(alloc, &SCRIPTS)?,
+        answered,
+        waited: false,
+    };
+    let profiles = files(alloc, &PROFILES)?;
+    let mut service = Service {
+        scripts,
+        profiles,
+        host: SharedHost::new(rt, runtime),
+    };
+    let ending = serve_wire(alloc, &mut wire, &mut service);
+    let Service { scripts, .. } = service;
+    Ok(ending == Ending::Ended && scripts.waited)
+}
+
+// Asks for another pod, and sets the flag once that was answered.
+fn asks_meanwhile<R: Wait>(
+    rt: &R,
+    alloc: Global,
+    runtime: &SharedRuntime<Brand>,
+    answered: &AtomicBool,
+) -> Result<bool, AllocError> {
+    let told = asks(rt, alloc, runtime, RUN_OTHER)?;
+    answered.store(true, Ordering::SeqCst);
+    let mut want = Vec::new(alloc);
+    add(&mut want, alloc, OTHER_RUNS)?;
+    Ok(told.as_slice() == want.as_slice())
+}
+
+const RUN_OTHER: &str = r#"{"call":"RunPodSandbox","id":9,"uid":"u3","v":2}"#;
+
+const OTHER_RUNS: &str = r#"{"id":9,"ok":{},"v":2}"#;
+
+// Whether a slow read waited for another connection, and whether that was answered meanwhile.
+fn read_slowly<R: Threads + Wait + Clock + Sync>(
+    rt: &R,
+    alloc: Global,
+) -> Result<(bool, bool), AllocError> {
+    let runtime = SharedRuntime::<Brand>::new(alloc, None);
+    asks(rt, alloc, &runtime, PODS)?;
+    let answered = AtomicBool::new(false);
+    let (slow, other) = join(
+        rt,
+        || creates_slowly(rt, alloc, &runtime, &answered),
+        || asks_meanwhile(rt, alloc, &runtime, &answered),
+    );
+    Ok((slow?, other?))
+}
+
+// No lock is held while a file is read.
+#[test]
+fn a_slow_file_holds_up_its_own_connection_alone(rt: HostRuntime) -> Result<(), Fail> {
+    let found = read_slowly(&rt, rt.alloc())?;
+    assert!(rt; found == (true, true));
+    Ok(())
+}

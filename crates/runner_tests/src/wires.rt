@@ -1,0 +1,90 @@
+use cri_frames::frame_of;
+use cri_msgs::{MAX_TEXT, Version};
+use node_io::{MemoryFiles, MemoryWire, StoredFile};
+use runner::{Service, SharedHost, SharedRuntime, serve_wire};
+use std::alloc::{AllocError, Global};
+use std::marker::Brand;
+use std::sync::Wait;
+
+pub(crate) const CALLS: &str =
+    "{\"steps\":[{\"call\":\"getpid\"},{\"call\":\"ptrace\"},{\"exit\":3}]}";
+
+const NO_PTRACE: &str = "{\"defaultAction\":\"SCMP_ACT_ALLOW\",\"syscalls\":[\
+    {\"names\":[\"ptrace\"],\"action\":\"SCMP_ACT_ERRNO\",\"errnoRet\":13}]}";
+
+pub(crate) const SCRIPTS: [(&str, &str); 2] = [("a.json", CALLS), ("b.json", CALLS)];
+
+pub(crate) const PROFILES: [(&str, &str); 1] = [("p.json", NO_PTRACE)];
+
+// Files with these paths and texts.
+pub(crate) fn files(alloc: Global, texts: &[(&str, &str)]) -> Result<MemoryFiles, AllocError> {
+    let mut files = Vec::new(alloc);
+    for &(path, text) in texts {
+        let path = String::from_str(alloc, path)?;
+        let bytes = Vec::from_slice(alloc, text.as_bytes())?;
+        files.push(StoredFile::new(path, bytes))?;
+    }
+    Ok(MemoryFiles::new(files))
+}
+
+// The version of a frame whose text is this: that of its `v`, and 1 where there is none.
+fn version_of(text: &str) -> Version {
+    if text.ends_with("\"v\":2}") {
+        Version::V2
+    } else {
+        Version::V1
+    }
+}
+
+// Adds the frame of a text. A text that fits into none adds nothing.
+pub(crate) fn add(stream: &mut Vec<u8>, alloc: Global, text: &str) -> Result<(), AllocError> {
+    if text.is_empty() || text.len() > MAX_TEXT {
+        return Ok(());
+    }
+    let frame = frame_of(alloc, version_of(text), text.as_bytes())?;
+    stream.extend_from_slice(frame.as_slice())
+}
+
+// A host with the files above.
+pub(crate) fn service<H: Drop>(
+    alloc: Global,
+    host: H,
+) -> Result<Service<MemoryFiles, MemoryFiles, H>, AllocError> {
+    let scripts = files(alloc, &SCRIPTS)?;
+    let profiles = files(alloc, &PROFILES)?;
+    Ok(Service {
+        scripts,
+        profiles,
+        host,
+    })
+}
+
+// A wire on which these bytes come, in pieces of so many, and whose call with this number fails.
+pub(crate) fn wire(
+    alloc: Global,
+    input: &[u8],
+    piece: usize,
+    failing: u64,
+) -> Result<MemoryWire, AllocError> {
+    let input = Vec::from_slice(alloc, input)?;
+    let mut wire = MemoryWire::new(alloc, input, piece.max(1));
+    wire.fail_call(failing);
+    Ok(wire)
+}
+
+// Serves the requests of these texts, each in a line, over a wire, and gives what was written.
+pub(crate) fn asks<R: Wait>(
+    rt: &R,
+    alloc: Global,
+    runtime: &SharedRuntime<Brand>,
+    texts: &str,
+) -> Result<Vec<u8>, AllocError> {
+    let mut input = Vec::new(alloc);
+    for text in texts.lines() {
+        add(&mut input, alloc, text)?;
+    }
+    let mut wire = wire(alloc, input.as_slice(), 20, 0)?;
+    let mut service = service(alloc, SharedHost::new(rt, runtime))?;
+    serve_wire(alloc, &mut wire, &mut service);
+    Vec::from_slice(alloc, wire.written())
+}

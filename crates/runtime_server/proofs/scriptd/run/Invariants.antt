@@ -1,0 +1,5 @@
+-- The node's own filter is that of the line.
+use Rattle.runtime_server.proofs.scriptd.run.Given as goal
+
+abbrev pub ghosts-run_line : goal.ghosts-run_line
+ghosts-run_line g a = record { filter = a.baseline }
