@@ -11,7 +11,7 @@ count() { # NAME STATUS
     passed=$((passed + 1))
   else
     failed=$((failed + 1))
-    echo "examples/$1: failed"
+    echo "failed: examples/$1"
   fi
 }
 

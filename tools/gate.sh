@@ -1,23 +1,25 @@
 #!/bin/bash
 # What make test runs: the gate (rt ci), a program without memory, the examples in C over the library, and the
-# cases of tests/ with README and the manual pages over what would be installed. Each says what it counted, and
-# the last line has the sum of all.
+# cases of tests/ with README and the manual pages over what would be installed. Each says what it counted; the
+# last lines say once more what failed, and the sum of all.
 set -u
 cd "$(dirname "$0")/.."
 said=$(mktemp)
 trap 'rm -f "$said"' EXIT
-all_passed=0 all_failed=0
+all_passed=0 all_failed=0 failures=
 
 # Runs a command whose last line is `N passed, M failed`, and adds that line to the sums. A command that
 # fails, or that says nothing, has one failure at least.
 part() { # NAME COMMAND..
-  local name=$1 status passed failed
+  local name=$1 status passed failed told
   shift
   "$@" 2>&1 | tee "$said" | sed -u -E "s/^([0-9]+ passed, [0-9]+ failed)$/$name: \1/"
   status=${PIPESTATUS[0]}
   read -r passed failed < <(grep -E '^[0-9]+ passed, [0-9]+ failed$' "$said" | tail -1 | tr -dc '0-9 \n')
   if [ "$status" != 0 ] || [ -z "${failed:-}" ]; then
     failed=$((${failed:-0} > 0 ? failed : 1))
+    told=$(grep -aE '^(rt: FAILED|failed): ' "$said" | head -20)
+    failures+="$name: ${told:-ended with status $status}"$'\n'
   fi
   all_passed=$((all_passed + ${passed:-0}))
   all_failed=$((all_failed + failed))
@@ -33,5 +35,6 @@ part "C examples" c_examples
 part "cases" tests/run
 # In one line, so that it stands near the end of what a log keeps.
 echo "processor seconds of proofs, tests, edits: $(tools/gate_times.py out/gate_times | awk 'NR > 1 && NF == 5 { printf "%s %s %s %s; ", $1, $2, $3, $4 }')"
+echo -n "$failures"
 echo "$all_passed passed, $all_failed failed"
 [ $all_failed = 0 ]

@@ -11,7 +11,7 @@ for refused in 1 20; do
     passed=$((passed + 1))
   else
     failed=$((failed + 1))
-    echo "seccheck, request $refused for memory refused:"
+    echo "failed: seccheck, request $refused for memory refused:"
     echo "$said" | tail -5
   fi
 done
