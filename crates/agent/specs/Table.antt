@@ -5,8 +5,8 @@ use Rattle.std.specs.Prelude.{ℕ, ◌-◌, List, ◌++◌, codes}
 use Rattle.std.specs.Fmt.{decimal}
 use Rattle.std.specs.List.{flat_map, zip}
 use Rattle.lifecycle.specs.declared.policy.RestartPolicy.{RestartPolicy}
-use Rattle.lifecycle.specs.declared.state.State.{State}
-use Rattle.lifecycle.specs.declared.state.State.TheVariants.{Waiting, Running, Terminated}
+use Rattle.lifecycle.specs.declared.state.ContainerState.{ContainerState}
+use Rattle.lifecycle.specs.declared.state.ContainerState.TheVariants.{Waiting, Running, Terminated}
 use Rattle.lifecycle.specs.declared.phases.Phase.{Phase}
 use Rattle.lifecycle.specs.declared.track.Track.{Track}
 use Rattle.lifecycle.specs.Names.{phase_name, state_name}
@@ -18,7 +18,7 @@ use Rattle.worker_core.specs.declared.slots.Slot.{Slot}
 use Rattle.worker_core.specs.Kept.{KeptNode}
 
 -- the code that it ended with, or a dash
-abbrev pub code_text : State → List ℕ
+abbrev pub code_text : ContainerState → List ℕ
 code_text (Terminated code) = decimal code
 code_text Waiting = codes "-"
 code_text Running = codes "-"

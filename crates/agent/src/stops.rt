@@ -13,7 +13,7 @@ pub(crate) enum AgentStop<'a> {
     /// A manifest is refused.
     Manifest(&'a str, PodFault),
     /// The node does not admit the pod of a manifest.
-    Pod(&'a str, worker_core::Refusal),
+    Pod(&'a str, worker_core::NodeRefusal),
     /// The history of the node has no room for a claim.
     HistoryFull,
 }

@@ -1,7 +1,7 @@
 ghost use Rattle.std.specs.Prelude.{◌≡◌, ◌++◌, IfOk, OnOk, string_bytes};
 ghost use Rattle.agent.specs.Table.{container_line, pod_line, pod_lines, restarts_of, table_text};
 
-use lifecycle::{Phase, RestartPolicy, State, Track};
+use lifecycle::{ContainerState, Phase, RestartPolicy, Track};
 use manifest::{Container, Pod};
 use std::alloc::{AllocError, Global};
 use worker_core::{MAX_PODS, Node};
@@ -42,8 +42,11 @@ fn add_container(
     let state = track.state(policy);
     let restarts = restarts(track);
     match state {
-        State::Terminated(code) => writeln!(text, "  {name} {state} {code} {restarts}")?,
-        State::Waiting | State::Running => writeln!(text, "  {name} {state} - {restarts}")?,
+        ContainerState::Terminated(code) => writeln!(text, "  {name} {state} {code} {restarts}")?,
+        ContainerState::Waiting | ContainerState::Running => writeln!(
+            text,
+            "  {name} {state} - {restarts}"
+        )?,
     }
     Ok(())
 }

@@ -1,8 +1,6 @@
-//! Tests of what an agent holds: the life of a container, one pod, the node, and the book of its history.
+//! Tests of what an agent holds of all its pods: the node, and the book of its history.
 #![tactic(auto)]
 
-#[cfg(test)]
-mod lifecycle_tests;
 #[cfg(test)]
 mod node_lock_play;
 #[cfg(test)]
@@ -11,7 +9,3 @@ mod node_lock_tests;
 mod worker_core_play;
 #[cfg(test)]
 mod worker_core_tests;
-#[cfg(test)]
-mod worker_pod_play;
-#[cfg(test)]
-mod worker_pod_tests;

@@ -210,7 +210,7 @@ impl Play {
     }
 
     // How many are held, from when on one is due, and the phases.
-    pub(crate) fn told(&self) -> Result<String, AllocError> {
+    pub(crate) fn held_and_phases(&self) -> Result<String, AllocError> {
         let mut text = match self.node.next_due() {
             Some(due) => format!(in self.alloc; "{} held, due {due}", self.node.held())?,
             None => format!(in self.alloc; "{} held", self.node.held())?,

@@ -2,7 +2,7 @@ use crate::worker_core_play::{Play, begun};
 use manifest::{PodFault, Uid};
 use std::alloc::Global;
 use std::test::Fail;
-use worker_core::{MAX_PODS, Refusal};
+use worker_core::{MAX_PODS, NodeRefusal};
 
 const ALONE: &str =
     "\"restartPolicy\":\"Never\",\"containers\":[{\"name\":\"main\",\"image\":\"m.json\"}]";
@@ -13,7 +13,7 @@ const THREE: &str =
 fn played(alloc: Global, words: &str) -> Result<String, PodFault> {
     let mut play = begun(alloc);
     let mut text = play.plays(words, ALONE)?;
-    let told = play.told()?;
+    let told = play.held_and_phases()?;
     write!(text, "{}", told.as_str())?;
     Ok(text)
 }
@@ -170,12 +170,12 @@ fn views(rt: HostRuntime) -> Result<(), Fail> {
 #[test]
 fn refusals(rt: HostRuntime) -> Result<(), Fail> {
     let rows = [
-        (Refusal::Full, "1 Full"),
-        (Refusal::KnownUid, "2 KnownUid"),
-        (Refusal::NoSuchPod, "3 NoSuchPod"),
-        (Refusal::NotYours, "4 NotYours"),
-        (Refusal::ClockBack, "5 ClockBack"),
-        (Refusal::Memory, "6 Memory"),
+        (NodeRefusal::Full, "1 Full"),
+        (NodeRefusal::KnownUid, "2 KnownUid"),
+        (NodeRefusal::NoSuchPod, "3 NoSuchPod"),
+        (NodeRefusal::NotYours, "4 NotYours"),
+        (NodeRefusal::ClockBack, "5 ClockBack"),
+        (NodeRefusal::Memory, "6 Memory"),
     ];
     for (refusal, want) in rows {
         let text = format!(in rt.alloc(); "{} {refusal}", refusal.number())?;

@@ -2,7 +2,7 @@
 use Rattle.std.specs.Prelude.{ℕ, List, ◌++◌, codes, Bool, true, false}
 use Rattle.std.specs.Fmt.{decimal}
 use Rattle.action.specs.Verdict.{name_of}
-use Rattle.runtime_cell.specs.declared.calls.Entry.{Entry}
+use Rattle.runtime_cell.specs.declared.calls.JudgedCall.{JudgedCall}
 use Rattle.runtime_cell.specs.Outcome.{Outcome}
 use Rattle.checker.specs.Texts.{lines_text}
 
@@ -11,7 +11,7 @@ outcome_text true = codes "performed"
 outcome_text false = codes "denied"
 
 -- its step's place, the call's number, the verdict's action and data, and whether it was performed
-abbrev pub entry_text : ℕ → Entry → List ℕ
+abbrev pub entry_text : ℕ → JudgedCall → List ℕ
 entry_text place entry =
     decimal place ++ codes " " ++ decimal entry.call.nr ++ codes " " ++ name_of entry.verdict.action ++ codes " "
     ++ decimal entry.verdict.ret_data ++ codes " " ++ outcome_text entry.performed

@@ -95,7 +95,7 @@ pub(crate) fn reason(doubt: Doubt) -> &'static str
 }
 
 /// What stops the program where the filters were not found to be the same.
-pub(crate) fn told<'a>(found: Comparison) -> Result<(), Stop<'a>>
+pub(crate) fn same_or_stop<'a>(found: Comparison) -> Result<(), Stop<'a>>
     ensures { result ≡ told_of found }
 {
     match found {

@@ -2,9 +2,6 @@ use node_io::FileFault;
 use std::io::{self, ErrorKind};
 use std::{fs, rt};
 
-/// The greatest length of a file that is read, in bytes.
-pub const MAX_FILE_BYTES: u64 = 1_048_576;
-
 /// Writes a file anew.
 pub(crate) fn write_file<R: rt::Files + AllocGlobal>(
     rt: &R,

@@ -10,7 +10,6 @@ mod call_words;
 mod compared;
 mod file;
 mod judging;
-mod laws;
 mod line;
 mod picked;
 mod playing;
@@ -19,8 +18,6 @@ mod show;
 mod stop;
 mod words;
 
-pub use file::MAX_FILE_BYTES;
 pub use judging::{Judged, judge};
-pub use laws::constants_are_as_stated;
 pub use playing::{Outcome, play};
 pub use seccheck::seccheck_run;

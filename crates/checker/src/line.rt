@@ -4,7 +4,7 @@ ghost use Rattle.checker.specs.Texts.{accepted_text, compiled_text, judged_text,
 
 use crate::judging::Judged;
 use crate::playing::Outcome;
-use runtime_cell::Entry;
+use runtime_cell::JudgedCall;
 use std::alloc::{AllocError, Global};
 use std::fmt;
 
@@ -41,7 +41,7 @@ pub(crate) fn judged_line(alloc: Global, judged: &Judged) -> Result<String, Allo
 pub(crate) struct Line {
     /// The step that makes the call, from 0.
     pub(crate) place: usize,
-    pub(crate) entry: Entry,
+    pub(crate) entry: JudgedCall,
 }
 
 impl fmt::Display for Line {

@@ -4,7 +4,7 @@ ghost use Rattle.runtime_cell.specs.declared.cell.State.{State};
 ghost use Rattle.runtime_cell.specs.Outcome.{IsOutcome};
 ghost use Rattle.checker.specs.Playing.{IsPlaying};
 
-use runtime_cell::{Cell, Entry};
+use runtime_cell::{Cell, JudgedCall};
 use script::Script;
 use std::alloc::{AllocError, Global};
 use std::marker::Model;
@@ -28,7 +28,7 @@ impl Model for Outcome {
 
 impl Outcome {
     /// The judged calls.
-    pub fn entries(&self) -> &[Entry]
+    pub fn entries(&self) -> &[JudgedCall]
         ensures { result.now ≡ self.now.entries }
     {
         self.cell.record()

@@ -1,5 +1,5 @@
-use crate::compared::{BUDGET, is_profile, same_line, told};
-use crate::file::{MAX_FILE_BYTES, write_file};
+use crate::compared::{BUDGET, is_profile, same_line, same_or_stop};
+use crate::file::write_file;
 use crate::judging::judge;
 use crate::line::{accepted, compiled, judged_line, longest, outcome_lines};
 use crate::picked::picked_lines;
@@ -12,7 +12,7 @@ use bpf_verify::{Filter, Refusal, filter_of};
 use call_data::SysCall;
 use clap::error::ErrorKind;
 use compile::compile;
-use node_io::{Files, SystemFiles};
+use node_io::{Files, MAX_FILE_BYTES, SystemFiles};
 use std::io::{self, Write};
 use std::rt;
 use verdict::Stack;
@@ -144,7 +144,7 @@ fn compare_text<'a, R: rt::Files + AllocGlobal>(
 ) -> Result<String, Stop<'a>> {
     let first = filter_or_profile_at(rt, first)?;
     let second = filter_or_profile_at(rt, second)?;
-    told(compare(rt.alloc(), &first, &second, scope, BUDGET)?)?;
+    same_or_stop(compare(rt.alloc(), &first, &second, scope, BUDGET)?)?;
     Ok(same_line(rt.alloc(), scope)?)
 }
 

@@ -3,8 +3,8 @@
 use Rattle.std.specs.Prelude.{ℕ, List, codes}
 use Rattle.lifecycle.specs.declared.phases.Phase.{Phase}
 use Rattle.lifecycle.specs.declared.phases.Phase.TheVariants as phase
-use Rattle.lifecycle.specs.declared.state.State.{State}
-use Rattle.lifecycle.specs.declared.state.State.TheVariants as state
+use Rattle.lifecycle.specs.declared.state.ContainerState.{ContainerState}
+use Rattle.lifecycle.specs.declared.state.ContainerState.TheVariants as state
 
 abbrev pub phase_name : Phase → List ℕ
 phase_name phase.Pending = codes "Pending"
@@ -13,7 +13,7 @@ phase_name phase.Succeeded = codes "Succeeded"
 phase_name phase.Failed = codes "Failed"
 phase_name phase.Unknown = codes "Unknown"
 
-abbrev pub state_name : State → List ℕ
+abbrev pub state_name : ContainerState → List ℕ
 state_name state.Waiting = codes "Waiting"
 state_name state.Running = codes "Running"
 state_name (state.Terminated code) = codes "Terminated"

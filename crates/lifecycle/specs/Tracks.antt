@@ -6,8 +6,8 @@ use Rattle.lifecycle.specs.declared.policy.RestartPolicy.{RestartPolicy}
 use Rattle.lifecycle.specs.declared.track.Stage.{Stage}
 use Rattle.lifecycle.specs.declared.track.Stage.TheVariants as stage
 use Rattle.lifecycle.specs.declared.track.Track.{Track}
-use Rattle.lifecycle.specs.declared.state.State.{State}
-use Rattle.lifecycle.specs.declared.state.State.TheVariants.{Waiting, Running, Terminated}
+use Rattle.lifecycle.specs.declared.state.ContainerState.{ContainerState}
+use Rattle.lifecycle.specs.declared.state.ContainerState.TheVariants.{Waiting, Running, Terminated}
 use Rattle.lifecycle.specs.BackOff.{Run, last_of}
 use Rattle.lifecycle.specs.Restart.{may_restart}
 
@@ -46,13 +46,13 @@ was_started t = nat_lt 0 (started_of t)
 
 -- the state of a container that is not finished: running from the answer to its start until its exit is
 -- recorded
-abbrev pub unfinished_state : Stage → State
+abbrev pub unfinished_state : Stage → ContainerState
 unfinished_state (stage.Running attempt started polled) = Running
 unfinished_state s = Waiting
 
-abbrev pub state_behind : RestartPolicy → Track → Option ℕ → State
+abbrev pub state_behind : RestartPolicy → Track → Option ℕ → ContainerState
 state_behind policy t None = unfinished_state t.stage
 state_behind policy t (Some code) = if may_restart policy t.init code then unfinished_state t.stage else Terminated code
 
-abbrev pub state_of : RestartPolicy → Track → State
+abbrev pub state_of : RestartPolicy → Track → ContainerState
 state_of policy t = state_behind policy t (ended_code t)

@@ -23,5 +23,5 @@ pub use phases::Phase;
 pub use policy::{RestartPolicy, may_restart};
 pub use rules::phase;
 pub use runs::{PastRun, Runs};
-pub use state::State;
+pub use state::ContainerState;
 pub use track::{Stage, Track};

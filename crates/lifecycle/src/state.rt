@@ -2,7 +2,7 @@ use std::fmt;
 
 /// The state of a container.
 #[derive(Clone, Copy, Debug, PartialEq, Eq)]
-pub enum State {
+pub enum ContainerState {
     /// Neither of the others: not started yet, or ended and to be started again.
     Waiting,
     /// Its start was answered, and its exit was not recorded.
@@ -12,7 +12,7 @@ pub enum State {
 }
 
 /// The state's name.
-impl fmt::Display for State {
+impl fmt::Display for ContainerState {
     ghost use Rattle.std.specs.Prelude.{Some};
     ghost use Rattle.lifecycle.specs.Names.{state_name};
 
@@ -20,9 +20,9 @@ impl fmt::Display for State {
 
     fn fmt<W: fmt::Write>(&self, f: &mut fmt::Formatter<W>) -> fmt::Result {
         match self {
-            State::Waiting => f.write_str("Waiting"),
-            State::Running => f.write_str("Running"),
-            State::Terminated(_) => f.write_str("Terminated"),
+            ContainerState::Waiting => f.write_str("Waiting"),
+            ContainerState::Running => f.write_str("Running"),
+            ContainerState::Terminated(_) => f.write_str("Terminated"),
         }
     }
 }

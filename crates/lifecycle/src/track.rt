@@ -3,7 +3,7 @@ ghost use Rattle.lifecycle.specs.Tracks.{ended_code, is_failed, is_finished, is_
 
 use crate::policy::{RestartPolicy, may_restart};
 use crate::runs::Runs;
-use crate::state::State;
+use crate::state::ContainerState;
 
 /// How far the current attempt of a container has come, as far as it was told. Attempts count from 0.
 #[derive(Clone, Copy, Debug, PartialEq, Eq)]
@@ -101,13 +101,15 @@ impl Track {
     }
 
     /// The state that it is in.
-    pub fn state(&self, policy: RestartPolicy) -> State
+    pub fn state(&self, policy: RestartPolicy) -> ContainerState
         ensures { result ≡ state_of policy self.now }
     {
         match (self.stage, self.ended_code()) {
-            (Stage::Running { .. }, _) => State::Running,
-            (_, Some(code)) if !may_restart(policy, self.init, code) => State::Terminated(code),
-            _ => State::Waiting,
+            (Stage::Running { .. }, _) => ContainerState::Running,
+            (_, Some(code)) if !may_restart(policy, self.init, code) => ContainerState::Terminated(
+                code,
+            ),
+            _ => ContainerState::Waiting,
         }
     }
 }

@@ -15,7 +15,7 @@ enum Came {
     Lost(Lost),
 }
 
-fn told(outcome: Result<Reply, Lost>) -> Came {
+fn came_of(outcome: Result<Reply, Lost>) -> Came {
     match outcome {
         Ok(reply) => match reply.answer {
             Answer::Done => Came::Done,
@@ -40,7 +40,7 @@ fn wire(alloc: Global, input: &[u8], piece: usize, failing: u64) -> Option<Memor
 }
 
 fn over(alloc: Global, wire: &mut MemoryWire, request: &Request, version: Version) -> Came {
-    told(call_over(alloc, wire, request, version))
+    came_of(call_over(alloc, wire, request, version))
 }
 
 // What comes of the request in this frame, and how many of the frame's bytes were written.

@@ -5,6 +5,9 @@ ghost use Rattle.node_io.specs.Held.{Held, Tells};
 
 use crate::faults::FileFault;
 
+/// How many bytes a file may have that is read whole.
+pub const MAX_FILE_BYTES: u64 = 1_048_576;
+
 /// Files that can be read whole, by path.
 pub trait Files {
     // What is held, where that is known.

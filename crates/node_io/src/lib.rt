@@ -7,6 +7,7 @@
 
 mod faults;
 mod files;
+mod laws;
 mod memory_files;
 mod memory_wire;
 mod reading;
@@ -15,7 +16,8 @@ mod system_files;
 mod wire;
 
 pub use faults::FileFault;
-pub use files::Files;
+pub use files::{Files, MAX_FILE_BYTES};
+pub use laws::constants_are_as_stated;
 pub use memory_files::{MemoryFiles, StoredFile};
 pub use memory_wire::MemoryWire;
 pub use stream_wire::StreamWire;

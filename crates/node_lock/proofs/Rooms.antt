@@ -7,7 +7,7 @@ use Rattle.worker_pod.specs.declared.settings.Outcome.{Outcome}
 use Rattle.worker_pod.specs.declared.settings.Outcome.TheVariants as outcome
 use Rattle.worker_core.specs.declared.events.AgentEvent.{AgentEvent}
 use Rattle.worker_core.specs.declared.events.AgentEvent.TheVariants.{Admit, Delete, Claim, Report, Tick, Abandon}
-use Rattle.worker_core.specs.declared.answers.Refusal.{Refusal}
+use Rattle.worker_core.specs.declared.answers.NodeRefusal.{NodeRefusal}
 use Rattle.worker_core.specs.declared.slots.Held.{Held}
 use Rattle.worker_core.specs.declared.slots.Slot.{Slot}
 use Rattle.worker_core.specs.Kept.{KeptNode, after_admit, after_claim, after_delete, after_end, after_event, after_grant, grant_of, refusal_of, with_moment}
@@ -90,7 +90,7 @@ ended_room kept how worker (Some place) is = let fewer = held_ended kept.moment 
 -- the room that was there for an event is enough for its entry and for the claims that are held then
 pub room_enough : (kept : KeptNode) (event : AgentEvent) → held_in (after_event kept event).slots + 1 ≤ held_in kept.slots + room_for kept event
 room_enough kept (Admit pod) = by_refusal (refusal_of kept pod) where
-  by_refusal : (r : Option Refusal) → held_in (after_admit kept pod r).slots + 1 ≤ held_in kept.slots + 1
+  by_refusal : (r : Option NodeRefusal) → held_in (after_admit kept pod r).slots + 1 ≤ held_in kept.slots + 1
   by_refusal None = let more = held_append kept.slots (fresh_slot pod kept.settings ∷ []) in omega (arith, more)
   by_refusal (Some refusal) = omega arith
 room_enough kept (Delete uid) = by_place (place_of uid kept.slots) where

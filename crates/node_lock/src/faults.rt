@@ -31,7 +31,7 @@ impl fmt::Display for BookFault {
 }
 
 impl BookFault {
-    /// Its number, behind those of a node's refusals: 6 is `Refusal::Memory` too.
+    /// Its number, behind those of a node's refusals: 6 is `NodeRefusal::Memory` too.
     pub fn number(self) -> u8
         ensures { result ≡ fault_number self }
     {

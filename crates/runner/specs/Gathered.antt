@@ -7,7 +7,7 @@ use Rattle.node_io.specs.Held.{Held, Tells}
 use Rattle.cri_msgs.specs.declared.calls.Call.{Call}
 use Rattle.cri_msgs.specs.declared.calls.Call.TheVariants.{RunPodSandbox, StopPodSandbox, RemovePodSandbox, CreateContainer, StartContainer, StopContainer, RemoveContainer, ContainerStatus, ListContainers, ContainerStatuses}
 use Rattle.runtime_core.specs.Files.{path_of}
-use Rattle.runner.specs.declared.gathering.TheConstants.{MAX_FILE}
+use Rattle.node_io.specs.declared.files.TheConstants.{MAX_FILE_BYTES}
 
 -- the file of the script, which CreateContainer alone needs
 abbrev pub script_path : Call → Option (List ℕ)
@@ -37,9 +37,9 @@ profile_path (ContainerStatuses uid) = None
 
 -- what is told of the file with a path: the bytes that are held there, or why there are none; a failure only where the device's count rose
 abbrev pub IsTold : Option Held → Type 0 → List ℕ → Result (List ℕ) FileFault → Type 0
-IsTold held rose path (Ok bytes) = Tells held path (λ found. found ≡ Some bytes) × (length bytes ≤ MAX_FILE)
+IsTold held rose path (Ok bytes) = Tells held path (λ found. found ≡ Some bytes) × (length bytes ≤ MAX_FILE_BYTES)
 IsTold held rose path (Err NotFound) = Tells held path (λ found. found ≡ None)
-IsTold held rose path (Err TooLarge) = Tells held path (λ found. IsSomeAnd found (λ bytes. MAX_FILE < length bytes))
+IsTold held rose path (Err TooLarge) = Tells held path (λ found. IsSomeAnd found (λ bytes. MAX_FILE_BYTES < length bytes))
 IsTold held rose path (Err Failed) = rose
 IsTold held rose path (Err Memory) = ⊤
 

@@ -6,11 +6,8 @@ ghost use Rattle.runner.specs.Gathered.{Gave, IsTold, profile_path, script_path}
 
 use cri_msgs::{Call, Request};
 use manifest::SeccompProfile;
-use node_io::{FileFault, Files};
+use node_io::{FileFault, Files, MAX_FILE_BYTES};
 use runtime_core::{Contents, FileAnswers};
-
-/// How many bytes the file of a script or of a profile may have.
-pub const MAX_FILE: u64 = 1_048_576;
 
 /// What the reads of a request's files gave: for CreateContainer that of its image among the scripts and, where
 /// its profile is Localhost, that of its path among the profiles. Nothing else is read.
@@ -53,7 +50,7 @@ fn contents<F: Files>(files: &mut F, path: &str) -> Result<Contents, FileFault>
     ensures held { F.held files.new ≡ F.held files.old }
     ensures counted { F.failed files.old ≤ F.failed files.new }
 {
-    match files.read(path, MAX_FILE) {
+    match files.read(path, MAX_FILE_BYTES) {
         Ok(bytes) => Ok(Contents::new(bytes)),
         Err(fault) => Err(fault),
     }

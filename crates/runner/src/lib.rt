@@ -8,7 +8,6 @@ mod answering;
 mod connection;
 mod ending;
 mod gathering;
-mod laws;
 mod lists;
 mod rounds;
 mod service;
@@ -16,8 +15,7 @@ mod shared;
 
 pub use connection::serve_wire;
 pub use ending::Ending;
-pub use gathering::{MAX_FILE, gather};
-pub use laws::constants_are_as_stated;
+pub use gathering::gather;
 pub use rounds::{Open, StepGate};
 pub use service::{Host, Service};
 pub use shared::{Baseline, SharedHost, SharedRuntime};

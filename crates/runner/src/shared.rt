@@ -2,7 +2,7 @@
 //! own, so that a step of a cell holds up nothing but its own sandbox.
 ghost use Rattle.std.specs.Prelude.{◌≡◌, IsTrue, List, None, Option};
 ghost use Rattle.bpf_code.specs.declared.insn.Insn.{Insn};
-ghost use Rattle.runtime_core.specs.Serves.{uid_of};
+ghost use Rattle.cri_msgs.specs.Calls.{uid_of};
 ghost use Rattle.runtime_core.specs.Stands.{AreBound};
 ghost use Rattle.runner.specs.Shared.{MayServe, Wakes};
 

@@ -1,6 +1,6 @@
 use cri_msgs::{Request, Version};
-use node_io::{FileFault, Files, MemoryFiles, StoredFile};
-use runner::{MAX_FILE, gather};
+use node_io::{FileFault, Files, MAX_FILE_BYTES, MemoryFiles, StoredFile};
+use runner::gather;
 use runtime_core::Contents;
 use std::alloc::{AllocError, Global};
 use std::test::Fail;
@@ -11,8 +11,8 @@ fn folder(alloc: Global, fails: bool) -> Result<MemoryFiles, AllocError> {
     for (path, length) in [
         ("a", 3),
         ("b", 4),
-        ("full", MAX_FILE),
-        ("long", MAX_FILE + 1),
+        ("full", MAX_FILE_BYTES),
+        ("long", MAX_FILE_BYTES + 1),
     ] {
         let path = String::from_str(alloc, path)?;
         let bytes = vec![in alloc; b'x'; length as usize]?;
@@ -36,7 +36,10 @@ fn request(alloc: Global, members: &str) -> Result<Request, Fail> {
 }
 
 // How many bytes a read gave, or its fault.
-fn told(alloc: Global, answer: &Option<Result<Contents, FileFault>>) -> Result<String, AllocError> {
+fn read_text(
+    alloc: Global,
+    answer: &Option<Result<Contents, FileFault>>,
+) -> Result<String, AllocError> {
     match answer {
         None => String::from_str(alloc, "none"),
         Some(Ok(contents)) => format!(in alloc; "{}", contents.as_slice().len()),
@@ -50,8 +53,8 @@ fn gathered(alloc: Global, members: &str, fails: bool) -> Result<String, Fail> {
     let mut scripts = folder(alloc, fails)?;
     let mut profiles = folder(alloc, fails)?;
     let answers = gather(&mut scripts, &mut profiles, &request);
-    let script = told(alloc, &answers.script)?;
-    let profile = told(alloc, &answers.profile)?;
+    let script = read_text(alloc, &answers.script)?;
+    let profile = read_text(alloc, &answers.profile)?;
     let (first, second) = (scripts.failures(), profiles.failures());
     Ok(format!(in alloc; "{} {} {first} {second}", script.as_str(), profile.as_str())?)
 }

@@ -3,7 +3,7 @@ use Rattle.std.proofs.Common.{◌≡◌, ◌⊎◌, inl, inr, ℕ, zero, suc, Li
 use Rattle.std.proofs.lemmas.List.{append-nil, append_assoc}
 use Rattle.script.specs.declared.scripts.Step.{Step}
 use Rattle.verdict.specs.Stack.{AllSound}
-use Rattle.runtime_cell.specs.declared.calls.Entry.{Entry}
+use Rattle.runtime_cell.specs.declared.calls.JudgedCall.{JudgedCall}
 use Rattle.runtime_cell.specs.declared.cell.Did.{Did}
 use Rattle.runtime_cell.specs.declared.cell.State.{State}
 use Rattle.runtime_cell.specs.declared.cell.State.TheVariants.{Created, Running, Exited}
@@ -20,22 +20,22 @@ place_in [] (suc place) = inl (refl, refl)
 place_in (step ∷ steps) zero = inr (step, refl, refl)
 place_in (step ∷ steps) (suc place) = place_in steps place
 
-longer : (entries : List Entry) (entry : Entry) → length (entries ++ entry ∷ []) ≡ suc (length entries)
+longer : (entries : List JudgedCall) (entry : JudgedCall) → length (entries ++ entry ∷ []) ≡ suc (length entries)
 longer entries entry = omega (arith, length-append entries (entry ∷ []))
 
 -- what comes behind a step goes on with the record, or is its end
 comes_on : (c : Cell) (next : Next) (rest : Outcome) → ComesBy next c.added (IsOutcome c.making.stack c.making.label.attempt (drop (suc (length c.entries)) c.making.script)) rest
     → IsWhole c (joined c.entries rest) → FollowsScript (after c next)
 comes_on c (Goes entry more) rest comes whole =
-    let entries : List Entry = c.entries ++ entry ∷ [] in (
+    let entries : List JudgedCall = c.entries ++ entry ∷ [] in (
       comes.0,
       subst (λ place. IsOutcome c.making.stack c.making.label.attempt (drop place c.making.script) (c.added ++ more) comes.0) (sym (longer c.entries entry)) comes.1,
       subst (IsWhole c) (ap (joined c.entries) comes.2
-          ∙ ap (λ (es : List Entry). record { entries = es; added = comes.0.added; code = comes.0.code }) (sym (append_assoc c.entries (entry ∷ []) comes.0.entries))) whole,
+          ∙ ap (λ (es : List JudgedCall). record { entries = es; added = comes.0.added; code = comes.0.code }) (sym (append_assoc c.entries (entry ∷ []) comes.0.entries))) whole,
     )
 comes_on c (Stops entry code) rest comes whole = subst (IsWhole c) (ap (joined c.entries) comes) whole
 comes_on c (Over code) rest comes whole =
-    subst (IsWhole c) (ap (joined c.entries) comes ∙ ap (λ (es : List Entry). record { entries = es; added = c.added; code = code }) (append-nil c.entries)) whole
+    subst (IsWhole c) (ap (joined c.entries) comes ∙ ap (λ (es : List JudgedCall). record { entries = es; added = c.added; code = code }) (append-nil c.entries)) whole
 
 pub goes_on : SaysOne → (c : Cell) (next : Next) → GoesOn c → IsNext (filters_of c) c.making.label.attempt (step_in c) next → FollowsScript (after c next)
 goes_on one c next on is = elim (place_in c.making.script (length c.entries)) [

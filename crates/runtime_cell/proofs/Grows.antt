@@ -6,7 +6,7 @@ use Rattle.bpf_code.specs.declared.insn.Insn.{Insn}
 use Rattle.call_data.specs.declared.sys_call.SysCall.{SysCall}
 use Rattle.script.specs.declared.scripts.Step.{Step}
 use Rattle.script.specs.declared.scripts.Step.TheVariants.{Call, Exit, ExitByAttempt, Install}
-use Rattle.runtime_cell.specs.declared.calls.Entry.{Entry}
+use Rattle.runtime_cell.specs.declared.calls.JudgedCall.{JudgedCall}
 use Rattle.runtime_cell.specs.declared.cell.Did.{Did}
 use Rattle.runtime_cell.specs.declared.cell.State.{State}
 use Rattle.runtime_cell.specs.declared.cell.State.TheVariants.{Created, Running, Exited}
@@ -107,11 +107,11 @@ pub later_stepped : (old : Cell) (did : Did) (new : Cell) → Steps old did new 
 later_stepped old did new steps = later_in old.state old did new refl steps
 
 -- a judged call is the last entry
-judged_last : (c : Cell) (entry : Entry) (end : Option ℕ) → (after c (judged entry end)).entries ≡ c.entries ++ entry ∷ []
+judged_last : (c : Cell) (entry : JudgedCall) (end : Option ℕ) → (after c (judged entry end)).entries ≡ c.entries ++ entry ∷ []
 judged_last c entry None = refl
 judged_last c entry (Some code) = refl
 
-installed_last : (c : Cell) (filter : List Insn) (entry : Entry) (end on_error : Option ℕ) (performs place : Bool)
+installed_last : (c : Cell) (filter : List Insn) (entry : JudgedCall) (end on_error : Option ℕ) (performs place : Bool)
     → (after c (installed filter entry end on_error performs place)).entries ≡ c.entries ++ entry ∷ []
 installed_last c filter entry end on_error true true = refl
 installed_last c filter entry end on_error true false = judged_last c entry _

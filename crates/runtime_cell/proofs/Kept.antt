@@ -11,7 +11,7 @@ use Rattle.oci_profile.specs.declared.profile.Profile.{Profile}
 use Rattle.script.specs.declared.scripts.Step.{Step}
 use Rattle.script.specs.declared.scripts.Step.TheVariants.{Call, Exit, ExitByAttempt, Install}
 use Rattle.runtime_cell.specs.declared.acts.Act.{Act}
-use Rattle.runtime_cell.specs.declared.calls.Entry.{Entry}
+use Rattle.runtime_cell.specs.declared.calls.JudgedCall.{JudgedCall}
 use Rattle.runtime_cell.specs.declared.cell.State.{State}
 use Rattle.runtime_cell.specs.declared.cell.State.TheVariants.{Created, Running, Exited}
 use Rattle.runtime_cell.specs.declared.label.Label.{Label}
@@ -50,20 +50,20 @@ next_within stack attempt script place next is judges = elim (slice_get_cases sc
   | inr past ↦ absurd (judges (subst (λ s. IsNext stack attempt s next) past.1 is))
 ]
 
-pub goes_within : (c : Cell) (entry : Entry) (more : List (List Insn)) → IsNext (filters_of c) c.making.label.attempt (step_in c) (Goes entry more) → length c.entries < length c.making.script
+pub goes_within : (c : Cell) (entry : JudgedCall) (more : List (List Insn)) → IsNext (filters_of c) c.making.label.attempt (step_in c) (Goes entry more) → length c.entries < length c.making.script
 goes_within c entry more is = next_within (filters_of c) c.making.label.attempt c.making.script (length c.entries) (Goes entry more) is (λ same. absurd cc)
 
-pub stops_within : (c : Cell) (entry : Entry) (code : ℕ) → IsNext (filters_of c) c.making.label.attempt (step_in c) (Stops entry code) → length c.entries < length c.making.script
+pub stops_within : (c : Cell) (entry : JudgedCall) (code : ℕ) → IsNext (filters_of c) c.making.label.attempt (step_in c) (Stops entry code) → length c.entries < length c.making.script
 stops_within c entry code is = next_within (filters_of c) c.making.label.attempt c.making.script (length c.entries) (Stops entry code) is (λ same. absurd cc)
 
 -- the script's next step, as it is read
-pub step_here : (script steps : List Step) (entries : List Entry) (at : ℕ) (step known : Step) → steps ≡ script → true ≡ nat_lt at (length steps) → at ≡ length entries
+pub step_here : (script steps : List Step) (entries : List JudgedCall) (at : ℕ) (step known : Step) → steps ≡ script → true ≡ nat_lt at (length steps) → at ≡ length entries
     → step ≡ get_or steps at step → step ≡ known → slice_get script (length entries) ≡ Some known
 step_here script steps entries at step known same within place is knows =
     sym (ap (slice_get script) place) ∙ sym (ap (λ (s : List Step). slice_get s at) same) ∙ step_read steps at step within is ∙ ap {B = Option Step} Some knows
 
 -- the cell that is seen once filters were added
-seen_more : (label : Label) (script : List Step) (profile : Option Profile) (filters : List (List Insn)) (start : ℕ) (entries : List Entry) (entry : Entry) (more : List (List Insn)) → start ≤ length filters
+seen_more : (label : Label) (script : List Step) (profile : Option Profile) (filters : List (List Insn)) (start : ℕ) (entries : List JudgedCall) (entry : JudgedCall) (more : List (List Insn)) → start ≤ length filters
     → after (seen label script profile filters start entries Running) (Goes entry more) ≡ seen label script profile (filters ++ more) start (entries ++ entry ∷ []) Running
 seen_more label script profile filters start entries entry more within =
     ap (λ (fs : List (List Insn)). record { making = record { label = label; script = script; stack = fs; profile = profile }; state = Running; entries = entries ++ entry ∷ []; added = drop start filters ++ more })
@@ -71,7 +71,7 @@ seen_more label script profile filters start entries entry more within =
     ∙ ap (λ (fs : List (List Insn)). record { making = record { label = label; script = script; stack = take start (filters ++ more); profile = profile }; state = Running; entries = entries ++ entry ∷ []; added = fs })
     (sym (drop-append-le start filters more within))
 
-pub goes_kept : SaysOne → (label : Label) (script : List Step) (profile : Option Profile) (filters filters' : List (List Insn)) (start : ℕ) (entries entries' : List Entry) (entry : Entry) (more : List (List Insn)) (state : State)
+pub goes_kept : SaysOne → (label : Label) (script : List Step) (profile : Option Profile) (filters filters' : List (List Insn)) (start : ℕ) (entries entries' : List JudgedCall) (entry : JudgedCall) (more : List (List Insn)) (state : State)
     → state ≡ Running → start ≤ length filters → filters' ≡ filters ++ more → entries' ≡ entries ++ entry ∷ [] → FollowsScript (seen label script profile filters start entries state)
     → IsNext (filters_of (seen label script profile filters start entries state)) label.attempt (slice_get script (length entries)) (Goes entry more)
     → FollowsScript (seen label script profile filters' start entries' state)
@@ -83,7 +83,7 @@ goes_kept one label script profile filters filters' start entries entries' entry
     (subst (λ fs. FollowsScript (seen label script profile fs start entries' Running)) (sym filters_are)
     (subst (λ es. FollowsScript (seen label script profile (filters ++ more) start es Running)) (sym entries_are) new))
 
-pub stops_kept : SaysOne → (label : Label) (script : List Step) (profile : Option Profile) (filters : List (List Insn)) (start : ℕ) (entries entries' : List Entry) (entry : Entry) (code : ℕ) (state : State)
+pub stops_kept : SaysOne → (label : Label) (script : List Step) (profile : Option Profile) (filters : List (List Insn)) (start : ℕ) (entries entries' : List JudgedCall) (entry : JudgedCall) (code : ℕ) (state : State)
     → state ≡ Running → entries' ≡ entries ++ entry ∷ [] → FollowsScript (seen label script profile filters start entries state)
     → IsNext (filters_of (seen label script profile filters start entries state)) label.attempt (slice_get script (length entries)) (Stops entry code)
     → FollowsScript (seen label script profile filters start entries' (Exited code false))
@@ -92,7 +92,7 @@ stops_kept one label script profile filters start entries entries' entry code st
     subst (λ es. FollowsScript (seen label script profile filters start es (Exited code false))) (sym entries_are)
     (goes_on one (seen label script profile filters start entries Running) (Stops entry code) old is)
 
-pub over_kept : SaysOne → (label : Label) (script : List Step) (profile : Option Profile) (filters : List (List Insn)) (start : ℕ) (entries : List Entry) (code : ℕ) (state : State)
+pub over_kept : SaysOne → (label : Label) (script : List Step) (profile : Option Profile) (filters : List (List Insn)) (start : ℕ) (entries : List JudgedCall) (code : ℕ) (state : State)
     → state ≡ Running → FollowsScript (seen label script profile filters start entries state)
     → IsNext (filters_of (seen label script profile filters start entries state)) label.attempt (slice_get script (length entries)) (Over code)
     → FollowsScript (seen label script profile filters start entries (Exited code false))
@@ -125,17 +125,17 @@ spare_here script place copies own room state runs ready own_is =
     let was : IsReady script place copies room = subst (λ s. IsReadyIn s script place copies room) runs ready in
     omega (arith, was.spare, ap length was.copied, ap length (copies_at script place), length-append (filter_in (slice_get script place)) (filters_in (drop (suc place) script)), ap length own_is)
 
-judged_adds_none : (entry other : Entry) (end : Option ℕ) (filter : List Insn) → Goes entry (filter ∷ []) ≡ judged other end → ⊥
+judged_adds_none : (entry other : JudgedCall) (end : Option ℕ) (filter : List Insn) → Goes entry (filter ∷ []) ≡ judged other end → ⊥
 judged_adds_none entry other None filter same = absurd cc
 judged_adds_none entry other (Some code) filter same = absurd cc
 
-place_of : (entry other : Entry) (filter : List Insn) (end on_error : Option ℕ) (performs place : Bool) → Goes entry (filter ∷ []) ≡ installed filter other end on_error performs place → place ≡ true
+place_of : (entry other : JudgedCall) (filter : List Insn) (end on_error : Option ℕ) (performs place : Bool) → Goes entry (filter ∷ []) ≡ installed filter other end on_error performs place → place ≡ true
 place_of entry other filter end on_error true true same = refl
 place_of entry other filter end on_error true false same = absurd (judged_adds_none entry other _ filter same)
 place_of entry other filter end on_error false place same = absurd (judged_adds_none entry other end filter same)
 
 -- a filter is added only where the stack has place for it
-has_place_by : (stack : List (List Insn)) (attempt : ℕ) (step : Option Step) (entry : Entry) (copy : Option (List Insn)) → option_to_list copy ≡ filter_in step → IsNext stack attempt step (Goes entry (filter_in step))
+has_place_by : (stack : List (List Insn)) (attempt : ℕ) (step : Option Step) (entry : JudgedCall) (copy : Option (List Insn)) → option_to_list copy ≡ filter_in step → IsNext stack attempt step (Goes entry (filter_in step))
     → IfSome copy (λ f. has_place stack f ≡ true)
 has_place_by stack attempt step entry None own is = tt
 has_place_by stack attempt None entry (Some f) own is = absurd cc
@@ -146,13 +146,13 @@ has_place_by stack attempt (Some (Install filter on_error)) entry (Some f) own i
     let same : filter ≡ f = cc in
     ap (has_place stack) (sym same) ∙ place_of entry (entry_of install_call is.0) filter (end_of is.0 on_error) on_error (performs_of is.0.action) (has_place stack filter) is.2
 
-pub place_here : (filters : List (List Insn)) (start attempt : ℕ) (step : Option Step) (entry : Entry) (copy : Option (List Insn)) → option_to_list copy ≡ filter_in step
+pub place_here : (filters : List (List Insn)) (start attempt : ℕ) (step : Option Step) (entry : JudgedCall) (copy : Option (List Insn)) → option_to_list copy ≡ filter_in step
     → IsNext (take start filters ++ drop start filters) attempt step (Goes entry (filter_in step)) → IfSome copy (λ f. has_place filters f ≡ true)
 place_here filters start attempt step entry copy own is =
     has_place_by filters attempt step entry copy own (subst (λ fs. IsNext fs attempt step (Goes entry (filter_in step))) (take-append-drop start filters) is)
 
 -- what is done next, as it is read
-pub act_here : (filters : List (List Insn)) (start attempt : ℕ) (script steps : List Step) (entries : List Entry) (at : ℕ) (step known : Step) (act : Act) → steps ≡ script → true ≡ nat_lt at (length steps) → at ≡ length entries
+pub act_here : (filters : List (List Insn)) (start attempt : ℕ) (script steps : List Step) (entries : List JudgedCall) (at : ℕ) (step known : Step) (act : Act) → steps ≡ script → true ≡ nat_lt at (length steps) → at ≡ length entries
     → step ≡ get_or steps at step → step ≡ known → IsNext filters attempt (Some known) (next_by act (Some known))
     → IsNext (take start filters ++ drop start filters) attempt (slice_get script (length entries)) (next_by act (slice_get script (length entries)))
 act_here filters start attempt script steps entries at step known act same within place is knows next =
@@ -184,17 +184,17 @@ popped old new (Some f) own rest is parts dropped =
     ap (λ x. x ∷ []) (heads f own new rest same)
 
 -- what the type keeps, of a cell that is seen so
-abbrev pub IsHeld : Label → List Step → Option Profile → List (List Insn) → ℕ → List Entry → ℕ → List (List Insn) → ℕ → State → Type 0
+abbrev pub IsHeld : Label → List Step → Option Profile → List (List Insn) → ℕ → List JudgedCall → ℕ → List (List Insn) → ℕ → State → Type 0
 IsHeld label script profile filters start entries capacity copies room state = (start ≤ length filters) × (length script ≤ capacity)
     × IsReadyIn state script (length entries) copies room
     × IsWellMade (seen label script profile filters start entries state).making
     × FollowsScript (seen label script profile filters start entries state)
 
-longer : (entries : List Entry) (entry : Entry) → length (entries ++ entry ∷ []) ≡ length entries + 1
+longer : (entries : List JudgedCall) (entry : JudgedCall) → length (entries ++ entry ∷ []) ≡ length entries + 1
 longer entries entry = omega (arith, length-append entries (entry ∷ []))
 
-pub goes_held : SaysOne → (label : Label) (script : List Step) (profile : Option Profile) (filters filters' : List (List Insn)) (start : ℕ) (entries entries' : List Entry) (capacity capacity' : ℕ)
-    (copies copies' own : List (List Insn)) (room room' : ℕ) (state : State) (entry : Entry) (more : List (List Insn))
+pub goes_held : SaysOne → (label : Label) (script : List Step) (profile : Option Profile) (filters filters' : List (List Insn)) (start : ℕ) (entries entries' : List JudgedCall) (capacity capacity' : ℕ)
+    (copies copies' own : List (List Insn)) (room room' : ℕ) (state : State) (entry : JudgedCall) (more : List (List Insn))
     → IsHeld label script profile filters start entries capacity copies room state → state ≡ Running
     → filters' ≡ filters ++ more → entries' ≡ entries ++ entry ∷ [] → capacity ≤ capacity'
     → own ≡ filter_in (slice_get script (length entries)) → copies' ≡ filters_in (drop (length entries + 1) script) → room ≤ room' + length own
@@ -210,15 +210,15 @@ goes_held one label script profile filters filters' start entries entries' capac
       goes_kept one label script profile filters filters' start entries entries' entry more state runs held.0 filters_are entries_are held.4 is,
     )
 
-pub stops_held : SaysOne → (label : Label) (script : List Step) (profile : Option Profile) (filters : List (List Insn)) (start : ℕ) (entries entries' : List Entry) (capacity capacity' : ℕ)
-    (copies copies' : List (List Insn)) (room : ℕ) (state : State) (entry : Entry) (code : ℕ)
+pub stops_held : SaysOne → (label : Label) (script : List Step) (profile : Option Profile) (filters : List (List Insn)) (start : ℕ) (entries entries' : List JudgedCall) (capacity capacity' : ℕ)
+    (copies copies' : List (List Insn)) (room : ℕ) (state : State) (entry : JudgedCall) (code : ℕ)
     → IsHeld label script profile filters start entries capacity copies room state → state ≡ Running → entries' ≡ entries ++ entry ∷ [] → capacity ≤ capacity'
     → IsNext (filters_of (seen label script profile filters start entries state)) label.attempt (slice_get script (length entries)) (Stops entry code)
     → IsHeld label script profile filters start entries' capacity' copies' room (Exited code false)
 stops_held one label script profile filters start entries entries' capacity capacity' copies copies' room state entry code held runs entries_are grows is =
     (held.0, omega (arith, held.1, grows), tt, held.3, stops_kept one label script profile filters start entries entries' entry code state runs entries_are held.4 is)
 
-pub over_held : SaysOne → (label : Label) (script : List Step) (profile : Option Profile) (filters : List (List Insn)) (start : ℕ) (entries : List Entry) (capacity : ℕ)
+pub over_held : SaysOne → (label : Label) (script : List Step) (profile : Option Profile) (filters : List (List Insn)) (start : ℕ) (entries : List JudgedCall) (capacity : ℕ)
     (copies copies' : List (List Insn)) (room : ℕ) (state : State) (code : ℕ)
     → IsHeld label script profile filters start entries capacity copies room state → state ≡ Running
     → IsNext (filters_of (seen label script profile filters start entries state)) label.attempt (slice_get script (length entries)) (Over code)
@@ -226,7 +226,7 @@ pub over_held : SaysOne → (label : Label) (script : List Step) (profile : Opti
 over_held one label script profile filters start entries capacity copies copies' room state code held runs is =
     (held.0, held.1, tt, held.3, over_kept one label script profile filters start entries code state runs held.4 is)
 
-pub onward : (script : List Step) (entries entries' : List Entry) (entry : Entry) → length entries < length script → entries' ≡ entries ++ entry ∷ []
+pub onward : (script : List Step) (entries entries' : List JudgedCall) (entry : JudgedCall) → length entries < length script → entries' ≡ entries ++ entry ∷ []
     → (length entries' ≡ length entries + 1) × (length entries' ≤ length script)
 onward script entries entries' entry within is =
     let by_one : length entries' ≡ length entries + 1 = ap length is ∙ longer entries entry in
@@ -249,7 +249,7 @@ ready_fresh script copies room Running unended copied spare = record { copied = 
 ready_fresh script copies room (Exited code killed) unended copied spare = absurd unended
 
 -- a cell as it is made
-pub fresh_held : SaysSome → (label : Label) (script : List Step) (profile : Option Profile) (filters : List (List Insn)) (start : ℕ) (entries : List Entry) (capacity : ℕ) (copies : List (List Insn)) (room : ℕ) (state : State)
+pub fresh_held : SaysSome → (label : Label) (script : List Step) (profile : Option Profile) (filters : List (List Insn)) (start : ℕ) (entries : List JudgedCall) (capacity : ℕ) (copies : List (List Insn)) (room : ℕ) (state : State)
     → start ≡ length filters → entries ≡ [] → length script ≤ capacity → copies ≡ filters_in script → length copies ≤ room → IsUnended state
     → AllSound filters → HasSoundFilters script → Confines filters profile → IsHeld label script profile filters start entries capacity copies room state
 fresh_held some label script profile filters start entries capacity copies room state starts none enough copied spare unended sound fits confined =

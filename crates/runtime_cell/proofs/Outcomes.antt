@@ -11,7 +11,7 @@ use Rattle.script.specs.Script.{HasSoundFilters, IsSoundStep}
 use Rattle.script.specs.declared.scripts.Step.{Step}
 use Rattle.script.specs.declared.scripts.Step.TheVariants.{Call, Exit, ExitByAttempt, Install}
 use Rattle.verdict.specs.Stack.{AllSound, IsJudged, Judges}
-use Rattle.runtime_cell.specs.declared.calls.Entry.{Entry}
+use Rattle.runtime_cell.specs.declared.calls.JudgedCall.{JudgedCall}
 use Rattle.runtime_cell.specs.Outcome.{Next, Outcome, ComesBy, IsNext, IsOutcome, code_at, end_of, entry_of, has_place, install_call, installed, joined, judged}
 use Rattle.runtime_cell.specs.Outcome.Next.{Goes, Stops, Over}
 
@@ -54,11 +54,11 @@ AddsSound (Goes entry more) = (filter : List Insn) × ((more ≡ []) ⊎ ((more 
 AddsSound (Stops entry code) = Unit {0}
 AddsSound (Over code) = Unit {0}
 
-judged_sound : (entry : Entry) (end : Option ℕ) → AddsSound (judged entry end)
+judged_sound : (entry : JudgedCall) (end : Option ℕ) → AddsSound (judged entry end)
 judged_sound entry None = ([], inl refl)
 judged_sound entry (Some code) = tt
 
-installed_sound : (filter : List Insn) (entry : Entry) (end on_error : Option ℕ) (performs place : Bool) → IsSound filter → AddsSound (installed filter entry end on_error performs place)
+installed_sound : (filter : List Insn) (entry : JudgedCall) (end on_error : Option ℕ) (performs place : Bool) → IsSound filter → AddsSound (installed filter entry end on_error performs place)
 installed_sound filter entry end on_error true true sound = (filter, inr (refl, sound))
 installed_sound filter entry end on_error true false sound = judged_sound entry _
 installed_sound filter entry end on_error false place sound = judged_sound entry end

@@ -10,7 +10,7 @@ use Rattle.oci_profile.specs.Meaning.{meaning}
 use Rattle.script.specs.declared.scripts.Step.{Step}
 use Rattle.script.specs.Script.{HasSoundFilters}
 use Rattle.verdict.specs.Stack.{AllSound}
-use Rattle.runtime_cell.specs.declared.calls.Entry.{Entry}
+use Rattle.runtime_cell.specs.declared.calls.JudgedCall.{JudgedCall}
 use Rattle.runtime_cell.specs.declared.cell.Did.{Did}
 use Rattle.runtime_cell.specs.declared.cell.Did.TheVariants.{Idle, Performed, Denied, Ended}
 use Rattle.runtime_cell.specs.declared.label.Label.{Label}
@@ -30,7 +30,7 @@ pub record Making : Type 0 where
 pub record Cell : Type 0 where
   pub making : Making
   pub state : State
-  pub entries : List Entry
+  pub entries : List JudgedCall
   pub added : List (List Insn)
 
 -- a cell as it is made
@@ -58,7 +58,7 @@ after c (Goes entry more) = record { making = c.making; state = Running; entries
 after c (Stops entry code) = record { making = c.making; state = Exited code false; entries = c.entries ++ entry ∷ []; added = c.added }
 after c (Over code) = record { making = c.making; state = Exited code false; entries = c.entries; added = c.added }
 
-abbrev pub told_of_entry : Entry → Bool → Did
+abbrev pub told_of_entry : JudgedCall → Bool → Did
 told_of_entry entry true = Performed
 told_of_entry entry false = Denied entry.verdict
 

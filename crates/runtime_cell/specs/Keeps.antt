@@ -7,7 +7,7 @@ use Rattle.script.specs.declared.scripts.Step.{Step}
 use Rattle.script.specs.declared.scripts.Step.TheVariants.{Call, Exit, ExitByAttempt, Install}
 use Rattle.runtime_cell.specs.declared.acts.Act.{Act}
 use Rattle.runtime_cell.specs.declared.acts.Act.TheVariants as act
-use Rattle.runtime_cell.specs.declared.calls.Entry.{Entry}
+use Rattle.runtime_cell.specs.declared.calls.JudgedCall.{JudgedCall}
 use Rattle.runtime_cell.specs.declared.cell.State.{State}
 use Rattle.runtime_cell.specs.declared.cell.State.TheVariants.{Created, Running, Exited}
 use Rattle.runtime_cell.specs.declared.label.Label.{Label}
@@ -45,7 +45,7 @@ IsUnended Running = Unit {0}
 IsUnended (Exited code killed) = ⊥
 
 -- the cell that is kept: the filters from the start on stand before those that were added
-abbrev pub seen : Label → List Step → Option Profile → List (List Insn) → ℕ → List Entry → State → Cell
+abbrev pub seen : Label → List Step → Option Profile → List (List Insn) → ℕ → List JudgedCall → State → Cell
 seen label script profile filters start entries state = record {
   making = record { label = label; script = script; stack = take start filters; profile = profile };
   state = state;

@@ -6,7 +6,7 @@ use Rattle.call_data.specs.declared.sys_call.SysCall.{SysCall}
 use Rattle.script.specs.declared.scripts.Step.{Step}
 use Rattle.script.specs.declared.scripts.Step.TheVariants.{Call, Exit, ExitByAttempt, Install}
 use Rattle.verdict.specs.Stack.{IsJudged}
-use Rattle.runtime_cell.specs.declared.calls.Entry.{Entry}
+use Rattle.runtime_cell.specs.declared.calls.JudgedCall.{JudgedCall}
 use Rattle.runtime_cell.specs.declared.cell.State.TheVariants.{Created, Running, Exited}
 use Rattle.runtime_cell.specs.Outcome.{entry_of, install_call}
 use Rattle.runtime_cell.specs.Cell.{Cell, filters_of, step_in}
@@ -15,7 +15,7 @@ use Rattle.runtime_cell.specs.Cell.{Cell, filters_of, step_in}
 pub record IsLater (old new : Cell) : Type 0 where
   pub making : new.making ≡ old.making
   -- the record begins the later one, and so do the filters that were added
-  pub entries : (more : List Entry) × (new.entries ≡ old.entries ++ more)
+  pub entries : (more : List JudgedCall) × (new.entries ≡ old.entries ++ more)
   pub added : (more : List (List Insn)) × (new.added ≡ old.added ++ more)
   -- an end stays
   pub exit : (code : ℕ) (killed : Bool) → old.state ≡ Exited code killed → new ≡ old

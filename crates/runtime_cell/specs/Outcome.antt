@@ -12,11 +12,11 @@ use Rattle.script.specs.declared.scripts.Step.{Step}
 use Rattle.script.specs.declared.scripts.Step.TheVariants.{Call, Exit, ExitByAttempt, Install}
 use Rattle.verdict.specs.Stack.{IsJudged, counted}
 use Rattle.verdict.specs.declared.stack.TheConstants.{MAX_STACK_INSNS}
-use Rattle.runtime_cell.specs.declared.calls.Entry.{Entry}
+use Rattle.runtime_cell.specs.declared.calls.JudgedCall.{JudgedCall}
 use Rattle.runtime_cell.specs.declared.calls.TheConstants.{ENOMEM, KILLED, SECCOMP, SET_MODE_FILTER}
 
 -- the entry of a judged call: it is performed exactly where the verdict allows it
-abbrev pub entry_of : SysCall → Verdict → Entry
+abbrev pub entry_of : SysCall → Verdict → JudgedCall
 entry_of call verdict = record { call = call; verdict = verdict; performed = performs_of verdict.action }
 
 -- an errno of 0 is no error
@@ -44,12 +44,12 @@ install_call = record { nr = SECCOMP; arch = NATIVE_ARCH; ip = 0; args = SET_MOD
 
 -- what a step does: a call is judged, filters are added, and the script goes on; or it ends with a code
 pub data Next : Type 0 where
-  Goes : Entry → List (List Insn) → Next
-  Stops : Entry → ℕ → Next
+  Goes : JudgedCall → List (List Insn) → Next
+  Stops : JudgedCall → ℕ → Next
   Over : ℕ → Next
 
 -- a call is judged, and behind it the script ends with the code, if there is one
-abbrev pub judged : Entry → Option ℕ → Next
+abbrev pub judged : JudgedCall → Option ℕ → Next
 judged entry None = Goes entry []
 judged entry (Some code) = Stops entry code
 
@@ -59,7 +59,7 @@ has_place stack filter = nat_le (length filter + counted stack) MAX_STACK_INSNS
 
 -- the filter is added where the call is performed and the stack has place for it; where it has none the
 -- call returns ENOMEM
-abbrev pub installed : List Insn → Entry → Option ℕ → Option ℕ → Bool → Bool → Next
+abbrev pub installed : List Insn → JudgedCall → Option ℕ → Option ℕ → Bool → Bool → Next
 installed filter entry end on_error true true = Goes entry (filter ∷ [])
 installed filter entry end on_error true false = judged entry (on_errno (Some ENOMEM) on_error)
 installed filter entry end on_error false place = judged entry end
@@ -77,12 +77,12 @@ IsNext stack attempt (Some (Install filter on_error)) next =
 
 -- every judged call, in order; the filters that the script adds; and the code with which it ends
 pub record Outcome : Type 0 where
-  pub entries : List Entry
+  pub entries : List JudgedCall
   pub added : List (List Insn)
   pub code : ℕ
 
 -- entries, and then an outcome
-abbrev pub joined : List Entry → Outcome → Outcome
+abbrev pub joined : List JudgedCall → Outcome → Outcome
 joined entries rest = record { entries = entries ++ rest.entries; added = rest.added; code = rest.code }
 
 -- the outcome of a step, and of those that come after it with the filters that were added by then

@@ -5,7 +5,7 @@ ghost use Rattle.script.specs.declared.scripts.Step.{Step};
 ghost use Rattle.runtime_cell.specs.Keeps.{next_by};
 ghost use Rattle.runtime_cell.specs.Outcome.{code_at, end_of, entry_of, install_call, installed, judged, on_errno};
 
-use crate::calls::{ENOMEM, Entry, KILLED, entry_of, install_call};
+use crate::calls::{ENOMEM, JudgedCall, KILLED, entry_of, install_call};
 use action::{Action, Verdict};
 use call_data::SysCall;
 
@@ -13,11 +13,11 @@ use call_data::SysCall;
 #[derive(Clone, Copy)]
 pub(crate) enum Act {
     /// A call is judged, and the script goes on.
-    Goes(Entry),
+    Goes(JudgedCall),
     /// A call is judged, the step's filter is added, and the script goes on.
-    Adds(Entry),
+    Adds(JudgedCall),
     /// A call is judged, and the script ends with the code.
-    Stops(Entry, u8),
+    Stops(JudgedCall, u8),
     /// The script ends with the code.
     Over(u8),
 }
@@ -43,7 +43,7 @@ pub(crate) fn install_act(verdict: Verdict, has_place: bool, on_error: Option<u8
     }
 }
 
-fn judged(entry: Entry, end: Option<u8>) -> Act
+fn judged(entry: JudgedCall, end: Option<u8>) -> Act
     ensures { (step : Option Step) → next_by result step ≡ judged entry end }
 {
     match end {

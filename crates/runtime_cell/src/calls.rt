@@ -19,7 +19,7 @@ pub const SET_MODE_FILTER: u64 = 1;
 
 /// A judged call, in the record of a container.
 #[derive(Clone, Copy, Debug, PartialEq, Eq)]
-pub struct Entry {
+pub struct JudgedCall {
     pub call: SysCall,
     /// What the filters said of it together.
     pub verdict: Verdict,
@@ -40,10 +40,10 @@ pub fn install_call() -> SysCall
     }
 }
 
-pub(crate) fn entry_of(call: SysCall, verdict: Verdict) -> Entry
+pub(crate) fn entry_of(call: SysCall, verdict: Verdict) -> JudgedCall
     ensures { result ≡ entry_of call verdict }
 {
-    Entry {
+    JudgedCall {
         call,
         verdict,
         performed: verdict.performs(),

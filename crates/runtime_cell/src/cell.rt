@@ -5,7 +5,7 @@ ghost use Rattle.runtime_cell.specs.Keeps.{IsUnended, next_by};
 ghost use Rattle.runtime_cell.specs.Outcome.{IsNext, has_place};
 
 use crate::acts::{Act, call_act, code_at, install_act};
-use crate::calls::{Entry, install_call};
+use crate::calls::{JudgedCall, install_call};
 use crate::copies::{copies, take_copy};
 use crate::label::{Label, Text};
 use action::Verdict;
@@ -59,7 +59,7 @@ pub struct Cell {
     start: usize,
     /// Copies of the filters that the rest of the script installs.
     copies: VecDeque<Filter>,
-    entries: Vec<Entry>,
+    entries: Vec<JudgedCall>,
     state: State,
 }
 
@@ -180,7 +180,7 @@ impl Cell {
     }
 
     /// The judged calls so far.
-    pub fn record(&self) -> &[Entry]
+    pub fn record(&self) -> &[JudgedCall]
         ensures value { result.now ≡ self.now.entries }
         ensures follows { FollowsScript self.now }
         ensures sound { AllSound self.now.making.stack }
@@ -291,7 +291,7 @@ impl Cell {
 }
 
 /// Adds an entry to a record that has room for it.
-fn add(entries: &mut Vec<Entry>, entry: Entry)
+fn add(entries: &mut Vec<JudgedCall>, entry: JudgedCall)
     requires { vec_len entries.old < vec_capacity entries.old }
     ensures items { entries.new.items ≡ entries.old.items ++ entry ∷ [] }
     ensures room { vec_capacity entries.old ≤ vec_capacity entries.new }
@@ -315,7 +315,7 @@ fn install(stack: &mut Stack, filter: Option<Filter>)
     }
 }
 
-fn counted(entries: &[Entry]) -> Counts
+fn counted(entries: &[JudgedCall]) -> Counts
     ensures performed { result.performed ≡ count_by (λ entry. entry.performed) entries.now }
     ensures denied { result.denied ≡ count_by (λ entry. not entry.performed) entries.now }
 {
@@ -326,7 +326,7 @@ fn counted(entries: &[Entry]) -> Counts
 }
 
 /// What is told of a judged call behind which the script goes on.
-fn told_of(entry: Entry) -> Did
+fn told_of(entry: JudgedCall) -> Did
     ensures { result ≡ told_of_entry entry entry.performed }
 {
     if entry.performed {

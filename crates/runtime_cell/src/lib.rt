@@ -13,7 +13,7 @@ mod copies;
 mod label;
 mod laws;
 
-pub use calls::{ENOMEM, Entry, KILLED, SECCOMP, SET_MODE_FILTER, install_call};
+pub use calls::{ENOMEM, JudgedCall, KILLED, SECCOMP, SET_MODE_FILTER, install_call};
 pub use cell::{Cell, Counts, Did, State};
 pub use label::{Label, Text};
 pub use laws::{

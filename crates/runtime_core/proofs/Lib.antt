@@ -15,11 +15,3 @@ pub mod Serving
 pub mod Stays
 pub mod ById
 pub mod There
-pub mod RunLists
-pub mod RunSlots
-pub mod RunSteps
-pub mod RunGoes
-pub mod RunSeen
-pub mod RunLaws
-pub mod RunTold
-pub mod RunLinks

@@ -8,7 +8,8 @@ use Rattle.runtime_cell.specs.Cell.{Cell}
 use Rattle.runtime_core.specs.declared.files.FileAnswers.{FileAnswers}
 use Rattle.runtime_core.specs.declared.registry.Registry.{Registry}
 use Rattle.runtime_core.specs.Kept.{known_in, stage_of}
-use Rattle.runtime_core.specs.Serves.{Serves, ServesIn, uid_of}
+use Rattle.cri_msgs.specs.Calls.{uid_of}
+use Rattle.runtime_core.specs.Serves.{Serves, ServesIn}
 use Rattle.runtime_core.specs.Stands.{Agrees, IsEmptyIn, IsListFor, IsWhole, LendsTo, around_in, cells_in, list_in, part_in, runtime_of, sandbox_of, stages_in}
 
 same_or_not : (b : Bool) (u v : List ℕ) → bytes_eq u v ≡ b → (u ≡ v) ⊎ (u ≢ v)

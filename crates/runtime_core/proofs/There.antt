@@ -7,7 +7,8 @@ use Rattle.runtime_core.specs.declared.files.FileAnswers.{FileAnswers}
 use Rattle.runtime_core.specs.declared.registry.Registry.{Registry}
 use Rattle.runtime_core.specs.declared.stage.Stage.{Stage}
 use Rattle.runtime_core.specs.declared.stage.Stage.TheVariants as stage
-use Rattle.runtime_core.specs.Serves.{Serves, uid_of}
+use Rattle.cri_msgs.specs.Calls.{uid_of}
+use Rattle.runtime_core.specs.Serves.{Serves}
 use Rattle.runtime_core.specs.Stands.{Agrees, AreBound, IsEmptyIn, IsListFor, IsWhole, Lends, LendsTo, cells_in, list_in, runtime_of, stages_in}
 use Rattle.runtime_core.proofs.ById.{still_list}
 use Rattle.runtime_core.proofs.Serving.{serves, whole_still}

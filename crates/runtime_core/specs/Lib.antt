@@ -2,8 +2,6 @@ pub mod Runtime
 pub mod Files
 pub mod Serves
 pub mod Steps
-pub mod Runs
-pub mod Laws
 pub mod Kept
 pub mod Stands
 pub mod Stays

@@ -17,6 +17,7 @@ use Rattle.cri_msgs.specs.declared.replies.Answer.TheVariants as answers
 use Rattle.cri_msgs.specs.declared.states.State as told
 use Rattle.cri_msgs.specs.declared.states.State.TheVariants as told_as
 use Rattle.cri_msgs.specs.declared.states.Status as status
+use Rattle.cri_msgs.specs.Calls.{uid_of}
 use Rattle.cri_msgs.specs.Names.{kind_of}
 use Rattle.cri_msgs.specs.Order.{container_cmp}
 use Rattle.runtime_cell.specs.declared.cell.State.{State}
@@ -210,19 +211,6 @@ ServesIn around (RemoveContainer key) files old answer new = Removes (slot_in ol
 ServesIn around (ContainerStatus key) files old answer new = Shows (slot_in old.sandbox key.container) old answer new
 ServesIn around (ListContainers uid) files old answer new = Lists old answer new
 ServesIn around (ContainerStatuses uid) files old answer new = ListsStatuses old answer new
-
--- the sandbox that a call names
-abbrev pub uid_of : Call → List ℕ
-uid_of (RunPodSandbox uid) = uid
-uid_of (StopPodSandbox uid grace) = uid
-uid_of (RemovePodSandbox uid) = uid
-uid_of (CreateContainer key image choice) = key.uid
-uid_of (StartContainer key) = key.uid
-uid_of (StopContainer key grace) = key.uid
-uid_of (RemoveContainer key) = key.uid
-uid_of (ContainerStatus key) = key.uid
-uid_of (ListContainers uid) = uid
-uid_of (ContainerStatuses uid) = uid
 
 abbrev pub part_of : Runtime → List ℕ → Part
 part_of r uid = record { made = r.made; sandbox = r.sandbox uid }

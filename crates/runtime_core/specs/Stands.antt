@@ -14,7 +14,8 @@ use Rattle.runtime_core.specs.Runtime.{In, Runtime, Sandbox, id_of}
 use Rattle.cri_msgs.specs.declared.calls.Call.{Call}
 use Rattle.cri_msgs.specs.declared.replies.Answer.{Answer}
 use Rattle.runtime_core.specs.declared.files.FileAnswers.{FileAnswers}
-use Rattle.runtime_core.specs.Serves.{Around, Part, ServesIn, uid_of}
+use Rattle.cri_msgs.specs.Calls.{uid_of}
+use Rattle.runtime_core.specs.Serves.{Around, Part, ServesIn}
 
 abbrev pub cells_of : Option Known → List Cell → List Cell
 cells_of None cells = []

@@ -285,17 +285,17 @@ fn cell_of(
     match own {
         None => {
             let stack = stack_of(alloc, baseline.as_ref(), None)?;
-            Ok(told(Cell::created(alloc, label, script, stack, None)?))
+            Ok(kept(Cell::created(alloc, label, script, stack, None)?))
         }
         Some(Built { profile, filter }) => {
             let stack = stack_of(alloc, baseline.as_ref(), Some(filter))?;
-            Ok(told(Cell::created(alloc, label, script, stack, Some(profile))?))
+            Ok(kept(Cell::created(alloc, label, script, stack, Some(profile))?))
         }
     }
 }
 
 /// The same cell, with what its type keeps said of it.
-fn told(cell: Cell) -> Cell
+fn kept(cell: Cell) -> Cell
     ensures same { result ≡ cell }
     ensures follows { FollowsScript result }
     ensures sound { AllSound result.making.stack }

@@ -1,7 +1,7 @@
 //! Which sandbox a call names.
 ghost use Rattle.std.specs.Prelude.{◌≡◌};
 ghost use Rattle.runtime_core.specs.Stays.{kind_of};
-ghost use Rattle.runtime_core.specs.Serves.{uid_of};
+ghost use Rattle.cri_msgs.specs.Calls.{uid_of};
 
 use cri_msgs::Call;
 use manifest::Uid;

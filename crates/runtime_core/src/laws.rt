@@ -1,23 +1,5 @@
-ghost use Rattle.std.specs.Prelude.{◌≡◌, ◌+◌, List, ◌∷◌, Option};
-ghost use Rattle.bpf_code.specs.declared.insn.Insn.{Insn};
+ghost use Rattle.std.specs.Prelude.{◌≡◌, ◌+◌};
 ghost use Rattle.runtime_core.specs.declared.limits.TheConstants.{MAX_CELLS, MAX_KEYS, MAX_UIDS, STOPPED, TERMINATED};
-ghost use Rattle.runtime_core.specs.Laws.{LinkLaws, RunLaws};
-ghost use Rattle.runtime_core.specs.Runs.{IsRun, Link};
-
-use runtime_cell::{calls_are_judged_by_all_filters, cells_follow_their_scripts, cells_only_grow};
-use verdict::stacks_judge_every_call;
-
-/// What is true in every run, of any requests, steps and ends: of all that happened, and of each link behind
-/// those before it.
-pub fn every_run()
-    ensures run { (baseline : Option (List Insn)) (ls : List Link) → IsRun baseline ls → RunLaws baseline ls }
-    ensures link { (baseline : Option (List Insn)) (l : Link) (before : List Link) → IsRun baseline (l ∷ before) → LinkLaws l before }
-{
-    cells_only_grow();
-    cells_follow_their_scripts();
-    calls_are_judged_by_all_filters();
-    stacks_judge_every_call();
-}
 
 /// What the constants of this crate are.
 pub fn constants_are_as_stated()

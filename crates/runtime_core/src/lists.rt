@@ -1,7 +1,7 @@
 //! The lists of cells of all sandboxes that are there.
 ghost use Rattle.std.specs.Prelude.{◌≡◌, ◌≢◌, ℕ, List, [], Some, None, OnOk, OnErr, option_copied, is_some};
 ghost use Rattle.runtime_core.specs.Kept.{by_bytes, MayKillIn, MayStepIn, ReadsIn};
-ghost use Rattle.runtime_core.specs.Serves.{uid_of};
+ghost use Rattle.cri_msgs.specs.Calls.{uid_of};
 ghost use Rattle.runtime_core.specs.Stands.{cells_in, ids_in, list_in, Lends};
 
 use crate::calls::uid_of;

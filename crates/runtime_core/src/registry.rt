@@ -8,7 +8,8 @@ ghost use Rattle.runtime_core.specs.declared.stage.Stage.{Stage};
 ghost use Rattle.runtime_core.specs.Kept.{IsNextIn, home_in};
 ghost use Rattle.runtime_core.specs.Runtime.{empty, fresh_sandbox, removed, slot_in};
 ghost use Rattle.runtime_core.specs.Runtime.Slot.{Free};
-ghost use Rattle.runtime_core.specs.Serves.{Creates, Enters, IsCrowded, IsFull, Lists, ListsStatuses, MakesFrom, Removes, RemovesPod, RunsPod, ServesIn, Shows, Starts, Stops, StopsPod, uid_of};
+ghost use Rattle.cri_msgs.specs.Calls.{uid_of};
+ghost use Rattle.runtime_core.specs.Serves.{Creates, Enters, IsCrowded, IsFull, Lists, ListsStatuses, MakesFrom, Removes, RemovesPod, RunsPod, ServesIn, Shows, Starts, Stops, StopsPod};
 ghost use Rattle.runtime_core.specs.Stands.{Agrees, AreBound, IsPlaced, IsUnplaced, Keeps, Spares, around_in, part_in, runtime_of, stages_in};
 
 use crate::building::built_cell;

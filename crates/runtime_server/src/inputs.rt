@@ -3,8 +3,7 @@
 use crate::stops::{ServerStop, file_stop};
 use bpf_code::CodeFault;
 use bpf_verify::{Filter, Refusal, filter_of};
-use node_io::{Files, SystemFiles};
-use runner::MAX_FILE;
+use node_io::{Files, MAX_FILE_BYTES, SystemFiles};
 use std::rt;
 
 /// The bytes of a file.
@@ -12,7 +11,7 @@ pub fn bytes_at<'a, R: rt::Files + AllocGlobal>(
     rt: &R,
     path: &'a str,
 ) -> Result<Vec<u8>, ServerStop<'a>> {
-    match SystemFiles::anywhere(rt).read(path, MAX_FILE) {
+    match SystemFiles::anywhere(rt).read(path, MAX_FILE_BYTES) {
         Ok(bytes) => Ok(bytes),
         Err(fault) => Err(file_stop(path, fault)),
     }

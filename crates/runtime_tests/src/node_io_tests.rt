@@ -22,7 +22,7 @@ fn two_files(rt: &impl AllocGlobal) -> Result<MemoryFiles, AllocError> {
 }
 
 // What a read came to, in words, and the count of failures behind it.
-fn told<F: Files>(
+fn read_text<F: Files>(
     rt: &impl AllocGlobal,
     files: &mut F,
     path: &str,
@@ -53,7 +53,7 @@ fn files_in_memory_fail_in_turn(rt: HostRuntime) -> Result<(), Fail> {
         files.fail_call(failing);
         for (number, (path, limit, before, after)) in cases.into_iter().enumerate() {
             let number = number as u64 + 1;
-            let text = told(&rt, &mut files, path, limit)?;
+            let text = read_text(&rt, &mut files, path, limit)?;
             let want = if number < failing {
                 before
             } else if number == failing {
@@ -93,7 +93,7 @@ fn files_of_the_system(rt: HostRuntime) -> Result<(), Fail> {
         ("inner/five", 5, "12345 2"),
     ];
     for (path, limit, want) in cases {
-        let text = told(&rt, &mut within, path, limit)?;
+        let text = read_text(&rt, &mut within, path, limit)?;
         assert_eq!(rt; text.as_str(), want, "{path} up to {limit}");
     }
     let mut anywhere = SystemFiles::anywhere(&rt);
@@ -105,7 +105,7 @@ fn files_of_the_system(rt: HostRuntime) -> Result<(), Fail> {
         ("/dev/zero", "Failed 2"),
     ];
     for (path, want) in cases {
-        let text = told(&rt, &mut anywhere, path, 5)?;
+        let text = read_text(&rt, &mut anywhere, path, 5)?;
         assert_eq!(rt; text.as_str(), want, "{path}");
     }
     fs::remove_dir_all(&rt, folder.as_str())?;

@@ -54,7 +54,7 @@ fn created(rt: &HostRuntime, text: &str, denies: bool) -> Result<Cell, Fail> {
 
 /// Does what the letters say to the cell: s starts it, t does a step, k kills it with 255 and z with 0.
 /// Gives what each step came to, then the state, what was performed and denied, and the filters added.
-fn told(rt: &HostRuntime, cell: &mut Cell, letters: &str) -> Result<String, Fail> {
+fn played(rt: &HostRuntime, cell: &mut Cell, letters: &str) -> Result<String, Fail> {
     let mut text = String::new(rt.alloc());
     for letter in letters.as_bytes() {
         match *letter {
@@ -133,7 +133,11 @@ fn states_and_records(rt: HostRuntime) -> Result<(), Fail> {
     ];
     for (text, denies, letters, want) in rows {
         let mut cell = created(&rt, text, denies)?;
-        assert_eq!(rt; told(&rt, &mut cell, letters)?.as_str(), want, "{letters}");
+        assert_eq!(rt;
+            played(&rt, &mut cell, letters)?.as_str(),
+            want,
+            "{letters}"
+        );
     }
     Ok(())
 }

@@ -3,8 +3,8 @@ use Rattle.std.proofs.Common.{◌≡◌, inl, inr, ℕ, nat_lt, Bool, true, fals
 use Rattle.cri_msgs.specs.declared.calls.Request.{Request}
 use Rattle.worker_core.specs.declared.answers.Answer.{Answer}
 use Rattle.worker_core.specs.declared.answers.Answer.TheVariants.{Claimed as Given, Done, Refused}
-use Rattle.worker_core.specs.declared.answers.Refusal.{Refusal}
-use Rattle.worker_core.specs.declared.answers.Refusal.TheVariants.{ClockBack, Memory}
+use Rattle.worker_core.specs.declared.answers.NodeRefusal.{NodeRefusal}
+use Rattle.worker_core.specs.declared.answers.NodeRefusal.TheVariants.{ClockBack, Memory}
 use Rattle.worker_core.specs.declared.claims.Grant.{Grant}
 use Rattle.worker_core.specs.declared.events.AgentEvent.{AgentEvent}
 use Rattle.worker_core.specs.declared.events.AgentEvent.TheVariants.{Admit, Delete, Claim, Report, Tick, Abandon}
@@ -14,7 +14,7 @@ use Rattle.worker_core.specs.Nodes.{NodeState, NodeStep, kept_of, slots_of}
 use Rattle.worker_core.specs.Slots.{holder_of, place_of}
 
 module _ (uid : List ℕ) (number : ℕ) (request : Request) where
-  admit_silent : (r : Option Refusal) → admit_answer r ≡ Given uid number request → ⊥
+  admit_silent : (r : Option NodeRefusal) → admit_answer r ≡ Given uid number request → ⊥
   admit_silent None e = cc
   admit_silent (Some refusal) e = cc
 

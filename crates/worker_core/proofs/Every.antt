@@ -18,12 +18,13 @@ use Rattle.cri_msgs.specs.declared.keys.Key.{Key}
 use Rattle.worker_pod.specs.declared.sandbox.Sandbox.{Sandbox}
 use Rattle.worker_pod.specs.declared.sandbox.Sandbox.TheVariants as sandbox
 use Rattle.worker_pod.specs.declared.settings.Settings.{Settings}
-use Rattle.worker_pod.specs.Laws.{AreNumbered, AreOf, Creation, EndedWell, Follows, HasEnded, IsNumberedIn, LastRun, Told, WasTold, key_named, uid_of}
+use Rattle.cri_msgs.specs.Calls.{uid_of}
+use Rattle.worker_pod.specs.Laws.{AreNumbered, AreOf, Creation, EndedWell, Follows, HasEnded, IsNumberedIn, LastRun, Told, WasTold, key_named}
 use Rattle.worker_pod.specs.Next.{due_of, duty_in, duty_of, has_come, next_by, next_of, numbered, phase_in, unmaking}
 use Rattle.worker_pod.specs.Past.{Claimed, Kept, Past, held_of, read_off}
 use Rattle.worker_core.specs.declared.answers.Answer.{Answer}
 use Rattle.worker_core.specs.declared.answers.Answer.TheVariants.{Nothing, Refused}
-use Rattle.worker_core.specs.declared.answers.Refusal.TheVariants.{Memory}
+use Rattle.worker_core.specs.declared.answers.NodeRefusal.TheVariants.{Memory}
 use Rattle.worker_core.specs.declared.claims.Grant.{Grant}
 use Rattle.worker_core.specs.declared.events.AgentEvent.{AgentEvent}
 use Rattle.worker_core.specs.declared.events.AgentEvent.TheVariants.{Claim}

@@ -6,7 +6,7 @@ use Rattle.worker_pod.specs.declared.settings.Outcome.{Outcome}
 use Rattle.worker_pod.specs.declared.settings.Outcome.TheVariants as outcome
 use Rattle.worker_pod.specs.Past.{Past, admitted}
 use Rattle.worker_core.specs.declared.answers.Answer.{Answer}
-use Rattle.worker_core.specs.declared.answers.Refusal.{Refusal}
+use Rattle.worker_core.specs.declared.answers.NodeRefusal.{NodeRefusal}
 use Rattle.worker_core.specs.declared.claims.Grant.{Grant}
 use Rattle.worker_core.specs.declared.events.AgentEvent.{AgentEvent}
 use Rattle.worker_core.specs.declared.events.AgentEvent.TheVariants.{Admit, Delete, Claim, Report, Tick, Abandon}
@@ -73,7 +73,7 @@ changes old event f place new is at p same here =
       | inr h ↦ in_list old event (changed f old.pods place) new is at p (f p) same h
     ]
 
-by_admit : (old : NodeState) (pod : Pod) (r : Option Refusal) (at : ℕ) (p : OnNode) → slice_get old.pods at ≡ Some p → Remains old (Admit pod) (admit_node old pod r) p
+by_admit : (old : NodeState) (pod : Pod) (r : Option NodeRefusal) (at : ℕ) (p : OnNode) → slice_get old.pods at ≡ Some p → Remains old (Admit pod) (admit_node old pod r) p
 by_admit old pod None at p here = inl (record { place = at; now = p; here = still_pushed old.pods (record { past = admitted pod; held = None }) at p here; same = refl })
 by_admit old pod (Some refusal) at p here = stays old (Admit pod) at p here
 

@@ -13,8 +13,8 @@ use Rattle.worker_pod.specs.Next.{next_of}
 use Rattle.worker_pod.specs.Past.{admitted}
 use Rattle.worker_core.specs.declared.answers.Answer.{Answer}
 use Rattle.worker_core.specs.declared.answers.Answer.TheVariants.{Done, Claimed as Given}
-use Rattle.worker_core.specs.declared.answers.Refusal.{Refusal}
-use Rattle.worker_core.specs.declared.answers.Refusal.TheVariants.{Full, KnownUid}
+use Rattle.worker_core.specs.declared.answers.NodeRefusal.{NodeRefusal}
+use Rattle.worker_core.specs.declared.answers.NodeRefusal.TheVariants.{Full, KnownUid}
 use Rattle.worker_core.specs.declared.claims.Grant.{Grant}
 use Rattle.worker_core.specs.declared.events.AgentEvent.{AgentEvent}
 use Rattle.worker_core.specs.declared.events.AgentEvent.TheVariants.{Admit, Delete, Claim, Report, Tick, Abandon}
@@ -86,7 +86,7 @@ stays old event answer = record {
 -- Admit
 pub unknown_pod : (node : NodeState) (pod : Pod) → refusal_of (kept_of node) pod ≡ None → is_known pod.uid node.admitted ≡ false
 unknown_pod node pod e = by_test (is_known pod.uid node.admitted) refl e where
-  by_test : (b : Bool) → is_known pod.uid node.admitted ≡ b → ◌≡◌ {A = Option Refusal} (if b then Some KnownUid else if is_full (kept_of node) then Some Full else None) None → is_known pod.uid node.admitted ≡ false
+  by_test : (b : Bool) → is_known pod.uid node.admitted ≡ b → ◌≡◌ {A = Option NodeRefusal} (if b then Some KnownUid else if is_full (kept_of node) then Some Full else None) None → is_known pod.uid node.admitted ≡ false
   by_test true is h = absurd cc
   by_test false is h = is
 
@@ -94,7 +94,7 @@ or_known : (a b : Bool) → b ≡ true → (a || b) ≡ true
 or_known true b e = refl
 or_known false b e = e
 
-admits : (old : NodeState) (pod : Pod) (answer : Answer) (r : Option Refusal) → refusal_of (kept_of old) pod ≡ r → answer ≡ admit_answer r → Moves old (Admit pod) answer (admit_node old pod r)
+admits : (old : NodeState) (pod : Pod) (answer : Answer) (r : Option NodeRefusal) → refusal_of (kept_of old) pod ≡ r → answer ≡ admit_answer r → Moves old (Admit pod) answer (admit_node old pod r)
 admits old pod answer None is said = record {
   origin = λ at. at;
   apart = λ a b e. e;

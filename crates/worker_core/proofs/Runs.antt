@@ -7,13 +7,14 @@ use Rattle.cri_msgs.specs.declared.calls.Call.{Call}
 use Rattle.cri_msgs.specs.declared.calls.Request.{Request}
 use Rattle.worker_pod.specs.declared.settings.Outcome.{Outcome}
 use Rattle.worker_pod.specs.declared.settings.Settings.{Settings}
-use Rattle.worker_pod.specs.Laws.{AreNumbered, AreOf, IsNumberedIn, uid_of}
+use Rattle.cri_msgs.specs.Calls.{uid_of}
+use Rattle.worker_pod.specs.Laws.{AreNumbered, AreOf, IsNumberedIn}
 use Rattle.worker_pod.specs.Next.{next_of}
 use Rattle.worker_pod.specs.Past.{Claimed, Kept, Past, held_of, read_off}
 use Rattle.worker_core.specs.declared.answers.Answer.{Answer}
 use Rattle.worker_core.specs.declared.answers.Answer.TheVariants.{Done, Claimed as Given, Refused}
-use Rattle.worker_core.specs.declared.answers.Refusal.{Refusal}
-use Rattle.worker_core.specs.declared.answers.Refusal.TheVariants.{Memory}
+use Rattle.worker_core.specs.declared.answers.NodeRefusal.{NodeRefusal}
+use Rattle.worker_core.specs.declared.answers.NodeRefusal.TheVariants.{Memory}
 use Rattle.worker_core.specs.declared.claims.Grant.{Grant}
 use Rattle.worker_core.specs.declared.events.AgentEvent.{AgentEvent}
 use Rattle.worker_core.specs.declared.events.AgentEvent.TheVariants.{Admit, Claim}
@@ -54,7 +55,7 @@ admits_is old event answer new (inl taken) pod is done =
     (sym done ∙ taken.answer_is ∙ ap (answer_of (kept_of old)) is)
     (taken.new_is ∙ ap (next_node old) is)
   where
-    by_refusal : (r : Option Refusal) → refusal_of (kept_of old) pod ≡ r → Done ≡ admit_answer r → new ≡ admit_node old pod r
+    by_refusal : (r : Option NodeRefusal) → refusal_of (kept_of old) pod ≡ r → Done ≡ admit_answer r → new ≡ admit_node old pod r
         → (is_known pod.uid old.admitted ≡ false) × (new.admitted ≡ pod.uid ∷ old.admitted)
     by_refusal None e said is = (unknown_pod old pod e, ap (λ (n : NodeState). n.admitted) is)
     by_refusal (Some refusal) e said is = absurd cc

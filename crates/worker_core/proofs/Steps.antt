@@ -8,8 +8,8 @@ use Rattle.worker_pod.specs.declared.settings.Outcome.TheVariants as outcome
 use Rattle.worker_pod.specs.declared.settings.Settings.{Settings}
 use Rattle.worker_pod.specs.Past.{admitted}
 use Rattle.worker_core.specs.declared.answers.Answer.{Answer}
-use Rattle.worker_core.specs.declared.answers.Refusal.{Refusal}
-use Rattle.worker_core.specs.declared.answers.Refusal.TheVariants.{Full, KnownUid}
+use Rattle.worker_core.specs.declared.answers.NodeRefusal.{NodeRefusal}
+use Rattle.worker_core.specs.declared.answers.NodeRefusal.TheVariants.{Full, KnownUid}
 use Rattle.worker_core.specs.declared.claims.Grant.{Grant}
 use Rattle.worker_core.specs.declared.events.AgentEvent.{AgentEvent}
 use Rattle.worker_core.specs.declared.events.AgentEvent.TheVariants.{Admit, Delete, Claim, Report, Tick, Abandon}
@@ -66,11 +66,11 @@ module _ (node : NodeState) (known : List (List ℕ)) (same : SameUids known nod
 
   unknown : (pod : Pod) → refusal_of (relisted node known) pod ≡ None → is_known pod.uid known ≡ false
   unknown pod e = by_test (is_known pod.uid known) refl e where
-    by_test : (b : Bool) → is_known pod.uid known ≡ b → ◌≡◌ {A = Option Refusal} (if b then Some KnownUid else if is_full (relisted node known) then Some Full else None) None → is_known pod.uid known ≡ false
+    by_test : (b : Bool) → is_known pod.uid known ≡ b → ◌≡◌ {A = Option NodeRefusal} (if b then Some KnownUid else if is_full (relisted node known) then Some Full else None) None → is_known pod.uid known ≡ false
     by_test true is h = absurd cc
     by_test false is h = is
 
-  admitting : (pod : Pod) (r : Option Refusal) → (r ≡ None → is_known pod.uid known ≡ false) → StandsFor (after_admit (relisted node known) pod r) (admit_node node pod r)
+  admitting : (pod : Pod) (r : Option NodeRefusal) → (r ≡ None → is_known pod.uid known ≡ false) → StandsFor (after_admit (relisted node known) pod r) (admit_node node pod r)
   admitting pod None new = record {
     settings = refl;
     moment = refl;
@@ -130,7 +130,7 @@ module _ (node : NodeState) (known : List (List ℕ)) (same : SameUids known nod
 
   pub after_stands : (event : AgentEvent) → StandsFor (after_event (relisted node known) event) (next_node node event)
   after_stands (Admit pod) =
-      subst (λ (r : Option Refusal). StandsFor (after_admit (relisted node known) pod (refusal_of (relisted node known) pod)) (admit_node node pod r)) (refusal_same pod)
+      subst (λ (r : Option NodeRefusal). StandsFor (after_admit (relisted node known) pod (refusal_of (relisted node known) pod)) (admit_node node pod r)) (refusal_same pod)
       (admitting pod (refusal_of (relisted node known) pod) (unknown pod))
   after_stands (Delete uid) = deleting (place_of uid (slots_of node))
   after_stands (Claim worker) = claiming worker (holder_of worker (slots_of node))

@@ -2,10 +2,10 @@
 use Rattle.std.specs.Prelude.{ℕ, List, codes, Bool, true, false}
 use Rattle.worker_core.specs.declared.answers.Answer.{Answer}
 use Rattle.worker_core.specs.declared.answers.Answer.TheVariants.{Refused}
-use Rattle.worker_core.specs.declared.answers.Refusal.{Refusal}
-use Rattle.worker_core.specs.declared.answers.Refusal.TheVariants.{Full, KnownUid, NoSuchPod, NotYours, ClockBack, Memory}
+use Rattle.worker_core.specs.declared.answers.NodeRefusal.{NodeRefusal}
+use Rattle.worker_core.specs.declared.answers.NodeRefusal.TheVariants.{Full, KnownUid, NoSuchPod, NotYours, ClockBack, Memory}
 
-abbrev pub refusal_number : Refusal → ℕ
+abbrev pub refusal_number : NodeRefusal → ℕ
 refusal_number Full = 1
 refusal_number KnownUid = 2
 refusal_number NoSuchPod = 3
@@ -14,7 +14,7 @@ refusal_number ClockBack = 5
 refusal_number Memory = 6
 
 -- as programs print it
-abbrev pub refusal_text : Refusal → List ℕ
+abbrev pub refusal_text : NodeRefusal → List ℕ
 refusal_text Full = codes "Full"
 refusal_text KnownUid = codes "KnownUid"
 refusal_text NoSuchPod = codes "NoSuchPod"
@@ -23,7 +23,7 @@ refusal_text ClockBack = codes "ClockBack"
 refusal_text Memory = codes "Memory"
 
 -- a growth was refused
-abbrev pub is_want : Refusal → Bool
+abbrev pub is_want : NodeRefusal → Bool
 is_want Memory = true
 is_want refusal = false
 

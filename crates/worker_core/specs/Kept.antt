@@ -10,8 +10,8 @@ use Rattle.worker_pod.specs.declared.settings.Settings.{Settings}
 use Rattle.worker_pod.specs.Next.{next_of, numbered}
 use Rattle.worker_core.specs.declared.answers.Answer.{Answer}
 use Rattle.worker_core.specs.declared.answers.Answer.TheVariants.{Done, Claimed, Nothing, Refused}
-use Rattle.worker_core.specs.declared.answers.Refusal.{Refusal}
-use Rattle.worker_core.specs.declared.answers.Refusal.TheVariants.{Full, KnownUid, NoSuchPod, NotYours, ClockBack, Memory}
+use Rattle.worker_core.specs.declared.answers.NodeRefusal.{NodeRefusal}
+use Rattle.worker_core.specs.declared.answers.NodeRefusal.TheVariants.{Full, KnownUid, NoSuchPod, NotYours, ClockBack, Memory}
 use Rattle.worker_core.specs.declared.claims.Grant.{Grant}
 use Rattle.worker_core.specs.declared.events.AgentEvent.{AgentEvent}
 use Rattle.worker_core.specs.declared.events.AgentEvent.TheVariants.{Admit, Delete, Claim, Report, Tick, Abandon}
@@ -39,10 +39,10 @@ fresh_node settings = record { settings = settings; moment = 0; number = 0; know
 abbrev pub is_full : KeptNode → Bool
 is_full kept = nat_le MAX_PODS (length kept.slots) || nat_le MAX_UIDS (length kept.known)
 
-abbrev pub refusal_of : KeptNode → Pod → Option Refusal
+abbrev pub refusal_of : KeptNode → Pod → Option NodeRefusal
 refusal_of kept pod = if is_known pod.uid kept.known then Some KnownUid else if is_full kept then Some Full else None
 
-abbrev pub admit_answer : Option Refusal → Answer
+abbrev pub admit_answer : Option NodeRefusal → Answer
 admit_answer None = Done
 admit_answer (Some refusal) = Refused refusal
 
@@ -55,7 +55,7 @@ with_pod kept pod = record {
   slots = kept.slots ++ fresh_slot pod kept.settings ∷ [];
 }
 
-abbrev pub after_admit : KeptNode → Pod → Option Refusal → KeptNode
+abbrev pub after_admit : KeptNode → Pod → Option NodeRefusal → KeptNode
 after_admit kept pod None = with_pod kept pod
 after_admit kept pod (Some refusal) = kept
 

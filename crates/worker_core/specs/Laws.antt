@@ -14,7 +14,8 @@ use Rattle.cri_msgs.specs.declared.keys.Key.{Key}
 use Rattle.worker_pod.specs.declared.settings.Outcome.{Outcome}
 use Rattle.worker_pod.specs.declared.settings.Outcome.TheVariants as outcome
 use Rattle.worker_pod.specs.declared.settings.Settings.{Settings}
-use Rattle.worker_pod.specs.Laws.{AreOf, Creation, Told, WasTold, key_named, uid_of}
+use Rattle.cri_msgs.specs.Calls.{uid_of}
+use Rattle.worker_pod.specs.Laws.{AreOf, Creation, Told, WasTold, key_named}
 use Rattle.worker_pod.specs.Next.{is_gone, next_of}
 use Rattle.worker_pod.specs.Past.{Claimed, Kept, held_of, read_off}
 use Rattle.worker_core.specs.declared.answers.Answer.{Answer}

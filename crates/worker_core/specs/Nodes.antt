@@ -11,8 +11,8 @@ use Rattle.worker_pod.specs.Next.{next_of}
 use Rattle.worker_pod.specs.Past.{Past, admitted, as_deleted, held_of, with_claim}
 use Rattle.worker_core.specs.declared.answers.Answer.{Answer}
 use Rattle.worker_core.specs.declared.answers.Answer.TheVariants.{Refused}
-use Rattle.worker_core.specs.declared.answers.Refusal.{Refusal}
-use Rattle.worker_core.specs.declared.answers.Refusal.TheVariants.{Memory}
+use Rattle.worker_core.specs.declared.answers.NodeRefusal.{NodeRefusal}
+use Rattle.worker_core.specs.declared.answers.NodeRefusal.TheVariants.{Memory}
 use Rattle.worker_core.specs.declared.claims.Grant.{Grant}
 use Rattle.worker_core.specs.declared.events.AgentEvent.{AgentEvent}
 use Rattle.worker_core.specs.declared.events.AgentEvent.TheVariants.{Admit, Delete, Claim, Report, Tick, Abandon}
@@ -60,7 +60,7 @@ with_admitted node pod = record {
   pods = node.pods ++ record { past = admitted pod; held = None } ∷ [];
 }
 
-abbrev pub admit_node : NodeState → Pod → Option Refusal → NodeState
+abbrev pub admit_node : NodeState → Pod → Option NodeRefusal → NodeState
 admit_node node pod None = with_admitted node pod
 admit_node node pod (Some refusal) = node
 

@@ -9,7 +9,7 @@ use thiserror::Error;
 
 /// Why a node refuses an event.
 #[derive(Clone, Copy, Debug, PartialEq, Eq, Error)]
-pub enum Refusal {
+pub enum NodeRefusal {
     /// As many pods are on the node as may be, or as many uids were admitted.
     Full,
     /// A pod of this uid was admitted before, whether it is still there or not.
@@ -25,7 +25,7 @@ pub enum Refusal {
 }
 
 /// The refusal's name.
-impl fmt::Display for Refusal {
+impl fmt::Display for NodeRefusal {
     ghost use Rattle.std.specs.Prelude.{Some};
     ghost use Rattle.worker_core.specs.Answers.{refusal_text};
 
@@ -33,28 +33,28 @@ impl fmt::Display for Refusal {
 
     fn fmt<W: fmt::Write>(&self, f: &mut fmt::Formatter<W>) -> fmt::Result {
         match self {
-            Refusal::Full => f.write_str("Full"),
-            Refusal::KnownUid => f.write_str("KnownUid"),
-            Refusal::NoSuchPod => f.write_str("NoSuchPod"),
-            Refusal::NotYours => f.write_str("NotYours"),
-            Refusal::ClockBack => f.write_str("ClockBack"),
-            Refusal::Memory => f.write_str("Memory"),
+            NodeRefusal::Full => f.write_str("Full"),
+            NodeRefusal::KnownUid => f.write_str("KnownUid"),
+            NodeRefusal::NoSuchPod => f.write_str("NoSuchPod"),
+            NodeRefusal::NotYours => f.write_str("NotYours"),
+            NodeRefusal::ClockBack => f.write_str("ClockBack"),
+            NodeRefusal::Memory => f.write_str("Memory"),
         }
     }
 }
 
-impl Refusal {
+impl NodeRefusal {
     /// Its number, from 1.
     pub fn number(self) -> u8
         ensures { result ≡ refusal_number self }
     {
         match self {
-            Refusal::Full => 1,
-            Refusal::KnownUid => 2,
-            Refusal::NoSuchPod => 3,
-            Refusal::NotYours => 4,
-            Refusal::ClockBack => 5,
-            Refusal::Memory => 6,
+            NodeRefusal::Full => 1,
+            NodeRefusal::KnownUid => 2,
+            NodeRefusal::NoSuchPod => 3,
+            NodeRefusal::NotYours => 4,
+            NodeRefusal::ClockBack => 5,
+            NodeRefusal::Memory => 6,
         }
     }
 }
@@ -71,7 +71,7 @@ pub enum Answer {
     },
     /// No request is due.
     Nothing,
-    Refused(Refusal),
+    Refused(NodeRefusal),
 }
 
 impl Answer {
@@ -80,7 +80,7 @@ impl Answer {
         ensures { result ≡ is_memory self.now }
     {
         match self {
-            Answer::Refused(refusal) => *refusal == Refusal::Memory,
+            Answer::Refused(refusal) => *refusal == NodeRefusal::Memory,
             _ => false,
         }
     }

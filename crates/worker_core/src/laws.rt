@@ -2,7 +2,7 @@
 ghost use Rattle.std.specs.Prelude.{◌≡◌, ◌+◌, ◌^◌, true, false, List, ◌∷◌, length, None, Some};
 ghost use Rattle.manifest.specs.declared.pods.Pod.{Pod};
 ghost use Rattle.worker_pod.specs.declared.settings.Settings.{Settings};
-ghost use Rattle.worker_core.specs.declared.answers.Refusal.{Refusal};
+ghost use Rattle.worker_core.specs.declared.answers.NodeRefusal.{NodeRefusal};
 ghost use Rattle.worker_core.specs.declared.limits.TheConstants.{LAST_NUMBER, MAX_PODS, MAX_UIDS};
 ghost use Rattle.worker_core.specs.Kept.{KeptNode, grant_of, refusal_of};
 ghost use Rattle.worker_core.specs.Known.{is_known};
@@ -33,9 +33,9 @@ pub fn every_run()
 /// full, whatever pods are there.
 pub fn uids_end()
     ensures known { (kept : KeptNode) (pod : Pod) → length kept.known ≡ MAX_UIDS → is_known pod.uid kept.known ≡ true
-        → refusal_of kept pod ≡ Some Refusal.KnownUid }
+        → refusal_of kept pod ≡ Some NodeRefusal.KnownUid }
     ensures new { (kept : KeptNode) (pod : Pod) → length kept.known ≡ MAX_UIDS → is_known pod.uid kept.known ≡ false
-        → refusal_of kept pod ≡ Some Refusal.Full }
+        → refusal_of kept pod ≡ Some NodeRefusal.Full }
 {}
 
 /// Behind the last number nothing is given.

@@ -15,7 +15,7 @@ mod node;
 mod slots;
 mod turns;
 
-pub use answers::{Answer, Refusal};
+pub use answers::{Answer, NodeRefusal};
 pub use events::{AgentEvent, Reported};
 pub use limits::{MAX_PODS, MAX_UIDS};
 pub use node::Node;

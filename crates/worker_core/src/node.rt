@@ -7,7 +7,7 @@ ghost use Rattle.worker_core.specs.Laws.{IsClaimOf};
 ghost use Rattle.worker_core.specs.Nodes.{Comes, IsNextDue, NodeState, StandsFor, empty_node, kept_of};
 ghost use Rattle.worker_core.specs.Slots.{claim_of, held_in, holder_of, outcome_of, place_of};
 
-use crate::answers::{Answer, Refusal};
+use crate::answers::{Answer, NodeRefusal};
 use crate::claims::{Grant, granted};
 use crate::events::{AgentEvent, Reported};
 use crate::known::KnownUids;
@@ -54,7 +54,7 @@ impl Model for Node {
     ghost invariant = { λ n. record { ended : AllEndedBy n.moment n.slots.items; few : length n.slots.items ≤ MAX_PODS } };
 }
 
-fn admit_answer(refusal: Option<Refusal>) -> Answer
+fn admit_answer(refusal: Option<NodeRefusal>) -> Answer
     ensures { result ≡ admit_answer refusal }
 {
     match refusal {
@@ -68,7 +68,7 @@ fn delete_answer(place: Option<usize>) -> Answer
 {
     match place {
         Some(_) => Answer::Done,
-        None => Answer::Refused(Refusal::NoSuchPod),
+        None => Answer::Refused(NodeRefusal::NoSuchPod),
     }
 }
 
@@ -77,7 +77,7 @@ fn end_answer(held: Option<usize>) -> Answer
 {
     match held {
         Some(_) => Answer::Done,
-        None => Answer::Refused(Refusal::NotYours),
+        None => Answer::Refused(NodeRefusal::NotYours),
     }
 }
 
@@ -104,14 +104,14 @@ impl Node {
     }
 
     // Why a pod is not admitted.
-    fn refusal_of(&self, pod: &Pod) -> Option<Refusal>
+    fn refusal_of(&self, pod: &Pod) -> Option<NodeRefusal>
         ensures value { result ≡ refusal_of self.now pod.now }
         ensures room { result ≡ None → length self.now.slots < MAX_PODS }
     {
         if self.known.has(&pod.uid) {
-            Some(Refusal::KnownUid)
+            Some(NodeRefusal::KnownUid)
         } else if self.is_full() {
-            Some(Refusal::Full)
+            Some(NodeRefusal::Full)
         } else {
             None
         }
@@ -169,7 +169,7 @@ impl Node {
         ensures { result ≡ tick_answer self.now now }
     {
         if now < self.moment {
-            Answer::Refused(Refusal::ClockBack)
+            Answer::Refused(NodeRefusal::ClockBack)
         } else {
             Answer::Done
         }
@@ -222,7 +222,7 @@ impl Node {
         ensures only { OnErr result (changes (claim_answer self.now (holder_of worker self.now.slots)) ≡ true) }
     {
         if self.is_busy(worker) {
-            return Ok(Answer::Refused(Refusal::NotYours));
+            return Ok(Answer::Refused(NodeRefusal::NotYours));
         }
         match self.grant()? {
             None => Ok(Answer::Nothing),
@@ -237,7 +237,7 @@ impl Node {
         ensures only { OnErr result (changes (claim_answer self.old (holder_of worker self.old.slots)) ≡ true) }
     {
         if self.is_busy(worker) {
-            return Ok(Answer::Refused(Refusal::NotYours));
+            return Ok(Answer::Refused(NodeRefusal::NotYours));
         }
         match self.grant()? {
             None => Ok(Answer::Nothing),
@@ -270,7 +270,7 @@ impl Node {
     {
         match self.end(worker, reported.outcome()) {
             Ok(answer) => answer,
-            Err(_) => Answer::Refused(Refusal::Memory),
+            Err(_) => Answer::Refused(NodeRefusal::Memory),
         }
     }
 
@@ -280,7 +280,7 @@ impl Node {
     {
         match self.end(worker, Outcome::Abandoned) {
             Ok(answer) => answer,
-            Err(_) => Answer::Refused(Refusal::Memory),
+            Err(_) => Answer::Refused(NodeRefusal::Memory),
         }
     }
 
@@ -290,12 +290,12 @@ impl Node {
         match event {
             AgentEvent::Admit(pod) => match self.admit(pod) {
                 Ok(answer) => answer,
-                Err(_) => Answer::Refused(Refusal::Memory),
+                Err(_) => Answer::Refused(NodeRefusal::Memory),
             },
             AgentEvent::Delete(uid) => self.delete(&uid),
             AgentEvent::Claim(worker) => match self.claim(worker) {
                 Ok(answer) => answer,
-                Err(_) => Answer::Refused(Refusal::Memory),
+                Err(_) => Answer::Refused(NodeRefusal::Memory),
             },
             AgentEvent::Report(worker, reported) => self.report(worker, reported),
             AgentEvent::Tick(now) => self.tick(now),
@@ -322,7 +322,7 @@ impl Node {
             AgentEvent::Delete(uid) => delete_answer(place_of(uid, self.slots.as_slice())),
             AgentEvent::Claim(worker) => match self.claim_answer(*worker) {
                 Ok(answer) => answer,
-                Err(_) => Answer::Refused(Refusal::Memory),
+                Err(_) => Answer::Refused(NodeRefusal::Memory),
             },
             AgentEvent::Report(worker, _) | AgentEvent::Abandon(worker) => {
                 end_answer(holder_of(*worker, self.slots.as_slice()))

@@ -6,7 +6,7 @@ use Rattle.cri_msgs.specs.declared.calls.Request.{Request}
 use Rattle.cri_msgs.specs.declared.replies.Reply.{Reply}
 use Rattle.worker_core.specs.declared.answers.Answer.{Answer}
 use Rattle.worker_core.specs.declared.answers.Answer.TheVariants.{Claimed, Refused}
-use Rattle.worker_core.specs.declared.answers.Refusal.{Refusal}
+use Rattle.worker_core.specs.declared.answers.NodeRefusal.{NodeRefusal}
 use Rattle.worker_core.specs.declared.events.AgentEvent.{AgentEvent}
 use Rattle.worker_core.specs.declared.events.AgentEvent.TheVariants.{Claim, Report}
 use Rattle.worker_core.specs.declared.events.Reported.{Reported}
@@ -35,12 +35,12 @@ MayFollow may before (Report worker told) = MayTell may before told
 MayFollow may before event = Unit {0}
 
 -- why the node refused an event, if it did
-abbrev pub refused_by : Answer → Option Refusal
+abbrev pub refused_by : Answer → Option NodeRefusal
 refused_by (Refused refusal) = Some refusal
 refused_by answer = None
 
 -- an event of the worker became an entry, whose receipt comes last, and it is told why the node refused it
-pub record Recorded (worker : ℕ) (event : AgentEvent) (told : Option Refusal) (old new : List Received) : Type 0 where
+pub record Recorded (worker : ℕ) (event : AgentEvent) (told : Option NodeRefusal) (old new : List Received) : Type 0 where
   pub receipt : Received
   pub last : new ≡ old ++ receipt ∷ []
   pub worker_is : receipt.entry.worker ≡ worker

@@ -9,7 +9,7 @@ use std::alloc::Global;
 use std::marker::Model;
 use std::sync::Wait;
 use std::sync::ledger::{Ledger, Share};
-use worker_core::{AgentEvent, Answer, Refusal};
+use worker_core::{AgentEvent, Answer, NodeRefusal};
 
 /// Worker 0, which admits pods and tells the time: its share of the count, and the receipts for what it did.
 /// Contracts see how many parts of the count its share has, and the receipts.
@@ -61,7 +61,7 @@ impl<L: Ledger> Coordinator<L> {
         rt: &R,
         shared: &Shared<L>,
         event: AgentEvent,
-    ) -> Result<Option<Refusal>, BookFault>
+    ) -> Result<Option<NodeRefusal>, BookFault>
         requires own { worker_of event ≡ 0 }
         ensures parts { self.new.parts ≡ self.old.parts }
         ensures done { IfOk result (λ refusal. Recorded 0 event refusal self.old.receipts self.new.receipts) }

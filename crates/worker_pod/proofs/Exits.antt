@@ -26,7 +26,8 @@ use Rattle.worker_pod.specs.declared.news.News.TheVariants as news
 use Rattle.worker_pod.specs.declared.settings.Outcome.{Outcome}
 use Rattle.worker_pod.specs.declared.settings.Outcome.TheVariants as outcome
 use Rattle.worker_pod.specs.News.{answer_tells_of, cell_tells, done_tells, is_cell_of, hearing_of, heard, made_tells, state_tells, status_tells, statuses_tell_of, told_of}
-use Rattle.worker_pod.specs.Laws.{HasEnded, LastRun, Told, TellsRun, WasTold, key_named, uid_of}
+use Rattle.cri_msgs.specs.Calls.{uid_of}
+use Rattle.worker_pod.specs.Laws.{HasEnded, LastRun, Told, TellsRun, WasTold, key_named}
 use Rattle.worker_pod.specs.Past.{Claimed}
 use Rattle.worker_pod.specs.Tracks.{cleared_at, exit_at, exited_at, named_in, number_by, run_at, run_by, seen_at, stage_at, stage_by, started_at, track_after, with_run, worked_in}
 use Rattle.worker_pod.proofs.Offers.{and_left, and_right}

@@ -20,7 +20,8 @@ use Rattle.cri_msgs.specs.declared.lists.ListedStatus.{ListedStatus}
 use Rattle.worker_pod.specs.declared.news.News.{News}
 use Rattle.worker_pod.specs.declared.news.News.TheVariants as news
 use Rattle.worker_pod.specs.declared.settings.Settings.{Settings}
-use Rattle.worker_pod.specs.Laws.{AreNumbered, AreOf, Creation, Follows, IsNumbered, IsNumberedIn, TellsRun, Told, key_named, uid_of}
+use Rattle.cri_msgs.specs.Calls.{uid_of}
+use Rattle.worker_pod.specs.Laws.{AreNumbered, AreOf, Creation, Follows, IsNumbered, IsNumberedIn, TellsRun, Told, key_named}
 use Rattle.worker_pod.specs.News.{answer_tells_of, cell_tells, done_tells, hearing_of, heard, is_cell_of, list_tells, state_tells, status_tells, statuses_tell_of, told_of}
 use Rattle.worker_pod.specs.Next.{next_of}
 use Rattle.worker_pod.specs.Past.{Claimed, Kept, Past, held_of, read_off}

@@ -12,7 +12,7 @@ use Rattle.worker_pod.specs.declared.settings.Settings.{Settings}
 use Rattle.worker_pod.specs.declared.wants.Pick.{Pick}
 use Rattle.worker_pod.specs.declared.wants.Work.{Work}
 use Rattle.worker_pod.specs.declared.wants.Work.TheVariants.{Create, Start, Look, Clear}
-use Rattle.worker_pod.specs.Laws.{uid_of}
+use Rattle.cri_msgs.specs.Calls.{uid_of}
 use Rattle.worker_pod.specs.Next.{call_by, call_of, duty_of, key_in, look_by, next_by, next_of}
 use Rattle.worker_pod.specs.Past.{Kept}
 use Rattle.worker_pod.specs.Wants.{chosen}

@@ -13,9 +13,10 @@ use Rattle.manifest.specs.declared.containers.Container.{Container}
 use Rattle.manifest.specs.declared.pods.Pod.{Pod}
 use Rattle.manifest.specs.declared.profiles.SeccompProfile.{SeccompProfile}
 use Rattle.profile_pick.specs.Choice.{choice_of}
+use Rattle.cri_msgs.specs.Calls.{uid_of}
 use Rattle.cri_msgs.specs.Tells.{TellsExit}
 use Rattle.cri_msgs.specs.declared.calls.Call.{Call}
-use Rattle.cri_msgs.specs.declared.calls.Call.TheVariants.{RunPodSandbox, StopPodSandbox, RemovePodSandbox, CreateContainer, StartContainer, StopContainer, RemoveContainer, ContainerStatus, ListContainers, ContainerStatuses}
+use Rattle.cri_msgs.specs.declared.calls.Call.TheVariants.{CreateContainer}
 use Rattle.cri_msgs.specs.declared.keys.Key.{Key}
 use Rattle.cri_msgs.specs.declared.replies.Reply.{Reply}
 use Rattle.worker_pod.specs.declared.settings.Outcome.TheVariants.{Replied}
@@ -25,19 +26,6 @@ use Rattle.worker_pod.specs.declared.wants.Want.{Want}
 use Rattle.worker_pod.specs.Next.{key_in}
 use Rattle.worker_pod.specs.Past.{Claimed, Kept, read_off}
 use Rattle.worker_pod.specs.Wants.{front_of, is_in_turn, turn_of}
-
--- the pod that a call is about
-abbrev pub uid_of : Call → List ℕ
-uid_of (RunPodSandbox uid) = uid
-uid_of (StopPodSandbox uid grace) = uid
-uid_of (RemovePodSandbox uid) = uid
-uid_of (CreateContainer key image profile) = key.uid
-uid_of (StartContainer key) = key.uid
-uid_of (StopContainer key grace) = key.uid
-uid_of (RemoveContainer key) = key.uid
-uid_of (ContainerStatus key) = key.uid
-uid_of (ListContainers uid) = uid
-uid_of (ContainerStatuses uid) = uid
 
 -- the claims are of this pod
 abbrev pub AreOf : List ℕ → List Claimed → Type 0

@@ -45,7 +45,7 @@ fn heard<'o>(request: &Request, outcome: &'o Outcome) -> Option<&'o Answer>
 }
 
 // Of the pod.
-pub(crate) fn told(request: &Request, outcome: &Outcome) -> News
+pub(crate) fn news_of(request: &Request, outcome: &Outcome) -> News
     ensures { result ≡ told request.now outcome.now }
 {
     match heard(request, outcome) {

@@ -6,7 +6,7 @@ ghost use Rattle.worker_pod.specs.Wants.{chosen};
 
 use crate::calls::call_by;
 use crate::duty::{Duty, duty_in, unmaking};
-use crate::news::{News, told};
+use crate::news::{News, news_of};
 use crate::sandbox::{Sandbox, sandbox_at};
 use crate::settings::{Outcome, REST, Settings};
 use crate::tracks::{fresh_tracks, tracks_ended};
@@ -240,7 +240,7 @@ impl PodState {
             request,
             &outcome,
         )?;
-        let news = told(request, &outcome);
+        let news = news_of(request, &outcome);
         self.sandbox = sandbox_at(news, self.sandbox);
         self.lost = news.is_lost();
         self.rest = rest_at(now, news);

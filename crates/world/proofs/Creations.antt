@@ -9,8 +9,8 @@ use Rattle.cri_msgs.specs.declared.calls.Request.{Request}
 use Rattle.cri_msgs.specs.declared.keys.Key.{Key}
 use Rattle.cri_msgs.specs.declared.replies.Answer.{Answer as Replied}
 use Rattle.runtime_core.specs.declared.files.FileAnswers.{FileAnswers}
-use Rattle.runtime_core.specs.Runs.{Link}
-use Rattle.runtime_core.specs.Runs.{Event as cells}
+use Rattle.runtime_laws.specs.Runs.{Link}
+use Rattle.runtime_laws.specs.Runs.{Event as cells}
 use Rattle.runtime_core.specs.Runtime.{In}
 use Rattle.worker_pod.specs.declared.settings.Settings.{Settings}
 use Rattle.worker_pod.specs.Laws.{key_named}

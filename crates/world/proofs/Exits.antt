@@ -6,8 +6,8 @@ use Rattle.cri_msgs.specs.declared.calls.Request.{Request}
 use Rattle.cri_msgs.specs.declared.keys.Key.{Key}
 use Rattle.cri_msgs.specs.declared.replies.Reply.{Reply}
 use Rattle.lifecycle.specs.BackOff.{Run}
-use Rattle.runtime_core.specs.Laws.{LinkLaws}
-use Rattle.runtime_core.specs.Runs.{IsRun, Link}
+use Rattle.runtime_laws.specs.Laws.{LinkLaws}
+use Rattle.runtime_laws.specs.Runs.{IsRun, Link}
 use Rattle.worker_pod.specs.declared.settings.Outcome.TheVariants as outcome
 use Rattle.worker_pod.specs.declared.settings.Settings.{Settings}
 use Rattle.worker_pod.specs.Laws.{Told, key_named}

@@ -2,7 +2,7 @@
 use Rattle.std.proofs.Common.{◌≡◌, inr, ℕ, List, [], ◌∷◌, Option, Some, None, refl, sym, ◌∙◌, ap}
 use Rattle.bpf_code.specs.declared.insn.Insn.{Insn}
 use Rattle.cri_msgs.specs.declared.keys.Key.{Key}
-use Rattle.runtime_core.specs.Runs.{IsRun, Link, now}
+use Rattle.runtime_laws.specs.Runs.{IsRun, Link, now}
 use Rattle.runtime_core.specs.Runtime.{In}
 use Rattle.worker_pod.specs.declared.settings.Settings.{Settings}
 use Rattle.worker_core.specs.Laws.{Happened, IsNodeRun, NodeLink, node_now}

@@ -11,8 +11,8 @@ use Rattle.runtime_core.specs.Stands.{stands_for}
 use Rattle.runtime_core.specs.Steps.{MayKill, MayStep, Reads}
 use Rattle.worker_core.specs.declared.answers.Answer.{Answer}
 use Rattle.worker_core.specs.declared.answers.Answer.TheVariants.{Done, Refused}
-use Rattle.worker_core.specs.declared.answers.Refusal.{Refusal}
-use Rattle.worker_core.specs.declared.answers.Refusal.TheVariants.{ClockBack}
+use Rattle.worker_core.specs.declared.answers.NodeRefusal.{NodeRefusal}
+use Rattle.worker_core.specs.declared.answers.NodeRefusal.TheVariants.{ClockBack}
 use Rattle.worker_core.specs.declared.events.AgentEvent.{AgentEvent}
 use Rattle.worker_core.specs.declared.events.AgentEvent.TheVariants as agent
 use Rattle.worker_core.specs.declared.events.Reported.TheVariants as told
@@ -154,7 +154,7 @@ was_killed old new id code cell there (Some found) may = may
 -- by anything but a claim nothing is sent
 sends_none : (kept : KeptNode) (act : Act) → ¬ IsClaim act → sent_by (answer_of kept (agent_event act)) ≡ []
 sends_none kept (Admit pod) other = by_refusal (refusal_of kept pod) where
-  by_refusal : (r : Option Refusal) → sent_by (admit_answer r) ≡ []
+  by_refusal : (r : Option NodeRefusal) → sent_by (admit_answer r) ≡ []
   by_refusal None = refl
   by_refusal (Some refusal) = refl
 sends_none kept (Delete uid) other = by_place (place_of uid kept.slots) where

@@ -17,9 +17,9 @@ use Rattle.runtime_cell.specs.Cell.{Cell, Making}
 use Rattle.runtime_cell.specs.declared.cell.State.TheVariants.{Exited}
 use Rattle.runtime_core.specs.declared.files.FileAnswers.{FileAnswers}
 use Rattle.runtime_core.specs.Files.{IsMadeFrom}
-use Rattle.runtime_core.specs.Laws.{IsThere, LinkLaws, RunLaws, Seen}
-use Rattle.runtime_core.specs.Runs.{Link, now}
-use Rattle.runtime_core.specs.Runs.Event.{Served}
+use Rattle.runtime_laws.specs.Laws.{IsThere, LinkLaws, RunLaws, Seen}
+use Rattle.runtime_laws.specs.Runs.{Link, now}
+use Rattle.runtime_laws.specs.Runs.Event.{Served}
 use Rattle.runtime_core.specs.Runtime.{In, slot_of}
 use Rattle.worker_pod.specs.declared.settings.Settings.{Settings}
 use Rattle.worker_pod.specs.Laws.{key_named}

@@ -6,8 +6,8 @@ use Rattle.cri_msgs.specs.declared.calls.Request.{Request}
 use Rattle.cri_msgs.specs.declared.replies.Reply.{Reply}
 use Rattle.runtime_cell.specs.declared.cell.Did.{Did}
 use Rattle.runtime_core.specs.declared.files.FileAnswers.{FileAnswers}
-use Rattle.runtime_core.specs.Runs.{Link}
-use Rattle.runtime_core.specs.Runs.{Event as cells}
+use Rattle.runtime_laws.specs.Runs.{Link}
+use Rattle.runtime_laws.specs.Runs.{Event as cells}
 use Rattle.runtime_core.specs.Runtime.{Runtime, empty}
 use Rattle.runtime_core.specs.Serves.{Serves}
 use Rattle.runtime_core.specs.Steps.{MayKill, MayStep}

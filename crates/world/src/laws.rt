@@ -16,6 +16,6 @@ pub fn every_run()
     ensures link { (settings : Settings) (baseline : Option (List Insn)) (l : WorldLink) (before : List WorldLink)
         → IsWorldRun settings baseline (l ∷ before) → WorldLinkLaws l before }
 {
-    runtime_core::laws::every_run();
+    runtime_laws::every_run();
     worker_core::laws::every_run();
 }

@@ -140,7 +140,7 @@ impl Play {
     }
 
     // What came of the event of a line.
-    fn told(&self, line: &str, sent: usize) -> Result<String, AllocError> {
+    fn came_of(&self, line: &str, sent: usize) -> Result<String, AllocError> {
         let alloc = self.alloc;
         match word(line, 0) {
             "claim" => match self.world.sent().get(sent) {
@@ -172,7 +172,7 @@ impl Play {
         let sent = self.world.sent().len();
         let event = self.event(line, spec)?;
         match self.world.step(event) {
-            Ok(()) => Ok(self.told(line, sent)?),
+            Ok(()) => Ok(self.came_of(line, sent)?),
             Err(fault) => Ok(format!(in self.alloc; "{fault}")?),
         }
     }
@@ -186,7 +186,10 @@ impl Play {
         for (container, track) in view.pod.containers.as_slice().iter().zip(view.tracks) {
             let name = container.name.as_str();
             match track.state(view.pod.policy) {
-                lifecycle::State::Terminated(code) => write!(text, ", {name} Terminated {code}")?,
+                lifecycle::ContainerState::Terminated(code) => write!(
+                    text,
+                    ", {name} Terminated {code}"
+                )?,
                 state => write!(text, ", {name} {state}")?,
             }
             write!(text, " {}", track.started())?;

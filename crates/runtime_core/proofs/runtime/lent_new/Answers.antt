@@ -2,7 +2,7 @@ use Rattle.std.proofs.Common.{◌≡◌, ◌∙◌, List, [], None, sym, ap, sub
 use Rattle.cri_msgs.specs.declared.replies.Reply.{Reply}
 use Rattle.runtime_cell.specs.Cell.{Cell}
 use Rattle.runtime_core.specs.declared.stage.Stage.TheVariants as stage
-use Rattle.runtime_core.specs.Serves.{uid_of}
+use Rattle.cri_msgs.specs.Calls.{uid_of}
 use Rattle.runtime_core.specs.Stands.{LendsTo, cells_in, list_in, stages_in}
 use Rattle.runtime_core.proofs.Stays.{alive}
 use Rattle.runtime_core.proofs.There.{lent_none, lent_some}

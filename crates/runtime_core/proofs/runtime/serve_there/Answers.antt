@@ -1,7 +1,7 @@
 use Rattle.runtime_core.proofs.Stays.{lasts}
 use Rattle.runtime_core.proofs.There.{Done, done}
 use Rattle.runtime_core.specs.Stands.{around_in, part_in}
-use Rattle.runtime_core.specs.Serves.{uid_of}
+use Rattle.cri_msgs.specs.Calls.{uid_of}
 use Rattle.runtime_core.proofs.runtime.serve_there.Goals as goal
 
 all : (c : goal.After-lend) → Done c.args.registry.now c.lend.new.registry c.args.lists.now c.lend.new.self c.args.request.call c.args.files c.lend.result.answer

@@ -1,5 +1,5 @@
 use Rattle.std.proofs.Common.{◌≡◌, ◌≢◌, ◌∙◌, ℕ, List, [], ap, refl, subst, unwrap_or}
-use Rattle.runtime_core.specs.Serves.{uid_of}
+use Rattle.cri_msgs.specs.Calls.{uid_of}
 use Rattle.runtime_core.specs.Stands.{IsListFor, cells_in, list_in}
 use Rattle.runtime_core.proofs.Serving.{whole_still}
 use Rattle.runtime_core.proofs.runtime.wake.Goals as goal

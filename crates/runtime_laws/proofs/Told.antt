@@ -18,12 +18,12 @@ use Rattle.runtime_cell.specs.declared.cell.State.{State}
 use Rattle.runtime_cell.specs.declared.cell.State.TheVariants.{Created, Running, Exited}
 use Rattle.runtime_cell.specs.Cell.{Cell}
 use Rattle.runtime_core.specs.declared.files.FileAnswers.{FileAnswers}
-use Rattle.runtime_core.specs.Laws.{TellsStatus}
+use Rattle.runtime_laws.specs.Laws.{TellsStatus}
 use Rattle.runtime_core.specs.Runtime.{In, Runtime, Sandbox, Slot, slot_in, slot_of}
 use Rattle.runtime_core.specs.Runtime.Slot.{Free, There, Gone}
 use Rattle.runtime_core.specs.Serves.{ListsStatuses, Part, Serves, Shows, listed_status, part_of, state_told, status_of}
-use Rattle.runtime_core.proofs.RunSlots.{IsKept}
-use Rattle.runtime_core.proofs.RunGoes.{AreKept, stands_in}
+use Rattle.runtime_laws.proofs.Slots.{IsKept}
+use Rattle.runtime_laws.proofs.Goes.{AreKept, stands_in}
 
 -- the key's cell has the status
 abbrev pub HasStatus : Slot → status.Status → Type 0

@@ -12,16 +12,16 @@ use Rattle.runtime_cell.specs.Cell.{Cell, Steps}
 use Rattle.runtime_cell.specs.Laws.{IsLater}
 use Rattle.runtime_core.specs.declared.stage.Stage.{Stage}
 use Rattle.runtime_core.specs.declared.stage.Stage.TheVariants.{Unknown, Live, Removed}
-use Rattle.runtime_core.specs.Laws.{Answered, IsThere, LinkLaws, Makes, Seen, Starts, StepsOne, TookUpAt}
+use Rattle.runtime_laws.specs.Laws.{Answered, IsThere, LinkLaws, Makes, Seen, Starts, StepsOne, TookUpAt}
 use Rattle.runtime_core.specs.Runtime.{In, Runtime, Slot, slot_at, slot_of}
 use Rattle.runtime_core.specs.Runtime.Slot.{Free, There, Gone}
 use Rattle.runtime_core.specs.Serves.{Enters, Part, RemovesPod, Serves, part_of}
-use Rattle.runtime_core.specs.Runs.{Happens, IsRun, Link, now}
-use Rattle.runtime_core.specs.Runs.Event.{Stepped}
-use Rattle.runtime_core.proofs.RunSlots.{CellGoes, SlotGoes}
-use Rattle.runtime_core.proofs.RunGoes.{IsMadeIn, MovesKey, came_from, key_goes, step_key}
-use Rattle.runtime_core.proofs.RunSeen.{Grows, IsAfter, LinkHolds, first_holds, seen_now}
-use Rattle.runtime_core.proofs.RunTold.{status_true, told_true}
+use Rattle.runtime_laws.specs.Runs.{Happens, IsRun, Link, now}
+use Rattle.runtime_laws.specs.Runs.Event.{Stepped}
+use Rattle.runtime_laws.proofs.Slots.{CellGoes, SlotGoes}
+use Rattle.runtime_laws.proofs.Goes.{IsMadeIn, MovesKey, came_from, key_goes, step_key}
+use Rattle.runtime_laws.proofs.Seen.{Grows, IsAfter, LinkHolds, first_holds, seen_now}
+use Rattle.runtime_laws.proofs.Told.{status_true, told_true}
 
 -- what stands in the slot before a link, once a cell was seen there
 seen_before : Grows → (baseline : Option (List Insn)) (l : Link) (before : List Link) → IsRun baseline (l ∷ before) → (key : Key) (cell : Cell) (slot : Slot) → slot_of l.old key ≡ slot

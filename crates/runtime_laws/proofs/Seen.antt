@@ -6,13 +6,13 @@ use Rattle.cri_msgs.specs.declared.keys.Key.{Key}
 use Rattle.runtime_cell.specs.declared.cell.Did.{Did}
 use Rattle.runtime_cell.specs.Cell.{Cell, Steps, killed, started}
 use Rattle.runtime_cell.specs.Laws.{IsLater}
-use Rattle.runtime_core.specs.Laws.{Seen}
+use Rattle.runtime_laws.specs.Laws.{Seen}
 use Rattle.runtime_core.specs.Runtime.{In, Runtime, Slot, id_of, slot_of}
 use Rattle.runtime_core.specs.Runtime.Slot.{Free, There, Gone}
-use Rattle.runtime_core.specs.Runs.{Event, Happens, IsRun, Link, now}
-use Rattle.runtime_core.proofs.RunSlots.{CellGoes, SlotGoes}
-use Rattle.runtime_core.proofs.RunSlots.CellGoes.{stays, starts, ends, steps}
-use Rattle.runtime_core.proofs.RunGoes.{IsMadeIn, Lasts, StepGoes, came_from, empty_lasts, key_goes, lasts_on, made_id, same_id, step_goes}
+use Rattle.runtime_laws.specs.Runs.{Event, Happens, IsRun, Link, now}
+use Rattle.runtime_laws.proofs.Slots.{CellGoes, SlotGoes}
+use Rattle.runtime_laws.proofs.Slots.CellGoes.{stays, starts, ends, steps}
+use Rattle.runtime_laws.proofs.Goes.{IsMadeIn, Lasts, StepGoes, came_from, empty_lasts, key_goes, lasts_on, made_id, same_id, step_goes}
 
 -- what is true of each link of a run
 pub record LinkHolds (baseline : Option (List Insn)) (l : Link) : Type 0 where

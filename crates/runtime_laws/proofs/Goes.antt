@@ -20,14 +20,15 @@ use Rattle.runtime_core.specs.declared.stage.Stage.{Stage}
 use Rattle.runtime_core.specs.declared.stage.Stage.TheVariants.{Unknown, Live, Removed}
 use Rattle.runtime_core.specs.Runtime.{In, Runtime, Sandbox, Slot, container_in, container_of, empty, id_of, is_of, is_same, slot_at, slot_by, slot_in, slot_of}
 use Rattle.runtime_core.specs.Runtime.Slot.{Free, There, Gone}
-use Rattle.runtime_core.specs.Serves.{Serves, around_of, part_of, uid_of, with_cells}
+use Rattle.cri_msgs.specs.Calls.{uid_of}
+use Rattle.runtime_core.specs.Serves.{Serves, around_of, part_of, with_cells}
 use Rattle.runtime_core.specs.Steps.{MayStep, MovesCell}
-use Rattle.runtime_core.specs.Runs.{Event, Happens}
-use Rattle.runtime_core.specs.Runs.Event.{Served, Stepped, Killed}
-use Rattle.runtime_core.proofs.RunLists.{AreMoved, Keeps, find_here, find_other, in_split, split_moved}
-use Rattle.runtime_core.proofs.RunSlots.{CellGoes, IsDead, IsKept, SandboxGoes, SlotGoes, empty_kept, keeps_making, making_stays, sandbox_moves, sandbox_stays}
-use Rattle.runtime_core.proofs.RunSlots.CellGoes.{ends, steps}
-use Rattle.runtime_core.proofs.RunSteps.{IsMadeBy, PartGoes, key_in, row_goes, still}
+use Rattle.runtime_laws.specs.Runs.{Event, Happens}
+use Rattle.runtime_laws.specs.Runs.Event.{Served, Stepped, Killed}
+use Rattle.runtime_laws.proofs.Lists.{AreMoved, Keeps, find_here, find_other, in_split, split_moved}
+use Rattle.runtime_laws.proofs.Slots.{CellGoes, IsDead, IsKept, SandboxGoes, SlotGoes, empty_kept, keeps_making, making_stays, sandbox_moves, sandbox_stays}
+use Rattle.runtime_laws.proofs.Slots.CellGoes.{ends, steps}
+use Rattle.runtime_laws.proofs.Steps.{IsMadeBy, PartGoes, key_in, row_goes, still}
 
 pub uid_cases : (u v : List ℕ) → (u ≡ v) ⊎ (u ≢ v)
 uid_cases u v = by (bytes_eq u v) refl

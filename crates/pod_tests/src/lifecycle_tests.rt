@@ -1,5 +1,5 @@
 use lifecycle::{
-    PastRun, Phase, RestartPolicy, Runs, Stage, State, Track, may_restart, phase, ready_at,
+    ContainerState, PastRun, Phase, RestartPolicy, Runs, Stage, Track, may_restart, phase, ready_at,
 };
 use std::alloc::AllocError;
 use std::test::Fail;
@@ -109,7 +109,7 @@ fn states_of(
 ) -> Result<String, AllocError> {
     let mut text = String::new(rt.alloc());
     for track in tracks {
-        let state: State = track.state(policy);
+        let state: ContainerState = track.state(policy);
         let name = format!(in rt.alloc(); "{state} ")?;
         text.push_str(name.as_str())?;
     }

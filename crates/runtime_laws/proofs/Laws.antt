@@ -7,21 +7,21 @@ use Rattle.bpf_code.specs.declared.insn.Insn.{Insn}
 use Rattle.call_data.specs.declared.sys_call.SysCall.{SysCall}
 use Rattle.verdict.specs.Stack.{IsJudged}
 use Rattle.cri_msgs.specs.declared.keys.Key.{Key}
-use Rattle.runtime_cell.specs.declared.calls.Entry.{Entry}
+use Rattle.runtime_cell.specs.declared.calls.JudgedCall.{JudgedCall}
 use Rattle.runtime_cell.specs.declared.cell.Did.{Did}
 use Rattle.runtime_cell.specs.declared.cell.State.TheVariants.{Exited}
 use Rattle.runtime_cell.specs.Cell.{Cell, FollowsScript, Making, Steps, filters_of, killed, started}
 use Rattle.runtime_cell.specs.Laws.{IsAdded, IsLater, TakesUp}
 use Rattle.runtime_cell.specs.Outcome.{entry_of}
-use Rattle.runtime_core.specs.Laws.{MakesAt, Performed, RunLaws, Seen, TookUp, TookUpAt}
+use Rattle.runtime_laws.specs.Laws.{MakesAt, Performed, RunLaws, Seen, TookUp, TookUpAt}
 use Rattle.runtime_core.specs.Runtime.{In, id_of, slot_of}
 use Rattle.runtime_core.specs.Runtime.Slot.{Free, There}
-use Rattle.runtime_core.specs.Runs.{Event, Happens, IsRun, Link}
-use Rattle.runtime_core.specs.Runs.Event.{Stepped}
-use Rattle.runtime_core.proofs.RunSlots.{CellGoes, keeps_making}
-use Rattle.runtime_core.proofs.RunSlots.CellGoes.{stays, starts, ends, steps}
-use Rattle.runtime_core.proofs.RunGoes.{IsMadeIn, step_reaches}
-use Rattle.runtime_core.proofs.RunSeen.{Grows, LinkHolds, each_holds, old_seen, one_id, seen_both, seen_by}
+use Rattle.runtime_laws.specs.Runs.{Event, Happens, IsRun, Link}
+use Rattle.runtime_laws.specs.Runs.Event.{Stepped}
+use Rattle.runtime_laws.proofs.Slots.{CellGoes, keeps_making}
+use Rattle.runtime_laws.proofs.Slots.CellGoes.{stays, starts, ends, steps}
+use Rattle.runtime_laws.proofs.Goes.{IsMadeIn, step_reaches}
+use Rattle.runtime_laws.proofs.Seen.{Grows, LinkHolds, each_holds, old_seen, one_id, seen_both, seen_by}
 
 -- the laws of one cell: its script is followed, and each call is judged by all its filters
 pub record Follows : Type 0 where
@@ -83,7 +83,7 @@ one_exit grows baseline ls run key cell other code code' by by' seen there is th
 ]
 
 -- the last entry of a record, and those before it
-entry_last : (xs : List Entry) (e : Entry) (place : ℕ) (x : Entry) → slice_get (xs ++ e ∷ []) place ≡ Some x → (slice_get xs place ≡ Some x) ⊎ ((place ≡ length xs) × (x ≡ e))
+entry_last : (xs : List JudgedCall) (e : JudgedCall) (place : ℕ) (x : JudgedCall) → slice_get (xs ++ e ∷ []) place ≡ Some x → (slice_get xs place ≡ Some x) ⊎ ((place ≡ length xs) × (x ≡ e))
 entry_last [] e zero x is = let same : e ≡ x = cc in inr (refl, sym same)
 entry_last [] e (suc place) x is = absurd cc
 entry_last (y ∷ ys) e zero x is = inl is
@@ -92,13 +92,13 @@ entry_last (y ∷ ys) e (suc place) x is = elim (entry_last ys e place x is) [
   | inr (at, same) ↦ inr (ap suc at, same)
 ]
 
-entry_end : (xs : List Entry) (e : Entry) → slice_get (xs ++ e ∷ []) (length xs) ≡ Some e
+entry_end : (xs : List JudgedCall) (e : JudgedCall) → slice_get (xs ++ e ∷ []) (length xs) ≡ Some e
 entry_end [] e = refl
 entry_end (y ∷ ys) e = entry_end ys e
 
 -- each performed entry was taken up
 abbrev pub IsShown : List Link → Key → Cell → Type 0
-IsShown ls key cell = (place : ℕ) (entry : Entry) → slice_get cell.entries place ≡ Some entry → entry.performed ≡ true → TookUp ls key place entry.call
+IsShown ls key cell = (place : ℕ) (entry : JudgedCall) → slice_get cell.entries place ≡ Some entry → entry.performed ≡ true → TookUp ls key place entry.call
 
 same_shown : (ls : List Link) (key : Key) (old new : Cell) → new.entries ≡ old.entries → IsShown ls key old → IsShown ls key new
 same_shown ls key old new same shown place entry stands performed = shown place entry (subst (λ es. slice_get es place ≡ Some entry) same stands) performed
@@ -109,7 +109,7 @@ took_up ls key l i old new there did event call takes adds shown place entry sta
     elim (entry_last old.entries (entry_of call adds.verdict) place entry (subst (λ es. slice_get es place ≡ Some entry) adds.entries stands)) [
       | inl before ↦ shown place entry before performed
       | inr (at, is) ↦
-          subst (λ c. TookUp ls key place c) (ap (λ (e : Entry). e.call) (sym is)) (
+          subst (λ c. TookUp ls key place c) (ap (λ (e : JudgedCall). e.call) (sym is)) (
             l,
             i,
             record {
@@ -121,7 +121,7 @@ took_up ls key l i old new there did event call takes adds shown place entry sta
               place_is = at;
               verdict = adds.verdict;
               judged = adds.judged;
-              allowed = ap (λ (e : Entry). e.performed) (sym is) ∙ performed;
+              allowed = ap (λ (e : JudgedCall). e.performed) (sym is) ∙ performed;
             },
           )
     ]
@@ -166,7 +166,7 @@ confined laws baseline ls run key place call = (
       took_performed laws ls key place call l i took reaches.0 reaches.1 (laws.taken took.cell took.did reaches.0 call reaches.2 took.takes),
 )
 
-pub start_binds : Grows → Judges → (baseline : Option (List Insn)) (ls : List Link) → IsRun baseline ls → (key : Key) (cell : Cell) (place : ℕ) (entry : Entry) (alone : Verdict) → Seen ls key cell
+pub start_binds : Grows → Judges → (baseline : Option (List Insn)) (ls : List Link) → IsRun baseline ls → (key : Key) (cell : Cell) (place : ℕ) (entry : JudgedCall) (alone : Verdict) → Seen ls key cell
     → slice_get cell.entries place ≡ Some entry → entry.performed ≡ true → IsJudged cell.making.stack entry.call alone → IsTrue (performs_of alone.action)
 start_binds grows laws baseline ls run key cell place entry alone seen stands performed judged =
     let (l, i, took) = shown laws baseline ls run key cell seen place entry stands performed in

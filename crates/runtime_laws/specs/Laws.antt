@@ -14,7 +14,7 @@ use Rattle.cri_msgs.specs.declared.replies.Answer.{Answer}
 use Rattle.cri_msgs.specs.declared.replies.Answer.TheVariants.{Container, Done, Status, Statuses}
 use Rattle.cri_msgs.specs.declared.states.Status as status
 use Rattle.cri_msgs.specs.Tells.{TellsExit}
-use Rattle.runtime_cell.specs.declared.calls.Entry.{Entry}
+use Rattle.runtime_cell.specs.declared.calls.JudgedCall.{JudgedCall}
 use Rattle.runtime_cell.specs.declared.cell.Did.{Did}
 use Rattle.runtime_cell.specs.declared.cell.State.TheVariants.{Created, Running, Exited}
 use Rattle.runtime_cell.specs.Cell.{Cell, FollowsScript, Making, Steps, filters_of}
@@ -24,8 +24,8 @@ use Rattle.runtime_core.specs.Files.{IsMadeFrom}
 use Rattle.runtime_core.specs.Runtime.{In, Slot, id_of, slot_of}
 use Rattle.runtime_core.specs.Runtime.Slot.{Free, There, Gone}
 use Rattle.runtime_core.specs.Serves.{status_of}
-use Rattle.runtime_core.specs.Runs.{Link}
-use Rattle.runtime_core.specs.Runs.Event.{Served, Stepped}
+use Rattle.runtime_laws.specs.Runs.{Link}
+use Rattle.runtime_laws.specs.Runs.Event.{Served, Stepped}
 
 -- the cell stood under the key at some time
 abbrev pub Seen : List Link → Key → Cell → Type 0
@@ -35,7 +35,7 @@ Seen ls key cell = (l : Link) × In l ls × (slot_of l.new key ≡ There cell)
 pub record Performed (ls : List Link) (key : Key) (place : ℕ) (call : SysCall) : Type 0 where
   pub cell : Cell
   pub seen : Seen ls key cell
-  pub entry : Entry
+  pub entry : JudgedCall
   pub stands : slice_get cell.entries place ≡ Some entry
   pub is : entry.call ≡ call
   pub performed : entry.performed ≡ true
@@ -69,7 +69,7 @@ pub record RunLaws (baseline : Option (List Insn)) (ls : List Link) : Type 0 whe
   -- a call is performed exactly where a step took it up, and the filters of the start and those added before allow it
   pub confined : (key : Key) (place : ℕ) (call : SysCall) → Performed ls key place call ↔ TookUp ls key place call
   -- and never where those of the start deny it
-  pub start_binds : (key : Key) (cell : Cell) (place : ℕ) (entry : Entry) (alone : Verdict) → Seen ls key cell
+  pub start_binds : (key : Key) (cell : Cell) (place : ℕ) (entry : JudgedCall) (alone : Verdict) → Seen ls key cell
       → slice_get cell.entries place ≡ Some entry → entry.performed ≡ true → IsJudged cell.making.stack entry.call alone → IsTrue (performs_of alone.action)
   -- a key has one making at all times, which one request gave
   pub one_making : (key : Key) (cell other : Cell) → Seen ls key cell → Seen ls key other → cell.making ≡ other.making

@@ -179,7 +179,7 @@ impl Play {
         let answer = listed_in(self.alloc, cells)?;
         self.state
             .ended(self.now, &request, outcome(&request, answer, b'd'))?;
-        let told = self.told()?;
+        let told = self.phase_and_due()?;
         format!(in self.alloc; "{}: {}; ", text.as_str(), told.as_str())
     }
 
@@ -232,7 +232,7 @@ impl Play {
     }
 
     // The phase, and from when on a request is due.
-    fn told(&self) -> Result<String, AllocError> {
+    fn phase_and_due(&self) -> Result<String, AllocError> {
         let phase: Phase = self.state.view().phase;
         match self.state.due() {
             Some(due) => format!(in self.alloc; "{phase} {due}"),
@@ -251,7 +251,7 @@ impl Play {
                 b't' => self.tick(),
                 letter => {
                     let asked = self.claim(letter)?;
-                    let told = self.told()?;
+                    let told = self.phase_and_due()?;
                     write!(text, "{}: {}; ", asked.as_str(), told.as_str())?;
                 }
             }

@@ -17,9 +17,9 @@ use Rattle.runtime_core.specs.declared.stage.Stage.{Stage}
 use Rattle.runtime_core.specs.declared.stage.Stage.TheVariants.{Unknown, Live, Removed}
 use Rattle.runtime_core.specs.Runtime.{AreDistinct, In, Sandbox, Slot, container_in, drop_first, id_of, is_of, is_same, slot_at, slot_by, slot_in}
 use Rattle.runtime_core.specs.Runtime.Slot.{Free, There, Gone}
-use Rattle.runtime_core.specs.Runs.{Event}
-use Rattle.runtime_core.specs.Runs.Event.{Stepped}
-use Rattle.runtime_core.proofs.RunLists.{AreMoved, IsLeft, Keeps, MovesFound, drop_distinct, drop_less, find_dropped, find_moved, found_there, in_more, in_map, is_same_as, more_distinct, moved_containers, moved_nil, same_is, used_now, used_still}
+use Rattle.runtime_laws.specs.Runs.{Event}
+use Rattle.runtime_laws.specs.Runs.Event.{Stepped}
+use Rattle.runtime_laws.proofs.Lists.{AreMoved, IsLeft, Keeps, MovesFound, drop_distinct, drop_less, find_dropped, find_moved, found_there, in_more, in_map, is_same_as, more_distinct, moved_containers, moved_nil, same_is, used_now, used_still}
 
 -- what an event does to a cell that stays
 pub data CellGoes (event : Event) (old new : Cell) : Type 0 where

@@ -1,6 +1,6 @@
-use Rattle.runtime_core.proofs.RunLaws.{run_laws}
-use Rattle.runtime_core.proofs.RunLinks.{link_laws}
-use Rattle.runtime_core.proofs.laws.every_run.Goals as goal
+use Rattle.runtime_laws.proofs.Laws.{run_laws}
+use Rattle.runtime_laws.proofs.Links.{link_laws}
+use Rattle.runtime_laws.proofs.laws.every_run.Goals as goal
 
 pub returns-clause-run : goal.returns-clause-run
 returns-clause-run c = run_laws

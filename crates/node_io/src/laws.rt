@@ -1,5 +1,5 @@
 ghost use Rattle.std.specs.Prelude.{◌≡◌, ◌^◌};
-ghost use Rattle.checker.specs.declared.file.TheConstants.{MAX_FILE_BYTES};
+ghost use Rattle.node_io.specs.declared.files.TheConstants.{MAX_FILE_BYTES};
 
 /// What the constants of this crate are.
 pub fn constants_are_as_stated()

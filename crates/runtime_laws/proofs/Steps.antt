@@ -19,12 +19,13 @@ use Rattle.runtime_core.specs.declared.stage.Stage.TheVariants.{Unknown, Live, R
 use Rattle.runtime_core.specs.Files.{IsMade}
 use Rattle.runtime_core.specs.Runtime.{Sandbox, Slot, change_first, container_in, container_of, drop_first, fresh_sandbox, is_of, removed, slot_in}
 use Rattle.runtime_core.specs.Runtime.Slot.{Free, There, Gone}
-use Rattle.runtime_core.specs.Serves.{Around, Creates, CreatesIn, Enters, Lists, ListsStatuses, MakesFrom, Part, Removes, RemovesPod, RunsPod, ServesIn, Shows, Starts, StartsCell, StartsIn, Stops, StopsPod, code_of_grace, grown, uid_of, with_cell, with_cells}
-use Rattle.runtime_core.specs.Runs.{Event}
-use Rattle.runtime_core.specs.Runs.Event.{Served}
-use Rattle.runtime_core.proofs.RunLists.{first_moved, map_moved}
-use Rattle.runtime_core.proofs.RunSlots.{CellGoes, IsKept, SandboxGoes, grows_at, keeps_making, sandbox_comes, sandbox_drops, sandbox_goes, sandbox_moves, sandbox_stays, sandbox_stops}
-use Rattle.runtime_core.proofs.RunSlots.CellGoes.{stays, starts, ends}
+use Rattle.cri_msgs.specs.Calls.{uid_of}
+use Rattle.runtime_core.specs.Serves.{Around, Creates, CreatesIn, Enters, Lists, ListsStatuses, MakesFrom, Part, Removes, RemovesPod, RunsPod, ServesIn, Shows, Starts, StartsCell, StartsIn, Stops, StopsPod, code_of_grace, grown, with_cell, with_cells}
+use Rattle.runtime_laws.specs.Runs.{Event}
+use Rattle.runtime_laws.specs.Runs.Event.{Served}
+use Rattle.runtime_laws.proofs.Lists.{first_moved, map_moved}
+use Rattle.runtime_laws.proofs.Slots.{CellGoes, IsKept, SandboxGoes, grows_at, keeps_making, sandbox_comes, sandbox_drops, sandbox_goes, sandbox_moves, sandbox_stays, sandbox_stops}
+use Rattle.runtime_laws.proofs.Slots.CellGoes.{stays, starts, ends}
 
 -- an event makes the key's cell, as the next one
 pub record IsMadeBy (baseline : Option (List Insn)) (old new : ℕ) (event : Event) (key : Key) (cell : Cell) : Type 0 where

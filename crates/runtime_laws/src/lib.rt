@@ -1,0 +1,6 @@
+//! What is true in every run of a runtime, whoever sends its requests.
+#![tactic(auto)]
+
+mod laws;
+
+pub use laws::every_run;
