@@ -3,6 +3,6 @@ pub mod Slots
 pub mod Steps
 pub mod Goes
 pub mod Seen
-pub mod Laws
+pub mod Every
 pub mod Told
 pub mod Links

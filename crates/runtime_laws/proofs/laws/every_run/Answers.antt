@@ -1,4 +1,4 @@
-use Rattle.runtime_laws.proofs.Laws.{run_laws}
+use Rattle.runtime_laws.proofs.Every.{run_laws}
 use Rattle.runtime_laws.proofs.Links.{link_laws}
 use Rattle.runtime_laws.proofs.laws.every_run.Goals as goal
 
