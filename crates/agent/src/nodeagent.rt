@@ -5,7 +5,7 @@ ghost use Rattle.node_lock.specs.declared.limits.TheConstants.{PARTS};
 
 use crate::inputs::pod_at;
 use crate::limits::{MAX_WORKERS, POLL, RUNNERS, SETTLE_UNTIL};
-use crate::peers::SocketPeer;
+use crate::peers::{SocketPeer, Told};
 use crate::quiet::Beside;
 use crate::stops::AgentStop;
 use crate::tables::table;
@@ -15,13 +15,13 @@ use cri_msgs::Version;
 use node_lock::{Book, BookFault, MAX_ENTRIES, PARTS};
 use runner::Baseline;
 use runtime_server::{
-    Address, ServerStop, Site, accept_all, baseline_at, socket_stop, start_runners,
+    Address, ServerStop, Site, Teller, accept_all, baseline_at, socket_stop, start_runners,
 };
-use std::alloc::AllocError;
+use std::alloc::{AllocError, Global};
 use std::io::Write;
 use std::marker::Brand;
-use std::sync::Wait;
 use std::sync::ledger::{Blank, Ledger};
+use std::sync::{Arc, Wait};
 use std::thread::{Scope, Threads, scope, scope_env};
 use std::time::Clock;
 use worker_core::AgentEvent;
@@ -32,7 +32,7 @@ use worker_pod::Settings;
 /// line's, the program's name first. The answer is the program's status: 0 done, 1 input refused, 2 command
 /// line refused, 3 file or socket fault, 4 out of memory or of history, 5 the last moment was reached. What
 /// became of the pods is told on `out`, why it ends on `err`.
-pub fn nodeagent_run<R: Threads + Wait + Clock + Sync, O: Write, E: Write>(
+pub fn nodeagent_run<R: Threads + Wait + Clock + Copy + Send + Sync + 'static, O: Write, E: Write>(
     rt: &R,
     system: &HostRuntime,
     words: &[String],
@@ -63,7 +63,7 @@ struct RunEnd {
     text: String,
 }
 
-fn run<'a, R: Threads + Wait + Clock + Sync>(
+fn run<'a, R: Threads + Wait + Clock + Copy + Send + Sync + 'static>(
     rt: &R,
     system: &HostRuntime,
     words: &'a [String],
@@ -103,7 +103,7 @@ fn pace_of(line: &NodeagentLine<'_>) -> Pace
 }
 
 // Does what the line says, with the count of a new ledger.
-fn run_line<'a, L: Ledger + Send + Sync, R: Threads + Wait + Clock + Sync>(
+fn run_line<'a, L: Ledger + Send + Sync, R: Threads + Wait + Clock + Copy + Send + Sync + 'static>(
     rt: &R,
     system: &HostRuntime,
     line: &NodeagentLine<'a>,
@@ -125,13 +125,23 @@ fn run_line<'a, L: Ledger + Send + Sync, R: Threads + Wait + Clock + Sync>(
     for path in line.manifests.as_slice() {
         admit(rt, system, &shared, &mut coordinator, path)?;
     }
+    let teller = if line.verbose {
+        Some(Teller::start(*rt, *system)?)
+    } else {
+        None
+    };
+    let told = told_by(rt, &teller, &shared);
+    let told = told.as_ref();
     let ended = if line.with_runtime {
-        run_beside::<L, Brand, R>(rt, system, line, baseline, &shared, coordinator)?
+        run_beside::<L, Brand, R>(rt, system, line, baseline, &shared, told, coordinator)
     } else {
         let other: Beside<'_, Brand, R> = Beside::Other;
-        run_crew(rt, system, line, &shared, &other, coordinator)?
+        run_crew(rt, system, line, &shared, told, &other, coordinator).map_err(AgentStop::from)
     };
-    run_end(system, line, ended, &shared.into_book())
+    if let Some(teller) = &teller {
+        teller.finish(rt);
+    }
+    run_end(system, line, ended?, &shared.into_book())
 }
 
 // Admits the pod of a manifest.
@@ -153,12 +163,22 @@ fn admit<'a, L: Ledger, R: Wait>(
     }
 }
 
+// How each call is told, where there is a teller.
+fn told_by<'a, L: Ledger, R: Wait>(
+    rt: &'a R,
+    teller: &'a Option<Arc<Teller, Global>>,
+    shared: &'a Shared<L>,
+) -> Option<Told<'a, L, R>> {
+    let teller: &'a Teller = teller.as_ref()?;
+    Some(Told { rt, teller, shared })
+}
+
 // A peer for each worker.
-fn peers<'p, L: Ledger>(
+fn peers<'p, L: Ledger, R: Wait>(
     system: &'p HostRuntime,
     line: &NodeagentLine<'p>,
-    shared: &'p Shared<L>,
-) -> Result<Vec<SocketPeer<'p, L>>, AllocError>
+    told: Option<&'p Told<'p, L, R>>,
+) -> Result<Vec<SocketPeer<'p, L, R>>, AllocError>
     ensures few { IfOk result (λ peers. vec_len peers < PARTS) }
     ensures count { IfOk result (λ peers. vec_len peers ≡ min line.now.numbers.workers 64) }
     ensures each { IfOk result (λ peers. AllByRecursion (λ peer. (peer.path.now ≡ line.now.socket.now) × (peer.version ≡ version_for line.now)) peers.items) }
@@ -170,7 +190,7 @@ fn peers<'p, L: Ledger>(
             alloc: system.alloc(),
             path: line.socket,
             version: version_of(line),
-            teller: if line.verbose { Some(shared) } else { None },
+            told,
         })?;
     }
     Ok(peers)
@@ -182,12 +202,13 @@ fn run_crew<L: Ledger + Send + Sync, B: Baseline + Send + Sync, R: Threads + Wai
     system: &HostRuntime,
     line: &NodeagentLine<'_>,
     shared: &Shared<L>,
+    told: Option<&Told<'_, L, R>>,
     beside: &Beside<'_, B, R>,
     coordinator: Coordinator<L>,
 ) -> Result<Ended, AllocError>
     requires { coordinator.parts ≡ PARTS }
 {
-    let peers = peers(system, line, shared)?;
+    let peers = peers(system, line, told)?;
     let (ended, tally) = crew(
         rt,
         system.alloc(),
@@ -221,23 +242,24 @@ fn run_beside<
     'a,
     L: Ledger + Send + Sync,
     B: Baseline + Send + Sync,
-    R: Threads + Wait + Clock + Sync,
+    R: Threads + Wait + Clock + Copy + Send + Sync + 'static,
 >(
     rt: &R,
     system: &HostRuntime,
     line: &NodeagentLine<'a>,
     baseline: Option<Filter>,
     shared: &Shared<L>,
+    told: Option<&Told<'_, L, R>>,
     coordinator: Coordinator<L>,
 ) -> Result<Ended, AgentStop<'a>>
     requires parts { coordinator.parts ≡ PARTS }
     requires own { baseline ≡ B.filter }
 {
-    let site = match Site::<B>::open(system, address_of(line), baseline) {
+    let site = match Site::<B>::open(rt, system, address_of(line), baseline) {
         Ok(site) => site,
         Err(error) => return Err(AgentStop::Server(socket_stop(line.socket, error))),
     };
-    Ok(run_at(rt, system, line, &site, shared, coordinator)?)
+    Ok(run_at(rt, system, line, &site, shared, told, coordinator)?)
 }
 
 fn run_at<L: Ledger + Send + Sync, B: Baseline + Send + Sync, R: Threads + Wait + Clock + Sync>(
@@ -246,6 +268,7 @@ fn run_at<L: Ledger + Send + Sync, B: Baseline + Send + Sync, R: Threads + Wait 
     line: &NodeagentLine<'_>,
     site: &Site<'_, B>,
     shared: &Shared<L>,
+    told: Option<&Told<'_, L, R>>,
     coordinator: Coordinator<L>,
 ) -> Result<Ended, AllocError>
     requires { coordinator.parts ≡ PARTS }
@@ -259,7 +282,7 @@ fn run_at<L: Ledger + Send + Sync, B: Baseline + Send + Sync, R: Threads + Wait 
             let ended = match start_site(scope, rt, system, site) {
                 Ok(()) => {
                     let beside = Beside::Own(rt, &site.engine, RUNNERS);
-                    run_crew(rt, system, line, shared, &beside, coordinator)
+                    run_crew(rt, system, line, shared, told, &beside, coordinator)
                 }
                 Err(error) => {
                     drop(coordinator);

@@ -1,11 +1,10 @@
-//! One line on standard error for each call, where that is asked for: the moment, which pod, the request, and
-//! what came of it.
+//! The line that is told of each call, where that is asked for: the moment, which pod, the request, and what came
+//! of it.
 
 use cri_frames::Lost;
 use cri_msgs::{Reply, Request};
-use runtime_server::{answered, asked, tell_line};
+use runtime_server::{answered, asked};
 use std::alloc::{AllocError, Global};
-use std::io::Eprint;
 
 fn outcome(alloc: Global, outcome: &Result<Reply, Lost>) -> Result<String, AllocError> {
     match outcome {
@@ -14,7 +13,8 @@ fn outcome(alloc: Global, outcome: &Result<Reply, Lost>) -> Result<String, Alloc
     }
 }
 
-fn call_line(
+/// What an agent called at a moment, and what came of it.
+pub(crate) fn call_line(
     alloc: Global,
     moment: u64,
     request: &Request,
@@ -23,15 +23,4 @@ fn call_line(
     let asked = asked(alloc, request)?;
     let came = outcome(alloc, came)?;
     format!(in alloc; "moment {moment} {} {}", asked.as_str(), came.as_str())
-}
-
-/// What an agent called at a moment, and what came of it.
-pub(crate) fn tell_call<R: Eprint>(
-    rt: &R,
-    alloc: Global,
-    moment: u64,
-    request: &Request,
-    came: &Result<Reply, Lost>,
-) {
-    tell_line(rt, call_line(alloc, moment, request, came))
 }

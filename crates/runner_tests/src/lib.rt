@@ -1,10 +1,13 @@
-//! Tests of what serves a runtime: connections, the files of a creation, and rounds over the cells.
+//! Tests of what serves a runtime: connections, the files of a creation, rounds over the cells, and what wakes
+//! the runners.
 #![tactic(auto)]
 
 #[cfg(test)]
 mod gather_tests;
 #[cfg(test)]
 mod life_tests;
+#[cfg(test)]
+mod notifier_tests;
 #[cfg(test)]
 mod round_tests;
 #[cfg(test)]

@@ -1,10 +1,9 @@
 //! A runtime that threads share, and the runners that step its containers.
-ghost use Rattle.std.specs.Prelude.{◌≡◌};
+ghost use Rattle.std.specs.Prelude.{◌≡◌, ◌<◌};
 
-use crate::notifier::Notifier;
 use bpf_verify::Filter;
 use cri_msgs::{Call, Reply, Request};
-use runner::{Baseline, Host, Open, SharedHost, SharedRuntime};
+use runner::{Baseline, Host, Notifier, Open, SharedHost, SharedRuntime};
 use runtime_core::FileAnswers;
 use std::alloc::{AllocError, Global};
 use std::sync::Wait;
@@ -48,7 +47,7 @@ impl<B: Baseline> Engine<B> {
     }
 
     pub(crate) fn is_closed<R: Wait>(&self, rt: &R) -> bool {
-        self.notifier.count(rt).is_none()
+        self.notifier.is_closed(rt)
     }
 
     // Steps the containers of a runner's share, and waits where none of them runs.
@@ -56,14 +55,12 @@ impl<B: Baseline> Engine<B> {
         if runner >= runners {
             return;
         }
-        for _ in rt.forever() {
-            let Some(seen) = self.notifier.count(rt) else {
-                break;
-            };
-            if !self.runtime.step_round(rt, runner, runners, &Open) {
-                self.notifier.wait(rt, seen);
-            }
-        }
+        self.notifier.work(
+            rt,
+            || -> bool
+                requires { runner < runners }
+            { self.runtime.step_round(rt, runner, runners, &Open) },
+        );
     }
 }
 

@@ -2,18 +2,19 @@
 //!
 //! An [`Engine`] is a runtime that threads share, with the runners that step its containers; a [`Site`] is an
 //! engine behind its socket, whose connections are served in threads of their own. `stops` says why a program
-//! ends before its work is done, and `telling` what is told of each call where that is asked for.
+//! ends before its work is done, `telling` what is told of each call where that is asked for, and a [`Teller`]
+//! writes it.
 #![tactic(auto)]
 
 mod connections;
 mod engine;
 mod inputs;
 mod laws;
-mod notifier;
 mod scriptd;
 mod site;
 mod sockets;
 mod stops;
+mod teller;
 mod telling;
 
 pub use connections::MAX_CONNECTIONS;
@@ -23,4 +24,5 @@ pub use laws::constants_are_as_stated;
 pub use scriptd::scriptd_run;
 pub use site::{Address, Site, accept_all};
 pub use stops::{ServerStop, Told, file_stop, socket_stop};
-pub use telling::{answered, asked, tell_line};
+pub use teller::{MAX_WAITING, READER_PATIENCE, Teller};
+pub use telling::{answered, asked};

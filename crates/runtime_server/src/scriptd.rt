@@ -18,7 +18,7 @@ use std::time::Clock;
 /// are the command line's, the program's name first. It ends only where something stops it, and the answer is
 /// its status: 1 input refused, 2 command line refused, 3 file or socket fault, 4 out of memory. Why, is told
 /// on `err`; nothing is written to `_out`.
-pub fn scriptd_run<R: Threads + Wait + Clock + Sync, O: Write, E: Write>(
+pub fn scriptd_run<R: Threads + Wait + Clock + Copy + Send + Sync + 'static, O: Write, E: Write>(
     rt: &R,
     system: &HostRuntime,
     words: &[String],
@@ -43,7 +43,7 @@ fn tell_stop<E: Write>(stop: &ServerStop<'_>, err: &mut E) -> u8 {
     }
 }
 
-fn run<'a, R: Threads + Wait + Clock + Sync>(
+fn run<'a, R: Threads + Wait + Clock + Copy + Send + Sync + 'static>(
     rt: &R,
     system: &HostRuntime,
     words: &'a [String],
@@ -54,7 +54,11 @@ fn run<'a, R: Threads + Wait + Clock + Sync>(
 }
 
 // Does what the line says, on a node with this filter of its own.
-fn run_line<'a, B: Baseline + Send + Sync, R: Threads + Wait + Clock + Sync>(
+fn run_line<
+    'a,
+    B: Baseline + Send + Sync,
+    R: Threads + Wait + Clock + Copy + Send + Sync + 'static,
+>(
     rt: &R,
     system: &HostRuntime,
     line: &ScriptdLine<'a>,
@@ -62,7 +66,7 @@ fn run_line<'a, B: Baseline + Send + Sync, R: Threads + Wait + Clock + Sync>(
 ) -> Result<(), ServerStop<'a>>
     requires { baseline ≡ B.filter }
 {
-    let site = match Site::<B>::open(system, address_of(line), baseline) {
+    let site = match Site::<B>::open(rt, system, address_of(line), baseline) {
         Ok(site) => site,
         Err(error) => return Err(socket_stop(line.socket, error)),
     };

@@ -4,7 +4,8 @@ ghost use Rattle.std.specs.Prelude.{◌≡◌, IfOk, Some};
 use crate::connections::Connections;
 use crate::engine::{Engine, EngineHost};
 use crate::sockets::Socket;
-use crate::telling::{asked, tell_reply};
+use crate::teller::Teller;
+use crate::telling::{asked, reply_line};
 use bpf_verify::Filter;
 use cri_msgs::{Reply, Request};
 use node_io::{StreamWire, SystemFiles};
@@ -13,7 +14,7 @@ use runtime_core::FileAnswers;
 use std::alloc::Global;
 use std::io;
 use std::os::unix::net::UnixStream;
-use std::sync::Wait;
+use std::sync::{Arc, Wait};
 use std::thread::{self, Scope, Threads};
 use std::time::{Clock, Duration};
 
@@ -41,13 +42,16 @@ pub struct Site<'a, B: Baseline> {
     address: Address<'a>,
     socket: Socket,
     connections: Connections,
+    // By whom answers are told, if they are.
+    teller: Option<Arc<Teller, Global>>,
     /// The runtime.
     pub engine: Engine<B>,
 }
 
 impl<'a, B: Baseline> Site<'a, B> {
     /// Listens at the address. The runtime has no containers.
-    pub fn open(
+    pub fn open<R: Threads + Wait + Copy + Send + 'static>(
+        rt: &R,
         system: &HostRuntime,
         address: Address<'a>,
         baseline: Option<Filter>,
@@ -56,11 +60,17 @@ impl<'a, B: Baseline> Site<'a, B> {
         ensures { IfOk result (λ site. site.address ≡ address.entry) }
     {
         let connections = Connections::new(system.alloc())?;
+        let teller = if address.verbose {
+            Some(Teller::start(*rt, *system)?)
+        } else {
+            None
+        };
         Ok(Site {
             alloc: system.alloc(),
             address,
             socket: Socket::at(system, address.socket)?,
             connections,
+            teller,
             engine: Engine::new(system.alloc(), baseline),
         })
     }
@@ -77,7 +87,7 @@ impl<'a, B: Baseline> Site<'a, B> {
 // Who answers the requests of one connection. Each answer is told once it was given.
 #[derive(Drop)]
 struct ToldHost<'a, B: Baseline, R: Wait> {
-    system: &'a HostRuntime,
+    rt: &'a R,
     site: &'a Site<'a, B>,
     host: EngineHost<'a, B, R>,
     connection: u64,
@@ -89,12 +99,13 @@ impl<B: Baseline, R: Wait> Host for ToldHost<'_, B, R> {
     ghost may = { λ _ request files reply _. MayServe B.filter request files reply };
 
     fn serve(&mut self, request: Request, files: FileAnswers) -> Reply {
-        if !self.site.address.verbose {
+        let Some(teller) = &self.site.teller else {
             return self.host.serve(request, files);
-        }
+        };
         let asked = asked(self.site.alloc, &request);
         let reply = self.host.serve(request, files);
-        tell_reply(self.system, self.site.alloc, self.connection, asked, &reply);
+        let line = reply_line(self.site.alloc, self.connection, asked, &reply);
+        teller.tell(self.rt, line);
         reply
     }
 }
@@ -113,7 +124,7 @@ fn service_for<'a, B: Baseline, R: Wait>(
         scripts: SystemFiles::within(system, site.address.scripts),
         profiles: SystemFiles::within(system, site.address.profiles),
         host: ToldHost {
-            system,
+            rt,
             site,
             host: site.engine.host(rt),
             connection,

@@ -1,10 +1,9 @@
-//! One line on standard error for each event, where that is asked for: who, which pod, the request and its
-//! answer, the messages as they are written. A line that finds no memory is left out.
+//! The line that is told of each event, where that is asked for: who, which pod, the request and its answer, the
+//! messages as they are written.
 
 use cri_msgs::{Reply, Request, Version};
 use runtime_core::uid_of;
 use std::alloc::{AllocError, Global};
-use std::io::Eprint;
 use std::str;
 
 // A message without its version, which stands last in it.
@@ -26,7 +25,8 @@ pub fn answered(alloc: Global, reply: &Reply) -> Result<String, AllocError> {
     format!(in alloc; "{}}}", unversioned(text.as_slice()))
 }
 
-fn reply_line(
+/// What a runtime was asked over a connection, and what it answered.
+pub(crate) fn reply_line(
     alloc: Global,
     connection: u64,
     asked: Result<String, AllocError>,
@@ -39,22 +39,4 @@ fn reply_line(
         asked.as_str(),
         answered.as_str()
     )
-}
-
-/// Prints a line on standard error; one that found no memory is left out.
-pub fn tell_line<R: Eprint>(rt: &R, line: Result<String, AllocError>) {
-    if let Ok(line) = line {
-        let _ = eprintln!(rt; "{}", line.as_str());
-    }
-}
-
-/// What a runtime was asked over a connection, and what it answered.
-pub(crate) fn tell_reply<R: Eprint>(
-    rt: &R,
-    alloc: Global,
-    connection: u64,
-    asked: Result<String, AllocError>,
-    reply: &Reply,
-) {
-    tell_line(rt, reply_line(alloc, connection, asked, reply))
 }

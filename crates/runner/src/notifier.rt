@@ -13,13 +13,14 @@ struct Starts {
 
 /// Counts the containers that were started. Runners that found nothing to do wait for the next one.
 #[derive(Drop)]
-pub(crate) struct Notifier {
+pub struct Notifier {
     starts: Mutex<Starts>,
     changed: Condvar,
 }
 
 impl Notifier {
-    pub(crate) fn new() -> Notifier {
+    /// No container was started yet.
+    pub fn new() -> Notifier {
         Notifier {
             starts: Mutex::new(Starts {
                 count: 0,
@@ -30,8 +31,13 @@ impl Notifier {
         }
     }
 
-    /// How many starts there were. None where no more will be told.
-    pub(crate) fn count<R: Wait>(&self, rt: &R) -> Option<u64> {
+    /// Whether no more starts will be told.
+    pub fn is_closed<R: Wait>(&self, rt: &R) -> bool {
+        self.count(rt).is_none()
+    }
+
+    // How many starts there were. None where no more will be told.
+    fn count<R: Wait>(&self, rt: &R) -> Option<u64> {
         let starts = *self.starts.lock(rt);
         if starts.over {
             None
@@ -41,7 +47,7 @@ impl Notifier {
     }
 
     /// A container was started.
-    pub(crate) fn notify<R: Wait>(&self, rt: &R) {
+    pub fn notify<R: Wait>(&self, rt: &R) {
         let mut starts = self.starts.lock(rt);
         starts.count = starts.count.wrapping_add(1);
         starts.idle = 0;
@@ -49,9 +55,25 @@ impl Notifier {
         self.changed.notify_all();
     }
 
-    /// A runner found nothing to do, in a round that it began when there had been so many starts. Waits for the
-    /// next one, or until no more are told.
-    pub(crate) fn wait<R: Wait>(&self, rt: &R, seen: u64) {
+    /// Lets a runner work until no more starts are told: one round after the other, each of which tells whether it
+    /// found something to do, and behind one that did not a wait for the next start. A start that comes while a
+    /// round looks for work is not slept through, wherever the round had looked.
+    pub fn work<R: Wait, F: FnMut() -> bool>(&self, rt: &R, mut round: F)
+        requires { F.IsAlwaysCallable round }
+    {
+        for _ in rt.forever() {
+            let Some(seen) = self.count(rt) else {
+                break;
+            };
+            if !round() {
+                self.wait(rt, seen);
+            }
+        }
+    }
+
+    // A runner found nothing to do, in a round that it began when there had been so many starts. Waits for the
+    // next one, or until no more are told.
+    fn wait<R: Wait>(&self, rt: &R, seen: u64) {
         let mut starts = self.starts.lock(rt);
         if starts.count == seen {
             starts.idle = starts.idle.saturating_add(1);
@@ -63,7 +85,7 @@ impl Notifier {
     }
 
     /// Waits until each of so many runners has found nothing to do since the last start, or no more are told.
-    pub(crate) fn wait_idle<R: Wait>(&self, rt: &R, runners: u64) {
+    pub fn wait_idle<R: Wait>(&self, rt: &R, runners: u64) {
         let starts = self.starts.lock(rt);
         let _starts = self
             .changed
@@ -71,7 +93,7 @@ impl Notifier {
     }
 
     /// Wakes all that wait, now and from now on.
-    pub(crate) fn close<R: Wait>(&self, rt: &R) {
+    pub fn close<R: Wait>(&self, rt: &R) {
         let mut starts = self.starts.lock(rt);
         starts.over = true;
         drop(starts);

@@ -1,0 +1,133 @@
+//! The lines that threads tell, and the one thread that writes them on standard error: whoever tells a line waits
+//! for no reader.
+
+use std::alloc::{AllocError, Global};
+use std::io::Eprint;
+use std::mem;
+use std::sync::{Arc, Condvar, CondvarTimeouts, Mutex, Wait};
+use std::thread::{Threads, spawn};
+use std::time::{Clock, Duration};
+
+/// How many lines wait at most for their reader. Those beyond are left out, and counted.
+pub const MAX_WAITING: usize = 16_384;
+
+/// For how many seconds the end of a program waits for a reader that reads nothing.
+pub const READER_PATIENCE: u64 = 10;
+
+#[derive(Drop)]
+struct Waiting {
+    lines: Vec<String>,
+    // How many were left out behind these.
+    left_out: u64,
+    // How many were written so far.
+    written: u64,
+    // Whether the writer has written all that it took.
+    is_idle: bool,
+}
+
+impl Waiting {
+    fn is_empty(&self) -> bool {
+        self.lines.is_empty() && self.left_out == 0
+    }
+}
+
+/// Takes lines from any thread, and has them written in the order in which they came, each whole.
+#[derive(Drop)]
+pub struct Teller {
+    alloc: Global,
+    waiting: Mutex<Waiting>,
+    changed: Condvar,
+}
+
+impl Teller {
+    /// Starts the writer, in a thread that ends with the program.
+    pub fn start<R: Threads + Wait + Copy + Send + 'static>(
+        rt: R,
+        system: HostRuntime,
+    ) -> Result<Arc<Teller, Global>, AllocError> {
+        let alloc = system.alloc();
+        let teller = Arc::new(
+            alloc,
+            Teller {
+                alloc,
+                waiting: Mutex::new(Waiting {
+                    lines: Vec::new(alloc),
+                    left_out: 0,
+                    written: 0,
+                    is_idle: false,
+                }),
+                changed: Condvar::new(),
+            },
+        )?;
+        let its = Arc::try_clone(&teller)?;
+        let writer = spawn(&rt, move || its.write_lines(&rt, &system))?;
+        drop(writer);
+        Ok(teller)
+    }
+
+    /// Tells a line. One that found no memory, or no place behind the lines that wait, is left out and counted.
+    pub fn tell<R: Wait>(&self, rt: &R, line: Result<String, AllocError>) {
+        let mut waiting = self.waiting.lock(rt);
+        let has_place = waiting.lines.len() < MAX_WAITING;
+        let is_told = match line {
+            Ok(line) => has_place && waiting.lines.push(line).is_ok(),
+            Err(_) => false,
+        };
+        if !is_told {
+            waiting.left_out = waiting.left_out.saturating_add(1);
+        }
+        drop(waiting);
+        self.changed.notify_all();
+    }
+
+    // The lines that wait, once there are any, and how many were left out behind them.
+    fn take<R: Wait>(&self, rt: &R) -> (Vec<String>, u64) {
+        let mut waiting = self.waiting.lock(rt);
+        waiting.is_idle = true;
+        self.changed.notify_all();
+        let mut waiting = self
+            .changed
+            .wait_while(rt, waiting, |waiting| waiting.is_empty());
+        waiting.is_idle = false;
+        let lines = mem::replace(&mut waiting.lines, Vec::new(self.alloc));
+        let left_out = mem::replace(&mut waiting.left_out, 0);
+        (lines, left_out)
+    }
+
+    fn count_written<R: Wait>(&self, rt: &R) {
+        let mut waiting = self.waiting.lock(rt);
+        waiting.written = waiting.written.wrapping_add(1);
+    }
+
+    // What the writer's thread does. A line that can't be written is lost.
+    fn write_lines<R: Wait, E: Eprint>(&self, rt: &R, system: &E) {
+        for _ in rt.forever() {
+            let (lines, left_out) = self.take(rt);
+            for line in lines.as_slice() {
+                let _ = eprintln!(system; "{}", line.as_str());
+                self.count_written(rt);
+            }
+            if left_out > 0 {
+                let _ = eprintln!(system; "{left_out} lines left out");
+            }
+        }
+    }
+
+    /// Waits until all that was told is written, or until nothing of it was for ten seconds.
+    pub fn finish<R: Wait + Clock>(&self, rt: &R) {
+        let mut waiting = self.waiting.lock(rt);
+        for _ in rt.forever() {
+            let written = waiting.written;
+            let patience = Duration::from_secs(READER_PATIENCE);
+            let (later, outcome) = self
+                .changed
+                .wait_timeout_while(rt, waiting, patience, |waiting| {
+                    !waiting.is_idle || !waiting.is_empty()
+                });
+            if !outcome.timed_out() || later.written == written {
+                break;
+            }
+            waiting = later;
+        }
+    }
+}
