@@ -2,6 +2,7 @@ ghost use Rattle.std.specs.Prelude.{◌≡◌};
 ghost use Rattle.runtime_server.specs.declared.connections.TheConstants.{MAX_CONNECTIONS};
 ghost use Rattle.runtime_server.specs.declared.site.TheConstants.{REST};
 ghost use Rattle.runtime_server.specs.declared.sockets.TheConstants.{FOLDERS, LOCKS, MAX_NAME};
+ghost use Rattle.runtime_server.specs.declared.teller.TheConstants.{MAX_WAITING, READER_PATIENCE};
 
 /// What the constants of this crate are.
 pub fn constants_are_as_stated()
@@ -12,4 +13,7 @@ pub fn constants_are_as_stated()
     ensures locks { LOCKS ≡ 100 }
     // unix(7)
     ensures max_name { MAX_NAME ≡ 107 }
+    // lines, and seconds
+    ensures max_waiting { MAX_WAITING ≡ 16384 }
+    ensures reader_patience { READER_PATIENCE ≡ 10 }
 {}
