@@ -136,7 +136,10 @@ fn run_line<'a, L: Ledger + Send + Sync, R: Threads + Wait + Clock + Copy + Send
         run_beside::<L, Brand, R>(rt, system, line, baseline, &shared, told, coordinator)
     } else {
         let other: Beside<'_, Brand, R> = Beside::Other;
-        run_crew(rt, system, line, &shared, told, &other, coordinator).map_err(AgentStop::from)
+        match run_crew(rt, system, line, &shared, told, &other, coordinator) {
+            Ok(ended) => Ok(ended),
+            Err(error) => Err(AgentStop::from(error)),
+        }
     };
     if let Some(teller) = &teller {
         teller.finish(rt);
