@@ -2,13 +2,18 @@
  * file or a socket to the file that the variable CALLS names, and its answer.
  *
  * FAIL_ACCEPT=N lets the first N calls of accept4 fail for want of descriptors, FAIL_THREAD=N the N-th and each
- * later call that starts a thread. SLOW_UNLINK=N has each unlink wait for N seconds first. */
+ * later call that starts a thread. SLOW_UNLINK=N has each unlink wait for N seconds first, SLOW_COPY=N the third
+ * copy of a descriptor. TAKEN=1 has a file come to stand where a link is to be made. LOCK_AFTER=FILE has the first
+ * lock wait until FILE is gone, seven seconds at most, and a second more. */
 #define _GNU_SOURCE
 #include <dlfcn.h>
 #include <errno.h>
+#include <fcntl.h>
 #include <pthread.h>
+#include <stdarg.h>
 #include <stdio.h>
 #include <stdlib.h>
+#include <sys/file.h>
 #include <sys/socket.h>
 #include <sys/stat.h>
 #include <sys/un.h>
@@ -43,6 +48,11 @@ int link(const char *from, const char *to)
 {
   char text[256];
   snprintf(text, sizeof text, " %s", to);
+  if (getenv("TAKEN")) {
+    FILE *file = fopen(to, "w");
+    fputs("mine\n", file);
+    fclose(file);
+  }
   return told(NEXT(link)(from, to), "link", from, text);
 }
 
@@ -72,6 +82,30 @@ int accept4(int socket, struct sockaddr *address, socklen_t *length, int flags)
     return -1;
   }
   return NEXT(accept4)(socket, address, length, flags);
+}
+
+int flock(int file, int how)
+{
+  static int begun;
+  const char *path = getenv("LOCK_AFTER");
+  for (int look = 0; path && !begun && look < 700 && access(path, F_OK) == 0; look++)
+    usleep(10000);
+  if (path && !begun)
+    sleep(1);
+  begun = 1;
+  return NEXT(flock)(file, how);
+}
+
+int fcntl(int file, int command, ...)
+{
+  static int copies;
+  va_list more;
+  va_start(more, command);
+  long with = va_arg(more, long);
+  va_end(more);
+  if (command == F_DUPFD_CLOEXEC && ++copies == 3 && getenv("SLOW_COPY"))
+    sleep(atoi(getenv("SLOW_COPY")));
+  return NEXT(fcntl)(file, command, with);
 }
 
 int pthread_create(pthread_t *thread, const pthread_attr_t *how, void *(*work)(void *), void *with)
