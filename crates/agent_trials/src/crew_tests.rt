@@ -1,4 +1,6 @@
-use crate::test_crews::{Left, Pods, SETTLED, Trial, entries_at_call, many_told, settled};
+use crate::test_crews::{
+    COUNTED, Entries, HeldUp, Left, Pods, SETTLED, Trial, entries_at_call, many_told, settled,
+};
 use cri_msgs::Version;
 use node_lock::{MAX_ENTRIES, PARTS};
 use std::alloc::Global;
@@ -8,6 +10,7 @@ use std::sync::ledger::Blank;
 use std::test::Fail;
 use std::thread::Threads;
 use std::time::Clock;
+use worker_crew::Pace;
 
 const PLAIN: Trial = Trial {
     version: Version::V2,
@@ -30,8 +33,20 @@ fn tried<R: Threads + Wait + Clock + Sync>(
 }
 
 // One pod by four workers, whose first call is held up.
-fn held_up<R: Threads + Wait + Clock + Sync>(rt: &R, alloc: Global) -> Result<(u64, String), Fail> {
-    entries_at_call::<Brand, R>(rt, alloc, 4, Blank::new(PARTS))
+fn held_up<R: Threads + Wait + Clock + Sync>(
+    rt: &R,
+    alloc: Global,
+    pace: Pace,
+    turns: u32,
+    every: u64,
+) -> Result<Entries, Fail> {
+    let held_up = HeldUp {
+        workers: 4,
+        pace,
+        turns,
+        every,
+    };
+    entries_at_call::<Brand, R>(rt, alloc, held_up, Blank::new(PARTS))
 }
 
 // Whatever number of workers there is, what is told in the end is the same, and each entry has its receipt.
@@ -196,11 +211,29 @@ fn two_calls_are_in_flight(rt: HostRuntime) -> Result<(), Fail> {
 // Workers that have nothing to do make no entries: there are those of the admission and of the first claim.
 #[test]
 fn workers_without_work_wait(rt: HostRuntime) -> Result<(), Fail> {
-    let (entries, left) = held_up(&rt, rt.alloc())?;
-    assert_eq!(rt; entries, 2);
+    let entries = held_up(&rt, rt.alloc(), COUNTED, 100, 0)?;
+    assert_eq!(rt; entries.held, 2);
     assert_eq!(rt;
-        left.as_str(),
+        entries.text.as_str(),
         "settled, true\nPOD default.boot Failed\n  setup Terminated 3 0\n  main Waiting - 0\n"
     );
+    Ok(())
+}
+
+// By the machine's clock a call that is held up costs an entry a second: there are those of the admission, of the
+// claim, and of the moments 1 and 2.
+#[test]
+fn a_second_makes_one_entry(rt: HostRuntime) -> Result<(), Fail> {
+    let entries = held_up(&rt, rt.alloc(), Pace::Machine(Some(4)), 2_500, 0)?;
+    assert!(rt; entries.held <= 4, "{}", entries.held);
+    Ok(())
+}
+
+// Behind a call that was lost nothing is due for ten seconds: there are the entries of the admission and of one
+// claim and its end, and of a second or two that passed meanwhile.
+#[test]
+fn time_makes_no_entries_where_nothing_is_due(rt: HostRuntime) -> Result<(), Fail> {
+    let entries = held_up(&rt, rt.alloc(), Pace::Machine(Some(4)), 0, 1)?;
+    assert!(rt; entries.all <= 5, "{}", entries.all);
     Ok(())
 }

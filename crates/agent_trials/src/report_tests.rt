@@ -2,7 +2,7 @@ ghost use Rattle.std.specs.Prelude.{◌≡◌, ◌<◌, IfOk, vec_len};
 ghost use Rattle.node_lock.specs.declared.limits.TheConstants.{MAX_ENTRIES, PARTS};
 
 use crate::loops::{Loop, LoopWire};
-use crate::test_crews::{PODS, begun, runtime, worked};
+use crate::test_crews::{COUNTED, PODS, begun, runtime, worked};
 use cri_frames::{Lost, call_over};
 use cri_msgs::{Reply, Request, Version};
 use node_io::{Wire, WireFault};
@@ -160,7 +160,16 @@ fn compared<L: Ledger + Send + Sync, R: Threads + Wait + Clock + Sync>(
     let frames = Mutex::new(Vec::new(alloc));
     let (shared, coordinator) = begun::<L, R>(rt, alloc, Version::V1, PODS, MAX_ENTRIES, blank)?;
     let peers = keepers(rt, alloc, &runtime, &frames)?;
-    let (_, tally) = worked(rt, alloc, &runtime, &shared, coordinator, peers, &Always);
+    let (_, tally) = worked(
+        rt,
+        alloc,
+        &runtime,
+        &shared,
+        coordinator,
+        peers,
+        &Always,
+        COUNTED,
+    );
     drop(tally);
     let book = shared.into_book();
     let frames = frames.into_inner();

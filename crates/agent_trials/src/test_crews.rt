@@ -20,6 +20,9 @@ use worker_core::{AgentEvent, MAX_PODS, Node};
 use worker_crew::{Coordinator, Ended, Gate, Pace, Peer, Shared, crew};
 use worker_pod::Settings;
 
+/// The clock of a settle, up to moment 3600.
+pub(crate) const COUNTED: Pace = Pace::Counted(3_600);
+
 // How many runners step the containers.
 const RUNNERS: u32 = 4;
 
@@ -180,6 +183,7 @@ pub(crate) fn worked<
     coordinator: Coordinator<L>,
     peers: Vec<P>,
     gate: &G,
+    pace: Pace,
 ) -> (Ended, Option<Tally<L>>)
     requires few { vec_len peers < PARTS }
     requires parts { coordinator.parts ≡ PARTS }
@@ -192,7 +196,6 @@ pub(crate) fn worked<
             requires parts { coordinator.parts ≡ PARTS }
         {
             let started = start_runners(scope, rt, &runtime.engine, RUNNERS);
-            let pace = Pace::Counted(3_600);
             let runners = if started.is_ok() { RUNNERS } else { 0 };
             let quiet = Idle {
                 rt,
@@ -303,18 +306,19 @@ impl<R: Clock> Gate for Hold<'_, R> {
     }
 }
 
-// A gate that holds the first call for a hundred turns, and keeps how many entries the history has then.
+// A gate that holds the first call for so many turns, and keeps how many entries the history has then.
 #[derive(Drop)]
 struct Watch<'a, L: Ledger, R: Wait + Clock> {
     rt: &'a R,
     shared: &'a Shared<L>,
+    turns: u32,
     entries: AtomicU64,
 }
 
 impl<L: Ledger, R: Wait + Clock> Gate for Watch<'_, L, R> {
     fn before(&self, call: u64) -> bool {
         if call == 1 {
-            for _ in 0..100 {
+            for _ in 0..self.turns {
                 sleep(self.rt, Duration::from_millis(1));
             }
             let entries = self.shared.entries(self.rt) as u64;
@@ -326,31 +330,64 @@ impl<L: Ledger, R: Wait + Clock> Gate for Watch<'_, L, R> {
     fn after(&self, _call: u64) {}
 }
 
-/// How many entries there are while the first call of one pod, which this many workers share, is held up; and
-/// what is left of the pod then.
+/// How one pod is run whose first call is held up.
+#[derive(Clone, Copy)]
+pub(crate) struct HeldUp {
+    pub(crate) workers: u32,
+    pub(crate) pace: Pace,
+    /// For how many milliseconds.
+    pub(crate) turns: u32,
+    /// Of how many reads and writes of the wires one fails (0: none).
+    pub(crate) every: u64,
+}
+
+/// What is left then.
+#[derive(Drop)]
+pub(crate) struct Entries {
+    /// How many entries there were behind the wait.
+    pub(crate) held: u64,
+    /// How many there were in the end.
+    pub(crate) all: u64,
+    pub(crate) text: String,
+}
+
+/// How many entries there are while the first call of one pod is held up, and in the end.
 pub(crate) fn entries_at_call<L: Ledger + Send + Sync, R: Threads + Wait + Clock + Sync>(
     rt: &R,
     alloc: Global,
-    workers: u32,
+    held_up: HeldUp,
     blank: Blank,
-) -> Result<(u64, String), Fail>
+) -> Result<Entries, Fail>
     requires name { blank.name ≡ L.name }
     requires parts { blank.parts ≡ L.parts }
     requires all { blank.parts ≡ PARTS }
 {
     let runtime = runtime(alloc, 0, 0, 0)?;
+    runtime.fail_every(held_up.every);
     let version = Version::V2;
     let (shared, coordinator) = begun::<L, R>(rt, alloc, version, ONE_POD, MAX_ENTRIES, blank)?;
     let gate = Watch {
         rt,
         shared: &shared,
+        turns: held_up.turns,
         entries: AtomicU64::new(0),
     };
-    let peers = peers(rt, alloc, &runtime, version, workers)?;
-    let (ended, tally) = worked(rt, alloc, &runtime, &shared, coordinator, peers, &gate);
-    let entries = gate.entries.load(Ordering::SeqCst);
+    let peers = peers(rt, alloc, &runtime, version, held_up.workers)?;
+    let (ended, tally) = worked(
+        rt,
+        alloc,
+        &runtime,
+        &shared,
+        coordinator,
+        peers,
+        &gate,
+        held_up.pace,
+    );
+    let held = gate.entries.load(Ordering::SeqCst);
+    let all = shared.entries(rt) as u64;
     drop(gate);
-    Ok((entries, left_of(alloc, shared, ended, tally)?.text))
+    let text = left_of(alloc, shared, ended, tally)?.text;
+    Ok(Entries { held, all, text })
 }
 
 /// The pods of a trial.
@@ -418,7 +455,16 @@ pub(crate) fn settled<L: Ledger + Send + Sync, R: Threads + Wait + Clock + Sync>
         blank,
     )?;
     let peers = peers(rt, alloc, &runtime, trial.version, trial.workers)?;
-    let (ended, tally) = worked(rt, alloc, &runtime, &shared, coordinator, peers, &gate);
+    let (ended, tally) = worked(
+        rt,
+        alloc,
+        &runtime,
+        &shared,
+        coordinator,
+        peers,
+        &gate,
+        COUNTED,
+    );
     let left = left_of(alloc, shared, ended, tally)?;
     if trial.holds && !gate.has_passed() {
         return Err("the first call was not held up")?;
