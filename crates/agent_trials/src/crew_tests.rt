@@ -221,19 +221,19 @@ fn workers_without_work_wait(rt: HostRuntime) -> Result<(), Fail> {
 }
 
 // By the machine's clock a call that is held up costs an entry a second: there are those of the admission, of the
-// claim, and of the moments 1 and 2.
+// claim, and of the moments up to 4.
 #[test]
 fn a_second_makes_one_entry(rt: HostRuntime) -> Result<(), Fail> {
     let entries = held_up(&rt, rt.alloc(), Pace::Machine(Some(4)), 2_500, 0)?;
-    assert!(rt; entries.held <= 4, "{}", entries.held);
+    assert!(rt; entries.held <= 6, "{}", entries.held);
     Ok(())
 }
 
-// Behind a call that was lost nothing is due for ten seconds: there are the entries of the admission and of one
-// claim and its end, and of a second or two that passed meanwhile.
+// Behind a call that was lost nothing is due for ten seconds: there are the entries of the admission, of one claim
+// and its end, and of a few seconds at most in which the workers begin.
 #[test]
 fn time_makes_no_entries_where_nothing_is_due(rt: HostRuntime) -> Result<(), Fail> {
-    let entries = held_up(&rt, rt.alloc(), Pace::Machine(Some(4)), 0, 1)?;
-    assert!(rt; entries.all <= 5, "{}", entries.all);
+    let entries = held_up(&rt, rt.alloc(), Pace::Machine(Some(8)), 0, 1)?;
+    assert!(rt; entries.all <= 7, "{}", entries.all);
     Ok(())
 }
