@@ -2,7 +2,7 @@
 # What make alone prints.
 cat <<'TEXT'
 make quick    for use while one writes: waits for no proof. Programs and tests are compiled with checks at run
-              time in the place of proofs; tests and cases are run. About eight minutes on four cores
+              time in the place of proofs; tests and cases are run. Eight to thirteen minutes on four cores
 make test     the gate: proves every crate from nothing, tries the must-fail edits, runs the tests, the stored
               runs, the examples in C and the cases, and holds README and the manual pages to the programs.
               One to two hours on four cores

@@ -1,5 +1,5 @@
-//! The line that is told of each call, where that is asked for: the moment, which pod, the request, and what came
-//! of it.
+//! The line that is told of each call, where that is asked for: the moment, which pod, the request, and what
+//! came of it.
 
 use cri_frames::Lost;
 use cri_msgs::{Reply, Request};

@@ -92,7 +92,8 @@ fn said(call: &Call, letter: u8) -> cri_msgs::Answer {
     }
 }
 
-// What the worker tells: l a loss, r a refusal, o a reply to request 1, e an exit with 0, else what is wanted.
+// What the worker tells: l a loss, r a refusal, o a reply to request 1, e an exit with 0, else what is
+// wanted.
 fn reported(letter: u8, request: &Request) -> Reported {
     let id = if letter == b'o' { 1 } else { request.id };
     match letter {
@@ -165,8 +166,8 @@ impl Play {
         }
     }
 
-    // The event of a word: A and D with a pod's name, t with a moment, c and a with a worker, and how a worker
-    // reports.
+    // The event of a word: A and D with a pod's name, t with a moment, c and a with a worker, and how a
+    // worker reports.
     fn event(&self, letter: u8, rest: &str, spec: &str) -> Result<Option<AgentEvent>, PodFault> {
         let number = rest.parse::<u64>().unwrap_or(0);
         let worker = rest.parse::<u32>().unwrap_or(0);

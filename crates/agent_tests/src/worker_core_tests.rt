@@ -84,7 +84,8 @@ const TWELVE: &str =
     c1: default.a 10 10 create default.a z 0; d1: done; c1: default.b 11 11 create default.b z 0; d1: done; \
     c1: default.c 12 12 create default.c z 0; d1: done; ";
 
-// Of three pods with three containers the one that was worked on longest ago is given, and in it the container.
+// Of three pods with three containers the one that was worked on longest ago is given, and in it the
+// container.
 #[test]
 fn longest_wait(rt: HostRuntime) -> Result<(), Fail> {
     let mut play = begun(rt.alloc());

@@ -90,8 +90,8 @@ fn failures_change_nothing(rt: HostRuntime) -> Result<(), Fail> {
     Ok(())
 }
 
-// The first attempt begins where its script can be read: at once, or behind the rest of a refusal. The others come
-// behind their back-off.
+// The first attempt begins where its script can be read: at once, or behind the rest of a refusal. The others
+// come behind their back-off.
 #[test]
 fn runs_are_recorded_behind_back_off(rt: HostRuntime) -> Result<(), Fail> {
     for (scripts, wanted) in [(0, [0, 10, 30]), (1, [10, 20, 40])] {
@@ -103,8 +103,9 @@ fn runs_are_recorded_behind_back_off(rt: HostRuntime) -> Result<(), Fail> {
     Ok(())
 }
 
-// A node with as many pods as it takes, by as many workers as there may be, settled once for each of these reads and
-// writes of the wires, which fails: the first of them behind which something else is told in the end.
+// A node with as many pods as it takes, by as many workers as there may be, settled once for each of these
+// reads and writes of the wires, which fails: the first of them behind which something else is told in the
+// end.
 fn unsettled<R: Threads + Wait + Clock + Sync>(
     rt: &R,
     alloc: Global,
@@ -220,8 +221,8 @@ fn workers_without_work_wait(rt: HostRuntime) -> Result<(), Fail> {
     Ok(())
 }
 
-// By the machine's clock a call that is held up costs an entry a second: there are those of the admission, of the
-// claim, and of the moments up to 4.
+// By the machine's clock a call that is held up costs an entry a second: there are those of the admission, of
+// the claim, and of the moments up to 4.
 #[test]
 fn a_second_makes_one_entry(rt: HostRuntime) -> Result<(), Fail> {
     let entries = held_up(&rt, rt.alloc(), Pace::Machine(Some(4)), 2_500, 0)?;
@@ -229,8 +230,8 @@ fn a_second_makes_one_entry(rt: HostRuntime) -> Result<(), Fail> {
     Ok(())
 }
 
-// Behind a call that was lost nothing is due for ten seconds: there are the entries of the admission, of one claim
-// and its end, and of a few seconds at most in which the workers begin.
+// Behind a call that was lost nothing is due for ten seconds: there are the entries of the admission, of one
+// claim and its end, and of a few seconds at most in which the workers begin.
 #[test]
 fn time_makes_no_entries_where_nothing_is_due(rt: HostRuntime) -> Result<(), Fail> {
     let entries = held_up(&rt, rt.alloc(), Pace::Machine(Some(8)), 0, 1)?;

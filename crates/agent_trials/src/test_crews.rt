@@ -215,8 +215,8 @@ pub(crate) fn worked<
 /// What is left of a trial.
 #[derive(Drop)]
 pub(crate) struct Left {
-    /// How the crew ended, whether there is a receipt for each entry and each stands where it says, and the pods'
-    /// table.
+    /// How the crew ended, whether there is a receipt for each entry and each stands where it says, and the
+    /// pods' table.
     pub(crate) text: String,
     /// At which moments the runs of the first pod's first container were recorded.
     pub(crate) recorded: Vec<u64>,
@@ -400,8 +400,8 @@ pub(crate) enum Pods {
 }
 
 /// What is tried: with which pods, by how many workers, with how long a history, in which version the runtime
-/// is spoken to, and whether the first call is to be held up. And what is to fail, each by its number (0: none):
-/// a read or write of the wires, one of every so many of them, a read of a script, one of a profile.
+/// is spoken to, and whether the first call is to be held up. And what is to fail, each by its number (0:
+/// none): a read or write of the wires, one of every so many of them, a read of a script, one of a profile.
 #[derive(Clone, Copy)]
 pub(crate) struct Trial {
     pub(crate) version: Version,

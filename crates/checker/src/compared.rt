@@ -63,8 +63,8 @@ pub(crate) struct Difference {
     pub(crate) second: u32,
 }
 
-/// `differ at NR ARG.. --arch A --ip I: VALUE ACTION DATA, VALUE ACTION DATA`, the call's words as `run` takes
-/// them.
+/// `differ at NR ARG.. --arch A --ip I: VALUE ACTION DATA, VALUE ACTION DATA`, the call's words as `run`
+/// takes them.
 impl fmt::Display for Difference {
     ghost use Rattle.std.specs.Prelude.{Some};
     ghost use Rattle.checker.specs.Compared.{difference_text};

@@ -18,8 +18,8 @@ use std::rt;
 use verdict::Stack;
 
 /// The program `seccheck`: compiles profiles, looks at filters, runs and compares them, plays scripts under
-/// them, and picks the profiles of pods. `words` are the command line's, the program's name first. The answer is
-/// the program's status: 0 done, 1 input refused, 2 command line refused, 3 file fault, 4 out of memory.
+/// them, and picks the profiles of pods. `words` are the command line's, the program's name first. The answer
+/// is the program's status: 0 done, 1 input refused, 2 command line refused, 3 file fault, 4 out of memory.
 /// What can't be written counts as a file fault.
 pub fn seccheck_run<R: rt::Files + AllocGlobal, O: Write, E: Write>(
     rt: &R,

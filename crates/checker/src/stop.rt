@@ -64,8 +64,8 @@ impl Stop<'_> {
         }
     }
 
-    /// Whether it is told on standard output: that what was given is refused, or differs, is the program's answer.
-    /// All else goes to standard error.
+    /// Whether it is told on standard output: that what was given is refused, or differs, is the program's
+    /// answer. All else goes to standard error.
     pub(crate) fn is_answer(&self) -> bool
         ensures { result ≡ is_refusal self.now }
     {

@@ -57,8 +57,8 @@ pub fn nodeagent_line<'a>(
     alloc: Global,
     words: &'a [String],
 ) -> Result<NodeagentLine<'a>, LineFault<'a>>
-    // A line is said exactly where clap takes the words and all of their numbers are in range, but for want of
-    // memory.
+    // A line is said exactly where clap takes the words and all of their numbers are in range, but for want
+    // of memory.
     ensures taken { IfOk result (λ _. fault_of nodeagent (map string_bytes words.now) ≡ []) }
     ensures line { IfOk result (λ line. nodeagent_in (matches_of nodeagent (map string_bytes words.now)) ≡ Ok (nodeagent_of line)) }
     ensures fault { IfErr result (TellsFault (fault_of nodeagent (map string_bytes words.now)) (nodeagent_in (matches_of nodeagent (map string_bytes words.now)))) }

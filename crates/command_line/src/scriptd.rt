@@ -38,8 +38,8 @@ pub fn scriptd_line<'a>(
     alloc: Global,
     words: &'a [String],
 ) -> Result<ScriptdLine<'a>, LineFault<'a>>
-    // A line is said exactly where clap takes the words and all of their numbers are in range, but for want of
-    // memory.
+    // A line is said exactly where clap takes the words and all of their numbers are in range, but for want
+    // of memory.
     ensures taken { IfOk result (λ _. fault_of scriptd (map string_bytes words.now) ≡ []) }
     ensures line { IfOk result (λ line. scriptd_in (matches_of scriptd (map string_bytes words.now)) ≡ Ok (scriptd_of line)) }
     ensures fault { IfErr result (TellsFault (fault_of scriptd (map string_bytes words.now)) (scriptd_in (matches_of scriptd (map string_bytes words.now)))) }

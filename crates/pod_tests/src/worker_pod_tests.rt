@@ -251,7 +251,8 @@ fn statuses(rt: HostRuntime) -> Result<(), Fail> {
              start default.p c 0: Running 0; look default.p a 0 b 0 c 0: Running 5; none: Running 5; look default.p c 0: Running 10; \
              clear default.p a 0: Running 10; clear default.p b 0: Running 10; look default.p c 0: Running 10; ",
         ),
-        // An older attempt, a later one and another container are passed over, and of two cells the first counts.
+        // An older attempt, a later one and another container are passed over, and of two cells the first
+        // counts.
         (
             ONE,
             5,

@@ -1,5 +1,5 @@
-//! Tests of profiles and their filters: drawn ones beside a plain reading, figures of size and steps, and pairs of
-//! filters that are compared.
+//! Tests of profiles and their filters: drawn ones beside a plain reading, figures of size and steps, and
+//! pairs of filters that are compared.
 #![tactic(auto)]
 
 #[cfg(test)]

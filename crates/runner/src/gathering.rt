@@ -9,8 +9,8 @@ use manifest::SeccompProfile;
 use node_io::{FileFault, Files, MAX_FILE_BYTES};
 use runtime_core::{Contents, FileAnswers};
 
-/// What the reads of a request's files gave: for CreateContainer that of its image among the scripts and, where
-/// its profile is Localhost, that of its path among the profiles. Nothing else is read.
+/// What the reads of a request's files gave: for CreateContainer that of its image among the scripts and,
+/// where its profile is Localhost, that of its path among the profiles. Nothing else is read.
 pub fn gather<S: Files, P: Files>(
     scripts: &mut S,
     profiles: &mut P,

@@ -55,9 +55,9 @@ impl Notifier {
         self.changed.notify_all();
     }
 
-    /// Lets a runner work until no more starts are told: one round after the other, each of which tells whether it
-    /// found something to do, and behind one that did not a wait for the next start. A start that comes while a
-    /// round looks for work is not slept through, wherever the round had looked.
+    /// Lets a runner work until no more starts are told: one round after the other, each of which tells
+    /// whether it found something to do, and behind one that did not a wait for the next start. A start that
+    /// comes while a round looks for work is not slept through, wherever the round had looked.
     pub fn work<R: Wait, F: FnMut() -> bool>(&self, rt: &R, mut round: F)
         requires { F.IsAlwaysCallable round }
     {
@@ -71,8 +71,8 @@ impl Notifier {
         }
     }
 
-    // A runner found nothing to do, in a round that it began when there had been so many starts. Waits for the
-    // next one, or until no more are told.
+    // A runner found nothing to do, in a round that it began when there had been so many starts. Waits for
+    // the next one, or until no more are told.
     fn wait<R: Wait>(&self, rt: &R, seen: u64) {
         let mut starts = self.starts.lock(rt);
         if starts.count == seen {

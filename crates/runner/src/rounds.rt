@@ -12,7 +12,8 @@ use runtime_core::Cells;
 use std::alloc::Global;
 use std::sync::{Arc, Wait};
 
-/// What stands round each step of a cell, while the lock of the cell's sandbox is held. Tests hold a step up there.
+/// What stands round each step of a cell, while the lock of the cell's sandbox is held. Tests hold a step up
+/// there.
 pub trait StepGate {
     /// Is called before the step of the cell with this id.
     fn before(&self, id: u64);
@@ -56,8 +57,8 @@ pub(crate) trait Visits {
         ensures asked { asked self.new ≡ option_map (λ before. record { above = above; visit = result } ∷ before) (asked self.old) };
 }
 
-// A round: each visit is asked for above the id of the one before, until there is none. It tells whether a cell went
-// on.
+// A round: each visit is asked for above the id of the one before, until there is none. It tells whether a
+// cell went on.
 fn round<V: Visits>(visits: &mut V) -> bool
     ensures { (asked : List Asked) × IsRound (V.runner visits.old) (V.runners visits.old) asked result
         × (V.asked visits.new ≡ option_map (λ before. asked ++ before) (V.asked visits.old)) }
@@ -79,9 +80,9 @@ struct NextCell {
 }
 
 impl<B: Baseline> SharedRuntime<B> {
-    /// A round of one runner of so many, who are numbered from 0: each running cell whose id leaves the runner's
-    /// number on division by how many there are is stepped once, in the order of ids, each in a critical section
-    /// of its own. It takes no memory, and tells whether a cell went on.
+    /// A round of one runner of so many, who are numbered from 0: each running cell whose id leaves the
+    /// runner's number on division by how many there are is stepped once, in the order of ids, each in a
+    /// critical section of its own. It takes no memory, and tells whether a cell went on.
     pub fn step_round<R: Wait, G: StepGate>(
         &self,
         rt: &R,

@@ -1,5 +1,5 @@
-//! A runtime that threads share. The registry stands under one lock and each sandbox's cells under one of their
-//! own, so that a step of a cell holds up nothing but its own sandbox.
+//! A runtime that threads share. The registry stands under one lock and each sandbox's cells under one of
+//! their own, so that a step of a cell holds up nothing but its own sandbox.
 ghost use Rattle.std.specs.Prelude.{◌≡◌, IsTrue, List, None, Option};
 ghost use Rattle.bpf_code.specs.declared.insn.Insn.{Insn};
 ghost use Rattle.cri_msgs.specs.Calls.{uid_of};
@@ -15,8 +15,8 @@ use std::alloc::{AllocError, Global};
 use std::marker::{Brand, PhantomData};
 use std::sync::{Mutex, Wait};
 
-/// A node's own filter, which confines each of its containers, as a type: whoever makes a runtime picks it, so
-/// that what the runtime's lock holds has this filter and no other.
+/// A node's own filter, which confines each of its containers, as a type: whoever makes a runtime picks it,
+/// so that what the runtime's lock holds has this filter and no other.
 pub trait Baseline {
     ghost filter: { Option (List Insn) };
 }

@@ -59,7 +59,8 @@ fn gathered(alloc: Global, members: &str, fails: bool) -> Result<String, Fail> {
     Ok(format!(in alloc; "{} {} {first} {second}", script.as_str(), profile.as_str())?)
 }
 
-// What a request asks for beside its key, what came of its files, and what where each folder's first read fails.
+// What a request asks for beside its key, what came of its files, and what where each folder's first read
+// fails.
 const ROWS: [(&str, &str, &str); 9] = [
     (
         "\"call\":\"RunPodSandbox\"",

@@ -171,8 +171,8 @@ fn streams_end(rt: HostRuntime) -> Result<(), Fail> {
     Ok(())
 }
 
-// How a connection to a shared runtime ends whose call with this number fails, and whether what was written is a
-// beginning of the reply.
+// How a connection to a shared runtime ends whose call with this number fails, and whether what was written
+// is a beginning of the reply.
 fn failing_at<R: Wait>(
     rt: &R,
     alloc: Global,

@@ -18,7 +18,8 @@ const PODS: &str = r#"{"call":"RunPodSandbox","id":1,"uid":"u1","v":1}
 {"attempt":0,"call":"StartContainer","id":8,"name":"b","uid":"u2","v":1}
 {"attempt":0,"call":"StartContainer","id":9,"name":"c","uid":"u1","v":1}"#;
 
-// A round: which runner of how many, whether a cell went on, and how many calls each container has performed then.
+// A round: which runner of how many, whether a cell went on, and how many calls each container has performed
+// then.
 const ROUNDS: [(u64, u64, bool, [u64; 4]); 8] = [
     (0, 2, true, [0, 1, 0, 0]),
     (1, 2, true, [1, 1, 1, 0]),

@@ -1,4 +1,5 @@
-//! The runtime: sandboxes and the cells of their containers, behind the calls of CRI v1 that this project has.
+//! The runtime: sandboxes and the cells of their containers, behind the calls of CRI v1 that this project
+//! has.
 #![tactic(auto)]
 
 mod building;

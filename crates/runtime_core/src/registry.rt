@@ -28,8 +28,8 @@ use manifest::{DescendingPath, SeccompProfile, Uid};
 use runtime_cell::Cell;
 use std::alloc::{AllocError, Global};
 
-/// Which uids are known, how far their sandboxes are and what was made in them, and in which sandbox each id is.
-/// The cells themselves stand in a list for each sandbox, [`Cells`].
+/// Which uids are known, how far their sandboxes are and what was made in them, and in which sandbox each id
+/// is. The cells themselves stand in a list for each sandbox, [`Cells`].
 #[derive(Drop)]
 pub struct Registry {
     pub(crate) alloc: Global,
@@ -87,8 +87,8 @@ impl Registry {
         self.homes.next(above)
     }
 
-    /// Serves a request, with what the reads of its files gave. It is lent the list of the request's uid, or an
-    /// empty one where there is no sandbox of that uid.
+    /// Serves a request, with what the reads of its files gave. It is lent the list of the request's uid, or
+    /// an empty one where there is no sandbox of that uid.
     pub fn serve_lent(&mut self, cells: &mut Cells, request: Request, files: FileAnswers) -> Reply
         ensures number { result.id ≡ request.id }
 

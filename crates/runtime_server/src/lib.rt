@@ -2,8 +2,8 @@
 //!
 //! An [`Engine`] is a runtime that threads share, with the runners that step its containers; a [`Site`] is an
 //! engine behind its socket, whose connections are served in threads of their own. `stops` says why a program
-//! ends before its work is done, `telling` what is told of each call where that is asked for, and a [`Teller`]
-//! writes it.
+//! ends before its work is done, `telling` what is told of each call where that is asked for, and a
+//! [`Teller`] writes it.
 #![tactic(auto)]
 
 mod connections;

@@ -1,5 +1,5 @@
-//! The lines that threads tell, and the one thread that writes them on standard error: whoever tells a line waits
-//! for no reader.
+//! The lines that threads tell, and the one thread that writes them on standard error: whoever tells a line
+//! waits for no reader.
 
 use std::alloc::{AllocError, Global};
 use std::io::Eprint;
@@ -65,7 +65,8 @@ impl Teller {
         Ok(teller)
     }
 
-    /// Tells a line. One that found no memory, or no place behind the lines that wait, is left out and counted.
+    /// Tells a line. One that found no memory, or no place behind the lines that wait, is left out and
+    /// counted.
     pub fn tell<R: Wait>(&self, rt: &R, line: Result<String, AllocError>) {
         let mut waiting = self.waiting.lock(rt);
         let has_place = waiting.lines.len() < MAX_WAITING;

@@ -1,5 +1,5 @@
-//! The line that is told of each event, where that is asked for: who, which pod, the request and its answer, the
-//! messages as they are written.
+//! The line that is told of each event, where that is asked for: who, which pod, the request and its answer,
+//! the messages as they are written.
 
 use cri_msgs::{Reply, Request, Version};
 use runtime_core::uid_of;

@@ -107,8 +107,8 @@ fn cells(rt: HostRuntime) -> Result<(), Fail> {
     Ok(())
 }
 
-// The filters of a start: the node's own denies `getpid` (39), those of profiles `getppid` (110) and, in its turn,
-// `getpid`; RuntimeDefault denies `ptrace` (101). Of two data the newer filter's counts.
+// The filters of a start: the node's own denies `getpid` (39), those of profiles `getppid` (110) and, in its
+// turn, `getpid`; RuntimeDefault denies `ptrace` (101). Of two data the newer filter's counts.
 const FILTERS: &str = r#"RunPodSandbox u1=>ok
 CreateContainer u1 a 0 a.json open calls=>{"container":1}
 StartContainer u1 a 0=>ok
@@ -137,7 +137,8 @@ fn filters(rt: HostRuntime) -> Result<(), Fail> {
     Ok(())
 }
 
-// Sends a request to a registry that is lent this list, and tells whether the answer is the one that is wanted.
+// Sends a request to a registry that is lent this list, and tells whether the answer is the one that is
+// wanted.
 fn is_answered(
     alloc: Global,
     registry: &mut Registry,

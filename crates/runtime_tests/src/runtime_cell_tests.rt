@@ -191,8 +191,8 @@ fn performs(cell: &mut Cell) -> usize {
     5000
 }
 
-// Seven filters of 4,096 instructions and one of 4,000 count 7 * 4,100 + 4,004; one of one instruction counts 5
-// more. The stack has place for 13 of these.
+// Seven filters of 4,096 instructions and one of 4,000 count 7 * 4,100 + 4,004; one of one instruction counts
+// 5 more. The stack has place for 13 of these.
 #[test]
 fn filters_are_added_up_to_the_limit(rt: HostRuntime) -> Result<(), Fail> {
     let stack = allowing(&rt, &[4096, 4096, 4096, 4096, 4096, 4096, 4096, 4000])?;

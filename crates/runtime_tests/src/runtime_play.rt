@@ -11,10 +11,10 @@ use std::test::Fail;
 
 // A runtime that is played with lines of words, and how many requests it was sent.
 //
-// A request is its call and uid; then, where the call has them, name and attempt; then the grace, or the image and
-// the profile: `open`, `default`, or the path of a file. At the end stand the answers of the files that it needs,
-// the script's and the profile's, by the names below. Other lines are `step ID`, `ends ID` (steps until the script
-// goes on no more), `kill ID CODE`, `cell ID`, `record ID` and `next ID`.
+// A request is its call and uid; then, where the call has them, name and attempt; then the grace, or the
+// image and the profile: `open`, `default`, or the path of a file. At the end stand the answers of the files
+// that it needs, the script's and the profile's, by the names below. Other lines are `step ID`, `ends ID`
+// (steps until the script goes on no more), `kill ID CODE`, `cell ID`, `record ID` and `next ID`.
 #[derive(Drop)]
 pub(crate) struct Play {
     alloc: Global,
@@ -80,8 +80,8 @@ fn reads(alloc: Global, times: usize) -> Result<String, AllocError> {
     Ok(names)
 }
 
-// A profile that names `read` so often without a condition, and so often with one. It weighs 7, 8 for each of the
-// former and 14 for each of the latter. Above 4,096 it is not compiled; no weight is even.
+// A profile that names `read` so often without a condition, and so often with one. It weighs 7, 8 for each of
+// the former and 14 for each of the latter. Above 4,096 it is not compiled; no weight is even.
 fn long_profile(alloc: Global, plain: usize, tested: usize) -> Result<String, AllocError> {
     let (plain, tested) = (reads(alloc, plain)?, reads(alloc, tested)?);
     format!(in alloc;
@@ -174,8 +174,8 @@ fn record_text(alloc: Global, cell: Option<&Cell>) -> Result<String, AllocError>
     Ok(text)
 }
 
-// The answer that is wanted, as the last reply has it: `ok`, what stands there, or the number of a refusal. Other
-// lines tell what stands there.
+// The answer that is wanted, as the last reply has it: `ok`, what stands there, or the number of a refusal.
+// Other lines tell what stands there.
 pub(crate) fn wanted(alloc: Global, number: u64, want: &str) -> Result<String, AllocError> {
     if want == "ok" {
         format!(in alloc; "{{\"id\":{number},\"ok\":{{}},\"v\":2}}")

@@ -1,4 +1,5 @@
-//! Worker 0 tells the time: by a counter that moves on where nothing else can happen, or by the machine's clock.
+//! Worker 0 tells the time: by a counter that moves on where nothing else can happen, or by the machine's
+//! clock.
 ghost use Rattle.std.specs.Prelude.{◌≡◌};
 
 use crate::coordinator::Coordinator;
@@ -13,8 +14,8 @@ use worker_core::AgentEvent;
 /// How the time is told, and up to which moment, in seconds from the start.
 #[derive(Clone, Copy, Debug, PartialEq, Eq)]
 pub enum Pace {
-    /// A counter from 0, which moves to the next moment at which a request is due once none is and no pod is held.
-    /// It ends where each pod is Succeeded or Failed, and before a moment above this one.
+    /// A counter from 0, which moves to the next moment at which a request is due once none is and no pod is
+    /// held. It ends where each pod is Succeeded or Failed, and before a moment above this one.
     Counted(u64),
     /// The machine's clock. It ends at this moment, if there is one.
     Machine(Option<u64>),

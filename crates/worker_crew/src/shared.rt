@@ -22,8 +22,9 @@ struct Guarded<L: Ledger> {
 #[derive(Drop)]
 pub struct Shared<L: Ledger> {
     guarded: Mutex<Guarded<L>>,
-    // Wakes the workers that were given nothing: at each entry of worker 0, when a worker ends, and once the book
-    // is closed. The end of a claim makes nothing due but its own pod, and whoever held that claims next.
+    // Wakes the workers that were given nothing: at each entry of worker 0, when a worker ends, and once the
+    // book is closed. The end of a claim makes nothing due but its own pod, and whoever held that claims
+    // next.
     due: Condvar,
     // Wakes worker 0: at each entry that is no claim, when a worker ends, and once the book is closed.
     changed: Condvar,
@@ -108,8 +109,8 @@ impl<L: Ledger> Shared<L> {
         recorded
     }
 
-    /// Records how a worker's claim ended, whose last entry has this number, and wakes worker 0. None where the
-    /// book took no entry.
+    /// Records how a worker's claim ended, whose last entry has this number, and wakes worker 0. None where
+    /// the book took no entry.
     pub(crate) fn report<R: Wait>(
         &self,
         rt: &R,
@@ -134,8 +135,8 @@ impl<L: Ledger> Shared<L> {
         recorded
     }
 
-    /// Waits until a request is due, and claims it for the worker. None where the book is closed, or takes no claim.
-    /// A worker that waits makes no entry.
+    /// Waits until a request is due, and claims it for the worker. None where the book is closed, or takes no
+    /// claim. A worker that waits makes no entry.
     pub(crate) fn claim<R: Wait>(
         &self,
         rt: &R,

@@ -218,8 +218,8 @@ impl PodState {
         call_by(self.alloc, &self.pod, self.settings, chosen)
     }
 
-    /// The claim of this request ends at this moment, in seconds. Where there is no memory to record all exits
-    /// that were told, nothing changes.
+    /// The claim of this request ends at this moment, in seconds. Where there is no memory to record all
+    /// exits that were told, nothing changes.
     #[tactic(auto, using(crate::proofs::Silent::given_up, crate::proofs::Fresh::all_later))]
     pub fn ended(&mut self, now: u64, request: &Request, outcome: Outcome) -> Result<(), AllocError>
         requires { self.old.latest ≤ now }

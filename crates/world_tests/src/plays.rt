@@ -12,8 +12,8 @@ use world::{Act, World, WorldEvent};
 //   admit NAME, delete NAME, claim WORKER, tick MOMENT, abandon WORKER, report WORKER PLACE, lose WORKER, step ID,
 //   kill ID CODE, and serve PLACE, behind which stand the faults of its files, the script's and the profile's, where
 //   they can't be read.
-// What came of a line is told: of a claim the request that was sent, of a serving what was answered, of a step the
-// state of the cell, or the fault.
+// What came of a line is told: of a claim the request that was sent, of a serving what was answered, of a
+// step the state of the cell, or the fault.
 #[derive(Drop)]
 pub(crate) struct Play {
     alloc: Global,
