@@ -34,7 +34,7 @@ fn request_in(alloc: Global, version: Version, frame: &str) -> Option<Request> {
 // A wire on which these bytes come, in pieces of so many, and whose call with this number fails.
 fn wire(alloc: Global, input: &[u8], piece: usize, failing: u64) -> Option<MemoryWire> {
     let input = Vec::from_slice(alloc, input).ok()?;
-    let mut wire = MemoryWire::new(alloc, input, piece.max(1));
+    let mut wire = MemoryWire::new(alloc, input, piece.max(1), 1024).ok()?;
     wire.fail_call(failing);
     Some(wire)
 }

@@ -1,15 +1,17 @@
-ghost use Rattle.std.specs.Prelude.{◌≡◌, min, length, take};
+ghost use Rattle.std.specs.Prelude.{◌≡◌, ◌+◌, ◌++◌, ◌≤◌, min, length, take, vec_capacity, vec_len};
 
 use crate::wire::{Wire, WireFault};
-use std::alloc::Global;
+use std::alloc::{AllocError, Global};
 use std::marker::Model;
 
-/// A wire in memory, which fails when it is told to. It moves at most so many bytes a call.
+/// A wire in memory, which fails when it is told to. It moves at most so many bytes a call, and has place from
+/// the start for all that it takes, so that no write lacks memory.
 #[derive(Drop)]
 pub struct MemoryWire {
     input: Vec<u8>,
     at: usize,
     written: Vec<u8>,
+    place: usize,
     piece: usize,
     calls: u64,
     failing: u64,
@@ -17,40 +19,48 @@ pub struct MemoryWire {
 }
 
 impl Model for MemoryWire {
-    ghost use Rattle.std.specs.Prelude.{◌<◌, ◌≤◌, drop, vec_len};
+    ghost use Rattle.std.specs.Prelude.{◌+◌, ◌<◌, ◌≤◌, drop, vec_capacity, vec_len};
     ghost use Rattle.node_io.specs.Tape.{Tape};
 
     ghost Value = { Tape };
 
-    ghost view = { λ w. record { input = drop w.at w.input.items; written = w.written.items; piece = w.piece; calls = w.calls; failing = w.failing; failures = w.failures } };
+    ghost view = { λ w. record { input = drop w.at w.input.items; written = w.written.items; place = w.place; piece = w.piece; calls = w.calls; failing = w.failing; failures = w.failures } };
 
-    ghost invariant = { λ w. (w.at ≤ vec_len w.input) × (0 < w.piece) };
+    ghost invariant = { λ w. (w.at ≤ vec_len w.input) × (vec_len w.written + w.place ≤ vec_capacity w.written) × (0 < w.piece) };
 }
 
 impl MemoryWire {
-    ghost use Rattle.std.specs.Prelude.{◌≡◌, ◌<◌, ◌≤◌, []};
+    ghost use Rattle.std.specs.Prelude.{◌≡◌, ◌<◌, ◌≤◌, IfOk, []};
     ghost use Rattle.node_io.specs.Tape.{counted, fails_next};
 
-    /// A wire on which these bytes come, and then the end. None of its calls fails.
-    pub fn new(alloc: Global, input: Vec<u8>, piece: usize) -> MemoryWire
+    /// A wire on which these bytes come, and then the end, with place for so many written ones. None of its
+    /// calls is told to fail.
+    pub fn new(
+        alloc: Global,
+        input: Vec<u8>,
+        piece: usize,
+        place: usize,
+    ) -> Result<MemoryWire, AllocError>
         requires { 0 < piece }
-        ensures { result ≡ record { input = input.items; written = []; piece = piece; calls = 0; failing = 0; failures = 0 } }
+        ensures { IfOk result (λ wire. wire ≡ record { input = input.items; written = []; place = place; piece = piece; calls = 0; failing = 0; failures = 0 }) }
     {
-        MemoryWire {
+        let written = Vec::with_capacity(alloc, place)?;
+        Ok(MemoryWire {
             input,
             at: 0,
-            written: Vec::new(alloc),
+            written,
+            place,
             piece,
             calls: 0,
             failing: 0,
             failures: 0,
-        }
+        })
     }
 
     /// Makes the read or write with this number fail, counted from 1 for the first call. All others go
     /// on.
     pub fn fail_call(&mut self, number: u64)
-        ensures { self.new ≡ record { input = self.old.input; written = self.old.written; piece = self.old.piece; calls = self.old.calls; failing = number; failures = self.old.failures } }
+        ensures { self.new ≡ record { input = self.old.input; written = self.old.written; place = self.old.place; piece = self.old.piece; calls = self.old.calls; failing = number; failures = self.old.failures } }
     {
         self.failing = number;
     }
@@ -91,11 +101,23 @@ fn give(from: &[u8], buf: &mut [u8], piece: usize) -> usize
     count
 }
 
+// Adds bytes to a list that has room for them.
+fn keep(list: &mut Vec<u8>, bytes: &[u8])
+    requires { vec_len list.old + length bytes.now ≤ vec_capacity list.old }
+    ensures bytes { list.new.items ≡ list.old.items ++ bytes.now }
+    ensures count { vec_len list.new ≡ vec_len list.old + length bytes.now }
+    ensures room { vec_capacity list.old ≤ vec_capacity list.new }
+{
+    if list.extend_from_slice(bytes).is_err() {
+        prove!(false);
+    }
+}
+
 impl Wire for MemoryWire {
     ghost use Rattle.std.specs.Prelude.{◌≡◌, ◌<◌, ◌≤◌, ◌↔◌, true, if◌then◌else◌, IfOk, IsErr, OnErr, Some, length, take};
     ghost use Rattle.std.specs.Io.KnownBytes.{Keeps, ReadConsumes, WriteAppends};
     ghost use Rattle.node_io.specs.Counts.{HasRisen};
-    ghost use Rattle.node_io.specs.Tape.{counted, failed_more, fails_next, readable, with_read, with_written, writable};
+    ghost use Rattle.node_io.specs.Tape.{counted, failed_more, fails_next, readable, with_read, with_written, writable, write_fails};
 
     ghost input = { λ w. Some w.input };
 
@@ -127,10 +149,9 @@ impl Wire for MemoryWire {
         Ok(count)
     }
 
-    // Where there is no memory for what is written, that is a failure of this device too.
     fn write(&mut self, bytes: &[u8]) -> Result<usize, WireFault>
-        // It fails where it is told to, and then moves nothing.
-        ensures fails { fails_next self.old ≡ true → IsErr result }
+        // It fails where it is told to, and where it is full, and then moves nothing.
+        ensures fails { IsErr result ↔ (write_fails self.old (length bytes.now) ≡ true) }
         ensures err { OnErr result (self.new ≡ (if fails_next self.old then counted self.old else failed_more (counted self.old))) }
         ensures count { IfOk result (λ n. n ≡ writable self.old (length bytes.now)) }
         ensures ok { IfOk result (λ n. self.new ≡ with_written (counted self.old) (take n bytes.now)) }
@@ -146,11 +167,13 @@ impl Wire for MemoryWire {
         if self.fails() {
             return Err(WireFault);
         }
-        let count = bytes.len().min(self.piece);
-        if self.written.extend_from_slice(&bytes[..count]).is_err() {
+        if !bytes.is_empty() && self.place == 0 {
             self.failures = self.failures.saturating_add(1);
             return Err(WireFault);
         }
+        let count = bytes.len().min(self.piece).min(self.place);
+        keep(&mut self.written, &bytes[..count]);
+        self.place -= count;
         Ok(count)
     }
 

@@ -2,3 +2,4 @@ pub mod Outcomes
 pub mod Follows
 pub mod Grows
 pub mod Kept
+pub mod Counted

@@ -44,6 +44,11 @@ IsUnended Created = Unit {0}
 IsUnended Running = Unit {0}
 IsUnended (Exited code killed) = ⊥
 
+-- the record that is kept: the judged calls so far, and for how many there is room in all
+pub record Recorded : Type 0 where
+  pub items : List JudgedCall
+  pub room : ℕ
+
 -- the cell that is kept: the filters from the start on stand before those that were added
 abbrev pub seen : Label → List Step → Option Profile → List (List Insn) → ℕ → List JudgedCall → State → Cell
 seen label script profile filters start entries state = record {

@@ -1,4 +1,4 @@
-ghost use Rattle.std.specs.Prelude.{◌≡◌, ◌+◌, ◌<◌, ◌≤◌, ◌++◌, ◌∷◌, [], IfOk, IfSome, IsTrue, option_map, count_by, drop, length, not, option_to_list, slice_get, vec_len, vec_capacity};
+ghost use Rattle.std.specs.Prelude.{◌≡◌, ◌+◌, ◌<◌, ◌≤◌, ◌++◌, ◌∷◌, [], IfOk, IfSome, IsTrue, option_map, count_by, drop, length, not, option_to_list, slice_get};
 ghost use Rattle.verdict.specs.Stack.{AllSound};
 ghost use Rattle.runtime_cell.specs.Cell.{Confines, FollowsScript, Steps, alone, exit_of, filters_of, fresh, killed, started, step_in, told_of_entry};
 ghost use Rattle.runtime_cell.specs.Keeps.{IsUnended, next_by};
@@ -8,6 +8,7 @@ use crate::acts::{Act, call_act, code_at, install_act};
 use crate::calls::{JudgedCall, install_call};
 use crate::copies::{copies, take_copy};
 use crate::label::{Label, Text};
+use crate::record::{Counts, Record};
 use action::Verdict;
 use bpf_verify::Filter;
 use oci_profile::Profile;
@@ -41,13 +42,6 @@ pub enum State {
     Exited { code: u8, killed: bool },
 }
 
-/// How many of the calls of a record were performed, and how many were not.
-#[derive(Clone, Copy, Debug, PartialEq, Eq)]
-pub struct Counts {
-    pub performed: usize,
-    pub denied: usize,
-}
-
 /// A container: its script under its filters, its state and its record.
 #[derive(Drop)]
 pub struct Cell {
@@ -59,12 +53,12 @@ pub struct Cell {
     start: usize,
     /// Copies of the filters that the rest of the script installs.
     copies: VecDeque<Filter>,
-    entries: Vec<JudgedCall>,
+    entries: Record,
     state: State,
 }
 
 impl Model for Cell {
-    ghost use Rattle.std.specs.Prelude.{◌≤◌, length, take, drop, vec_capacity};
+    ghost use Rattle.std.specs.Prelude.{◌≤◌, length, take, drop};
     ghost use Rattle.runtime_cell.specs.Cell.{Cell, FollowsScript, IsWellMade};
     ghost use Rattle.runtime_cell.specs.Keeps.{IsReadyIn, seen};
 
@@ -73,7 +67,7 @@ impl Model for Cell {
     ghost view = { λ c. seen c.label c.script c.profile c.stack.filters c.start c.entries.items c.state };
 
     // The record has room for an entry of each step, and the stack for each filter that is installed.
-    ghost invariant = { λ c. (c.start ≤ length c.stack.filters) × (length c.script ≤ vec_capacity c.entries)
+    ghost invariant = { λ c. (c.start ≤ length c.stack.filters) × (length c.script ≤ c.entries.room)
         × IsReadyIn c.state c.script (length c.entries.items) c.copies.items c.stack.room
         × IsWellMade (seen c.label c.script c.profile c.stack.filters c.start c.entries.items c.state).making
         × FollowsScript (seen c.label c.script c.profile c.stack.filters c.start c.entries.items c.state) };
@@ -151,17 +145,17 @@ impl Cell {
         match act {
             Act::Goes(entry) => {
                 drop(copy);
-                add(&mut self.entries, entry);
+                self.entries.add(entry);
                 told_of(entry)
             }
             Act::Adds(entry) => {
-                add(&mut self.entries, entry);
+                self.entries.add(entry);
                 install(&mut self.stack, copy);
                 told_of(entry)
             }
             Act::Stops(entry, code) => {
                 drop(copy);
-                add(&mut self.entries, entry);
+                self.entries.add(entry);
                 self.state = State::Exited {
                     code,
                     killed: false,
@@ -226,7 +220,7 @@ impl Cell {
         ensures performed { result.performed ≡ count_by (λ entry. entry.performed) self.now.entries }
         ensures denied { result.denied ≡ count_by (λ entry. not entry.performed) self.now.entries }
     {
-        counted(self.entries.as_slice())
+        self.entries.counts()
     }
 
     /// How many filters its script added.
@@ -253,7 +247,7 @@ impl Cell {
         let copies = copies(alloc, script.steps())?;
         stack.reserve(copies.len())?;
         let start = stack.filters().len();
-        let entries = Vec::with_capacity(alloc, script.len())?;
+        let entries = Record::with_capacity(alloc, script.len())?;
         Ok(Cell {
             label,
             script,
@@ -290,17 +284,6 @@ impl Cell {
     }
 }
 
-/// Adds an entry to a record that has room for it.
-fn add(entries: &mut Vec<JudgedCall>, entry: JudgedCall)
-    requires { vec_len entries.old < vec_capacity entries.old }
-    ensures items { entries.new.items ≡ entries.old.items ++ entry ∷ [] }
-    ensures room { vec_capacity entries.old ≤ vec_capacity entries.new }
-{
-    if entries.push(entry).is_err() {
-        prove!(false);
-    }
-}
-
 /// Adds the filter, if there is one, to a stack that has room and place for it.
 fn install(stack: &mut Stack, filter: Option<Filter>)
     requires room { length (option_to_list filter) ≤ stack.old.room }
@@ -312,16 +295,6 @@ fn install(stack: &mut Stack, filter: Option<Filter>)
         if stack.push(filter).is_err() {
             prove!(false);
         }
-    }
-}
-
-fn counted(entries: &[JudgedCall]) -> Counts
-    ensures performed { result.performed ≡ count_by (λ entry. entry.performed) entries.now }
-    ensures denied { result.denied ≡ count_by (λ entry. not entry.performed) entries.now }
-{
-    Counts {
-        performed: entries.iter().filter(|entry| entry.performed).count(),
-        denied: entries.iter().filter(|entry| !entry.performed).count(),
     }
 }
 

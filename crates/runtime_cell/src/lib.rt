@@ -12,11 +12,13 @@ mod cell;
 mod copies;
 mod label;
 mod laws;
+mod record;
 
 pub use calls::{ENOMEM, JudgedCall, KILLED, SECCOMP, SET_MODE_FILTER, install_call};
-pub use cell::{Cell, Counts, Did, State};
+pub use cell::{Cell, Did, State};
 pub use label::{Label, Text};
 pub use laws::{
     calls_are_judged_by_all_filters, cells_follow_their_scripts, cells_only_grow,
     constants_are_as_stated, outcomes_are_determined,
 };
+pub use record::Counts;

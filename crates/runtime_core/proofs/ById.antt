@@ -2,16 +2,17 @@
 use Rattle.std.proofs.Common.{◌≡◌, ◌≢◌, ◌↔◌, inl, inr, ℕ, false, List, [], ◌∷◌, ◌++◌, map, Option, Some, None, IsSome, is_some, unwrap_or, refl, sym, ap, ◌∙◌, subst}
 use Rattle.runtime_cell.specs.declared.cell.Did.{Did}
 use Rattle.runtime_cell.specs.Cell.{Cell, Steps, killed}
-use Rattle.runtime_core.specs.declared.known.Known.{Known}
-use Rattle.runtime_core.specs.declared.known.Known.TheVariants as known
-use Rattle.runtime_core.specs.declared.registry.Registry.{Registry}
-use Rattle.runtime_core.specs.declared.stage.Stage.{Stage}
-use Rattle.runtime_core.specs.declared.stage.Stage.TheVariants as stage
-use Rattle.runtime_core.specs.Kept.{HasNoneIn, IsNextIn, MayKillIn, MayStepIn, MovesIn, ReadsIn, home_in, known_in, stage_of}
-use Rattle.runtime_core.specs.Runtime.{In, id_of}
-use Rattle.runtime_core.specs.Stands.{Agrees, IsEmptyIn, IsListFor, IsWhole, RiseAbove, cells_in, cells_of, ids_in, list_in, runtime_of, sandbox_of, stages_in, used_of}
+use Rattle.registry.specs.declared.known.Known.{Known}
+use Rattle.registry.specs.declared.known.Known.TheVariants as known
+use Rattle.registry.specs.declared.registry.Registry.{Registry}
+use Rattle.registry.specs.declared.stage.Stage.{Stage}
+use Rattle.registry.specs.declared.stage.Stage.TheVariants as stage
+use Rattle.registry.specs.Kept.{HasNoneIn, IsNextIn, MayKillIn, MayStepIn, MovesIn, ReadsIn, home_in, known_in, stage_of}
+use Rattle.registry.specs.Runtime.{In, id_of}
+use Rattle.registry.specs.Stands.{Agrees, IsEmptyIn, RiseAbove, cells_of, runtime_of, sandbox_of, stages_in, used_of}
+use Rattle.runtime_core.specs.Stands.{IsListFor, IsWhole, cells_in, ids_in, list_in}
 use Rattle.runtime_core.specs.Steps.{HasNone, HasOne, IsNext, MayKill, MayStep, MovesCell, Reads}
-use Rattle.runtime_core.proofs.Serving.{text_cases}
+use Rattle.registry.proofs.Texts.{text_cases}
 
 in_ids : (cells : List Cell) (cell : Cell) → In cell cells → In (id_of cell) (map id_of cells)
 in_ids [] cell among = elim among [ ]

@@ -1,15 +1,3 @@
-pub mod Firsts
-pub mod Named
-pub mod Places
-pub mod Sames
-pub mod Texts
-pub mod Changed
-pub mod Counts
-pub mod HomeTexts
-pub mod Ids
-pub mod Agreeing
-pub mod Removing
-pub mod Placing
 pub mod Listed
 pub mod Serving
 pub mod Stays

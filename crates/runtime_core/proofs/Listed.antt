@@ -5,9 +5,9 @@ use Rattle.std.specs.BTreeMap.{BTreeMap, get_by_text}
 use Rattle.std.specs.String.{string_cmp}
 use Rattle.std.proofs.lemmas.Map.Text.{text_cmp}
 use Rattle.runtime_cell.specs.Cell.{Cell}
-use Rattle.runtime_core.specs.Kept.{by_bytes}
+use Rattle.registry.specs.Kept.{by_bytes}
 use Rattle.runtime_core.specs.Stands.{cells_in, list_in}
-use Rattle.runtime_core.proofs.Texts.{elsewhere, found, here}
+use Rattle.registry.proofs.Texts.{elsewhere, found, here}
 
 -- a list was there and became another one
 pub record Becomes (old new : List (List ℕ × List Cell)) (uid : List ℕ) (cells later : List Cell) : Type 0 where

@@ -1,26 +1,16 @@
 -- What is done to one sandbox is a step of the runtime, and all that is kept agrees still.
-use Rattle.std.proofs.Common.{◌≡◌, ◌≢◌, ◌⊎◌, inl, inr, ℕ, Bool, true, false, List, [], unwrap_or, refl, sym, ap, ◌∙◌, subst}
-use Rattle.std.specs.Str.{bytes_eq}
-use Rattle.std.proofs.lemmas.Slice.Eq.{bytes_eq-Decides}
+use Rattle.std.proofs.Common.{◌≡◌, ◌≢◌, inl, inr, ℕ, List, [], unwrap_or, sym, ap, ◌∙◌, subst}
 use Rattle.cri_msgs.specs.declared.calls.Call.{Call}
 use Rattle.cri_msgs.specs.declared.replies.Answer.{Answer}
 use Rattle.runtime_cell.specs.Cell.{Cell}
-use Rattle.runtime_core.specs.declared.files.FileAnswers.{FileAnswers}
-use Rattle.runtime_core.specs.declared.registry.Registry.{Registry}
-use Rattle.runtime_core.specs.Kept.{known_in, stage_of}
+use Rattle.creation.specs.declared.files.FileAnswers.{FileAnswers}
+use Rattle.registry.specs.declared.registry.Registry.{Registry}
+use Rattle.registry.specs.Kept.{known_in, stage_of}
 use Rattle.cri_msgs.specs.Calls.{uid_of}
-use Rattle.runtime_core.specs.Serves.{Serves, ServesIn}
-use Rattle.runtime_core.specs.Stands.{Agrees, IsEmptyIn, IsListFor, IsWhole, LendsTo, around_in, cells_in, list_in, part_in, runtime_of, sandbox_of, stages_in}
-
-same_or_not : (b : Bool) (u v : List ℕ) → bytes_eq u v ≡ b → (u ≡ v) ⊎ (u ≢ v)
-same_or_not true u v is = inl ((bytes_eq-Decides u v).0 is)
-same_or_not false u v is = inr (λ same. differ (sym ((bytes_eq-Decides u v).1 same) ∙ is))
-  where
-    differ : true ≡ false → ⊥
-    differ e = cc
-
-pub text_cases : (u v : List ℕ) → (u ≡ v) ⊎ (u ≢ v)
-text_cases u v = same_or_not (bytes_eq u v) u v refl
+use Rattle.registry.specs.Serves.{Serves, ServesIn}
+use Rattle.registry.specs.Stands.{Agrees, IsEmptyIn, around_in, part_in, runtime_of, sandbox_of, stages_in}
+use Rattle.registry.proofs.Texts.{text_cases}
+use Rattle.runtime_core.specs.Stands.{IsListFor, IsWhole, LendsTo, cells_in, list_in}
 
 module _ (old new : Registry) (lists later : List (List ℕ × List Cell)) (call : Call) (files : FileAnswers) (answer : Answer) (before behind : List Cell)
     (whole : IsWhole old lists) (was : cells_in lists (uid_of call) ≡ before) (is : cells_in later (uid_of call) ≡ behind)

@@ -7,12 +7,12 @@ use Rattle.cri_msgs.specs.declared.replies.Answer.TheVariants as answers
 use Rattle.runtime_cell.specs.declared.cell.State.{State}
 use Rattle.runtime_cell.specs.declared.cell.State.TheVariants as state
 use Rattle.runtime_core.specs.declared.calls.Kind.TheVariants.{Runs, Removes, Other}
-use Rattle.runtime_core.specs.declared.files.FileAnswers.{FileAnswers}
-use Rattle.runtime_core.specs.declared.stage.Stage.{Stage}
-use Rattle.runtime_core.specs.declared.stage.Stage.TheVariants.{Unknown, Live, Removed}
-use Rattle.runtime_core.specs.Runtime.{Sandbox, Slot, slot_in}
-use Rattle.runtime_core.specs.Runtime.Slot.{Free, There, Gone}
-use Rattle.runtime_core.specs.Serves.{Around, Becomes, Creates, CreatesIn, Part, Removes as RemovesRow, RemovesPod, RunsPod, Says, ServesIn, Shows, Starts, StartsCell, StartsIn, Stops, StopsPod}
+use Rattle.creation.specs.declared.files.FileAnswers.{FileAnswers}
+use Rattle.registry.specs.declared.stage.Stage.{Stage}
+use Rattle.registry.specs.declared.stage.Stage.TheVariants.{Unknown, Live, Removed}
+use Rattle.registry.specs.Runtime.{Sandbox, Slot, slot_in}
+use Rattle.registry.specs.Runtime.Slot.{Free, There, Gone}
+use Rattle.registry.specs.Serves.{Around, Becomes, Creates, CreatesIn, Part, Removes as RemovesRow, RemovesPod, RunsPod, Says, ServesIn, Shows, Starts, StartsCell, StartsIn, Stops, StopsPod}
 use Rattle.runtime_core.specs.Stays.{kind_of}
 
 abbrev pub alive : Stage → Bool

@@ -3,13 +3,14 @@ use Rattle.std.proofs.Common.{◌≡◌, ◌≢◌, ℕ, false, List, [], Option
 use Rattle.cri_msgs.specs.declared.calls.Call.{Call}
 use Rattle.cri_msgs.specs.declared.replies.Answer.{Answer}
 use Rattle.runtime_cell.specs.Cell.{Cell}
-use Rattle.runtime_core.specs.declared.files.FileAnswers.{FileAnswers}
-use Rattle.runtime_core.specs.declared.registry.Registry.{Registry}
-use Rattle.runtime_core.specs.declared.stage.Stage.{Stage}
-use Rattle.runtime_core.specs.declared.stage.Stage.TheVariants as stage
+use Rattle.creation.specs.declared.files.FileAnswers.{FileAnswers}
+use Rattle.registry.specs.declared.registry.Registry.{Registry}
+use Rattle.registry.specs.declared.stage.Stage.{Stage}
+use Rattle.registry.specs.declared.stage.Stage.TheVariants as stage
 use Rattle.cri_msgs.specs.Calls.{uid_of}
-use Rattle.runtime_core.specs.Serves.{Serves}
-use Rattle.runtime_core.specs.Stands.{Agrees, AreBound, IsEmptyIn, IsListFor, IsWhole, Lends, LendsTo, cells_in, list_in, runtime_of, stages_in}
+use Rattle.registry.specs.Serves.{Serves}
+use Rattle.registry.specs.Stands.{Agrees, AreBound, IsEmptyIn, runtime_of, stages_in}
+use Rattle.runtime_core.specs.Stands.{IsListFor, IsWhole, Lends, LendsTo, cells_in, list_in}
 use Rattle.runtime_core.proofs.ById.{still_list}
 use Rattle.runtime_core.proofs.Serving.{serves, whole_still}
 use Rattle.runtime_core.proofs.Stays.{alive}

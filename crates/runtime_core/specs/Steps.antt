@@ -2,8 +2,8 @@
 use Rattle.std.specs.Prelude.{◌≡◌, ◌≢◌, ◌<◌, ◌≤◌, ℕ, List, ◌∷◌, ◌++◌, Option, Some, None}
 use Rattle.runtime_cell.specs.declared.cell.Did.{Did}
 use Rattle.runtime_cell.specs.Cell.{Cell, Steps, killed}
-use Rattle.runtime_core.specs.Runtime.{In, Runtime, id_of}
-use Rattle.runtime_core.specs.Serves.{with_cells}
+use Rattle.registry.specs.Runtime.{In, Runtime, id_of}
+use Rattle.registry.specs.Serves.{with_cells}
 
 -- no cell has the id
 abbrev pub HasNone : Runtime → ℕ → Type 0

@@ -1,14 +1,13 @@
 //! The lists of cells of all sandboxes that are there.
 ghost use Rattle.std.specs.Prelude.{◌≡◌, ◌≢◌, ℕ, List, [], Some, None, OnOk, OnErr, option_copied, is_some};
-ghost use Rattle.runtime_core.specs.Kept.{by_bytes, MayKillIn, MayStepIn, ReadsIn};
+ghost use Rattle.registry.specs.Kept.{by_bytes, MayKillIn, MayStepIn, ReadsIn};
 ghost use Rattle.cri_msgs.specs.Calls.{uid_of};
 ghost use Rattle.runtime_core.specs.Stands.{cells_in, ids_in, list_in, Lends};
 
 use crate::calls::uid_of;
-use crate::cells::Cells;
-use crate::files::FileAnswers;
-use crate::registry::Registry;
+use creation::FileAnswers;
 use cri_msgs::{Reply, Request};
+use registry::{Cells, Registry};
 use runtime_cell::{Cell, Did};
 use std::alloc::{AllocError, Global};
 use std::collections::BTreeMap;
@@ -17,14 +16,14 @@ use std::marker::Model;
 /// The lists of cells, by the uids of their sandboxes. Contracts see a list of both.
 #[derive(Drop)]
 pub(crate) struct Lists {
-    alloc: Global,
+    pub(crate) alloc: Global,
     map: BTreeMap<String, Cells>,
 }
 
 impl Model for Lists {
     ghost use Rattle.std.specs.Prelude.{ℕ, List};
     ghost use Rattle.runtime_cell.specs.Cell.{Cell};
-    ghost use Rattle.runtime_core.specs.Kept.{by_bytes};
+    ghost use Rattle.registry.specs.Kept.{by_bytes};
 
     ghost Value = { List (List ℕ × List Cell) };
 
@@ -72,7 +71,15 @@ impl Lists {
         ensures lent { Lends registry.old registry.new request.call files result.answer (list_in self.old (uid_of request.call)) (list_in self.new (uid_of request.call)) }
         ensures others { (u : List ℕ) → u ≢ uid_of request.call → list_in self.new u ≡ list_in self.old u }
     {
-        lend_in(self.alloc, &mut self.map, registry, request, files)
+        let mut gone = Cells::new(self.alloc);
+        lend_in(
+            self.alloc,
+            &mut self.map,
+            &mut gone,
+            registry,
+            request,
+            files,
+        )
     }
 
     pub(crate) fn step(&mut self, uid: &str, id: u64) -> Option<Did>
@@ -123,6 +130,7 @@ fn take_in(alloc: Global, map: &mut BTreeMap<String, Cells>, uid: &str) -> Cells
 fn lend_in(
     alloc: Global,
     map: &mut BTreeMap<String, Cells>,
+    gone: &mut Cells,
     registry: &mut Registry,
     request: Request,
     files: FileAnswers,
@@ -132,10 +140,10 @@ fn lend_in(
     ensures others { (u : List ℕ) → u ≢ uid_of request.call → list_in (by_bytes map.new.entries) u ≡ list_in (by_bytes map.old.entries) u }
 {
     match map.get_mut(uid_of(&request.call).as_str()) {
-        Some(cells) => registry.serve_lent(cells, request, files),
+        Some(cells) => registry.serve_lent(cells, gone, request, files),
         None => {
             let mut none = Cells::new(alloc);
-            registry.serve_lent(&mut none, request, files)
+            registry.serve_lent(&mut none, gone, request, files)
         }
     }
 }

@@ -2,22 +2,22 @@
 ghost use Rattle.std.specs.Prelude.{◌≡◌, ◌≢◌, ℕ, List, [], Some, None, option_copied};
 ghost use Rattle.cri_msgs.specs.declared.replies.Answer.{Answer};
 ghost use Rattle.runtime_core.specs.declared.calls.Kind.{Kind};
-ghost use Rattle.runtime_core.specs.declared.stage.Stage.{Stage};
-ghost use Rattle.runtime_core.specs.Runtime.{empty};
+ghost use Rattle.registry.specs.declared.stage.Stage.{Stage};
+ghost use Rattle.registry.specs.Runtime.{empty};
 ghost use Rattle.cri_msgs.specs.Calls.{uid_of};
-ghost use Rattle.runtime_core.specs.Serves.{Serves};
-ghost use Rattle.runtime_core.specs.Stands.{Agrees, AreBound, IsListFor, IsWhole, LendsTo, cells_in, list_in, runtime_of, stages_in, stands_for};
+ghost use Rattle.registry.specs.Serves.{Serves};
+ghost use Rattle.registry.specs.Stands.{Agrees, AreBound, runtime_of, stages_in};
+ghost use Rattle.runtime_core.specs.Stands.{IsListFor, IsWhole, LendsTo, cells_in, list_in, stands_for};
 ghost use Rattle.runtime_core.specs.Stays.{kind_of};
 ghost use Rattle.runtime_core.specs.Steps.{MayKill, MayStep, Reads, IsNext};
 
 use crate::calls::{Kind, kind_of, uid_of};
-use crate::files::FileAnswers;
 use crate::lists::Lists;
-use crate::registry::Registry;
-use crate::stage::Stage;
 use bpf_verify::Filter;
+use creation::FileAnswers;
 use cri_msgs::{Answer, Refusal, Reply, Request};
 use manifest::Uid;
+use registry::{Cells, Registry, Stage};
 use runtime_cell::{Cell, Did};
 use std::alloc::{AllocError, Global};
 use std::marker::Model;
@@ -162,7 +162,7 @@ fn wake(registry: &mut Registry, lists: &mut Lists, request: Request, files: Fil
     if registry.is_full() {
         return refused(id, Refusal::ResourceExhausted);
     }
-    match uid_of(&request.call).try_clone(registry.alloc) {
+    match uid_of(&request.call).try_clone(lists.alloc) {
         Err(AllocError) => refused(id, Refusal::Memory),
         Ok(uid) => match lists.put(uid.as_str()) {
             Err(AllocError) => refused(id, Refusal::Memory),
@@ -230,7 +230,8 @@ fn remove_pod(
     ensures whole { IsWhole registry.new lists.new }
 {
     let mut cells = lists.take(uid_of(&request.call).as_str());
-    registry.serve_lent(&mut cells, request, files)
+    let mut gone = Cells::new(lists.alloc);
+    registry.serve_lent(&mut cells, &mut gone, request, files)
 }
 
 fn step(registry: &Registry, lists: &mut Lists, id: u64) -> Option<Did>

@@ -14,8 +14,8 @@ use Rattle.runtime_cell.specs.Cell.{Cell, FollowsScript, Making, Steps, filters_
 use Rattle.runtime_cell.specs.Laws.{IsAdded, IsLater, TakesUp}
 use Rattle.runtime_cell.specs.Outcome.{entry_of}
 use Rattle.runtime_laws.specs.Laws.{MakesAt, Performed, RunLaws, Seen, TookUp, TookUpAt}
-use Rattle.runtime_core.specs.Runtime.{In, id_of, slot_of}
-use Rattle.runtime_core.specs.Runtime.Slot.{Free, There}
+use Rattle.registry.specs.Runtime.{In, id_of, slot_of}
+use Rattle.registry.specs.Runtime.Slot.{Free, There}
 use Rattle.runtime_laws.specs.Runs.{Event, Happens, IsRun, Link}
 use Rattle.runtime_laws.specs.Runs.Event.{Stepped}
 use Rattle.runtime_laws.proofs.Slots.{CellGoes, keeps_making}

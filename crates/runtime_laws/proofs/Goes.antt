@@ -15,13 +15,13 @@ use Rattle.cri_msgs.specs.declared.replies.Answer.TheVariants.{Container}
 use Rattle.runtime_cell.specs.declared.cell.Did.{Did}
 use Rattle.runtime_cell.specs.declared.label.Label.{Label}
 use Rattle.runtime_cell.specs.Cell.{Cell, Making, Steps, killed}
-use Rattle.runtime_core.specs.declared.files.FileAnswers.{FileAnswers}
-use Rattle.runtime_core.specs.declared.stage.Stage.{Stage}
-use Rattle.runtime_core.specs.declared.stage.Stage.TheVariants.{Unknown, Live, Removed}
-use Rattle.runtime_core.specs.Runtime.{In, Runtime, Sandbox, Slot, container_in, container_of, empty, id_of, is_of, is_same, slot_at, slot_by, slot_in, slot_of}
-use Rattle.runtime_core.specs.Runtime.Slot.{Free, There, Gone}
+use Rattle.creation.specs.declared.files.FileAnswers.{FileAnswers}
+use Rattle.registry.specs.declared.stage.Stage.{Stage}
+use Rattle.registry.specs.declared.stage.Stage.TheVariants.{Unknown, Live, Removed}
+use Rattle.registry.specs.Runtime.{In, Runtime, Sandbox, Slot, container_in, container_of, empty, id_of, is_of, is_same, slot_at, slot_by, slot_in, slot_of}
+use Rattle.registry.specs.Runtime.Slot.{Free, There, Gone}
 use Rattle.cri_msgs.specs.Calls.{uid_of}
-use Rattle.runtime_core.specs.Serves.{Serves, around_of, part_of, with_cells}
+use Rattle.registry.specs.Serves.{Serves, around_of, part_of, with_cells}
 use Rattle.runtime_core.specs.Steps.{MayStep, MovesCell}
 use Rattle.runtime_laws.specs.Runs.{Event, Happens}
 use Rattle.runtime_laws.specs.Runs.Event.{Served, Stepped, Killed}

@@ -10,12 +10,12 @@ use Rattle.runtime_cell.specs.declared.cell.Did.{Did}
 use Rattle.runtime_cell.specs.declared.cell.State.TheVariants.{Created, Running}
 use Rattle.runtime_cell.specs.Cell.{Cell, Steps}
 use Rattle.runtime_cell.specs.Laws.{IsLater}
-use Rattle.runtime_core.specs.declared.stage.Stage.{Stage}
-use Rattle.runtime_core.specs.declared.stage.Stage.TheVariants.{Unknown, Live, Removed}
+use Rattle.registry.specs.declared.stage.Stage.{Stage}
+use Rattle.registry.specs.declared.stage.Stage.TheVariants.{Unknown, Live, Removed}
 use Rattle.runtime_laws.specs.Laws.{Answered, IsThere, LinkLaws, Makes, Seen, Starts, StepsOne, TookUpAt}
-use Rattle.runtime_core.specs.Runtime.{In, Runtime, Slot, slot_at, slot_of}
-use Rattle.runtime_core.specs.Runtime.Slot.{Free, There, Gone}
-use Rattle.runtime_core.specs.Serves.{Enters, Part, RemovesPod, Serves, part_of}
+use Rattle.registry.specs.Runtime.{In, Runtime, Slot, slot_at, slot_of}
+use Rattle.registry.specs.Runtime.Slot.{Free, There, Gone}
+use Rattle.registry.specs.Serves.{Enters, Part, RemovesPod, Serves, part_of}
 use Rattle.runtime_laws.specs.Runs.{Happens, IsRun, Link, now}
 use Rattle.runtime_laws.specs.Runs.Event.{Stepped}
 use Rattle.runtime_laws.proofs.Slots.{CellGoes, SlotGoes}

@@ -14,7 +14,7 @@ use Rattle.std.proofs.lemmas.Slice.Eq.{bytes_eq-Decides}
 use Rattle.cri_msgs.specs.Order.{container_cmp}
 use Rattle.cri_msgs.specs.declared.keys.ContainerMetadata.{ContainerMetadata}
 use Rattle.runtime_cell.specs.Cell.{Cell, Making}
-use Rattle.runtime_core.specs.Runtime.{AreDistinct, In, change_first, container_in, container_of, drop_first, is_of, is_same}
+use Rattle.registry.specs.Runtime.{AreDistinct, In, change_first, container_in, container_of, drop_first, is_of, is_same}
 
 container_is : (a b : ContainerMetadata) → a.name ≡ b.name → a.attempt ≡ b.attempt → a ≡ b
 container_is a b names attempts = λ i. record { name = names i; attempt = attempts i }

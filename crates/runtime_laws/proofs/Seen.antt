@@ -7,8 +7,8 @@ use Rattle.runtime_cell.specs.declared.cell.Did.{Did}
 use Rattle.runtime_cell.specs.Cell.{Cell, Steps, killed, started}
 use Rattle.runtime_cell.specs.Laws.{IsLater}
 use Rattle.runtime_laws.specs.Laws.{Seen}
-use Rattle.runtime_core.specs.Runtime.{In, Runtime, Slot, id_of, slot_of}
-use Rattle.runtime_core.specs.Runtime.Slot.{Free, There, Gone}
+use Rattle.registry.specs.Runtime.{In, Runtime, Slot, id_of, slot_of}
+use Rattle.registry.specs.Runtime.Slot.{Free, There, Gone}
 use Rattle.runtime_laws.specs.Runs.{Event, Happens, IsRun, Link, now}
 use Rattle.runtime_laws.proofs.Slots.{CellGoes, SlotGoes}
 use Rattle.runtime_laws.proofs.Slots.CellGoes.{stays, starts, ends, steps}

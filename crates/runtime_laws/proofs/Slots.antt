@@ -13,10 +13,10 @@ use Rattle.runtime_cell.specs.declared.cell.State.TheVariants.{Created, Running,
 use Rattle.runtime_cell.specs.Cell.{Cell, Steps, StepsIn, after, killed, started}
 use Rattle.runtime_cell.specs.Outcome.{Next}
 use Rattle.runtime_cell.specs.Outcome.Next.{Goes, Stops, Over}
-use Rattle.runtime_core.specs.declared.stage.Stage.{Stage}
-use Rattle.runtime_core.specs.declared.stage.Stage.TheVariants.{Unknown, Live, Removed}
-use Rattle.runtime_core.specs.Runtime.{AreDistinct, In, Sandbox, Slot, container_in, drop_first, id_of, is_of, is_same, slot_at, slot_by, slot_in}
-use Rattle.runtime_core.specs.Runtime.Slot.{Free, There, Gone}
+use Rattle.registry.specs.declared.stage.Stage.{Stage}
+use Rattle.registry.specs.declared.stage.Stage.TheVariants.{Unknown, Live, Removed}
+use Rattle.registry.specs.Runtime.{AreDistinct, In, Sandbox, Slot, container_in, drop_first, id_of, is_of, is_same, slot_at, slot_by, slot_in}
+use Rattle.registry.specs.Runtime.Slot.{Free, There, Gone}
 use Rattle.runtime_laws.specs.Runs.{Event}
 use Rattle.runtime_laws.specs.Runs.Event.{Stepped}
 use Rattle.runtime_laws.proofs.Lists.{AreMoved, IsLeft, Keeps, MovesFound, drop_distinct, drop_less, find_dropped, find_moved, found_there, in_more, in_map, is_same_as, more_distinct, moved_containers, moved_nil, same_is, used_now, used_still}

@@ -13,14 +13,14 @@ use Rattle.cri_msgs.specs.declared.replies.Answer.TheVariants.{Container}
 use Rattle.runtime_cell.specs.declared.cell.State.{State}
 use Rattle.runtime_cell.specs.declared.cell.State.TheVariants.{Created, Running, Exited}
 use Rattle.runtime_cell.specs.Cell.{Cell, killed, started}
-use Rattle.runtime_core.specs.declared.files.FileAnswers.{FileAnswers}
-use Rattle.runtime_core.specs.declared.stage.Stage.{Stage}
-use Rattle.runtime_core.specs.declared.stage.Stage.TheVariants.{Unknown, Live, Removed}
-use Rattle.runtime_core.specs.Files.{IsMade}
-use Rattle.runtime_core.specs.Runtime.{Sandbox, Slot, change_first, container_in, container_of, drop_first, fresh_sandbox, is_of, removed, slot_in}
-use Rattle.runtime_core.specs.Runtime.Slot.{Free, There, Gone}
+use Rattle.creation.specs.declared.files.FileAnswers.{FileAnswers}
+use Rattle.registry.specs.declared.stage.Stage.{Stage}
+use Rattle.registry.specs.declared.stage.Stage.TheVariants.{Unknown, Live, Removed}
+use Rattle.creation.specs.Files.{IsMade}
+use Rattle.registry.specs.Runtime.{Sandbox, Slot, change_first, container_in, container_of, drop_first, fresh_sandbox, is_of, removed, slot_in}
+use Rattle.registry.specs.Runtime.Slot.{Free, There, Gone}
 use Rattle.cri_msgs.specs.Calls.{uid_of}
-use Rattle.runtime_core.specs.Serves.{Around, Creates, CreatesIn, Enters, Lists, ListsStatuses, MakesFrom, Part, Removes, RemovesPod, RunsPod, ServesIn, Shows, Starts, StartsCell, StartsIn, Stops, StopsPod, code_of_grace, grown, with_cell, with_cells}
+use Rattle.registry.specs.Serves.{Around, Creates, CreatesIn, Enters, Lists, ListsStatuses, MakesFrom, Part, Removes, RemovesPod, RunsPod, ServesIn, Shows, Starts, StartsCell, StartsIn, Stops, StopsPod, code_of_grace, grown, with_cell, with_cells}
 use Rattle.runtime_laws.specs.Runs.{Event}
 use Rattle.runtime_laws.specs.Runs.Event.{Served}
 use Rattle.runtime_laws.proofs.Lists.{first_moved, map_moved}

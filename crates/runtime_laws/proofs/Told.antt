@@ -17,11 +17,11 @@ use Rattle.cri_msgs.specs.Tells.{TellsExit}
 use Rattle.runtime_cell.specs.declared.cell.State.{State}
 use Rattle.runtime_cell.specs.declared.cell.State.TheVariants.{Created, Running, Exited}
 use Rattle.runtime_cell.specs.Cell.{Cell}
-use Rattle.runtime_core.specs.declared.files.FileAnswers.{FileAnswers}
+use Rattle.creation.specs.declared.files.FileAnswers.{FileAnswers}
 use Rattle.runtime_laws.specs.Laws.{TellsStatus}
-use Rattle.runtime_core.specs.Runtime.{In, Runtime, Sandbox, Slot, slot_in, slot_of}
-use Rattle.runtime_core.specs.Runtime.Slot.{Free, There, Gone}
-use Rattle.runtime_core.specs.Serves.{ListsStatuses, Part, Serves, Shows, listed_status, part_of, state_told, status_of}
+use Rattle.registry.specs.Runtime.{In, Runtime, Sandbox, Slot, slot_in, slot_of}
+use Rattle.registry.specs.Runtime.Slot.{Free, There, Gone}
+use Rattle.registry.specs.Serves.{ListsStatuses, Part, Serves, Shows, listed_status, part_of, state_told, status_of}
 use Rattle.runtime_laws.proofs.Slots.{IsKept}
 use Rattle.runtime_laws.proofs.Goes.{AreKept, stands_in}
 

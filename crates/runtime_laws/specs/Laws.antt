@@ -19,11 +19,11 @@ use Rattle.runtime_cell.specs.declared.cell.Did.{Did}
 use Rattle.runtime_cell.specs.declared.cell.State.TheVariants.{Created, Running, Exited}
 use Rattle.runtime_cell.specs.Cell.{Cell, FollowsScript, Making, Steps, filters_of}
 use Rattle.runtime_cell.specs.Laws.{IsLater, TakesUp}
-use Rattle.runtime_core.specs.declared.files.FileAnswers.{FileAnswers}
-use Rattle.runtime_core.specs.Files.{IsMadeFrom}
-use Rattle.runtime_core.specs.Runtime.{In, Slot, id_of, slot_of}
-use Rattle.runtime_core.specs.Runtime.Slot.{Free, There, Gone}
-use Rattle.runtime_core.specs.Serves.{status_of}
+use Rattle.creation.specs.declared.files.FileAnswers.{FileAnswers}
+use Rattle.creation.specs.Files.{IsMadeFrom}
+use Rattle.registry.specs.Runtime.{In, Slot, id_of, slot_of}
+use Rattle.registry.specs.Runtime.Slot.{Free, There, Gone}
+use Rattle.registry.specs.Serves.{status_of}
 use Rattle.runtime_laws.specs.Runs.{Link}
 use Rattle.runtime_laws.specs.Runs.Event.{Served, Stepped}
 

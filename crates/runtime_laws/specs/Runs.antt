@@ -4,9 +4,9 @@ use Rattle.bpf_code.specs.declared.insn.Insn.{Insn}
 use Rattle.cri_msgs.specs.declared.calls.Call.{Call}
 use Rattle.cri_msgs.specs.declared.replies.Answer.{Answer}
 use Rattle.runtime_cell.specs.declared.cell.Did.{Did}
-use Rattle.runtime_core.specs.declared.files.FileAnswers.{FileAnswers}
-use Rattle.runtime_core.specs.Runtime.{Runtime, empty}
-use Rattle.runtime_core.specs.Serves.{Serves}
+use Rattle.creation.specs.declared.files.FileAnswers.{FileAnswers}
+use Rattle.registry.specs.Runtime.{Runtime, empty}
+use Rattle.registry.specs.Serves.{Serves}
 use Rattle.runtime_core.specs.Steps.{MayKill, MayStep}
 
 -- a call was served, with what its files gave, and answered; the cell with an id did a step, or was ended by a code

@@ -148,7 +148,8 @@ fn is_answered(
     let (line, want) = row.split_once("=>").unwrap_or((row, ""));
     let files = files_of(alloc, line)?;
     let request = request_of(alloc, 1, line)?;
-    let reply = registry.serve_lent(cells, request, files);
+    let mut gone = Cells::new(alloc);
+    let reply = registry.serve_lent(cells, &mut gone, request, files);
     let told = reply_text(alloc, &reply)?;
     let want = wanted(alloc, 1, want)?;
     Ok(told.as_str() == want.as_str())

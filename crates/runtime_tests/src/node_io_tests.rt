@@ -156,7 +156,7 @@ fn wires_in_memory_fail_in_turn(rt: HostRuntime) -> Result<(), Fail> {
     ];
     for (failing, want) in cases {
         let input = Vec::from_slice(rt.alloc(), b"reply")?;
-        let mut wire = MemoryWire::new(rt.alloc(), input, 3);
+        let mut wire = MemoryWire::new(rt.alloc(), input, 3, 8)?;
         wire.fail_call(failing);
         let text = moved(&rt, &mut wire, b"requests", 7)?;
         assert_eq!(rt; text.as_str(), want, "call {failing} failing");

@@ -8,10 +8,10 @@ use Rattle.cri_msgs.specs.declared.calls.Call.TheVariants.{CreateContainer}
 use Rattle.cri_msgs.specs.declared.calls.Request.{Request}
 use Rattle.cri_msgs.specs.declared.keys.Key.{Key}
 use Rattle.cri_msgs.specs.declared.replies.Answer.{Answer as Replied}
-use Rattle.runtime_core.specs.declared.files.FileAnswers.{FileAnswers}
+use Rattle.creation.specs.declared.files.FileAnswers.{FileAnswers}
 use Rattle.runtime_laws.specs.Runs.{Link}
 use Rattle.runtime_laws.specs.Runs.{Event as cells}
-use Rattle.runtime_core.specs.Runtime.{In}
+use Rattle.registry.specs.Runtime.{In}
 use Rattle.worker_pod.specs.declared.settings.Settings.{Settings}
 use Rattle.worker_pod.specs.Laws.{key_named}
 use Rattle.worker_core.specs.declared.answers.Answer.{Answer}

@@ -10,12 +10,12 @@ use Rattle.cri_msgs.specs.declared.calls.Call.TheVariants.{CreateContainer}
 use Rattle.cri_msgs.specs.declared.keys.Key.{Key}
 use Rattle.cri_msgs.specs.declared.replies.Answer.TheVariants as answers
 use Rattle.runtime_cell.specs.Cell.{Cell}
-use Rattle.runtime_core.specs.Files.{IsMadeFrom}
+use Rattle.creation.specs.Files.{IsMadeFrom}
 use Rattle.runtime_laws.specs.Laws.{IsThere, LinkLaws, MakesAt, RunLaws, Seen}
 use Rattle.runtime_laws.specs.Runs.{IsRun, Link}
 use Rattle.runtime_laws.specs.Runs.{Event as cells}
-use Rattle.runtime_core.specs.Runtime.{In, Runtime, Slot, slot_of}
-use Rattle.runtime_core.specs.Runtime.Slot.{Free, There, Gone}
+use Rattle.registry.specs.Runtime.{In, Runtime, Slot, slot_of}
+use Rattle.registry.specs.Runtime.Slot.{Free, There, Gone}
 use Rattle.worker_pod.specs.declared.settings.Settings.{Settings}
 use Rattle.worker_pod.specs.Laws.{key_named}
 use Rattle.worker_pod.specs.Past.{read_off}

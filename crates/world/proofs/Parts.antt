@@ -3,7 +3,7 @@ use Rattle.std.proofs.Common.{◌≡◌, inr, ℕ, List, [], ◌∷◌, Option, 
 use Rattle.bpf_code.specs.declared.insn.Insn.{Insn}
 use Rattle.cri_msgs.specs.declared.keys.Key.{Key}
 use Rattle.runtime_laws.specs.Runs.{IsRun, Link, now}
-use Rattle.runtime_core.specs.Runtime.{In}
+use Rattle.registry.specs.Runtime.{In}
 use Rattle.worker_pod.specs.declared.settings.Settings.{Settings}
 use Rattle.worker_core.specs.Laws.{Happened, IsNodeRun, NodeLink, node_now}
 use Rattle.world.specs.Laws.{EndedWith}

@@ -4,9 +4,9 @@ use Rattle.cri_msgs.specs.declared.calls.Request.{Request}
 use Rattle.cri_msgs.specs.declared.replies.Reply.{Reply}
 use Rattle.runtime_cell.specs.declared.cell.Did.{Did}
 use Rattle.runtime_cell.specs.Cell.{Cell}
-use Rattle.runtime_core.specs.declared.files.FileAnswers.{FileAnswers}
-use Rattle.runtime_core.specs.Runtime.{Runtime}
-use Rattle.runtime_core.specs.Serves.{Serves}
+use Rattle.creation.specs.declared.files.FileAnswers.{FileAnswers}
+use Rattle.registry.specs.Runtime.{Runtime}
+use Rattle.registry.specs.Serves.{Serves}
 use Rattle.runtime_core.specs.Stands.{stands_for}
 use Rattle.runtime_core.specs.Steps.{MayKill, MayStep, Reads}
 use Rattle.worker_core.specs.declared.answers.Answer.{Answer}

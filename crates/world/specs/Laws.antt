@@ -15,12 +15,12 @@ use Rattle.cri_msgs.specs.declared.keys.Key.{Key}
 use Rattle.cri_msgs.specs.declared.replies.Answer.TheVariants as answers
 use Rattle.runtime_cell.specs.Cell.{Cell, Making}
 use Rattle.runtime_cell.specs.declared.cell.State.TheVariants.{Exited}
-use Rattle.runtime_core.specs.declared.files.FileAnswers.{FileAnswers}
-use Rattle.runtime_core.specs.Files.{IsMadeFrom}
+use Rattle.creation.specs.declared.files.FileAnswers.{FileAnswers}
+use Rattle.creation.specs.Files.{IsMadeFrom}
 use Rattle.runtime_laws.specs.Laws.{IsThere, LinkLaws, RunLaws, Seen}
 use Rattle.runtime_laws.specs.Runs.{Link, now}
 use Rattle.runtime_laws.specs.Runs.Event.{Served}
-use Rattle.runtime_core.specs.Runtime.{In, slot_of}
+use Rattle.registry.specs.Runtime.{In, slot_of}
 use Rattle.worker_pod.specs.declared.settings.Settings.{Settings}
 use Rattle.worker_pod.specs.Laws.{key_named}
 use Rattle.worker_pod.specs.Past.{read_off}

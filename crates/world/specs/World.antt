@@ -5,11 +5,11 @@ use Rattle.bpf_code.specs.declared.insn.Insn.{Insn}
 use Rattle.cri_msgs.specs.declared.calls.Request.{Request}
 use Rattle.cri_msgs.specs.declared.replies.Reply.{Reply}
 use Rattle.runtime_cell.specs.declared.cell.Did.{Did}
-use Rattle.runtime_core.specs.declared.files.FileAnswers.{FileAnswers}
+use Rattle.creation.specs.declared.files.FileAnswers.{FileAnswers}
 use Rattle.runtime_laws.specs.Runs.{Link}
 use Rattle.runtime_laws.specs.Runs.{Event as cells}
-use Rattle.runtime_core.specs.Runtime.{Runtime, empty}
-use Rattle.runtime_core.specs.Serves.{Serves}
+use Rattle.registry.specs.Runtime.{Runtime, empty}
+use Rattle.registry.specs.Serves.{Serves}
 use Rattle.runtime_core.specs.Steps.{MayKill, MayStep}
 use Rattle.worker_pod.specs.declared.settings.Settings.{Settings}
 use Rattle.worker_core.specs.declared.answers.Answer.{Answer}

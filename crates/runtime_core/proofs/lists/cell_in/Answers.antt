@@ -1,9 +1,9 @@
 use Rattle.std.proofs.Common.{◌∙◌, List, [], sym, ap, subst, unwrap_or}
 use Rattle.std.specs.Prelude.{option_copied}
 use Rattle.runtime_cell.specs.Cell.{Cell}
-use Rattle.runtime_core.specs.Kept.{HasNoneIn, ReadsIn, by_bytes}
+use Rattle.registry.specs.Kept.{HasNoneIn, ReadsIn, by_bytes}
 use Rattle.runtime_core.proofs.Listed.{no_cells, no_list}
-use Rattle.runtime_core.proofs.Texts.{found}
+use Rattle.registry.proofs.Texts.{found}
 use Rattle.runtime_core.proofs.lists.cell_in.Goals as goal
 
 pub returns-in-Some : goal.returns-in-Some

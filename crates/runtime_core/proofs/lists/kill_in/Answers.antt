@@ -1,8 +1,8 @@
 use Rattle.std.proofs.Common.{◌≡◌, ◌∙◌, List, map, sym, ap, subst}
 use Rattle.std.specs.Option.{option_copied_mut}
 use Rattle.runtime_cell.specs.Cell.{Cell}
-use Rattle.runtime_core.specs.Runtime.{id_of}
-use Rattle.runtime_core.specs.Kept.{HasNoneIn, MayKillIn, by_bytes}
+use Rattle.registry.specs.Runtime.{id_of}
+use Rattle.registry.specs.Kept.{HasNoneIn, MayKillIn, by_bytes}
 use Rattle.runtime_core.specs.Stands.{cells_in}
 use Rattle.runtime_core.proofs.Listed.{Becomes, becomes, lies, no_cells, no_list, still_listed}
 use Rattle.runtime_core.proofs.lists.kill_in.Goals as goal

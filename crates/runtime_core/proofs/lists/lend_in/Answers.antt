@@ -1,7 +1,7 @@
 use Rattle.std.proofs.Common.{◌≡◌, ◌∙◌, List, Some, None, sym, ap, subst}
 use Rattle.std.specs.Option.{option_copied_mut}
 use Rattle.runtime_cell.specs.Cell.{Cell}
-use Rattle.runtime_core.specs.Kept.{by_bytes}
+use Rattle.registry.specs.Kept.{by_bytes}
 use Rattle.cri_msgs.specs.Calls.{uid_of}
 use Rattle.runtime_core.specs.Stands.{Lends, LendsTo, list_in}
 use Rattle.runtime_core.proofs.Listed.{Becomes, becomes, no_list}

@@ -1,7 +1,7 @@
 use Rattle.std.proofs.Common.{◌∙◌, None, sym, ap, unwrap_or, []}
 use Rattle.runtime_core.proofs.Listed.{no_cells, no_list}
-use Rattle.runtime_core.proofs.Texts.{elsewhere, found, here}
-use Rattle.runtime_core.specs.Kept.{by_bytes}
+use Rattle.registry.proofs.Texts.{elsewhere, found, here}
+use Rattle.registry.specs.Kept.{by_bytes}
 use Rattle.runtime_core.proofs.lists.take_in.Goals as goal
 
 pub returns-in-Some-clause-cells : goal.returns-in-Some-clause-cells

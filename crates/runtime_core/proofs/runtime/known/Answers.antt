@@ -1,6 +1,6 @@
 use Rattle.runtime_core.proofs.Stays.{runs_still}
 use Rattle.runtime_core.proofs.There.{Done, done}
-use Rattle.runtime_core.specs.Stands.{around_in, part_in}
+use Rattle.registry.specs.Stands.{around_in, part_in}
 use Rattle.cri_msgs.specs.Calls.{uid_of}
 use Rattle.runtime_core.proofs.runtime.known.Goals as goal
 

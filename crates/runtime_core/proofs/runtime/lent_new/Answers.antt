@@ -1,9 +1,10 @@
 use Rattle.std.proofs.Common.{◌≡◌, ◌∙◌, List, [], None, sym, ap, subst, unwrap_or}
 use Rattle.cri_msgs.specs.declared.replies.Reply.{Reply}
 use Rattle.runtime_cell.specs.Cell.{Cell}
-use Rattle.runtime_core.specs.declared.stage.Stage.TheVariants as stage
+use Rattle.registry.specs.declared.stage.Stage.TheVariants as stage
 use Rattle.cri_msgs.specs.Calls.{uid_of}
-use Rattle.runtime_core.specs.Stands.{LendsTo, cells_in, list_in, stages_in}
+use Rattle.registry.specs.Stands.{stages_in}
+use Rattle.runtime_core.specs.Stands.{LendsTo, cells_in, list_in}
 use Rattle.runtime_core.proofs.Stays.{alive}
 use Rattle.runtime_core.proofs.There.{lent_none, lent_some}
 use Rattle.runtime_core.proofs.runtime.lent_new.Goals as goal

@@ -1,6 +1,7 @@
 use Rattle.std.proofs.Common.{◌≡◌, ◌≢◌, ◌∙◌, ℕ, List, [], None, sym, ap, subst, unwrap_or}
 use Rattle.cri_msgs.specs.Calls.{uid_of}
-use Rattle.runtime_core.specs.Stands.{Agrees, IsListFor, LendsTo, around_in, cells_in, list_in, part_in, stages_in}
+use Rattle.registry.specs.Stands.{Agrees, around_in, part_in, stages_in}
+use Rattle.runtime_core.specs.Stands.{IsListFor, LendsTo, cells_in, list_in}
 use Rattle.runtime_core.proofs.Serving.{whole_still}
 use Rattle.runtime_core.proofs.Stays.{removes_dead}
 use Rattle.runtime_core.proofs.There.{dead_none, lent_none}

@@ -1,6 +1,6 @@
 use Rattle.runtime_core.proofs.Stays.{lasts}
 use Rattle.runtime_core.proofs.There.{Done, done}
-use Rattle.runtime_core.specs.Stands.{around_in, part_in}
+use Rattle.registry.specs.Stands.{around_in, part_in}
 use Rattle.cri_msgs.specs.Calls.{uid_of}
 use Rattle.runtime_core.proofs.runtime.serve_there.Goals as goal
 

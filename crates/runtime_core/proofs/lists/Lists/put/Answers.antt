@@ -1,7 +1,7 @@
 use Rattle.std.proofs.Common.{◌≡◌, ◌≢◌, ◌∙◌, ℕ, List, [], Some, sym, subst, ap, string_bytes}
-use Rattle.runtime_core.specs.Kept.{by_bytes}
+use Rattle.registry.specs.Kept.{by_bytes}
 use Rattle.runtime_core.specs.Stands.{list_in}
-use Rattle.runtime_core.proofs.Texts.{elsewhere, here}
+use Rattle.registry.proofs.Texts.{elsewhere, here}
 use Rattle.runtime_core.proofs.lists.Lists.put.Goals as goal
 
 pub returns-clause-here : goal.returns-clause-here

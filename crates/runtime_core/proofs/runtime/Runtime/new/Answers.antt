@@ -1,7 +1,8 @@
 use Rattle.std.proofs.Common.{◌≡◌, ℕ, List, None, refl, sym, ap, subst}
 use Rattle.runtime_cell.specs.Cell.{Cell}
-use Rattle.runtime_core.specs.Runtime.{Runtime, empty}
-use Rattle.runtime_core.specs.Stands.{IsListFor, IsWhole, cells_in, runtime_of}
+use Rattle.registry.specs.Runtime.{Runtime, empty}
+use Rattle.registry.specs.Stands.{runtime_of}
+use Rattle.runtime_core.specs.Stands.{IsListFor, IsWhole, cells_in}
 use Rattle.runtime_core.proofs.runtime.Runtime.new.Goals as goal
 
 pub invariant_of-result : goal.invariant_of-result

@@ -1,6 +1,6 @@
 use Rattle.std.proofs.Common.{List, [], ◌∷◌, ◌++◌, slice_get, ◌∙◌, ap, refl, subst, sym}
 use Rattle.cri_msgs.specs.declared.calls.Request.{Request}
-use Rattle.runtime_core.specs.Serves.{Serves}
+use Rattle.registry.specs.Serves.{Serves}
 use Rattle.runtime_core.specs.Stands.{stands_for}
 use Rattle.world.specs.contracts.machine.World.{the_view}
 use Rattle.world.specs.declared.events.WorldEvent.TheVariants.{Serve}

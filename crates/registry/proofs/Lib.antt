@@ -1,0 +1,12 @@
+pub mod Firsts
+pub mod Named
+pub mod Places
+pub mod Sames
+pub mod Texts
+pub mod Changed
+pub mod Counts
+pub mod HomeTexts
+pub mod Ids
+pub mod Agreeing
+pub mod Removing
+pub mod Placing

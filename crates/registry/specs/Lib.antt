@@ -1,0 +1,4 @@
+pub mod Runtime
+pub mod Serves
+pub mod Kept
+pub mod Stands

@@ -1,6 +1,0 @@
-use Rattle.std.proofs.Common.{◌≡◌, map, take}
-use Rattle.runtime_core.specs.Serves.{listed}
-use Rattle.runtime_core.proofs.listing.all_listed.Given as goal
-
-abbrev pub invariant-loop-cell : goal.invariant-loop-cell
-invariant-loop-cell l = l.items.items ≡ map listed (take l.cell-index l.cells)

@@ -1,6 +1,0 @@
-use Rattle.std.proofs.Common.{◌≡◌, map, take}
-use Rattle.runtime_core.specs.Serves.{listed_status}
-use Rattle.runtime_core.proofs.listing.all_statuses.Given as goal
-
-abbrev pub invariant-loop-cell : goal.invariant-loop-cell
-invariant-loop-cell l = l.items.items ≡ map listed_status (take l.cell-index l.cells)

@@ -1,7 +1,0 @@
-use Rattle.std.proofs.Common.{◌∙◌, sym, ap}
-use Rattle.runtime_core.specs.Kept.{known_in}
-use Rattle.runtime_core.proofs.Texts.{found}
-use Rattle.runtime_core.proofs.uids.Uids.get.Goals as goal
-
-pub returns : goal.returns
-returns c = c.get.ensures.value ∙ sym (found c.args.uid.now c.self.inside.map.entries) ∙ ap (λ entries. known_in entries c.args.uid.now) c.self.view_is
