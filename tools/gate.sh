@@ -1,7 +1,7 @@
 #!/bin/bash
-# What make test runs: the gate (rt ci), a program without memory, the examples in C over the library, and the
-# cases of tests/ with README and the manual pages over what would be installed. Each says what it counted; the
-# last lines say once more what failed, and the sum of all.
+# What make test runs: the gate (rt ci), the examples in C over the library, and the cases of tests/ with
+# README and the manual pages over what would be installed. Each says what it counted; the last lines say once
+# more what failed, and the sum of all.
 set -u
 cd "$(dirname "$0")/.."
 said=$(mktemp)
@@ -30,7 +30,6 @@ c_examples() {
 }
 
 part "rt ci" tools/gate_times.py out/gate_times rt ci
-part "memory" tools/no_memory.sh
 part "C examples" c_examples
 part "cases" tests/run
 # In one line, so that it stands near the end of what a log keeps.

@@ -10,16 +10,16 @@ make times    the processor seconds that the last gate spent, crate by crate. At
 make planted  tries all wrong bodies, also those that the gate leaves out; CRATE=NAME.. those of some crates.
               A crate's proof twice and up to half a minute of a core for each: about two hours on four cores
               for all
-make cases    the cases of tests/ by the programs that make test or make install built, or those in
-              BIN=FOLDER; CASES=FILE.. some of them. A minute
+make cases    the cases of tests/ by the programs that make test built, or those in BIN=FOLDER; CASES=FILE..
+              some of them. A minute or two
 make demo     a profile is compiled, a verified filter judges a call, scripts are played, pods are settled
               over a socket, before any proof. Three minutes
 make install  proves the programs and the library for C and installs them, with their manual pages, to PREFIX
               (/usr/local). An hour of one core; make copy installs what is built already. At once
 make lib      the library for C and its header, proved, in out/c. Ten minutes of one core
 make bench    the machine and the compiler beside others, the runtime with few and many uids, calls over a
-              socket; by what is built. ENGINES=FOLDER: profiles of engines whose packages lie there. Ten
-              minutes
+              socket, a full sandbox; by what is built. ENGINES=FOLDER: profiles of engines whose packages lie
+              there. Ten minutes
 make kernel   the running kernel beside the library on COUNT drawn calls. A minute
 make table    the table of calls beside the kernel's header on this machine. At once
 make clean    removes what is built and proved

@@ -1,0 +1,10 @@
+use Rattle.memory_trials.proofs.books.told.Given as goal
+
+abbrev pub ghosts-recorded : goal.ghosts-recorded
+ghosts-recorded a = record { name = a.blank.name; parts = a.blank.parts }
+
+abbrev pub ghosts-joined : goal.ghosts-joined
+ghosts-joined a = record { name = a.blank.name; parts = a.blank.parts }
+
+abbrev pub ghosts-audited : goal.ghosts-audited
+ghosts-audited a = record { name = a.blank.name; parts = a.blank.parts }

@@ -1,0 +1,176 @@
+//! Frames from a stream, and calls over a wire.
+ghost use Rattle.std.specs.Prelude.{◌≡◌, ◌≤◌, length};
+
+use crate::requests::request_of;
+use crate::trial::{Came, Told, Trial, tried};
+use cri_frames::{Feed, FeedFault, Lost, call_over};
+use cri_msgs::{Answer, Reply, Request, Version};
+use node_io::{Wire, WireFault};
+use std::alloc::Global;
+
+/// What came of the call of this name, if it is one of these.
+pub(crate) fn told(rt: &HostRuntime, name: &str) -> Option<Told> {
+    let alloc = rt.alloc();
+    match name {
+        "Feed::push" => Some(tried(rt, Feeds::new(alloc))),
+        "Feed::take" => Some(tried(rt, Takes::new(alloc))),
+        "call_over" => Some(tried(rt, Calls::new(alloc))),
+        _ => None,
+    }
+}
+
+const RUN: &str = "{\"call\":\"RunPodSandbox\",\"id\":1,\"uid\":\"u1\",\"v\":2}";
+
+/// What stands in a feed before: a frame that is whole, and the beginning of one.
+const BEFORE: &str = "\x02\0\0\x02{}\x02\0\0\x07one";
+
+/// What is pushed: the rest of that frame, two frames more, and the beginning of another.
+const PIECE: &str = "\x20two\x02\0\0\x05three\0\0\0\x04four\x02\0\0\x09fiv";
+
+/// The texts of all of these.
+const TEXTS: [&str; 4] = ["{}", "one two", "three", "four"];
+
+/// `Feed::push`.
+#[derive(Drop)]
+struct Feeds {
+    feed: Feed,
+}
+
+impl Feeds {
+    fn new(alloc: Global) -> Option<Feeds> {
+        let mut feed = Feed::new(alloc);
+        feed.push(BEFORE.as_bytes()).ok()?;
+        Some(Feeds { feed })
+    }
+}
+
+/// Whether these texts, and no more, are taken from the feed.
+fn gives(feed: &mut Feed, texts: &[&str]) -> bool {
+    for text in texts {
+        match feed.take() {
+            Some((_, found)) => {
+                if found.as_slice() != text.as_bytes() {
+                    return false;
+                }
+            }
+            None => return false,
+        }
+    }
+    feed.take().is_none() && !feed.has_failed()
+}
+
+impl Trial for Feeds {
+    type Answer = Result<(), FeedFault>;
+
+    fn call(&mut self) -> Result<(), FeedFault> {
+        self.feed.push(PIECE.as_bytes())
+    }
+
+    fn came(&mut self, answer: &Result<(), FeedFault>) -> Came {
+        match answer {
+            Ok(()) => Came::right_if(gives(&mut self.feed, &TEXTS)),
+            Err(FeedFault::Memory) => Came::Memory,
+            Err(FeedFault::BadLength) => Came::Wrong,
+        }
+    }
+
+    // What stands in it is told by what is taken behind the next push.
+    fn is_unchanged(&mut self) -> bool {
+        !self.feed.has_failed()
+    }
+}
+
+/// `Feed::take`, which takes no memory.
+#[derive(Drop)]
+struct Takes {
+    feed: Feed,
+}
+
+impl Takes {
+    fn new(alloc: Global) -> Option<Takes> {
+        let mut feed = Feed::new(alloc);
+        feed.push(BEFORE.as_bytes()).ok()?;
+        feed.push(PIECE.as_bytes()).ok()?;
+        Some(Takes { feed })
+    }
+}
+
+impl Trial for Takes {
+    type Answer = bool;
+
+    fn call(&mut self) -> bool {
+        gives(&mut self.feed, &TEXTS)
+    }
+
+    fn came(&mut self, answer: &bool) -> Came {
+        Came::right_if(*answer)
+    }
+}
+
+/// The reply to `RUN`.
+const DONE: &str = "\x02\0\0\x16{\"id\":1,\"ok\":{},\"v\":2}";
+
+/// A wire that takes whatever is written, and on which a reply comes for each request. It takes no memory.
+#[derive(Clone, Copy)]
+struct Line {
+    taken: usize,
+}
+
+/// Moves bytes from the front of `from` to the front of `buf`, and tells how many.
+fn give(from: &[u8], buf: &mut [u8]) -> usize
+    ensures within { result ≤ length buf.new }
+    ensures room { length buf.new ≡ length buf.old }
+{
+    let count = buf.len().min(from.len());
+    buf[..count].copy_from_slice(&from[..count]);
+    count
+}
+
+impl Wire for Line {
+    ghost failed = { λ _. 0 };
+
+    fn read(&mut self, buf: &mut [u8]) -> Result<usize, WireFault> {
+        let count = give(DONE.as_bytes().get(self.taken..).unwrap_or(&[]), buf);
+        self.taken = self.taken.saturating_add(count);
+        Ok(count)
+    }
+
+    fn write(&mut self, bytes: &[u8]) -> Result<usize, WireFault> {
+        Ok(bytes.len())
+    }
+
+    fn failures(&self) -> u64 {
+        0
+    }
+}
+
+/// `call_over`. A wire on which a call was lost is used no more, so each call has one of its own.
+#[derive(Drop)]
+struct Calls {
+    alloc: Global,
+    request: Request,
+}
+
+impl Calls {
+    fn new(alloc: Global) -> Option<Calls> {
+        let request = request_of(alloc, RUN)?;
+        Some(Calls { alloc, request })
+    }
+}
+
+impl Trial for Calls {
+    type Answer = Result<Reply, Lost>;
+
+    fn call(&mut self) -> Result<Reply, Lost> {
+        let mut line = Line { taken: 0 };
+        call_over(self.alloc, &mut line, &self.request, Version::V2)
+    }
+
+    fn came(&mut self, answer: &Result<Reply, Lost>) -> Came {
+        match answer {
+            Ok(reply) => Came::right_if(reply.id == 1 && matches!(&reply.answer, Answer::Done)),
+            Err(Lost::Memory) => Came::Memory,
+            Err(_) => Came::Wrong,
+        }
+    }
+}

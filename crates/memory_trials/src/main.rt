@@ -1,0 +1,85 @@
+//! Makes one call of the libraries, for trials in which memory is refused: `memory_trials CALL [GIVEN]` marks
+//! on standard error where the requests of that call begin and end, and prints what came of it.
+#![tactic(auto)]
+
+mod books;
+mod filters;
+mod frames;
+mod judging;
+mod manifests;
+mod nodes;
+mod profiles;
+mod replies;
+mod requests;
+mod scripts;
+mod serving;
+mod stacks;
+mod trial;
+mod worlds;
+
+use crate::trial::Told;
+use std::{env, io};
+
+fn main(rt: HostRuntime) -> io::Result<()> {
+    let words: Vec<String> = env::args(&rt)?.collect(rt.alloc())?;
+    let mut words = words.as_slice().iter().skip(1).map(|word| word.as_str());
+    let name = words.next().unwrap_or("");
+    let given = words.next().unwrap_or("");
+    let text = match told(&rt, name, given) {
+        Some(told) => told.text(),
+        None => "there is no such call",
+    };
+    println!(rt; "{text}")?;
+    Ok(())
+}
+
+/// What came of the call of this name, on what is given for it.
+fn told(rt: &HostRuntime, name: &str, given: &str) -> Option<Told> {
+    if let Some(told) = of_texts(rt, name) {
+        return Some(told);
+    }
+    if let Some(told) = serving::told(rt, name, given) {
+        return Some(told);
+    }
+    if let Some(told) = nodes::told(rt, name, given) {
+        return Some(told);
+    }
+    if let Some(told) = books::told(rt, name, given) {
+        return Some(told);
+    }
+    worlds::told(rt, name, given)
+}
+
+/// The same of a call that nothing is given for.
+fn of_texts(rt: &HostRuntime, name: &str) -> Option<Told> {
+    if let Some(told) = of_filters(rt, name) {
+        return Some(told);
+    }
+    if let Some(told) = manifests::told(rt, name) {
+        return Some(told);
+    }
+    if let Some(told) = requests::told(rt, name) {
+        return Some(told);
+    }
+    if let Some(told) = replies::told(rt, name) {
+        return Some(told);
+    }
+    frames::told(rt, name)
+}
+
+/// The same of a call of what judges calls.
+fn of_filters(rt: &HostRuntime, name: &str) -> Option<Told> {
+    if let Some(told) = filters::told(rt, name) {
+        return Some(told);
+    }
+    if let Some(told) = stacks::told(rt, name) {
+        return Some(told);
+    }
+    if let Some(told) = judging::told(rt, name) {
+        return Some(told);
+    }
+    if let Some(told) = profiles::told(rt, name) {
+        return Some(told);
+    }
+    scripts::told(rt, name)
+}

@@ -1,0 +1,81 @@
+//! Reading and copying manifests.
+use crate::trial::{Came, Told, Trial, tried};
+use manifest::{Pod, PodFault};
+use std::alloc::{AllocError, Global};
+
+/// What came of the call of this name, if it is one of these.
+pub(crate) fn told(rt: &HostRuntime, name: &str) -> Option<Told> {
+    let alloc = rt.alloc();
+    match name {
+        "manifest::read" => Some(tried(rt, Reads::new(alloc))),
+        "Pod::try_clone" => Some(tried(rt, Copies::new(alloc))),
+        _ => None,
+    }
+}
+
+/// A manifest with a field of each kind.
+const POD: &str =
+    r#"{"apiVersion":"v1","kind":"Pod","metadata":{"name":"web","namespace":"shop","uid":"u-1"},"spec":{
+"restartPolicy":"OnFailure","terminationGracePeriodSeconds":7,"securityContext":{"seccompProfile":{"type":"RuntimeDefault"}},
+"initContainers":[{"name":"setup","image":"setup.json"}],
+"containers":[{"name":"main","image":"main.json","securityContext":{"seccompProfile":{"type":"Localhost","localhostProfile":"main.profile.json"}}},
+{"name":"side","image":"side.json","securityContext":{"privileged":true}}]}}"#;
+
+/// `manifest::read`.
+#[derive(Drop)]
+struct Reads {
+    alloc: Global,
+    wanted: Pod,
+}
+
+impl Reads {
+    fn new(alloc: Global) -> Option<Reads> {
+        let wanted = manifest::read(alloc, POD.as_bytes()).ok()?;
+        Some(Reads { alloc, wanted })
+    }
+}
+
+impl Trial for Reads {
+    type Answer = Result<Pod, PodFault>;
+
+    fn call(&mut self) -> Result<Pod, PodFault> {
+        manifest::read(self.alloc, POD.as_bytes())
+    }
+
+    fn came(&mut self, answer: &Result<Pod, PodFault>) -> Came {
+        match answer {
+            Ok(pod) => Came::right_if(pod.same(&self.wanted)),
+            Err(PodFault::Memory) => Came::Memory,
+            Err(_) => Came::Wrong,
+        }
+    }
+}
+
+/// `Pod::try_clone`.
+#[derive(Drop)]
+struct Copies {
+    alloc: Global,
+    pod: Pod,
+}
+
+impl Copies {
+    fn new(alloc: Global) -> Option<Copies> {
+        let pod = manifest::read(alloc, POD.as_bytes()).ok()?;
+        Some(Copies { alloc, pod })
+    }
+}
+
+impl Trial for Copies {
+    type Answer = Result<Pod, AllocError>;
+
+    fn call(&mut self) -> Result<Pod, AllocError> {
+        self.pod.try_clone(self.alloc)
+    }
+
+    fn came(&mut self, answer: &Result<Pod, AllocError>) -> Came {
+        match answer {
+            Ok(copy) => Came::right_if(copy.same(&self.pod)),
+            Err(AllocError) => Came::Memory,
+        }
+    }
+}

@@ -1,0 +1,141 @@
+//! Reading profiles, RuntimeDefault, and compiling.
+use crate::trial::{Came, Told, Trial, tried};
+use bpf_verify::Filter;
+use compile::{CompileFault, compile};
+use oci_profile::{Entry, Profile, ProfileFault, runtime_default};
+use std::alloc::{AllocError, Global};
+
+/// What came of the call of this name, if it is one of these.
+pub(crate) fn told(rt: &HostRuntime, name: &str) -> Option<Told> {
+    let alloc = rt.alloc();
+    match name {
+        "oci_profile::read" => Some(tried(rt, Reads::new(alloc))),
+        "runtime_default" => Some(tried(rt, Defaults::new(alloc))),
+        "compile" => Some(tried(rt, Compiles::new(alloc))),
+        _ => None,
+    }
+}
+
+/// A profile with entries of several kinds.
+pub(crate) const PROFILE: &str =
+    r#"{"defaultAction":"SCMP_ACT_ERRNO","defaultErrnoRet":13,"architectures":["SCMP_ARCH_X86_64"],"syscalls":[
+{"names":["read","write","close","getpid"],"action":"SCMP_ACT_ALLOW"},
+{"names":["personality"],"action":"SCMP_ACT_LOG","args":[{"index":0,"value":8,"op":"SCMP_CMP_EQ"}]},
+{"names":["clone","clone3"],"action":"SCMP_ACT_TRACE","errnoRet":7,"args":[{"index":0,"value":2114060288,"valueTwo":0,"op":"SCMP_CMP_MASKED_EQ"},{"index":1,"value":9,"op":"SCMP_CMP_GT"}]}]}"#;
+
+/// This profile.
+pub(crate) fn profile(alloc: Global) -> Option<Profile> {
+    oci_profile::read(alloc, PROFILE.as_bytes()).ok()
+}
+
+fn same_entry(a: &Entry, b: &Entry) -> bool {
+    a.numbers.as_slice() == b.numbers.as_slice()
+        && a.conds.as_slice() == b.conds.as_slice()
+        && a.decision == b.decision
+}
+
+/// Whether both have the same default, and the same entries in the same order.
+fn are_same(a: &Profile, b: &Profile) -> bool {
+    let (entries, others) = (a.entries.as_slice(), b.entries.as_slice());
+    for (entry, other) in entries.iter().zip(others) {
+        if !same_entry(entry, other) {
+            return false;
+        }
+    }
+    a.default == b.default && entries.len() == others.len()
+}
+
+/// `oci_profile::read`.
+#[derive(Drop)]
+struct Reads {
+    alloc: Global,
+    wanted: Profile,
+}
+
+impl Reads {
+    fn new(alloc: Global) -> Option<Reads> {
+        let wanted = profile(alloc)?;
+        Some(Reads { alloc, wanted })
+    }
+}
+
+impl Trial for Reads {
+    type Answer = Result<Profile, ProfileFault>;
+
+    fn call(&mut self) -> Result<Profile, ProfileFault> {
+        oci_profile::read(self.alloc, PROFILE.as_bytes())
+    }
+
+    fn came(&mut self, answer: &Result<Profile, ProfileFault>) -> Came {
+        match answer {
+            Ok(profile) => Came::right_if(are_same(profile, &self.wanted)),
+            Err(ProfileFault::Memory) => Came::Memory,
+            Err(_) => Came::Wrong,
+        }
+    }
+}
+
+/// `runtime_default`.
+#[derive(Drop)]
+struct Defaults {
+    alloc: Global,
+    wanted: Profile,
+}
+
+impl Defaults {
+    fn new(alloc: Global) -> Option<Defaults> {
+        let wanted = runtime_default(alloc).ok()?;
+        Some(Defaults { alloc, wanted })
+    }
+}
+
+impl Trial for Defaults {
+    type Answer = Result<Profile, AllocError>;
+
+    fn call(&mut self) -> Result<Profile, AllocError> {
+        runtime_default(self.alloc)
+    }
+
+    fn came(&mut self, answer: &Result<Profile, AllocError>) -> Came {
+        match answer {
+            Ok(profile) => Came::right_if(are_same(profile, &self.wanted)),
+            Err(AllocError) => Came::Memory,
+        }
+    }
+}
+
+/// `compile`.
+#[derive(Drop)]
+struct Compiles {
+    alloc: Global,
+    profile: Profile,
+    wanted: Filter,
+}
+
+impl Compiles {
+    fn new(alloc: Global) -> Option<Compiles> {
+        let profile = profile(alloc)?;
+        let wanted = compile(alloc, &profile).ok()?;
+        Some(Compiles {
+            alloc,
+            profile,
+            wanted,
+        })
+    }
+}
+
+impl Trial for Compiles {
+    type Answer = Result<Filter, CompileFault>;
+
+    fn call(&mut self) -> Result<Filter, CompileFault> {
+        compile(self.alloc, &self.profile)
+    }
+
+    fn came(&mut self, answer: &Result<Filter, CompileFault>) -> Came {
+        match answer {
+            Ok(filter) => Came::right_if(filter.insns() == self.wanted.insns()),
+            Err(CompileFault::Memory) => Came::Memory,
+            Err(CompileFault::TooLong) => Came::Wrong,
+        }
+    }
+}

@@ -1,0 +1,167 @@
+//! Reading scripts, and making the cells that play them.
+use crate::filters::{are_same, filter};
+use crate::trial::{Came, Told, Trial, tried};
+use runtime_cell::{Cell, Did, State};
+use script::{Script, ScriptFault, Step};
+use std::alloc::{AllocError, Global};
+use verdict::Stack;
+
+/// What came of the call of this name, if it is one of these.
+pub(crate) fn told(rt: &HostRuntime, name: &str) -> Option<Told> {
+    let alloc = rt.alloc();
+    match name {
+        "script::read" => Some(tried(rt, Reads::new(alloc))),
+        "Cell::playing" => Some(tried(rt, Plays::new(alloc))),
+        "Cell::step" => Some(tried(rt, Lives::new(alloc))),
+        _ => None,
+    }
+}
+
+/// A script with a step of each kind.
+pub(crate) const SCRIPT: &str =
+    r#"{"steps":[{"call":"getppid"},{"call":59,"args":[1,2,3],"ip":7,"onError":9},
+{"install":[[32,0,0,0],[21,0,1,39],[6,0,0,327693],[6,0,0,2147418112]],"onError":4},{"call":"getpid"},{"exitByAttempt":[1,0]},{"exit":3}]}"#;
+
+fn script(alloc: Global) -> Option<Script> {
+    script::read(alloc, SCRIPT.as_bytes()).ok()
+}
+
+fn same_step(a: &Step, b: &Step) -> bool {
+    match (a, b) {
+        (
+            Step::Call { call, on_error },
+            Step::Call {
+                call: other,
+                on_error: or,
+            },
+        ) => *call == *other && *on_error == *or,
+        (Step::Exit(code), Step::Exit(other)) => *code == *other,
+        (Step::ExitByAttempt(codes), Step::ExitByAttempt(others)) => codes.as_slice()
+            == others.as_slice(),
+        (
+            Step::Install { filter, on_error },
+            Step::Install {
+                filter: other,
+                on_error: or,
+            },
+        ) => are_same(filter, other) && *on_error == *or,
+        _ => false,
+    }
+}
+
+/// `script::read`.
+#[derive(Drop)]
+struct Reads {
+    alloc: Global,
+    wanted: Script,
+}
+
+impl Reads {
+    fn new(alloc: Global) -> Option<Reads> {
+        let wanted = script(alloc)?;
+        Some(Reads { alloc, wanted })
+    }
+
+    fn is_wanted(&self, script: &Script) -> bool {
+        for (step, other) in script.steps().iter().zip(self.wanted.steps()) {
+            if !same_step(step, other) {
+                return false;
+            }
+        }
+        script.len() == self.wanted.len()
+    }
+}
+
+impl Trial for Reads {
+    type Answer = Result<Script, ScriptFault>;
+
+    fn call(&mut self) -> Result<Script, ScriptFault> {
+        script::read(self.alloc, SCRIPT.as_bytes())
+    }
+
+    fn came(&mut self, answer: &Result<Script, ScriptFault>) -> Came {
+        match answer {
+            Ok(script) => Came::right_if(self.is_wanted(script)),
+            Err(ScriptFault::Memory) => Came::Memory,
+            Err(_) => Came::Wrong,
+        }
+    }
+}
+
+/// `Cell::playing`: what it needs, twice.
+#[derive(Drop)]
+struct Plays {
+    alloc: Global,
+    given: Vec<(Script, Stack)>,
+}
+
+impl Plays {
+    fn new(alloc: Global) -> Option<Plays> {
+        let mut given = Vec::new(alloc);
+        for _ in 0..2 {
+            let mut stack = Stack::new(alloc);
+            stack.push(filter(alloc)?).ok()?;
+            given.push((script(alloc)?, stack)).ok()?;
+        }
+        Some(Plays { alloc, given })
+    }
+}
+
+impl Trial for Plays {
+    type Answer = Option<Result<Cell, AllocError>>;
+
+    fn call(&mut self) -> Option<Result<Cell, AllocError>> {
+        let (script, stack) = self.given.pop()?;
+        Some(Cell::playing(self.alloc, script, stack, 1))
+    }
+
+    fn came(&mut self, answer: &Option<Result<Cell, AllocError>>) -> Came {
+        match answer {
+            Some(Ok(cell)) => {
+                let is_fresh = cell.record().is_empty() && cell.state() == State::Running;
+                Came::right_if(is_fresh && cell.label().attempt == 1)
+            }
+            Some(Err(AllocError)) => Came::Memory,
+            None => Came::Wrong,
+        }
+    }
+}
+
+/// The calls of a cell that was made: a start, steps to its end, a kill behind it, and what it tells. They
+/// take no memory.
+#[derive(Drop)]
+struct Lives {
+    cell: Cell,
+}
+
+impl Lives {
+    fn new(alloc: Global) -> Option<Lives> {
+        let mut stack = Stack::new(alloc);
+        stack.push(filter(alloc)?).ok()?;
+        let cell = Cell::playing(alloc, script(alloc)?, stack, 1).ok()?;
+        Some(Lives { cell })
+    }
+}
+
+impl Trial for Lives {
+    type Answer = Option<u8>;
+
+    fn call(&mut self) -> Option<u8> {
+        self.cell.start();
+        for _ in 0..9 {
+            match self.cell.step() {
+                Did::Performed | Did::Denied(_) => {}
+                Did::Ended(_) | Did::Idle => break,
+            }
+        }
+        self.cell.kill(9);
+        self.cell.exit()
+    }
+
+    // getpid is what the filter of the start ends the process for.
+    fn came(&mut self, answer: &Option<u8>) -> Came {
+        let counts = self.cell.counts();
+        let is_told = counts.performed == 3 && counts.denied == 1 && self.cell.record().len() == 4;
+        Came::right_if(is_told && *answer == Some(159) && self.cell.added() == 1)
+    }
+}

@@ -1,0 +1,177 @@
+//! A runtime that serves requests.
+use crate::filters::filter;
+use crate::profiles::PROFILE;
+use crate::requests::request_of;
+use crate::scripts::SCRIPT;
+use crate::trial::{Came, Told, Trial, tried};
+use cri_msgs::{Answer, Refusal, Reply, Request};
+use runtime_cell::{Did, State};
+use runtime_core::{Contents, FileAnswers, Runtime};
+use std::alloc::Global;
+
+/// What came of serving the request of this text.
+pub(crate) fn told(rt: &HostRuntime, name: &str, text: &str) -> Option<Told> {
+    match name {
+        "serve" => Some(tried(rt, Serves::new(rt.alloc(), text))),
+        "Runtime::step" => Some(tried(rt, Steps::new(rt.alloc()))),
+        _ => None,
+    }
+}
+
+/// What a runtime was asked before: `u1` has two containers, of which one was started, and had a third one;
+/// `u2` was stopped, and `u3` removed.
+const BEFORE: &str = r#"{"call":"RunPodSandbox","id":1,"uid":"u1","v":2}
+{"attempt":0,"call":"CreateContainer","id":2,"image":"a","name":"a","profile":{"type":"Unconfined"},"uid":"u1","v":2}
+{"attempt":0,"call":"StartContainer","id":3,"name":"a","uid":"u1","v":2}
+{"attempt":0,"call":"CreateContainer","id":4,"image":"a","name":"b","profile":{"type":"Unconfined"},"uid":"u1","v":2}
+{"attempt":0,"call":"CreateContainer","id":5,"image":"a","name":"c","profile":{"type":"Unconfined"},"uid":"u1","v":2}
+{"attempt":0,"call":"RemoveContainer","id":6,"name":"c","uid":"u1","v":2}
+{"call":"RunPodSandbox","id":7,"uid":"u2","v":2}
+{"call":"StopPodSandbox","grace":0,"id":8,"uid":"u2","v":2}
+{"call":"RunPodSandbox","id":9,"uid":"u3","v":2}
+{"call":"RemovePodSandbox","id":10,"uid":"u3","v":2}"#;
+
+/// What shows the state of a runtime and changes nothing: a creation without a script tells whether the
+/// sandbox is ready, stopped, removed or unknown, and a start of what isn't there whether it ever was.
+const PROBES: &str = r#"{"call":"ContainerStatuses","id":1,"uid":"u1","v":2}
+{"attempt":9,"call":"CreateContainer","id":2,"image":"a","name":"a","profile":{"type":"Unconfined"},"uid":"u1","v":2}
+{"attempt":0,"call":"StartContainer","id":3,"name":"c","uid":"u1","v":2}
+{"attempt":0,"call":"StartContainer","id":4,"name":"d","uid":"u1","v":2}
+{"attempt":9,"call":"CreateContainer","id":5,"image":"a","name":"a","profile":{"type":"Unconfined"},"uid":"u2","v":2}
+{"attempt":9,"call":"CreateContainer","id":6,"image":"a","name":"a","profile":{"type":"Unconfined"},"uid":"u3","v":2}
+{"attempt":9,"call":"CreateContainer","id":7,"image":"a","name":"a","profile":{"type":"Unconfined"},"uid":"u4","v":2}"#;
+
+fn contents(alloc: Global, text: &str) -> Option<Contents> {
+    Some(Contents::new(Vec::from_slice(alloc, text.as_bytes()).ok()?))
+}
+
+/// What the files of any request give.
+pub(crate) fn files(alloc: Global) -> Option<FileAnswers> {
+    Some(FileAnswers {
+        script: Some(Ok(contents(alloc, SCRIPT)?)),
+        profile: Some(Ok(contents(alloc, PROFILE)?)),
+    })
+}
+
+fn no_files() -> FileAnswers {
+    FileAnswers {
+        script: None,
+        profile: None,
+    }
+}
+
+fn served(alloc: Global, runtime: &mut Runtime, text: &str, files: FileAnswers) -> Option<Reply> {
+    let request = request_of(alloc, text)?;
+    Some(runtime.serve(request, files))
+}
+
+/// A runtime behind these requests.
+fn begun(alloc: Global) -> Option<Runtime> {
+    let mut runtime = Runtime::new(alloc, Some(filter(alloc)?));
+    for text in BEFORE.lines() {
+        drop(served(alloc, &mut runtime, text, files(alloc)?)?);
+    }
+    Some(runtime)
+}
+
+/// `Runtime::serve`: a runtime, another one like it, and what one call and the next one take.
+#[derive(Drop)]
+struct Serves {
+    alloc: Global,
+    runtime: Runtime,
+    twin: Runtime,
+    given: Vec<(Request, FileAnswers)>,
+    wanted: Reply,
+}
+
+impl Serves {
+    fn new(alloc: Global, text: &str) -> Option<Serves> {
+        let mut given = Vec::new(alloc);
+        for _ in 0..2 {
+            given.push((request_of(alloc, text)?, files(alloc)?)).ok()?;
+        }
+        let mut first = begun(alloc)?;
+        let wanted = served(alloc, &mut first, text, files(alloc)?)?;
+        Some(Serves {
+            alloc,
+            runtime: begun(alloc)?,
+            twin: begun(alloc)?,
+            given,
+            wanted,
+        })
+    }
+
+    /// Whether the runtime answers this like the other one.
+    fn answers_alike(&mut self, text: &str) -> Option<bool> {
+        let reply = served(self.alloc, &mut self.runtime, text, no_files())?;
+        let other = served(self.alloc, &mut self.twin, text, no_files())?;
+        Some(reply.same(&other))
+    }
+}
+
+impl Trial for Serves {
+    type Answer = Option<Reply>;
+
+    fn call(&mut self) -> Option<Reply> {
+        let (request, files) = self.given.pop()?;
+        Some(self.runtime.serve(request, files))
+    }
+
+    fn came(&mut self, answer: &Option<Reply>) -> Came {
+        match answer {
+            Some(reply) => match &reply.answer {
+                Answer::Refused(Refusal::Memory) => Came::Memory,
+                _ => Came::right_if(reply.same(&self.wanted)),
+            },
+            None => Came::Wrong,
+        }
+    }
+
+    fn is_unchanged(&mut self) -> bool {
+        for text in PROBES.lines() {
+            if self.answers_alike(text) != Some(true) {
+                return false;
+            }
+        }
+        true
+    }
+}
+
+/// `Runtime::new`, `step`, `kill`, `cell` and `next_id`, which take no memory.
+#[derive(Drop)]
+struct Steps {
+    alloc: Global,
+    runtime: Runtime,
+}
+
+impl Steps {
+    fn new(alloc: Global) -> Option<Steps> {
+        let runtime = begun(alloc)?;
+        Some(Steps { alloc, runtime })
+    }
+}
+
+impl Trial for Steps {
+    type Answer = (Option<Did>, Option<()>);
+
+    fn call(&mut self) -> (Option<Did>, Option<()>) {
+        let none = Runtime::new(self.alloc, None).next_id(0);
+        let first = self.runtime.next_id(0).unwrap_or(0);
+        let did = if none.is_none() {
+            self.runtime.step(first)
+        } else {
+            None
+        };
+        (did, self.runtime.kill(first, 9))
+    }
+
+    fn came(&mut self, answer: &(Option<Did>, Option<()>)) -> Came {
+        let state = self.runtime.cell(1).map(|cell| cell.state());
+        let is_killed = state
+            == Some(State::Exited {
+                code: 9,
+                killed: true,
+            });
+        Came::right_if(*answer == (Some(Did::Performed), Some(())) && is_killed)
+    }
+}

@@ -1,0 +1,138 @@
+//! Stacks of filters.
+use crate::filters::{are_same, filter};
+use crate::trial::{Came, Told, Trial, tried};
+use bpf_verify::Filter;
+use std::alloc::{AllocError, Global};
+use verdict::{Stack, StackFault};
+
+/// What came of the call of this name, if it is one of these.
+pub(crate) fn told(rt: &HostRuntime, name: &str) -> Option<Told> {
+    let alloc = rt.alloc();
+    match name {
+        "Stack::push" => Some(tried(rt, Pushes::new(alloc))),
+        "Stack::push with room" => Some(tried(rt, Pushes::with_room(alloc))),
+        "Stack::reserve" => Some(tried(rt, Reserves::new(alloc))),
+        _ => None,
+    }
+}
+
+/// `Stack::push`, onto a stack of one filter.
+#[derive(Drop)]
+struct Pushes {
+    stack: Stack,
+    filters: Vec<Filter>,
+    wanted: Filter,
+}
+
+/// A stack of one filter, and one more to push.
+fn begun(alloc: Global) -> Option<Pushes> {
+    let mut stack = Stack::new(alloc);
+    stack.push(filter(alloc)?).ok()?;
+    let mut filters = Vec::new(alloc);
+    filters.push(filter(alloc)?).ok()?;
+    let wanted = filter(alloc)?;
+    Some(Pushes {
+        stack,
+        filters,
+        wanted,
+    })
+}
+
+impl Pushes {
+    /// A stack that has room for as many filters as were ever there.
+    fn new(alloc: Global) -> Option<Pushes> {
+        let mut it = begun(alloc)?;
+        // The room that the first filter was given is filled.
+        for _ in 0..FILLED {
+            it.stack.push(filter(alloc)?).ok()?;
+        }
+        Some(it)
+    }
+
+    /// A stack with room for one more.
+    fn with_room(alloc: Global) -> Option<Pushes> {
+        let mut it = Pushes::new(alloc)?;
+        it.stack.reserve(1).ok()?;
+        Some(it)
+    }
+}
+
+/// How many filters a stack gets behind the first one. A list of filters has room for four at first.
+const FILLED: usize = 3;
+
+impl Trial for Pushes {
+    type Answer = Option<StackFault>;
+
+    // A filter that is refused comes back.
+    fn call(&mut self) -> Option<StackFault> {
+        let filter = self.filters.pop()?;
+        match self.stack.push(filter) {
+            Ok(()) => None,
+            Err((filter, fault)) => {
+                let kept = self.filters.push(filter);
+                drop(kept);
+                Some(fault)
+            }
+        }
+    }
+
+    fn came(&mut self, answer: &Option<StackFault>) -> Came {
+        match answer {
+            None => Came::right_if(has(&self.stack, FILLED + 2, &self.wanted)),
+            Some(StackFault::Memory) => Came::Memory,
+            Some(_) => Came::Wrong,
+        }
+    }
+
+    fn is_unchanged(&mut self) -> bool {
+        has(&self.stack, FILLED + 1, &self.wanted)
+            && self
+                .filters
+                .as_slice()
+                .first()
+                .is_some_and(|filter| are_same(filter, &self.wanted))
+    }
+}
+
+/// Whether a stack has so many filters, each of them this one.
+fn has(stack: &Stack, count: usize, filter: &Filter) -> bool {
+    for it in stack.filters() {
+        if !are_same(it, filter) {
+            return false;
+        }
+    }
+    stack.filters().len() == count
+}
+
+/// `Stack::reserve`.
+#[derive(Drop)]
+struct Reserves {
+    stack: Stack,
+    wanted: Filter,
+}
+
+impl Reserves {
+    fn new(alloc: Global) -> Option<Reserves> {
+        let Pushes { stack, wanted, .. } = begun(alloc)?;
+        Some(Reserves { stack, wanted })
+    }
+}
+
+impl Trial for Reserves {
+    type Answer = Result<(), AllocError>;
+
+    fn call(&mut self) -> Result<(), AllocError> {
+        self.stack.reserve(9)
+    }
+
+    fn came(&mut self, answer: &Result<(), AllocError>) -> Came {
+        match answer {
+            Ok(()) => Came::right_if(has(&self.stack, 1, &self.wanted)),
+            Err(AllocError) => Came::Memory,
+        }
+    }
+
+    fn is_unchanged(&mut self) -> bool {
+        has(&self.stack, 1, &self.wanted)
+    }
+}

@@ -1,0 +1,99 @@
+//! How a call is tried whose requests for memory can be refused.
+use std::io::{self, Write};
+
+/// What came of a call.
+#[derive(Clone, Copy, PartialEq, Eq)]
+pub(crate) enum Came {
+    /// The answer of a first call that has memory.
+    Right,
+    /// Want of memory.
+    Memory,
+    /// Any other answer.
+    Wrong,
+}
+
+impl Came {
+    /// Right, if this holds.
+    pub(crate) fn right_if(holds: bool) -> Came {
+        if holds { Came::Right } else { Came::Wrong }
+    }
+}
+
+/// A call, and the state that it is made on.
+pub(crate) trait Trial {
+    /// What the call gives.
+    type Answer: Drop;
+
+    /// Makes the call, and asks for no memory but by it. There are two calls at most.
+    fn call(&mut self) -> Self::Answer;
+
+    /// What came of it.
+    fn came(&mut self, answer: &Self::Answer) -> Came;
+
+    /// Whether the state is as it was before the call. A call that has none changes nothing.
+    fn is_unchanged(&mut self) -> bool {
+        true
+    }
+}
+
+/// What is told of a trial.
+#[derive(Clone, Copy, PartialEq, Eq)]
+pub(crate) enum Told {
+    /// There was no memory for the state, or it is none.
+    NotSetUp,
+    /// A line around the call was not written.
+    Unmarked,
+    Right,
+    Wrong,
+    /// Want of memory, by which something changed.
+    Changed,
+    /// Want of memory, by which nothing changed, and what came of the same call then.
+    Refused(Came),
+}
+
+impl Told {
+    pub(crate) fn text(self) -> &'static str {
+        match self {
+            Told::NotSetUp => "not set up",
+            Told::Unmarked => "no line can be written",
+            Told::Right => "right",
+            Told::Wrong => "wrong",
+            Told::Changed => "Memory, and something changed",
+            Told::Refused(Came::Right) => "Memory, nothing changed, then right",
+            Told::Refused(Came::Wrong) => "Memory, nothing changed, then wrong",
+            Told::Refused(Came::Memory) => "Memory, nothing changed, then Memory",
+        }
+    }
+}
+
+/// Makes the call between the two lines by which whoever refuses requests knows when to count them, and tells
+/// what came of it. Behind a refusal the same call is made once more.
+pub(crate) fn tried<T: Trial + Drop>(rt: &HostRuntime, trial: Option<T>) -> Told {
+    let Some(mut trial) = trial else {
+        return Told::NotSetUp;
+    };
+    let begun = tell(rt, "call begins\n");
+    let answer = trial.call();
+    let ended = tell(rt, "call ended\n");
+    if begun.is_err() || ended.is_err() {
+        return Told::Unmarked;
+    }
+    match trial.came(&answer) {
+        Came::Right => Told::Right,
+        Came::Wrong => Told::Wrong,
+        Came::Memory => behind(&mut trial),
+    }
+}
+
+/// What is told behind a refusal.
+fn behind<T: Trial>(trial: &mut T) -> Told {
+    if !trial.is_unchanged() {
+        return Told::Changed;
+    }
+    let answer = trial.call();
+    Told::Refused(trial.came(&answer))
+}
+
+fn tell(rt: &HostRuntime, line: &str) -> io::Result<()> {
+    rt.stderr().write_all(line.as_bytes())
+}
