@@ -24,7 +24,7 @@ planted:
 quick:
 	@tools/quick.py
 
-# The cases of tests/ by the programs that make test or make install built, or by those in the folder BIN.
+# The cases of tests/ by the programs that make test built, or by those in the folder BIN.
 cases:
 	@tests/run $(CASES)
 
@@ -79,6 +79,7 @@ bench: lib
 	@tools/bench_runtime.sh
 	@$(CC) $(BENCH_FLAGS) -pthread bench/echo.c -o out/bench/echo
 	@tools/bench_calls.py out/bench/echo
+	@tools/bench_full.py
 
 # What the running kernel does with drawn profiles, beside what the library says of COUNT calls.
 kernel: lib

@@ -4,11 +4,13 @@
  * FAIL_ACCEPT=N lets the first N calls of accept4 fail for want of descriptors, FAIL_THREAD=N the N-th and each
  * later call that starts a thread. SLOW_UNLINK=N has each unlink wait for N seconds first, SLOW_COPY=N the third
  * copy of a descriptor. TAKEN=1 has a file come to stand where a link is to be made. LOCK_AFTER=FILE has the first
- * lock wait until FILE is gone, seven seconds at most, and a second more. */
+ * lock wait until FILE is gone, seven seconds at most, and a second more. SLOW_WAKE=N lets a thread that gave a
+ * lock back to one that waits for it rest for N microseconds. */
 #define _GNU_SOURCE
 #include <dlfcn.h>
 #include <errno.h>
 #include <fcntl.h>
+#include <linux/futex.h>
 #include <pthread.h>
 #include <stdarg.h>
 #include <stdio.h>
@@ -16,6 +18,7 @@
 #include <sys/file.h>
 #include <sys/socket.h>
 #include <sys/stat.h>
+#include <sys/syscall.h>
 #include <sys/un.h>
 #include <unistd.h>
 
@@ -115,4 +118,21 @@ int pthread_create(pthread_t *thread, const pthread_attr_t *how, void *(*work)(v
   if (++begun >= failing && failing)
     return EAGAIN;
   return NEXT(pthread_create)(thread, how, work, with);
+}
+
+long syscall(long number, ...)
+{
+  long word[6];
+  va_list more;
+  va_start(more, number);
+  for (int i = 0; i < 6; i++)
+    word[i] = va_arg(more, long);
+  va_end(more);
+  long answer = NEXT(syscall)(number, word[0], word[1], word[2], word[3], word[4], word[5]);
+  int error = errno;
+  /* A lock wakes one thread, a condition all of them. */
+  if (number == SYS_futex && (word[1] & FUTEX_CMD_MASK) == FUTEX_WAKE && word[2] == 1 && getenv("SLOW_WAKE"))
+    usleep(atoi(getenv("SLOW_WAKE")));
+  errno = error;
+  return answer;
 }

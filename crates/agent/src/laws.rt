@@ -1,5 +1,6 @@
 ghost use Rattle.std.specs.Prelude.{◌≡◌};
-ghost use Rattle.agent.specs.declared.limits.TheConstants.{MAX_WORKERS, PATIENCE, POLL, RUNNERS, SETTLE_UNTIL};
+ghost use Rattle.agent.specs.declared.limits.TheConstants.{LAST_CALLS, LOOKS, MAX_WORKERS, PATIENCE, POLL, RUNNERS, SETTLE_UNTIL};
+ghost use Rattle.agent.specs.declared.dialing.TheConstants.{QUEUE_REST};
 
 /// What the constants of this crate are.
 pub fn constants_are_as_stated()
@@ -10,4 +11,9 @@ pub fn constants_are_as_stated()
     ensures poll { POLL ≡ 1 }
     // two minutes
     ensures patience { PATIENCE ≡ 120 }
+    // a second, in milliseconds
+    ensures last_calls { LAST_CALLS ≡ 1000 }
+    ensures looks { LOOKS ≡ 100 }
+    // milliseconds
+    ensures queue_rest { QUEUE_REST ≡ 10 }
 {}

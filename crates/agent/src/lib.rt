@@ -5,12 +5,13 @@
 //! `runtime_server`.
 #![tactic(auto)]
 
+mod counterpart;
+mod dialing;
 mod inputs;
 mod laws;
 mod limits;
 mod nodeagent;
 mod peers;
-mod quiet;
 mod stops;
 mod tables;
 mod telling;

@@ -10,5 +10,11 @@ pub(crate) const SETTLE_UNTIL: u64 = 3_600;
 /// How many seconds lie between two looks at a container that runs, by the machine's clock.
 pub(crate) const POLL: u64 = 1;
 
-/// How many seconds a read or a write of a call may take: behind that it fails.
+/// How many seconds a call may take, from its connection to the last byte of its reply: behind that it is lost.
 pub(crate) const PATIENCE: u64 = 120;
+
+/// How many milliseconds a call that is under way has where the agent ends.
+pub(crate) const LAST_CALLS: u64 = 1_000;
+
+/// How often is looked meanwhile whether one is.
+pub(crate) const LOOKS: u64 = 100;

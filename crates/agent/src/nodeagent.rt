@@ -3,10 +3,10 @@ ghost use Rattle.std.specs.List.{AllByRecursion};
 ghost use Rattle.agent.specs.Lines.{pace_for, settings_for, status_at, stop_at, text_at, version_for};
 ghost use Rattle.node_lock.specs.declared.limits.TheConstants.{PARTS};
 
+use crate::counterpart::RuntimeBehind;
 use crate::inputs::pod_at;
 use crate::limits::{MAX_WORKERS, POLL, RUNNERS, SETTLE_UNTIL};
-use crate::peers::{SocketPeer, Told};
-use crate::quiet::Beside;
+use crate::peers::{Calls, SocketPeer, Told};
 use crate::stops::AgentStop;
 use crate::tables::table;
 use bpf_verify::Filter;
@@ -15,7 +15,8 @@ use cri_msgs::Version;
 use node_lock::{Book, BookFault, MAX_ENTRIES, PARTS};
 use runner::Baseline;
 use runtime_server::{
-    Address, ServerStop, Site, Teller, accept_all, baseline_at, socket_stop, start_runners,
+    Address, Connections, ServerStop, Site, Teller, accept_all, baseline_at, socket_stop,
+    start_runners,
 };
 use std::alloc::{AllocError, Global};
 use std::io::Write;
@@ -125,18 +126,18 @@ fn run_line<'a, L: Ledger + Send + Sync, R: Threads + Wait + Clock + Copy + Send
     for path in line.manifests.as_slice() {
         admit(rt, system, &shared, &mut coordinator, path)?;
     }
+    let open = Connections::new(system.alloc())?;
     let teller = if line.verbose {
         Some(Teller::start(*rt, *system)?)
     } else {
         None
     };
-    let told = told_by(rt, &teller, &shared);
-    let told = told.as_ref();
+    let calls = calls_by(rt, &open, &teller, &shared);
     let ended = if line.with_runtime {
-        run_beside::<L, Brand, R>(rt, system, line, baseline, &shared, told, coordinator)
+        run_beside::<L, Brand, R>(rt, system, line, baseline, &shared, &calls, coordinator)
     } else {
-        let other: Beside<'_, Brand, R> = Beside::Other;
-        match run_crew(rt, system, line, &shared, told, &other, coordinator) {
+        let other: RuntimeBehind<'_, '_, Brand, R> = RuntimeBehind::Other(rt, &open);
+        match run_crew(rt, system, line, &shared, &calls, &other, coordinator) {
             Ok(ended) => Ok(ended),
             Err(error) => Err(AgentStop::from(error)),
         }
@@ -166,21 +167,26 @@ fn admit<'a, L: Ledger, R: Wait>(
     }
 }
 
-// How each call is told, where there is a teller.
-fn told_by<'a, L: Ledger, R: Wait>(
+// How calls are made. They are told where there is a teller.
+fn calls_by<'a, L: Ledger, R: Wait>(
     rt: &'a R,
+    open: &'a Connections,
     teller: &'a Option<Arc<Teller, Global>>,
     shared: &'a Shared<L>,
-) -> Option<Told<'a, L, R>> {
-    let teller: &'a Teller = teller.as_ref()?;
-    Some(Told { rt, teller, shared })
+) -> Calls<'a, L, R> {
+    let told = match teller {
+        Some(teller) => Some(Told { rt, teller, shared }),
+        None => None,
+    };
+    Calls { open, told }
 }
 
 // A peer for each worker.
 fn peers<'p, L: Ledger, R: Wait>(
+    rt: &'p R,
     system: &'p HostRuntime,
     line: &NodeagentLine<'p>,
-    told: Option<&'p Told<'p, L, R>>,
+    calls: &'p Calls<'p, L, R>,
 ) -> Result<Vec<SocketPeer<'p, L, R>>, AllocError>
     ensures few { IfOk result (λ peers. vec_len peers < PARTS) }
     ensures count { IfOk result (λ peers. vec_len peers ≡ min line.now.numbers.workers 64) }
@@ -189,11 +195,12 @@ fn peers<'p, L: Ledger, R: Wait>(
     let mut peers = Vec::new(system.alloc());
     for _ in 0..line.numbers.workers.min(MAX_WORKERS) {
         peers.push(SocketPeer {
+            rt,
             system,
             alloc: system.alloc(),
             path: line.socket,
             version: version_of(line),
-            told,
+            calls,
         })?;
     }
     Ok(peers)
@@ -205,19 +212,19 @@ fn run_crew<L: Ledger + Send + Sync, B: Baseline + Send + Sync, R: Threads + Wai
     system: &HostRuntime,
     line: &NodeagentLine<'_>,
     shared: &Shared<L>,
-    told: Option<&Told<'_, L, R>>,
-    beside: &Beside<'_, B, R>,
+    calls: &Calls<'_, L, R>,
+    behind: &RuntimeBehind<'_, '_, B, R>,
     coordinator: Coordinator<L>,
 ) -> Result<Ended, AllocError>
     requires { coordinator.parts ≡ PARTS }
 {
-    let peers = peers(system, line, told)?;
+    let peers = peers(rt, system, line, calls)?;
     let (ended, tally) = crew(
         rt,
         system.alloc(),
         shared,
         &Always,
-        beside,
+        behind,
         coordinator,
         peers,
         pace_of(line),
@@ -252,7 +259,7 @@ fn run_beside<
     line: &NodeagentLine<'a>,
     baseline: Option<Filter>,
     shared: &Shared<L>,
-    told: Option<&Told<'_, L, R>>,
+    calls: &Calls<'_, L, R>,
     coordinator: Coordinator<L>,
 ) -> Result<Ended, AgentStop<'a>>
     requires parts { coordinator.parts ≡ PARTS }
@@ -262,7 +269,7 @@ fn run_beside<
         Ok(site) => site,
         Err(error) => return Err(AgentStop::Server(socket_stop(line.socket, error))),
     };
-    Ok(run_at(rt, system, line, &site, shared, told, coordinator)?)
+    Ok(run_at(rt, system, line, &site, shared, calls, coordinator)?)
 }
 
 fn run_at<L: Ledger + Send + Sync, B: Baseline + Send + Sync, R: Threads + Wait + Clock + Sync>(
@@ -271,11 +278,12 @@ fn run_at<L: Ledger + Send + Sync, B: Baseline + Send + Sync, R: Threads + Wait 
     line: &NodeagentLine<'_>,
     site: &Site<'_, B>,
     shared: &Shared<L>,
-    told: Option<&Told<'_, L, R>>,
+    calls: &Calls<'_, L, R>,
     coordinator: Coordinator<L>,
 ) -> Result<Ended, AllocError>
     requires { coordinator.parts ≡ PARTS }
 {
+    let open = calls.open;
     scope(
         scope_env(),
         rt,
@@ -284,8 +292,8 @@ fn run_at<L: Ledger + Send + Sync, B: Baseline + Send + Sync, R: Threads + Wait 
         {
             let ended = match start_site(scope, rt, system, site) {
                 Ok(()) => {
-                    let beside = Beside::Own(rt, &site.engine, RUNNERS);
-                    run_crew(rt, system, line, shared, told, &beside, coordinator)
+                    let behind = RuntimeBehind::Own(rt, open, &site.engine, RUNNERS);
+                    run_crew(rt, system, line, shared, calls, &behind, coordinator)
                 }
                 Err(error) => {
                     drop(coordinator);

@@ -1,17 +1,17 @@
 //! Who answers an agent's requests.
 ghost use Rattle.std.specs.Prelude.{◌≡◌, IfOk};
 
+use crate::dialing::{Deadline, TimedStream, connect};
 use crate::limits::PATIENCE;
 use crate::telling::call_line;
 use cri_frames::{Lost, call_over};
 use cri_msgs::{Reply, Request, Version};
 use node_io::StreamWire;
-use runtime_server::Teller;
+use runtime_server::{Connections, Teller};
 use std::alloc::Global;
-use std::os::unix::net::UnixStream;
 use std::sync::Wait;
 use std::sync::ledger::Ledger;
-use std::time::Duration;
+use std::time::Clock;
 use worker_crew::{Peer, Shared};
 
 /// To whom calls are told, and whose moments are told with them.
@@ -22,37 +22,50 @@ pub(crate) struct Told<'a, L: Ledger, R: Wait> {
     pub(crate) shared: &'a Shared<L>,
 }
 
+/// How an agent's calls are made: what is open of them, and how each is told, if that is asked for.
+#[derive(Drop)]
+pub(crate) struct Calls<'a, L: Ledger, R: Wait> {
+    pub(crate) open: &'a Connections,
+    pub(crate) told: Option<Told<'a, L, R>>,
+}
+
 /// The runtime behind the socket at a path. Each call has a connection of its own.
 #[derive(Drop)]
 pub(crate) struct SocketPeer<'a, L: Ledger, R: Wait> {
+    pub(crate) rt: &'a R,
     pub(crate) system: &'a HostRuntime,
     pub(crate) alloc: Global,
     pub(crate) path: &'a str,
     // The version in which it is spoken to.
     pub(crate) version: Version,
-    // How each call is told, if that is asked for.
-    pub(crate) told: Option<&'a Told<'a, L, R>>,
+    pub(crate) calls: &'a Calls<'a, L, R>,
 }
 
-impl<L: Ledger, R: Wait> SocketPeer<'_, L, R> {
+impl<L: Ledger, R: Wait + Clock> SocketPeer<'_, L, R> {
+    // A call may take so long from its connection to its reply.
     fn ask(&self, request: &Request) -> Result<Reply, Lost>
         ensures { IfOk result (λ reply. reply.id ≡ request.now.id) }
     {
-        let Ok(stream) = UnixStream::connect(self.system, self.path) else {
+        let (rt, open) = (self.rt, self.calls.open);
+        let deadline = Deadline::in_seconds(rt, PATIENCE);
+        let Ok(stream) = connect(rt, self.system, open, self.path, deadline) else {
             return Err(Lost::WriteFailed(0));
         };
-        let patience = Some(Duration::from_secs(PATIENCE));
-        if stream.set_read_timeout(patience).is_err()
-            || stream.set_write_timeout(patience).is_err()
-        {
+        let Some(place) = open.enter(rt, &stream) else {
             return Err(Lost::WriteFailed(0));
-        }
-        let mut wire = StreamWire::new(stream);
-        call_over(self.alloc, &mut wire, request, self.version)
+        };
+        let mut wire = StreamWire::new(TimedStream {
+            rt,
+            stream,
+            deadline,
+        });
+        let came = call_over(self.alloc, &mut wire, request, self.version);
+        open.leave(rt, place);
+        came
     }
 }
 
-impl<L: Ledger, R: Wait> Peer for SocketPeer<'_, L, R> {
+impl<L: Ledger, R: Wait + Clock> Peer for SocketPeer<'_, L, R> {
     ghost use Rattle.std.specs.Prelude.{◌≡◌, IfOk};
 
     // A reply has the number of its request. What runs behind the socket is not known.
@@ -60,7 +73,7 @@ impl<L: Ledger, R: Wait> Peer for SocketPeer<'_, L, R> {
 
     fn call(&mut self, request: &Request) -> Result<Reply, Lost> {
         let came = self.ask(request);
-        if let Some(told) = self.told {
+        if let Some(told) = &self.calls.told {
             let line = call_line(self.alloc, told.shared.moment(), request, &came);
             told.teller.tell(told.rt, line);
         }

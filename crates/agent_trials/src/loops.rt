@@ -12,7 +12,10 @@ use std::alloc::{AllocError, Global};
 use std::marker::Brand;
 use std::sync::atomic::{AtomicU64, Ordering};
 use std::sync::{Mutex, Wait};
-use worker_crew::{Peer, Quiet};
+use worker_crew::{Counterpart, Peer};
+
+// For how many bytes of a reply a wire has place.
+const PLACE: usize = 1 << 14;
 
 /// A runtime whose files are in memory, and the count of the reads and writes of all wires to it.
 #[derive(Drop)]
@@ -84,10 +87,13 @@ pub(crate) struct Idle<'a, R: Wait> {
     pub(crate) runners: u32,
 }
 
-impl<R: Wait> Quiet for Idle<'_, R> {
-    fn wait(&self) {
+impl<R: Wait> Counterpart for Idle<'_, R> {
+    fn wait_idle(&self) {
         self.runtime.engine.wait_idle(self.rt, self.runners);
     }
+
+    // A call in memory comes back by itself.
+    fn end_calls(&self) {}
 }
 
 // Files that threads share.
@@ -141,7 +147,7 @@ impl<'a, R: Wait> LoopWire<'a, R> {
         let alloc = self.runtime.alloc;
         let frame = frame_of(alloc, version, text)?;
         let piece = frame.len().max(1);
-        let mut wire = MemoryWire::new(alloc, frame, piece);
+        let mut wire = MemoryWire::new(alloc, frame, piece, PLACE)?;
         let mut service = self.service();
         serve_wire(alloc, &mut wire, &mut service);
         Vec::from_slice(alloc, wire.written())

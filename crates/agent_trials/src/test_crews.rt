@@ -197,12 +197,21 @@ pub(crate) fn worked<
         {
             let started = start_runners(scope, rt, &runtime.engine, RUNNERS);
             let runners = if started.is_ok() { RUNNERS } else { 0 };
-            let quiet = Idle {
+            let counterpart = Idle {
                 rt,
                 runtime,
                 runners,
             };
-            let (ended, tally) = crew(rt, alloc, shared, gate, &quiet, coordinator, peers, pace);
+            let (ended, tally) = crew(
+                rt,
+                alloc,
+                shared,
+                gate,
+                &counterpart,
+                coordinator,
+                peers,
+                pace,
+            );
             runtime.engine.close(rt);
             match started {
                 Ok(()) => (ended, tally),

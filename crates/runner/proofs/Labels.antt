@@ -7,9 +7,8 @@ use Rattle.std.specs.Map.{lookup}
 use Rattle.std.specs.Str.{bytes_eq}
 use Rattle.std.specs.String.{string_cmp}
 use Rattle.std.proofs.lemmas.Map.Text.{text_cmp}
-use Rattle.runtime_core.specs.Kept.{by_bytes}
-use Rattle.runtime_core.proofs.Serving.{text_cases}
-use Rattle.runtime_core.proofs.Texts.{elsewhere, here}
+use Rattle.registry.specs.Kept.{by_bytes}
+use Rattle.registry.proofs.Texts.{elsewhere, here, text_cases}
 use Rattle.runner.specs.Labelled.{AreLabelled}
 
 pub found_lent : {X : Type 0} (r : Option (Bor X)) (o : Option X) (P : X → Type 0) → option_copied r ≡ o → ((x : X) → o ≡ Some x → P x) → IfSome r (λ b. P b.now)

@@ -1,4 +1,5 @@
 pub mod Connections
+pub mod Dues
 pub mod Exits
 pub mod Labels
 pub mod Shares

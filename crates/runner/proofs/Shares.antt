@@ -1,7 +1,7 @@
 -- The least id of a share is the first id of all that is of the share.
 use Rattle.std.proofs.Common.{arith, ◌≡◌, ◌==◌, ◌%◌, ◌<◌, ℕ, Bool, true, false, if◌then◌else◌, IsSome, Option, None, Some, ◌⊎◌, inl, inr, refl, sym, subst}
 use Rattle.std.proofs.Math.Nat.{eq-or-lt_of_le}
-use Rattle.runtime_core.specs.Kept.{IsNextIn}
+use Rattle.registry.specs.Kept.{IsNextIn}
 use Rattle.runner.specs.Labelled.{Passed, of_share}
 
 of_both : {A : Type 0} (own : Bool) (x : Option A) → IsSome (if own then x else None) → IsSome x

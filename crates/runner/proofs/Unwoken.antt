@@ -5,11 +5,12 @@ use Rattle.cri_msgs.specs.declared.calls.Call.TheVariants.{RunPodSandbox, StopPo
 use Rattle.cri_msgs.specs.declared.refusals.Refusal.TheVariants.{Memory}
 use Rattle.cri_msgs.specs.declared.replies.Answer.TheVariants.{Refused}
 use Rattle.runtime_cell.specs.Cell.{Cell}
-use Rattle.runtime_core.specs.declared.files.FileAnswers.{FileAnswers}
-use Rattle.runtime_core.specs.declared.registry.Registry.{Registry}
-use Rattle.runtime_core.specs.declared.stage.Stage.{Stage}
-use Rattle.runtime_core.specs.Serves.{IsFull, RunsPod}
-use Rattle.runtime_core.specs.Stands.{Keeps, LendsTo, Spares, part_in, stages_in}
+use Rattle.creation.specs.declared.files.FileAnswers.{FileAnswers}
+use Rattle.registry.specs.declared.registry.Registry.{Registry}
+use Rattle.registry.specs.declared.stage.Stage.{Stage}
+use Rattle.registry.specs.Serves.{IsFull, RunsPod}
+use Rattle.registry.specs.Stands.{Keeps, Spares, part_in, stages_in}
+use Rattle.runtime_core.specs.Stands.{LendsTo}
 use Rattle.runner.specs.Shared.{Wakes}
 
 spares : (registry : Registry) (uid : List _) (cells : List Cell) → Spares registry registry uid cells

@@ -12,7 +12,7 @@ use Rattle.cri_msgs.specs.Requests.{ReadsRequest, number_of}
 use Rattle.cri_msgs.specs.Written.{reply_text}
 use Rattle.cri_frames.specs.Frames.{BeginsNone, IsBad, frame_of}
 use Rattle.cri_frames.specs.Streams.{Frame, IsFrame, stream_of}
-use Rattle.runtime_core.specs.declared.files.FileAnswers.{FileAnswers}
+use Rattle.creation.specs.declared.files.FileAnswers.{FileAnswers}
 use Rattle.runner.specs.declared.ending.Ending.{Ending}
 use Rattle.runner.specs.declared.ending.Ending.TheVariants.{Ended, BadLength, Failed, Memory}
 use Rattle.runner.specs.declared.service.Service.{Service}

@@ -6,7 +6,7 @@ use Rattle.node_io.specs.Counts.{HasRisen}
 use Rattle.node_io.specs.Held.{Held, Tells}
 use Rattle.cri_msgs.specs.declared.calls.Call.{Call}
 use Rattle.cri_msgs.specs.declared.calls.Call.TheVariants.{RunPodSandbox, StopPodSandbox, RemovePodSandbox, CreateContainer, StartContainer, StopContainer, RemoveContainer, ContainerStatus, ListContainers, ContainerStatuses}
-use Rattle.runtime_core.specs.Files.{path_of}
+use Rattle.creation.specs.Files.{path_of}
 use Rattle.node_io.specs.declared.files.TheConstants.{MAX_FILE_BYTES}
 
 -- the file of the script, which CreateContainer alone needs

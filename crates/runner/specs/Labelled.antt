@@ -1,11 +1,28 @@
 -- Values under the texts that they name themselves, and turns of a round, which private functions cite.
-use Rattle.std.specs.Prelude.{◌≡◌, ◌==◌, ◌%◌, ◌<◌, ◌≤◌, ℕ, if◌then◌else◌, IsSome, List, Option, None, Some}
+use Rattle.std.specs.Prelude.{◌≡◌, ◌==◌, ◌%◌, ◌<◌, ◌≤◌, ℕ, Bool, if◌then◌else◌, IsSome, List, map, Option, None, Some}
+use Rattle.std.specs.Arc.{arc_value}
+use Rattle.std.specs.declared.sync.Arc.{Arc}
+use Rattle.std.specs.Global.{Global}
 use Rattle.std.specs.Map.{lookup}
 use Rattle.std.specs.Str.{bytes_eq}
+use Rattle.runner.specs.declared.lists.SandboxCells.{SandboxCells}
 
 -- each value is found under its own label
 abbrev pub AreLabelled : {X : Type 0} → (X → List ℕ) → List (List ℕ × X) → Type 0
 AreLabelled {X} label entries = (text : List ℕ) (x : X) → lookup (bytes_eq text) entries ≡ Some x → label x ≡ text
+
+-- the ids of cells, with the uids of the sandboxes that they are in
+abbrev pub homes_of : List (ℕ × Arc SandboxCells Global) → List (ℕ × List ℕ)
+homes_of entries = map (λ e. (e.0, (arc_value {X = SandboxCells} e.1).uid)) entries
+
+-- which cells are kept for rounds to visit, and whether one that was to be kept is not
+pub record Visited : Type 0 where
+  pub homes : List (ℕ × List ℕ)
+  pub lacks : Bool
+
+-- what rounds visit: the cells that are kept for them, or all that are at home, where one is not kept
+abbrev pub visited : List (ℕ × List ℕ) → Visited → List (ℕ × List ℕ)
+visited homes due = if due.lacks then homes else due.homes
 
 -- what is known of the ids that leave a runner's number on division by how many runners there are
 abbrev pub of_share : {A : Type 0} → ℕ → ℕ → (ℕ → Option A) → ℕ → Option A

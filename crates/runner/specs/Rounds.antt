@@ -3,7 +3,7 @@ use Rattle.std.specs.Prelude.{◌≡◌, ◌||◌, ⊤, ℕ, Bool, true, false, 
 use Rattle.runtime_cell.specs.declared.cell.Did.{Did}
 use Rattle.runtime_cell.specs.declared.cell.Did.TheVariants.{Idle, Performed, Denied, Ended}
 use Rattle.runtime_cell.specs.Cell.{Cell}
-use Rattle.runtime_core.specs.Kept.{IsNextIn, MayStepIn, home_in}
+use Rattle.registry.specs.Kept.{IsNextIn, MayStepIn, home_in}
 use Rattle.runner.specs.Labelled.{of_share}
 use Rattle.runner.specs.declared.rounds.Visit.{Visit}
 

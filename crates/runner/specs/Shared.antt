@@ -6,11 +6,12 @@ use Rattle.cri_msgs.specs.declared.calls.Call.TheVariants.{RunPodSandbox}
 use Rattle.cri_msgs.specs.declared.calls.Request.{Request}
 use Rattle.cri_msgs.specs.declared.replies.Reply.{Reply}
 use Rattle.runtime_cell.specs.Cell.{Cell}
-use Rattle.runtime_core.specs.declared.files.FileAnswers.{FileAnswers}
-use Rattle.runtime_core.specs.declared.registry.Registry.{Registry}
-use Rattle.runtime_core.specs.declared.stage.Stage.TheVariants.{Unknown}
-use Rattle.runtime_core.specs.Serves.{IsFull}
-use Rattle.runtime_core.specs.Stands.{AreBound, LendsTo, stages_in}
+use Rattle.creation.specs.declared.files.FileAnswers.{FileAnswers}
+use Rattle.registry.specs.declared.registry.Registry.{Registry}
+use Rattle.registry.specs.declared.stage.Stage.TheVariants.{Unknown}
+use Rattle.registry.specs.Serves.{IsFull}
+use Rattle.registry.specs.Stands.{AreBound, stages_in}
+use Rattle.runtime_core.specs.Stands.{LendsTo}
 
 -- One event on a node with this filter of its own: a registry and a list of cells were held while the request was
 -- served. What other threads did before, and will do, is not known.

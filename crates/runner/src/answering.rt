@@ -34,8 +34,25 @@ pub(crate) fn answer<W: Wire, S: Files, P: Files, H: Host>(
     ensures counted { W.failed wire.old ≤ W.failed wire.new }
     ensures input { Keeps (W.input wire.old) (W.input wire.new) }
 {
-    let reply = reply_to(alloc, service, version, text)?;
+    let reply = reply_in_turn(alloc, service, version, text)?;
     send(alloc, wire, version, &reply)
+}
+
+// The reply to a text, once the host lets it be read.
+fn reply_in_turn<S: Files, P: Files, H: Host>(
+    alloc: Global,
+    service: &mut Service<S, P, H>,
+    version: Version,
+    text: &[u8],
+) -> Result<Reply, AllocError>
+    ensures reply { IfOk result (λ reply. Answers (Gave S.held S.failed) (Gave P.held P.failed) H.may service.old
+        (record { frame = (version, text.now); reply = reply }) service.new) }
+    ensures err { OnErr result (service.new ≡ service.old) }
+{
+    service.host.begin_reading(text.len());
+    let reply = reply_to(alloc, service, version, text);
+    service.host.end_reading(text.len());
+    reply
 }
 
 // The reply to a text in a frame of this version. Where memory is wanted nobody was asked.

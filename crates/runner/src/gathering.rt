@@ -1,7 +1,7 @@
 //! The files of a request, which are read before any lock is taken.
 ghost use Rattle.std.specs.Prelude.{◌≡◌, ◌≤◌};
 ghost use Rattle.node_io.specs.Counts.{HasRisen};
-ghost use Rattle.runtime_core.specs.Files.{path_of};
+ghost use Rattle.creation.specs.Files.{path_of};
 ghost use Rattle.runner.specs.Gathered.{Gave, IsTold, profile_path, script_path};
 
 use cri_msgs::{Call, Request};

@@ -6,10 +6,13 @@
 
 mod answering;
 mod connection;
+mod due;
 mod ending;
 mod gathering;
+mod laws;
 mod lists;
 mod notifier;
+mod readings;
 mod rounds;
 mod service;
 mod shared;
@@ -17,7 +20,9 @@ mod shared;
 pub use connection::serve_wire;
 pub use ending::Ending;
 pub use gathering::gather;
+pub use laws::constants_are_as_stated;
 pub use notifier::Notifier;
+pub use readings::{LARGE_TEXT, MAX_LARGE, Readings};
 pub use rounds::{Open, StepGate};
 pub use service::{Host, Service};
 pub use shared::{Baseline, SharedHost, SharedRuntime};

@@ -1,7 +1,7 @@
 //! The cells of each sandbox, behind a lock of the sandbox's own.
 ghost use Rattle.std.specs.Prelude.{◌≡◌, IfOk, IfSome};
 ghost use Rattle.std.specs.Arc.{arc_value};
-ghost use Rattle.runtime_core.specs.Kept.{by_bytes};
+ghost use Rattle.registry.specs.Kept.{by_bytes};
 ghost use Rattle.runner.specs.declared.lists.SandboxCells.{SandboxCells};
 ghost use Rattle.runner.specs.Labelled.{AreLabelled};
 
@@ -30,7 +30,7 @@ pub(crate) struct CellLists {
 impl Model for CellLists {
     ghost use Rattle.std.specs.Prelude.{ℕ, length};
     ghost use Rattle.std.specs.Arc.{arc_value};
-    ghost use Rattle.runtime_core.specs.Kept.{by_bytes};
+    ghost use Rattle.registry.specs.Kept.{by_bytes};
     ghost use Rattle.runner.specs.declared.lists.SandboxCells.{SandboxCells};
     ghost use Rattle.runner.specs.Labelled.{AreLabelled};
 

@@ -1,8 +1,8 @@
 //! Runners: each steps the cells of its share, round after round.
 ghost use Rattle.std.specs.Prelude.{◌≡◌, ◌<◌, ◌++◌, ◌∷◌, ℕ, List, Option, None, option_map};
 ghost use Rattle.runtime_cell.specs.declared.cell.Did.{Did};
-ghost use Rattle.runtime_core.specs.Kept.{IsNextIn, MayStepIn, home_in};
-ghost use Rattle.runner.specs.Labelled.{of_share};
+ghost use Rattle.registry.specs.Kept.{IsNextIn, MayStepIn, home_in};
+ghost use Rattle.runner.specs.Labelled.{of_share, visited};
 ghost use Rattle.runner.specs.Rounds.{Asked, IsRound, MayVisit, StepsAt, moves_on};
 
 use crate::lists::SandboxCells;
@@ -99,15 +99,27 @@ impl<B: Baseline> SharedRuntime<B> {
             gate,
             runner,
             runners,
+            over: None,
         })
     }
 
-    // The runner's next step, behind the one of this id.
-    fn next_cell<R: Wait>(&self, rt: &R, above: u64, runner: u64, runners: u64) -> Option<NextCell>
+    // The runner's next step, behind the one of this id. A cell that was found at its end is visited no more.
+    fn next_cell<R: Wait>(
+        &self,
+        rt: &R,
+        above: u64,
+        runner: u64,
+        runners: u64,
+        over: Option<u64>,
+    ) -> Option<NextCell>
         requires { runner < runners }
         ensures { (homes : List (ℕ × List ℕ)) × IsNextIn (of_share runner runners (home_in homes)) above (option_map (λ next. next.id) result) }
     {
-        self.sandboxes.lock(rt).next_cell(above, runner, runners)
+        let mut sandboxes = self.sandboxes.lock(rt);
+        if let Some(id) = over {
+            sandboxes.due.remove(id);
+        }
+        sandboxes.next_cell(above, runner, runners)
     }
 }
 
@@ -119,6 +131,8 @@ struct RunnerVisits<'a, B: Baseline, R: Wait, G: StepGate> {
     gate: &'a G,
     runner: u64,
     runners: u64,
+    // The cell that the last visit found at its end.
+    over: Option<u64>,
     ghost fit: { runner < runners },
 }
 
@@ -130,10 +144,19 @@ impl<'a, B: Baseline, R: Wait, G: StepGate> Visits for RunnerVisits<'a, B, R, G>
     fn visit(&mut self, above: u64) -> Option<Visit> {
         let next = self
             .runtime
-            .next_cell(self.rt, above, self.runner, self.runners)?;
+            .next_cell(self.rt, above, self.runner, self.runners, self.over)?;
         let id = next.id;
-        let went_on = step(self.rt, next, self.gate);
-        Some(Visit { id, went_on })
+        let is_held = next.list.is_some();
+        let did = step(self.rt, next, self.gate);
+        self.over = if is_held && is_over(did) {
+            Some(id)
+        } else {
+            None
+        };
+        Some(Visit {
+            id,
+            went_on: goes_on(did),
+        })
     }
 }
 
@@ -142,10 +165,10 @@ impl<B: Baseline> Sandboxes<B> {
     #[tactic(auto, using(crate::proofs::Shares::next_is_own, crate::proofs::Shares::next_is_none, crate::proofs::Shares::next_is_passed))]
     fn next_cell(&self, above: u64, runner: u64, runners: u64) -> Option<NextCell>
         requires { runner < runners }
-        ensures { IsNextIn (of_share runner runners (home_in self.now.registry.homes)) above (option_map (λ next. next.id) result) }
+        ensures { IsNextIn (of_share runner runners (home_in (visited self.now.registry.homes self.now.due))) above (option_map (λ next. next.id) result) }
     {
         let mut last = above;
-        while let Some(id) = self.registry.next_id(last) {
+        while let Some(id) = self.next_id(last) {
             if id % runners == runner {
                 let list = self.list_of(id);
                 return Some(NextCell { id, list });
@@ -155,24 +178,36 @@ impl<B: Baseline> Sandboxes<B> {
         None
     }
 
+    // The least id above this one that rounds visit.
+    fn next_id(&self, above: u64) -> Option<u64>
+        ensures { IsNextIn (home_in (visited self.now.registry.homes self.now.due)) above result }
+    {
+        if self.due.lacks() {
+            self.registry.next_id(above)
+        } else {
+            self.due.next(above)
+        }
+    }
+
     // Where the cell with this id is.
     fn list_of(&self, id: u64) -> Option<Arc<SandboxCells, Global>> {
+        if let Some(list) = self.due.get(id) {
+            return Arc::try_clone(list).ok();
+        }
         let uid = self.registry.home(id)?;
         let list = self.lists.get(uid)?;
         Arc::try_clone(list).ok()
     }
 }
 
-// Does a step that is owed, and tells whether the cell went on.
-fn step<R: Wait, G: StepGate>(rt: &R, next: NextCell, gate: &G) -> bool
-    ensures { (did : Option Did) × StepsAt next.id did × (result ≡ moves_on did) }
+// Does a step that is owed, and tells what came of it.
+fn step<R: Wait, G: StepGate>(rt: &R, next: NextCell, gate: &G) -> Option<Did>
+    ensures { StepsAt next.id result }
 {
     let NextCell { id, list } = next;
-    let Some(list) = list else {
-        return false;
-    };
+    let list = list?;
     let mut cells = list.cells.lock(rt);
-    goes_on(step_in(&mut cells, id, gate))
+    step_in(&mut cells, id, gate)
 }
 
 // The critical section of a step.
@@ -183,6 +218,14 @@ fn step_in<G: StepGate>(cells: &mut Cells, id: u64, gate: &G) -> Option<Did>
     let did = cells.step(id);
     gate.after(id);
     did
+}
+
+// Whether a cell that was started has come to its end, or is gone.
+fn is_over(did: Option<Did>) -> bool {
+    match did {
+        None | Some(Did::Idle | Did::Ended(_)) => true,
+        Some(Did::Performed | Did::Denied(_)) => false,
+    }
 }
 
 // Whether something came of a step.

@@ -1,19 +1,22 @@
 //! A runtime that threads share. The registry stands under one lock and each sandbox's cells under one of
 //! their own, so that a step of a cell holds up nothing but its own sandbox.
 ghost use Rattle.std.specs.Prelude.{◌≡◌, IsTrue, List, None, Option};
+ghost use Rattle.std.specs.Arc.{arc_value};
 ghost use Rattle.bpf_code.specs.declared.insn.Insn.{Insn};
 ghost use Rattle.cri_msgs.specs.Calls.{uid_of};
-ghost use Rattle.runtime_core.specs.Stands.{AreBound};
+ghost use Rattle.registry.specs.Stands.{AreBound};
 ghost use Rattle.runner.specs.Shared.{MayServe, Wakes};
 
+use crate::due::Due;
 use crate::lists::{CellLists, SandboxCells};
 use crate::service::Host;
 use bpf_verify::Filter;
 use cri_msgs::{Answer, Call, Refusal, Reply, Request};
+use runtime_cell::Cell;
 use runtime_core::{Cells, FileAnswers, Registry, Stage, uid_of};
 use std::alloc::{AllocError, Global};
 use std::marker::{Brand, PhantomData};
-use std::sync::{Mutex, Wait};
+use std::sync::{Arc, Mutex, Wait};
 
 /// A node's own filter, which confines each of its containers, as a type: whoever makes a runtime picks it,
 /// so that what the runtime's lock holds has this filter and no other.
@@ -26,11 +29,12 @@ impl Baseline for Brand {
     ghost filter = { None };
 }
 
-/// What is known of all uids, and where their cells are.
+/// What is known of all uids, where their cells are, and which of these rounds visit.
 #[derive(Drop)]
 pub(crate) struct Sandboxes<B: Baseline> {
     pub(crate) registry: Registry,
     pub(crate) lists: CellLists,
+    pub(crate) due: Due,
     alloc: Global,
     node: PhantomData<B>,
     ghost bound: { AreBound registry },
@@ -44,12 +48,19 @@ impl<B: Baseline> Sandboxes<B> {
         Sandboxes {
             registry: Registry::new(alloc, baseline),
             lists: CellLists::new(alloc),
+            due: Due::new(alloc),
             alloc,
             node: PhantomData,
         }
     }
 
-    fn serve<R: Wait>(&mut self, rt: &R, request: Request, files: FileAnswers) -> Reply
+    fn serve<R: Wait>(
+        &mut self,
+        rt: &R,
+        gone: &mut Cells,
+        request: Request,
+        files: FileAnswers,
+    ) -> Reply
         ensures { MayServe B.filter request files result }
     {
         serve(
@@ -57,6 +68,8 @@ impl<B: Baseline> Sandboxes<B> {
             self.alloc,
             &mut self.registry,
             &mut self.lists,
+            &mut self.due,
+            gone,
             request,
             files,
         )
@@ -67,6 +80,7 @@ impl<B: Baseline> Sandboxes<B> {
 #[derive(Drop)]
 pub struct SharedRuntime<B: Baseline> {
     pub(crate) sandboxes: Mutex<Sandboxes<B>>,
+    alloc: Global,
 }
 
 impl<B: Baseline> SharedRuntime<B> {
@@ -76,15 +90,22 @@ impl<B: Baseline> SharedRuntime<B> {
     {
         SharedRuntime {
             sandboxes: Mutex::new(Sandboxes::new(alloc, baseline)),
+            alloc,
         }
     }
 
     /// Serves a request, with what the reads of its files gave. The registry's lock, and then that of the
-    /// sandbox's cells, are held until the reply is made.
+    /// sandbox's cells, are held until the reply is made. The cells of a sandbox that is removed are let go
+    /// of once neither is held.
     pub fn serve<R: Wait>(&self, rt: &R, request: Request, files: FileAnswers) -> Reply
         ensures { MayServe B.filter request files result }
     {
-        self.sandboxes.lock(rt).serve(rt, request, files)
+        let mut gone = Cells::new(self.alloc);
+        let mut sandboxes = self.sandboxes.lock(rt);
+        let reply = sandboxes.serve(rt, &mut gone, request, files);
+        drop(sandboxes);
+        drop(gone);
+        reply
     }
 }
 
@@ -117,6 +138,8 @@ fn serve<R: Wait>(
     alloc: Global,
     registry: &mut Registry,
     lists: &mut CellLists,
+    due: &mut Due,
+    gone: &mut Cells,
     request: Request,
     files: FileAnswers,
 ) -> Reply
@@ -126,15 +149,53 @@ fn serve<R: Wait>(
     ensures own { registry.new.baseline ≡ registry.old.baseline }
 {
     if wakes(registry, &request.call) {
-        return wake(rt, registry, lists, request, files);
+        return wake(rt, registry, lists, gone, request, files);
     }
     if removes(&request.call) {
-        return remove(rt, alloc, registry, lists, request, files);
+        return remove(rt, alloc, registry, lists, gone, request, files);
     }
     match lists.get(uid_of(&request.call).as_str()) {
-        Some(list) => serve_under(rt, registry, list, request, files),
-        None => serve_absent(alloc, registry, request, files),
+        Some(list) => serve_there(rt, registry, list, due, gone, request, files),
+        None => serve_absent(alloc, registry, gone, request, files),
     }
+}
+
+// A cell that is started is kept among those that rounds visit. Only where the start is done: a cell that is to be
+// visited and does nothing has come to its end then.
+fn serve_there<R: Wait>(
+    rt: &R,
+    registry: &mut Registry,
+    list: &Arc<SandboxCells, Global>,
+    due: &mut Due,
+    gone: &mut Cells,
+    request: Request,
+    files: FileAnswers,
+) -> Reply
+    requires own { (arc_value list.now).uid ≡ uid_of request.call }
+    requires bound { AreBound registry.old }
+    ensures may { MayServe registry.old.baseline request files result }
+    ensures bound { AreBound registry.new }
+    ensures own { registry.new.baseline ≡ registry.old.baseline }
+{
+    let mut cells = list.cells.lock(rt);
+    let starts = id_to_start(&request.call, &cells);
+    let reply = registry.serve_lent(&mut cells, gone, request, files);
+    if let (Some(id), Answer::Done) = (starts, &reply.answer) {
+        due.put(id, list);
+    }
+    reply
+}
+
+// The id of the cell that a call asks to start, if it is there.
+fn id_to_start(call: &Call, cells: &Cells) -> Option<u64> {
+    let Call::StartContainer { key } = call else {
+        return None;
+    };
+    let is_asked = |cell: &&Cell| {
+        let label = cell.label();
+        label.attempt == key.container.attempt && label.name.as_str() == key.container.name.as_str()
+    };
+    Some(cells.as_slice().iter().find(is_asked)?.label().id)
 }
 
 // Whether a call may make a sandbox of a uid that was never named.
@@ -158,6 +219,7 @@ fn wake<R: Wait>(
     rt: &R,
     registry: &mut Registry,
     lists: &mut CellLists,
+    gone: &mut Cells,
     request: Request,
     files: FileAnswers,
 ) -> Reply
@@ -169,7 +231,7 @@ fn wake<R: Wait>(
 {
     match lists.put(uid_of(&request.call)) {
         Ok(list) => {
-            let reply = serve_under(rt, registry, &list, request, files);
+            let reply = serve_under(rt, registry, &list, gone, request, files);
             let uid = list.uid.as_str();
             if registry.stage(uid) == Stage::Unknown {
                 drop(lists.take(uid));
@@ -189,6 +251,7 @@ fn remove<R: Wait>(
     alloc: Global,
     registry: &mut Registry,
     lists: &mut CellLists,
+    gone: &mut Cells,
     request: Request,
     files: FileAnswers,
 ) -> Reply
@@ -198,8 +261,8 @@ fn remove<R: Wait>(
     ensures own { registry.new.baseline ≡ registry.old.baseline }
 {
     match lists.take(uid_of(&request.call).as_str()) {
-        Some(list) => serve_under(rt, registry, &list, request, files),
-        None => serve_absent(alloc, registry, request, files),
+        Some(list) => serve_under(rt, registry, &list, gone, request, files),
+        None => serve_absent(alloc, registry, gone, request, files),
     }
 }
 
@@ -208,6 +271,7 @@ fn serve_under<R: Wait>(
     rt: &R,
     registry: &mut Registry,
     list: &SandboxCells,
+    gone: &mut Cells,
     request: Request,
     files: FileAnswers,
 ) -> Reply
@@ -218,13 +282,14 @@ fn serve_under<R: Wait>(
     ensures own { registry.new.baseline ≡ registry.old.baseline }
 {
     let mut cells = list.cells.lock(rt);
-    registry.serve_lent(&mut cells, request, files)
+    registry.serve_lent(&mut cells, gone, request, files)
 }
 
 // Serves a request that names no sandbox which is there.
 fn serve_absent(
     alloc: Global,
     registry: &mut Registry,
+    gone: &mut Cells,
     request: Request,
     files: FileAnswers,
 ) -> Reply
@@ -234,5 +299,5 @@ fn serve_absent(
     ensures own { registry.new.baseline ≡ registry.old.baseline }
 {
     let mut none = Cells::new(alloc);
-    registry.serve_lent(&mut none, request, files)
+    registry.serve_lent(&mut none, gone, request, files)
 }

@@ -9,6 +9,8 @@ mod life_tests;
 #[cfg(test)]
 mod notifier_tests;
 #[cfg(test)]
+mod reading_tests;
+#[cfg(test)]
 mod round_tests;
 #[cfg(test)]
 mod thread_tests;

@@ -1,10 +1,11 @@
 use crate::wires::asks;
 use cri_msgs::{Answer, Reply, Request, Version};
-use runner::{Open, SharedRuntime};
+use runner::{SharedRuntime, StepGate};
 use runtime_core::FileAnswers;
 use std::alloc::Global;
 use std::marker::Brand;
 use std::sync::Wait;
+use std::sync::atomic::{AtomicU64, Ordering};
 use std::test::Fail;
 
 // Containers 1 to 4, of two pods in turn, of which the fourth was only made.
@@ -18,18 +19,32 @@ const PODS: &str = r#"{"call":"RunPodSandbox","id":1,"uid":"u1","v":1}
 {"attempt":0,"call":"StartContainer","id":8,"name":"b","uid":"u2","v":1}
 {"attempt":0,"call":"StartContainer","id":9,"name":"c","uid":"u1","v":1}"#;
 
-// A round: which runner of how many, whether a cell went on, and how many calls each container has performed
-// then.
-const ROUNDS: [(u64, u64, bool, [u64; 4]); 8] = [
-    (0, 2, true, [0, 1, 0, 0]),
-    (1, 2, true, [1, 1, 1, 0]),
-    (0, 1, true, [2, 2, 2, 0]),
-    (2, 3, true, [2, 2, 2, 0]),
-    (0, 3, true, [2, 2, 2, 0]),
-    (0, 2, false, [2, 2, 2, 0]),
-    (1, 3, true, [2, 2, 2, 0]),
-    (0, 1, false, [2, 2, 2, 0]),
+// A round: which runner of how many, how many cells it visits, whether one went on, and how many calls each
+// container has performed then.
+const ROUNDS: [(u64, u64, u64, bool, [u64; 4]); 8] = [
+    (0, 2, 1, true, [0, 1, 0, 0]),
+    (1, 2, 2, true, [1, 1, 1, 0]),
+    (0, 1, 3, true, [2, 2, 2, 0]),
+    (2, 3, 1, true, [2, 2, 2, 0]),
+    (0, 3, 1, true, [2, 2, 2, 0]),
+    (0, 2, 0, false, [2, 2, 2, 0]),
+    (1, 3, 1, true, [2, 2, 2, 0]),
+    (0, 1, 0, false, [2, 2, 2, 0]),
 ];
+
+// Counts the steps.
+#[derive(Drop)]
+struct Counted {
+    steps: AtomicU64,
+}
+
+impl StepGate for Counted {
+    fn before(&self, _id: u64) {
+        self.steps.fetch_add(1, Ordering::SeqCst);
+    }
+
+    fn after(&self, _id: u64) {}
+}
 
 // How many calls a container has performed.
 fn performed<R: Wait>(
@@ -59,9 +74,14 @@ fn rounds_step_their_shares(rt: HostRuntime) -> Result<(), Fail> {
     let alloc = rt.alloc();
     let runtime = SharedRuntime::<Brand>::new(alloc, None);
     asks(&rt, alloc, &runtime, PODS)?;
-    for (runner, runners, goes_on, counts) in ROUNDS {
-        let went_on = runtime.step_round(&rt, runner, runners, &Open);
+    for (runner, runners, visits, goes_on, counts) in ROUNDS {
+        let gate = Counted {
+            steps: AtomicU64::new(0),
+        };
+        let went_on = runtime.step_round(&rt, runner, runners, &gate);
         assert!(rt; went_on == goes_on, "{runner} of {runners}");
+        let steps = gate.steps.load(Ordering::SeqCst);
+        assert_eq!(rt; steps, visits, "{runner} of {runners}");
         let found = [
             performed(&rt, alloc, &runtime, "u1", "a")?,
             performed(&rt, alloc, &runtime, "u2", "b")?,

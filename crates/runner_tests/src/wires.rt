@@ -59,6 +59,9 @@ pub(crate) fn service<H: Drop>(
     })
 }
 
+// For how many bytes of replies a wire has place.
+const PLACE: usize = 1 << 20;
+
 // A wire on which these bytes come, in pieces of so many, and whose call with this number fails.
 pub(crate) fn wire(
     alloc: Global,
@@ -67,7 +70,7 @@ pub(crate) fn wire(
     failing: u64,
 ) -> Result<MemoryWire, AllocError> {
     let input = Vec::from_slice(alloc, input)?;
-    let mut wire = MemoryWire::new(alloc, input, piece.max(1));
+    let mut wire = MemoryWire::new(alloc, input, piece.max(1), PLACE)?;
     wire.fail_call(failing);
     Ok(wire)
 }

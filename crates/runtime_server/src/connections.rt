@@ -17,13 +17,13 @@ struct Open {
 
 /// The connections that are open, so that they can be cut off.
 #[derive(Drop)]
-pub(crate) struct Connections {
+pub struct Connections {
     open: Mutex<Open>,
 }
 
 impl Connections {
     /// None are open yet.
-    pub(crate) fn new(alloc: Global) -> Result<Connections, AllocError> {
+    pub fn new(alloc: Global) -> Result<Connections, AllocError> {
         let mut places = Vec::new(alloc);
         for _ in 0..MAX_CONNECTIONS {
             places.push(None)?;
@@ -37,7 +37,7 @@ impl Connections {
     }
 
     /// Takes a place for a connection. None where all are taken, or no more are served.
-    pub(crate) fn enter<R: Wait>(&self, rt: &R, stream: &UnixStream) -> Option<usize> {
+    pub fn enter<R: Wait>(&self, rt: &R, stream: &UnixStream) -> Option<usize> {
         // What finds no place is let go of behind the lock.
         let mut copy = Some(stream.try_clone().ok()?);
         let mut open = self.open.lock(rt);
@@ -52,15 +52,29 @@ impl Connections {
     }
 
     /// Gives a place back.
-    pub(crate) fn leave<R: Wait>(&self, rt: &R, place: usize) {
+    pub fn leave<R: Wait>(&self, rt: &R, place: usize) {
         let mut open = self.open.lock(rt);
         let left = take_at(&mut open.places, place);
         drop(open);
         drop(left);
     }
 
+    /// Whether none is open.
+    pub fn is_empty<R: Wait>(&self, rt: &R) -> bool {
+        self.open
+            .lock(rt)
+            .places
+            .iter()
+            .all(|place| place.is_none())
+    }
+
+    /// Whether no more are served.
+    pub fn is_closed<R: Wait>(&self, rt: &R) -> bool {
+        self.open.lock(rt).closed
+    }
+
     /// Cuts all connections off, and serves no more.
-    pub(crate) fn close<R: Wait>(&self, rt: &R) {
+    pub fn close<R: Wait>(&self, rt: &R) {
         let mut open = self.open.lock(rt);
         open.closed = true;
         drop(open);

@@ -3,17 +3,19 @@ ghost use Rattle.std.specs.Prelude.{◌≡◌, ◌<◌};
 
 use bpf_verify::Filter;
 use cri_msgs::{Call, Reply, Request};
-use runner::{Baseline, Host, Notifier, Open, SharedHost, SharedRuntime};
+use runner::{Baseline, Host, Notifier, Open, Readings, SharedHost, SharedRuntime};
 use runtime_core::FileAnswers;
 use std::alloc::{AllocError, Global};
 use std::sync::Wait;
 use std::thread::{Scope, Threads};
 
-/// A runtime on a node with this filter of its own, and what wakes its runners.
+/// A runtime on a node with this filter of its own, what wakes its runners, and how many large texts are read
+/// for it at a time.
 #[derive(Drop)]
 pub struct Engine<B: Baseline> {
     runtime: SharedRuntime<B>,
     notifier: Notifier,
+    readings: Readings,
 }
 
 impl<B: Baseline> Engine<B> {
@@ -24,6 +26,7 @@ impl<B: Baseline> Engine<B> {
         Engine {
             runtime: SharedRuntime::new(alloc, baseline),
             notifier: Notifier::new(),
+            readings: Readings::new(),
         }
     }
 
@@ -33,6 +36,7 @@ impl<B: Baseline> Engine<B> {
             rt,
             host: SharedHost::new(rt, &self.runtime),
             notifier: &self.notifier,
+            readings: &self.readings,
         }
     }
 
@@ -84,6 +88,7 @@ pub struct EngineHost<'a, B: Baseline, R: Wait> {
     rt: &'a R,
     host: SharedHost<'a, B, R>,
     notifier: &'a Notifier,
+    readings: &'a Readings,
 }
 
 impl<B: Baseline, R: Wait> Host for EngineHost<'_, B, R> {
@@ -98,5 +103,13 @@ impl<B: Baseline, R: Wait> Host for EngineHost<'_, B, R> {
             self.notifier.notify(self.rt);
         }
         reply
+    }
+
+    fn begin_reading(&self, length: usize) {
+        self.readings.begin(self.rt, length);
+    }
+
+    fn end_reading(&self, length: usize) {
+        self.readings.end(self.rt, length);
     }
 }

@@ -17,7 +17,7 @@ mod stops;
 mod teller;
 mod telling;
 
-pub use connections::MAX_CONNECTIONS;
+pub use connections::{Connections, MAX_CONNECTIONS};
 pub use engine::{Engine, EngineHost, start_runners};
 pub use inputs::{baseline_at, bytes_at};
 pub use laws::constants_are_as_stated;

@@ -108,6 +108,14 @@ impl<B: Baseline, R: Wait> Host for ToldHost<'_, B, R> {
         teller.tell(self.rt, line);
         reply
     }
+
+    fn begin_reading(&self, length: usize) {
+        self.host.begin_reading(length);
+    }
+
+    fn end_reading(&self, length: usize) {
+        self.host.end_reading(length);
+    }
 }
 
 // What a connection is served by: the scripts and the profiles of the address.

@@ -134,12 +134,12 @@ fn make_way<R: rt::Files + Net>(rt: &R, path: &str) -> io::Result<()> {
     }
 }
 
-// Whether this is a socket to which nobody listens.
+// Whether this is a socket to which nobody listens. One whose queue is full is not waited for: it is live.
 fn is_left_over<R: Net>(rt: &R, path: &str, about: &Metadata) -> bool {
     if !about.file_type().is_socket() {
         return false;
     }
-    match UnixStream::connect(rt, path) {
+    match mio::net::UnixStream::connect(rt, path) {
         Ok(_) => false,
         Err(error) => error.kind() == ErrorKind::ConnectionRefused,
     }

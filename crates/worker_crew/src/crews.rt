@@ -3,7 +3,7 @@ ghost use Rattle.std.specs.Prelude.{◌≡◌, ◌+◌, ◌<◌, IfSome, IsTrue,
 ghost use Rattle.node_lock.specs.declared.limits.TheConstants.{PARTS};
 
 use crate::coordinator::Coordinator;
-use crate::pace::{Ended, Pace, Quiet, keep_time};
+use crate::pace::{Counterpart, Ended, Pace, keep_time};
 use crate::shared::Shared;
 use crate::worker::{Gate, Peer, work};
 use crate::worker_share::WorkerShare;
@@ -123,7 +123,7 @@ fn run<
     L: Ledger + Send + Sync + 's,
     P: Peer + Send + Drop + 's,
     G: Gate + Sync,
-    Q: Quiet + Sync,
+    C: Counterpart + Sync,
     R: Threads + Wait + Clock + Sync,
 >(
     scope: &'s Scope<'s, &'e ()>,
@@ -131,7 +131,7 @@ fn run<
     alloc: Global,
     shared: &'e Shared<L>,
     gate: &'e G,
-    quiet: &'e Q,
+    counterpart: &'e C,
     coordinator: Coordinator<L>,
     peers: Vec<P>,
     pace: Pace,
@@ -143,11 +143,12 @@ fn run<
     let mut coordinator = coordinator;
     let pool = start_workers(scope, rt, alloc, shared, gate, &mut coordinator, peers);
     let ended = if pool.complete {
-        keep_time(rt, shared, quiet, &mut coordinator, pace)
+        keep_time(rt, shared, counterpart, &mut coordinator, pace)
     } else {
         Ended::Memory
     };
     shared.close(rt);
+    counterpart.end_calls();
     let mut all = coordinator.into_tally();
     if join_workers(rt, &mut all, pool) {
         (ended, Some(all))
@@ -157,21 +158,22 @@ fn run<
 }
 
 /// Starts a worker for each of these peers, numbered from 1, in a thread of its own, and tells the time beside
-/// them until there is nothing left to wait for; a clock that is counted waits for `quiet` before it moves on. The
-/// book is closed then. The tally has the receipts of all
-/// workers and the coordinator's, for all that was done; none where they could not be brought together.
+/// them until there is nothing left to wait for; a clock that is counted waits for the counterpart's containers
+/// before it moves on. The book is closed then, and calls that are under way are ended. The tally has the
+/// receipts of all workers and the coordinator's, for all that was done; none where they could not be brought
+/// together.
 pub fn crew<
     L: Ledger + Send + Sync,
     P: Peer + Send + Drop,
     G: Gate + Sync,
-    Q: Quiet + Sync,
+    C: Counterpart + Sync,
     R: Threads + Wait + Clock + Sync,
 >(
     rt: &R,
     alloc: Global,
     shared: &Shared<L>,
     gate: &G,
-    quiet: &Q,
+    counterpart: &C,
     coordinator: Coordinator<L>,
     peers: Vec<P>,
     pace: Pace,
@@ -194,7 +196,7 @@ pub fn crew<
                 alloc,
                 shared,
                 gate,
-                quiet,
+                counterpart,
                 coordinator,
                 peers,
                 pace,

@@ -17,6 +17,6 @@ mod worker_share;
 pub use coordinator::Coordinator;
 pub use crews::crew;
 pub use laws::constants_are_as_stated;
-pub use pace::{Ended, Pace, Quiet, Unknown};
+pub use pace::{Counterpart, Ended, Pace};
 pub use shared::Shared;
 pub use worker::{Always, Gate, Peer, work};

@@ -34,35 +34,31 @@ pub enum Ended {
     HistoryFull,
 }
 
-/// What the counted clock waits for before it moves on.
-pub trait Quiet {
-    /// Waits until no container of the runtime runs, where that can be known.
-    fn wait(&self);
-}
+/// The runtime's side of a crew's calls, as far as the clock and the crew's end hang on it.
+pub trait Counterpart {
+    /// Waits until no container of the runtime runs, where that can be known. The counted clock moves on only
+    /// then.
+    fn wait_idle(&self);
 
-/// A runtime of which nothing is known: nothing is waited for.
-#[derive(Clone, Copy)]
-pub struct Unknown;
-
-impl Quiet for Unknown {
-    fn wait(&self) {}
+    /// The crew has come to its end: a call that is under way comes back soon, whatever its peer does.
+    fn end_calls(&self);
 }
 
 // How many milliseconds the machine's clock is not looked at.
 pub(crate) const NAP: u64 = 50;
 
 /// Tells the time until there is nothing left to wait for.
-pub(crate) fn keep_time<L: Ledger, Q: Quiet, R: Wait + Clock>(
+pub(crate) fn keep_time<L: Ledger, C: Counterpart, R: Wait + Clock>(
     rt: &R,
     shared: &Shared<L>,
-    quiet: &Q,
+    counterpart: &C,
     coordinator: &mut Coordinator<L>,
     pace: Pace,
 ) -> Ended
     ensures { coordinator.new.parts ≡ coordinator.old.parts }
 {
     match pace {
-        Pace::Counted(until) => count(rt, shared, quiet, coordinator, until),
+        Pace::Counted(until) => count(rt, shared, counterpart, coordinator, until),
         Pace::Machine(until) => watch(rt, shared, coordinator, until),
     }
 }
@@ -76,10 +72,10 @@ fn fault_of<L: Ledger, R: Wait>(rt: &R, shared: &Shared<L>) -> Ended {
     }
 }
 
-fn count<L: Ledger, Q: Quiet, R: Wait>(
+fn count<L: Ledger, C: Counterpart, R: Wait>(
     rt: &R,
     shared: &Shared<L>,
-    quiet: &Q,
+    counterpart: &C,
     coordinator: &mut Coordinator<L>,
     until: u64,
 ) -> Ended
@@ -97,7 +93,7 @@ fn count<L: Ledger, Q: Quiet, R: Wait>(
                     return Ended::TimeUp;
                 }
                 // What is asked at the next moment does not hang on how far a runner has come.
-                quiet.wait();
+                counterpart.wait_idle();
                 // Workers that the tick wakes are to find the new moment.
                 shared.tell(due);
                 if coordinator

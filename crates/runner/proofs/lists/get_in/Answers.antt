@@ -1,7 +1,7 @@
 use Rattle.std.proofs.Common.{◌≡◌, ◌∙◌}
 use Rattle.std.specs.Arc.{arc_value}
 use Rattle.runner.specs.declared.lists.SandboxCells.{SandboxCells}
-use Rattle.runtime_core.proofs.Texts.{found}
+use Rattle.registry.proofs.Texts.{found}
 use Rattle.runner.proofs.Labels.{found_lent}
 use Rattle.runner.proofs.lists.get_in.Goals as goal
 

@@ -1,11 +1,11 @@
 -- Of the ids up to the last one that was looked at, none is of the share.
 use Rattle.std.proofs.Common.{◌-◌, ◌^◌}
-use Rattle.runtime_core.specs.Kept.{home_in}
-use Rattle.runner.specs.Labelled.{Passed, of_share}
+use Rattle.registry.specs.Kept.{home_in}
+use Rattle.runner.specs.Labelled.{Passed, of_share, visited}
 use Rattle.runner.proofs.shared.Sandboxes.next_cell.Given as goal
 
 abbrev pub invariant-loop-id : goal.invariant-loop-id
-invariant-loop-id g l = Passed (of_share l.runner l.runners (home_in l.self.registry.homes)) l.above l.last
+invariant-loop-id g l = Passed (of_share l.runner l.runners (home_in (visited l.self.registry.homes l.self.due))) l.above l.last
 
 abbrev pub decreases-loop-id : goal.decreases-loop-id
 decreases-loop-id g l = 2 ^ 64 - l.last

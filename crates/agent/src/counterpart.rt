@@ -1,0 +1,43 @@
+use crate::limits::{LAST_CALLS, LOOKS};
+use runner::Baseline;
+use runtime_server::{Connections, Engine};
+use std::sync::Wait;
+use std::thread;
+use std::time::{Clock, Duration};
+use worker_crew::Counterpart;
+
+/// The runtime of a run of pods, with what is open to it: in this process, with so many runners, or one of which
+/// nothing is known.
+#[derive(Clone, Copy)]
+pub(crate) enum RuntimeBehind<'a, 'o, B: Baseline, R: Wait> {
+    Own(&'a R, &'o Connections, &'a Engine<B>, u32),
+    Other(&'a R, &'o Connections),
+}
+
+// Calls whose peers are quick come back by themselves; the others are cut off a second later.
+fn end_calls<R: Wait + Clock>(rt: &R, open: &Connections) {
+    for _ in 0..LOOKS {
+        if open.is_empty(rt) {
+            break;
+        }
+        thread::sleep(rt, Duration::from_millis(LAST_CALLS / LOOKS));
+    }
+    open.close(rt);
+}
+
+impl<B: Baseline, R: Wait + Clock> Counterpart for RuntimeBehind<'_, '_, B, R> {
+    fn wait_idle(&self) {
+        match self {
+            RuntimeBehind::Own(rt, _, engine, runners) => engine.wait_idle(*rt, *runners),
+            RuntimeBehind::Other(_, _) => {}
+        }
+    }
+
+    fn end_calls(&self) {
+        match self {
+            RuntimeBehind::Own(rt, open, _, _) | RuntimeBehind::Other(rt, open) => {
+                end_calls(*rt, open)
+            }
+        }
+    }
+}

@@ -1,0 +1,102 @@
+//! The connection of one call: it is made, written to and read within one span of time, however slow whoever is
+//! behind it may be.
+
+use runtime_server::Connections;
+use std::io::{self, ErrorKind, Read, Write};
+use std::os::unix::net::UnixStream;
+use std::sync::Wait;
+use std::thread;
+use std::time::{Clock, Duration, Instant};
+
+// How many milliseconds a connection rests that finds no place in its listener's queue.
+pub(crate) const QUEUE_REST: u64 = 10;
+
+/// Up to when a call may take.
+#[derive(Clone, Copy)]
+pub(crate) struct Deadline {
+    start: Option<Instant>,
+    span: Duration,
+}
+
+impl Deadline {
+    /// So many seconds from now.
+    pub(crate) fn in_seconds<R: Clock>(rt: &R, seconds: u64) -> Deadline {
+        Deadline {
+            start: Instant::now(rt).ok(),
+            span: Duration::from_secs(seconds),
+        }
+    }
+
+    // What is left, if anything is. A clock that can't be read stands still.
+    fn left<R: Clock>(&self, rt: &R) -> Option<Duration> {
+        let passed = match self.start.map(|start| start.elapsed(rt)) {
+            Some(Ok(passed)) => passed,
+            Some(Err(_)) | None => Duration::ZERO,
+        };
+        let left = self.span.saturating_sub(passed);
+        if left.is_zero() { None } else { Some(left) }
+    }
+}
+
+/// A connection to the socket at this path. Where the listener's queue is full, a place in it is waited for up to
+/// the deadline, or until calls are ended.
+pub(crate) fn connect<R: Wait + Clock>(
+    rt: &R,
+    system: &HostRuntime,
+    open: &Connections,
+    path: &str,
+    deadline: Deadline,
+) -> io::Result<UnixStream> {
+    for _ in rt.forever() {
+        match mio::net::UnixStream::connect(system, path) {
+            Ok(stream) => {
+                let stream = UnixStream::from(stream);
+                stream.set_nonblocking(false)?;
+                return Ok(stream);
+            }
+            Err(error) => {
+                let is_full = error.kind() == ErrorKind::WouldBlock;
+                if !is_full || deadline.left(rt).is_none() || open.is_closed(rt) {
+                    return Err(error);
+                }
+            }
+        }
+        thread::sleep(rt, Duration::from_millis(QUEUE_REST));
+    }
+    unreachable!()
+}
+
+/// A connection whose reads and writes fail behind the deadline.
+#[derive(Drop)]
+pub(crate) struct TimedStream<'a, R: Clock> {
+    pub(crate) rt: &'a R,
+    pub(crate) stream: UnixStream,
+    pub(crate) deadline: Deadline,
+}
+
+impl<R: Clock> TimedStream<'_, R> {
+    fn left(&self) -> io::Result<Duration> {
+        match self.deadline.left(self.rt) {
+            Some(left) => Ok(left),
+            None => Err(io::Error::from(ErrorKind::TimedOut)),
+        }
+    }
+}
+
+impl<R: Clock> Read for TimedStream<'_, R> {
+    fn read(&mut self, buf: &mut [u8]) -> io::Result<usize> {
+        self.stream.set_read_timeout(Some(self.left()?))?;
+        self.stream.read(buf)
+    }
+}
+
+impl<R: Clock> Write for TimedStream<'_, R> {
+    fn write(&mut self, buf: &[u8]) -> io::Result<usize> {
+        self.stream.set_write_timeout(Some(self.left()?))?;
+        self.stream.write(buf)
+    }
+
+    fn flush(&mut self) -> io::Result<()> {
+        Ok(())
+    }
+}

@@ -1,0 +1,89 @@
+//! The cells that rounds visit.
+ghost use Rattle.std.specs.Prelude.{◌≡◌};
+ghost use Rattle.std.specs.BTreeMap.{get};
+ghost use Rattle.std.specs.Ordering.{nat_cmp};
+ghost use Rattle.registry.specs.Kept.{IsNextIn, home_in};
+
+use crate::lists::SandboxCells;
+use std::alloc::{AllocError, Global};
+use std::collections::BTreeMap;
+use std::marker::Model;
+use std::ops::Bound;
+use std::sync::Arc;
+
+/// The cells that were started and that no visit found at their end, by their ids, each with where it is. Contracts
+/// see the ids with the uids, and whether one is not kept.
+#[derive(Drop)]
+pub(crate) struct Due {
+    cells: BTreeMap<u64, Arc<SandboxCells, Global>>,
+    // Whether a cell found no memory to be kept here: then all cells that are there have to be visited.
+    lacks: bool,
+}
+
+impl Model for Due {
+    ghost use Rattle.runner.specs.Labelled.{Visited, homes_of};
+
+    ghost Value = { Visited };
+
+    ghost view = { λ d. record { homes = homes_of d.cells.entries; lacks = d.lacks } };
+}
+
+impl Due {
+    pub(crate) fn new(alloc: Global) -> Due {
+        Due {
+            cells: BTreeMap::new(alloc),
+            lacks: false,
+        }
+    }
+
+    /// Adds a cell that was started.
+    pub(crate) fn put(&mut self, id: u64, list: &Arc<SandboxCells, Global>) {
+        if put_in(&mut self.cells, id, list).is_err() {
+            self.lacks = true;
+        }
+    }
+
+    /// Takes out a cell that has come to its end.
+    pub(crate) fn remove(&mut self, id: u64) {
+        drop(self.cells.remove(&id));
+    }
+
+    /// Whether a cell is not kept.
+    pub(crate) fn lacks(&self) -> bool
+        ensures { result ≡ self.now.lacks }
+    {
+        self.lacks
+    }
+
+    /// Where the cell with this id is.
+    pub(crate) fn get(&self, id: u64) -> Option<&Arc<SandboxCells, Global>> {
+        self.cells.get(&id)
+    }
+
+    /// The least id above this one.
+    pub(crate) fn next(&self, above: u64) -> Option<u64>
+        ensures { IsNextIn (home_in self.now.homes) above result }
+    {
+        next_key(&self.cells, above)
+    }
+}
+
+fn put_in(
+    cells: &mut BTreeMap<u64, Arc<SandboxCells, Global>>,
+    id: u64,
+    list: &Arc<SandboxCells, Global>,
+) -> Result<(), AllocError> {
+    let kept = Arc::try_clone(list)?;
+    cells.insert(id, kept)?;
+    Ok(())
+}
+
+fn next_key(cells: &BTreeMap<u64, Arc<SandboxCells, Global>>, above: u64) -> Option<u64>
+    ensures { IsNextIn (get nat_cmp cells.now) above result }
+{
+    let mut later = cells.range((Bound::Excluded(above), Bound::Unbounded));
+    match later.next() {
+        Some((id, _)) => Some(*id),
+        None => None,
+    }
+}
