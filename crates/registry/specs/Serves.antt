@@ -190,6 +190,14 @@ pub record AreStatuses (cells : List Cell) (items : List ListedStatus) : Type 0 
   pub all : IsPermutation (map listed_status cells) items
   pub ordered : IsSortedByKey (λ (item : ListedStatus). item.container) container_cmp items
 
+-- what a call that lists the cells of a sandbox which is there is answered: nothing else of a runtime plays a part in it
+abbrev pub TellsCells : Call → List Cell → Answer → Type 0
+TellsCells (ListContainers uid) cells answer =
+    (answer ≡ Refused Memory) ⊎ ((items : List ListedContainer) × IsListing cells items × (answer ≡ answers.List items))
+TellsCells (ContainerStatuses uid) cells answer =
+    (answer ≡ Refused Memory) ⊎ ((items : List ListedStatus) × AreStatuses cells items × (answer ≡ answers.Statuses items))
+TellsCells call cells answer = ⊥
+
 abbrev pub Lists : Part → Answer → Part → Type 0
 Lists old answer new = Says old answer (Refused Memory) new
     ⊎ ((items : List ListedContainer) × IsListing old.sandbox.cells items × Says old answer (answers.List items) new)

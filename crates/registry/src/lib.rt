@@ -17,5 +17,6 @@ mod used;
 pub use cells::Cells;
 pub use laws::constants_are_as_stated;
 pub use limits::{MAX_CELLS, MAX_KEYS, MAX_UIDS, STOPPED, TERMINATED};
+pub use listing::tell_cells;
 pub use registry::Registry;
 pub use stage::Stage;

@@ -1,12 +1,16 @@
 //! What is told of cells.
-ghost use Rattle.std.specs.Prelude.{◌≡◌, ◌≤◌, IfOk, IsTrue, length, map};
+ghost use Rattle.std.specs.Prelude.{◌≡◌, ◌≤◌, IfOk, IfSome, IsTrue, length, map};
 ghost use Rattle.registry.specs.declared.limits.TheConstants.{MAX_CELLS};
 ghost use Rattle.manifest.specs.Texts.{is_label};
 ghost use Rattle.registry.specs.Runtime.{container_in};
 ghost use Rattle.registry.specs.Kept.{AreNamed};
-ghost use Rattle.registry.specs.Serves.{AreStatuses, IsListing, listed, listed_status, state_told, status_of};
+ghost use Rattle.registry.specs.Serves.{AreStatuses, IsListing, TellsCells, listed, listed_status, state_told, status_of};
 
-use cri_msgs::{ContainerMetadata, ListedContainer, ListedStatus, Listing, Status, Statuses};
+use crate::cells::Cells;
+use cri_msgs::{
+    Answer, Call, ContainerMetadata, ListedContainer, ListedStatus, Listing, Refusal, Status,
+    Statuses,
+};
 use manifest::Label;
 use runtime_cell::{Cell, State};
 use std::alloc::{AllocError, Global};
@@ -113,4 +117,23 @@ pub(crate) fn statuses(alloc: Global, cells: &[Cell]) -> Result<Statuses, AllocE
     let mut items = all_statuses(alloc, cells)?;
     items.sort_unstable_by(|a, b| a.container.cmp(&b.container));
     Ok(Statuses::new(items))
+}
+
+/// The answer to a call that lists the cells of a sandbox, ListContainers or ContainerStatuses, by these cells alone;
+/// none where it is another call. It is what [`crate::Registry::serve_lent`] answers as long as the sandbox is there,
+/// so whoever has the cells' lock need not hold up other sandboxes meanwhile.
+pub fn tell_cells(alloc: Global, call: &Call, cells: &Cells) -> Option<Answer>
+    ensures { IfSome result (λ answer. TellsCells call.now cells.now answer) }
+{
+    match call {
+        Call::ListContainers { .. } => match listing(alloc, cells.as_slice()) {
+            Ok(items) => Some(Answer::List(items)),
+            Err(AllocError) => Some(Answer::Refused(Refusal::Memory)),
+        },
+        Call::ContainerStatuses { .. } => match statuses(alloc, cells.as_slice()) {
+            Ok(items) => Some(Answer::Statuses(items)),
+            Err(AllocError) => Some(Answer::Refused(Refusal::Memory)),
+        },
+        _ => None,
+    }
 }

@@ -2,6 +2,7 @@ pub mod Connections
 pub mod Dues
 pub mod Exits
 pub mod Labels
+pub mod Listing
 pub mod Shares
 pub mod Talks
 pub mod Unwoken

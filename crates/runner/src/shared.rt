@@ -1,10 +1,12 @@
 //! A runtime that threads share. The registry stands under one lock and each sandbox's cells under one of
 //! their own, so that a step of a cell holds up nothing but its own sandbox.
-ghost use Rattle.std.specs.Prelude.{◌≡◌, IsTrue, List, None, Option};
+ghost use Rattle.std.specs.Prelude.{◌≡◌, Bool, IfSome, IsTrue, List, None, Option};
 ghost use Rattle.std.specs.Arc.{arc_value};
 ghost use Rattle.bpf_code.specs.declared.insn.Insn.{Insn};
 ghost use Rattle.cri_msgs.specs.Calls.{uid_of};
-ghost use Rattle.registry.specs.Stands.{AreBound};
+ghost use Rattle.registry.specs.declared.registry.Registry.{Registry};
+ghost use Rattle.registry.specs.declared.stage.Stage.TheVariants.{Live};
+ghost use Rattle.registry.specs.Stands.{AreBound, stages_in};
 ghost use Rattle.runner.specs.Shared.{MayServe, Wakes};
 
 use crate::due::Due;
@@ -12,6 +14,8 @@ use crate::lists::{CellLists, SandboxCells};
 use crate::service::Host;
 use bpf_verify::Filter;
 use cri_msgs::{Answer, Call, Refusal, Reply, Request};
+use manifest::Uid;
+use registry::tell_cells;
 use runtime_cell::Cell;
 use runtime_core::{Cells, FileAnswers, Registry, Stage, uid_of};
 use std::alloc::{AllocError, Global};
@@ -51,6 +55,16 @@ impl<B: Baseline> Sandboxes<B> {
             due: Due::new(alloc),
             alloc,
             node: PhantomData,
+        }
+    }
+
+    // The cells of a sandbox that is there, to be held beyond the registry's lock.
+    fn there(&self, uid: &Uid) -> Option<Arc<SandboxCells, Global>>
+        ensures { IfSome result (λ _. (registry : Registry) × AreBound registry × (registry.baseline ≡ B.filter) × (ready : Bool) × (stages_in registry uid.now ≡ Live ready)) }
+    {
+        match self.registry.stage(uid.as_str()) {
+            Stage::Live { .. } => Arc::try_clone(self.lists.get(uid.as_str())?).ok(),
+            Stage::Unknown | Stage::Removed => None,
         }
     }
 
@@ -95,9 +109,36 @@ impl<B: Baseline> SharedRuntime<B> {
     }
 
     /// Serves a request, with what the reads of its files gave. The registry's lock, and then that of the
-    /// sandbox's cells, are held until the reply is made. The cells of a sandbox that is removed are let go
-    /// of once neither is held.
+    /// sandbox's cells, are held until the reply is made; while cells are listed, that of the cells alone. The
+    /// cells of a sandbox that is removed are let go of once neither is held.
     pub fn serve<R: Wait>(&self, rt: &R, request: Request, files: FileAnswers) -> Reply
+        ensures { MayServe B.filter request files result }
+    {
+        match self.list(rt, &request) {
+            Some(reply) => reply,
+            None => self.serve_held(rt, request, files),
+        }
+    }
+
+    // The reply to a request that lists the cells of a sandbox that is there.
+    fn list<R: Wait>(&self, rt: &R, request: &Request) -> Option<Reply>
+        ensures { IfSome result (λ reply. (files : FileAnswers) → MayServe B.filter request.now files reply) }
+    {
+        if !lists(&request.call) {
+            return None;
+        }
+        let sandboxes = self.sandboxes.lock(rt);
+        let list = sandboxes.there(uid_of(&request.call))?;
+        let cells = list.cells.lock(rt);
+        drop(sandboxes);
+        let answer = tell_cells(self.alloc, &request.call, &cells)?;
+        Some(Reply {
+            id: request.id,
+            answer,
+        })
+    }
+
+    fn serve_held<R: Wait>(&self, rt: &R, request: Request, files: FileAnswers) -> Reply
         ensures { MayServe B.filter request files result }
     {
         let mut gone = Cells::new(self.alloc);
@@ -212,6 +253,13 @@ fn wakes(registry: &Registry, call: &Call) -> bool
 
 fn removes(call: &Call) -> bool {
     matches!(call, Call::RemovePodSandbox { .. })
+}
+
+fn lists(call: &Call) -> bool {
+    matches!(
+        call,
+        Call::ListContainers { .. } | Call::ContainerStatuses { .. }
+    )
 }
 
 // The list and its lock are there before the registry is asked, and go again where no sandbox came of it.
