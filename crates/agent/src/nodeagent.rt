@@ -1,7 +1,7 @@
 ghost use Rattle.std.specs.Prelude.{◌≡◌, ◌<◌, ◌≤◌, Some, IfErr, IfOk, min, string_bytes, vec_len};
 ghost use Rattle.std.specs.List.{AllByRecursion};
 ghost use Rattle.agent.specs.Lines.{pace_for, settings_for, status_at, stop_at, text_at, version_for};
-ghost use Rattle.node_lock.specs.declared.limits.TheConstants.{PARTS};
+ghost use Rattle.node_lock.specs.declared.limits.TheConstants.{MAX_ENTRIES, PARTS};
 
 use crate::counterpart::RuntimeBehind;
 use crate::inputs::pod_at;
@@ -103,6 +103,14 @@ fn pace_of(line: &NodeagentLine<'_>) -> Pace
     }
 }
 
+// How many entries a part of the history may have.
+fn limit_of(line: &NodeagentLine<'_>) -> usize
+    ensures value { result ≡ min line.now.numbers.history MAX_ENTRIES }
+    ensures most { result ≤ MAX_ENTRIES }
+{
+    (line.numbers.history as usize).min(MAX_ENTRIES)
+}
+
 // Does what the line says, with the count of a new ledger.
 fn run_line<'a, L: Ledger + Send + Sync, R: Threads + Wait + Clock + Copy + Send + Sync + 'static>(
     rt: &R,
@@ -118,7 +126,7 @@ fn run_line<'a, L: Ledger + Send + Sync, R: Threads + Wait + Clock + Copy + Send
     let (book, share) = Book::<L>::with_limit(
         system.alloc(),
         settings_of(line),
-        MAX_ENTRIES,
+        limit_of(line),
         blank,
     );
     let shared = Shared::new(book);
@@ -216,7 +224,8 @@ fn run_crew<L: Ledger + Send + Sync, B: Baseline + Send + Sync, R: Threads + Wai
     behind: &RuntimeBehind<'_, '_, B, R>,
     coordinator: Coordinator<L>,
 ) -> Result<Ended, AllocError>
-    requires { coordinator.parts ≡ PARTS }
+    requires parts { coordinator.parts ≡ PARTS }
+    requires whole { L.parts ≡ PARTS }
 {
     let peers = peers(rt, system, line, calls)?;
     let (ended, tally) = crew(
@@ -263,6 +272,7 @@ fn run_beside<
     coordinator: Coordinator<L>,
 ) -> Result<Ended, AgentStop<'a>>
     requires parts { coordinator.parts ≡ PARTS }
+    requires whole { L.parts ≡ PARTS }
     requires own { baseline ≡ B.filter }
 {
     let site = match Site::<B>::open(rt, system, address_of(line), baseline) {
@@ -281,14 +291,16 @@ fn run_at<L: Ledger + Send + Sync, B: Baseline + Send + Sync, R: Threads + Wait 
     calls: &Calls<'_, L, R>,
     coordinator: Coordinator<L>,
 ) -> Result<Ended, AllocError>
-    requires { coordinator.parts ≡ PARTS }
+    requires parts { coordinator.parts ≡ PARTS }
+    requires whole { L.parts ≡ PARTS }
 {
     let open = calls.open;
     scope(
         scope_env(),
         rt,
         move |scope| -> Result<Ended, AllocError>
-            requires { coordinator.parts ≡ PARTS }
+            requires parts { coordinator.parts ≡ PARTS }
+            requires whole { L.parts ≡ PARTS }
         {
             let ended = match start_site(scope, rt, system, site) {
                 Ok(()) => {

@@ -134,7 +134,7 @@ impl<L: Ledger> Play<L> {
     }
 
     pub(crate) fn stand(&self, receipts: &[Receipt]) -> bool {
-        audit(self.book.history(), receipts)
+        audit(self.book.before(), self.book.history(), receipts)
     }
 
     pub(crate) fn receipts(&self) -> &[Receipt] {

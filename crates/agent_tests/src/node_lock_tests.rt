@@ -3,7 +3,7 @@ ghost use Rattle.node_lock.specs.declared.limits.TheConstants.{MAX_ENTRIES};
 
 use crate::node_lock_play::{Play, agree, played, settings};
 use manifest::PodFault;
-use node_lock::{Book, BookFault, PARTS, Receipt, Tally};
+use node_lock::{Book, BookFault, PARTS, Receipt, Tally, audit};
 use std::alloc::{AllocError, Global};
 use std::marker::Brand;
 use std::sync::ledger::{Blank, Ledger};
@@ -151,6 +151,41 @@ fn joins(alloc: Global) -> Result<Option<(u64, usize)>, BookFault> {
 #[test]
 fn tallies(rt: HostRuntime) -> Result<(), Fail> {
     assert_eq!(rt; joins(rt.alloc())?, Some((2, 2)));
+    Ok(())
+}
+
+// A part without entries does not end. Behind one that ended the book is open, and numbers go on.
+fn parted<L: Ledger>(alloc: Global, blank: Blank) -> Result<String, BookFault>
+    requires name { blank.name ≡ L.name }
+    requires parts { blank.parts ≡ L.parts }
+    requires some { 0 < blank.parts }
+{
+    let (mut book, share) = Book::<L>::with_limit(alloc, settings(false), 9, blank);
+    let mut tally = Tally::of(share, Vec::new(alloc));
+    let empty = book.end_part(&mut tally).is_ok();
+    let (mut share, _) = tally.into_share();
+    let first = book.record(&mut share, 0, AgentEvent::Tick(1))?;
+    let mut tally = Tally::of(share, one(alloc, first)?);
+    book.close();
+    let ended = book.end_part(&mut tally).is_ok();
+    let (mut share, left) = tally.into_share();
+    let next = book.record(&mut share, 0, AgentEvent::Tick(2))?;
+    let stands = audit(book.before(), book.history(), one(alloc, next)?.as_slice());
+    let (left, before, last) = (left.len(), book.before(), book.last_number());
+    let closed = book.is_closed();
+    Ok(format!(in alloc;
+        "{empty} {ended} {closed}, {left} left, {before} before, {last} {stands}"
+    )?)
+}
+
+fn parts(alloc: Global) -> Result<String, BookFault> {
+    parted::<Brand>(alloc, Blank::new(PARTS))
+}
+
+#[test]
+fn parts_follow_each_other(rt: HostRuntime) -> Result<(), Fail> {
+    let told = parts(rt.alloc())?;
+    assert_eq!(rt; told.as_str(), "false true false, 0 left, 1 before, 2 true");
     Ok(())
 }
 

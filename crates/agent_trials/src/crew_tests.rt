@@ -186,14 +186,34 @@ fn a_full_node_settles_where_many_calls_fail(rt: HostRuntime) -> Result<(), Fail
     Ok(())
 }
 
-// A history that is full stops all.
+// A part of the history that is full is followed by another, however little a part holds: what is told in the
+// end is the same, and the receipts of the last part stand in it.
 #[test]
-fn a_full_history_ends_it(rt: HostRuntime) -> Result<(), Fail> {
-    for limit in 3..9 {
-        let trial = Trial { limit, ..PLAIN };
-        let left = tried(&rt, rt.alloc(), trial)?;
-        assert!(rt; left.text.as_str().starts_with("full, true\n"), "{limit}");
+fn parts_follow_each_other(rt: HostRuntime) -> Result<(), Fail> {
+    for workers in [1, 2, 64] {
+        for limit in [3, 4, 5, 6, 7, 8, 100] {
+            let trial = Trial {
+                limit,
+                workers,
+                ..PLAIN
+            };
+            let left = tried(&rt, rt.alloc(), trial)?;
+            assert_eq!(rt; left.text.as_str(), SETTLED, "{limit} for {workers}");
+        }
     }
+    Ok(())
+}
+
+// Where a part has no room for a claim and its end, a second one takes nothing, and that stops all.
+#[test]
+fn a_part_without_room_for_a_claim_stops_all(rt: HostRuntime) -> Result<(), Fail> {
+    let trial = Trial {
+        limit: 1,
+        pods: Pods::One,
+        ..PLAIN
+    };
+    let left = tried(&rt, rt.alloc(), trial)?;
+    assert!(rt; left.text.as_str().starts_with("full, true\n"));
     Ok(())
 }
 

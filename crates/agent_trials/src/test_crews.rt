@@ -187,6 +187,7 @@ pub(crate) fn worked<
 ) -> (Ended, Option<Tally<L>>)
     requires few { vec_len peers < PARTS }
     requires parts { coordinator.parts ≡ PARTS }
+    requires whole { L.parts ≡ PARTS }
 {
     scope(
         scope_env(),
@@ -194,6 +195,7 @@ pub(crate) fn worked<
         move |scope| -> (Ended, Option<Tally<L>>)
             requires few { vec_len peers < PARTS }
             requires parts { coordinator.parts ≡ PARTS }
+            requires whole { L.parts ≡ PARTS }
         {
             let started = start_runners(scope, rt, &runtime.engine, RUNNERS);
             let runners = if started.is_ok() { RUNNERS } else { 0 };
@@ -251,7 +253,7 @@ fn left_of<L: Ledger>(
     let mut book = shared.into_book();
     let entries = book.entries(&mut tally);
     let whole = entries == tally.receipts().len() as u64;
-    let stand = audit(book.history(), tally.receipts());
+    let stand = audit(book.before(), book.history(), tally.receipts());
     let table = table(alloc, book.node())?;
     let ended = match ended {
         Ended::Settled => "settled",
@@ -330,7 +332,7 @@ impl<L: Ledger, R: Wait + Clock> Gate for Watch<'_, L, R> {
             for _ in 0..self.turns {
                 sleep(self.rt, Duration::from_millis(1));
             }
-            let entries = self.shared.entries(self.rt) as u64;
+            let entries = self.shared.entries(self.rt);
             self.entries.store(entries, Ordering::SeqCst);
         }
         true
@@ -393,7 +395,7 @@ pub(crate) fn entries_at_call<L: Ledger + Send + Sync, R: Threads + Wait + Clock
         held_up.pace,
     );
     let held = gate.entries.load(Ordering::SeqCst);
-    let all = shared.entries(rt) as u64;
+    let all = shared.entries(rt);
     drop(gate);
     let text = left_of(alloc, shared, ended, tally)?.text;
     Ok(Entries { held, all, text })
@@ -402,6 +404,8 @@ pub(crate) fn entries_at_call<L: Ledger + Send + Sync, R: Threads + Wait + Clock
 /// The pods of a trial.
 #[derive(Clone, Copy)]
 pub(crate) enum Pods {
+    /// One.
+    One,
     /// Three, which end in three ways.
     Few,
     /// As many as a node takes, of so many containers each.
@@ -427,6 +431,7 @@ pub(crate) struct Trial {
 // The pods of a trial, in a line each.
 fn pods_of(alloc: Global, pods: Pods) -> Result<String, AllocError> {
     let containers = match pods {
+        Pods::One => return String::from_str(alloc, ONE_POD),
         Pods::Few => return String::from_str(alloc, PODS),
         Pods::Many(containers) => containers,
     };

@@ -1,5 +1,5 @@
 -- The line `nodeagent --socket PATH [--with-runtime] [--scripts DIR] [--profiles DIR] [--baseline FILTER]
--- [--seccomp-default] [--workers N] [--settle] [--until S] [--cri N] [--verbose] MANIFEST..`, this project's
+-- [--seccomp-default] [--workers N] [--settle] [--until S] [--cri N] [--history N] [--verbose] MANIFEST..`, this project's
 -- own: docs/SEMANTICS.md, "Programs".
 use Rattle.std.specs.Prelude.{ℕ, ◌^◌, List, Bool, codes, map, Option, Result, Ok, Err, option_map}
 use Rattle.clap.specs.Simple.{App, new_app, with_rule}
@@ -18,7 +18,7 @@ abbrev pub settling : App → App
 settling app = with_rule (with_rule (with_rule app (option_rule (codes "workers"))) (flag_rule (codes "settle"))) (option_rule (codes "until"))
 
 abbrev pub speaking : App → App
-speaking app = with_rule app (option_rule (codes "cri"))
+speaking app = with_rule (with_rule app (option_rule (codes "cri"))) (option_rule (codes "history"))
 
 abbrev pub naming : App → App
 naming app = with_rule (with_rule app (flag_rule (codes "verbose"))) (words_rule (codes "MANIFEST"))
@@ -30,17 +30,19 @@ unfoldable pub nodeagent : App
 nodeagent = running (new_app (codes "nodeagent"))
 
 -- its numbers, looked at in the order of the line
-abbrev pub numbers_of : Result ℕ (List ℕ) → Result (Option ℕ) (List ℕ) → Result ℕ (List ℕ) → Result Numbers (List ℕ)
-numbers_of (Err word) until cri = Err word
-numbers_of (Ok workers) (Err word) cri = Err word
-numbers_of (Ok workers) (Ok until) (Err word) = Err word
-numbers_of (Ok workers) (Ok until) (Ok cri) = Ok (record { workers = workers; until = until; cri = cri })
+abbrev pub numbers_of : Result ℕ (List ℕ) → Result (Option ℕ) (List ℕ) → Result ℕ (List ℕ) → Result ℕ (List ℕ) → Result Numbers (List ℕ)
+numbers_of (Err word) until cri history = Err word
+numbers_of (Ok workers) (Err word) cri history = Err word
+numbers_of (Ok workers) (Ok until) (Err word) history = Err word
+numbers_of (Ok workers) (Ok until) (Ok cri) (Err word) = Err word
+numbers_of (Ok workers) (Ok until) (Ok cri) (Ok history) = Ok (record { workers = workers; until = until; cri = cri; history = history })
 
--- workers from 1 to 64, 4 where none is named; the version 1 or 2, 2 where none is named
+-- workers from 1 to 64, 4 where none is named; the version 1 or 2, 2 where none is named; from 1,024 to 1,048,576
+-- entries, 65,536 where none is named
 abbrev pub numbers_in : List Row → Result Numbers (List ℕ)
 numbers_in rows =
     numbers_of (written_within 1 64 4 (first_of (codes "workers") rows)) (written_if_there (2 ^ 64) (first_of (codes "until") rows))
-    (written_within 1 2 2 (first_of (codes "cri") rows))
+    (written_within 1 2 2 (first_of (codes "cri") rows)) (written_within 1024 1048576 65536 (first_of (codes "history") rows))
 
 -- what the line says
 pub record Nodeagent : Type 0 where

@@ -25,6 +25,8 @@ pub struct Numbers {
     pub until: Option<u64>,
     /// The version of the messages to the runtime, 1 or 2.
     pub cri: u32,
+    /// How many entries a part of the history may have, from 1,024 to 1,048,576.
+    pub history: u32,
 }
 
 /// What the command line of `nodeagent` says.
@@ -145,12 +147,19 @@ fn settling<'a>(alloc: Global, command: Command<'a>) -> Result<Command<'a>, Allo
 fn speaking<'a>(alloc: Global, command: Command<'a>) -> Result<Command<'a>, AllocError>
     ensures { IfOk result (λ c. app_of c ≡ speaking (app_of command.entry)) }
 {
-    with_option(
+    let command = with_option(
         alloc,
         command,
         "cri",
         "N",
         "the version of the messages to the runtime, 1 or 2 [default: 2]",
+    )?;
+    with_option(
+        alloc,
+        command,
+        "history",
+        "N",
+        "how many entries a part of the history has, 1024 to 1048576 [default: 65536]",
     )
 }
 
@@ -160,10 +169,12 @@ fn line_numbers<'a>(matches: &ArgMatches<'a>) -> Result<Numbers, &'a str>
     let workers = number_within(1, 64, 4, word_at(matches, "workers"))?;
     let until = number_if_there(word_at(matches, "until"))?;
     let cri = number_within(1, 2, 2, word_at(matches, "cri"))?;
+    let history = number_within(1_024, 1_048_576, 65_536, word_at(matches, "history"))?;
     Ok(Numbers {
         workers,
         until,
         cri,
+        history,
     })
 }
 

@@ -1,18 +1,27 @@
-ghost use Rattle.std.specs.Prelude.{◌≡◌, ◌<◌, length};
-ghost use Rattle.lifecycle.specs.BackOff.{ready_at, row_of, wait_of};
+ghost use Rattle.std.specs.Prelude.{◌≡◌, ◌-◌, ◌<◌, ◌≤◌, ◌^◌, length};
+ghost use Rattle.lifecycle.specs.BackOff.{later, next_row, ready_at, row_of, wait_of};
 
 use crate::runs::PastRun;
 
 // A run of so many seconds or more begins the back-off anew.
 const LONG_RUN: u64 = 600;
 
+// How many runs count with one more.
+pub(crate) fn next_row(row: usize, run: &PastRun) -> usize
+    requires { row < 2 ^ 64 - 1 }
+    ensures { result ≡ next_row row run.now }
+{
+    if run.lasted() >= LONG_RUN { 1 } else { row + 1 }
+}
+
 // How many of the runs count: those from the latest long one on.
-fn row(runs: &[PastRun]) -> usize
-    ensures { result ≡ row_of runs.now }
+pub(crate) fn row(runs: &[PastRun]) -> usize
+    ensures value { result ≡ row_of runs.now }
+    ensures few { result ≤ length runs.now }
 {
     let mut row = 0;
     for run in runs {
-        row = if run.lasted() >= LONG_RUN { 1 } else { row + 1 };
+        row = next_row(row, run);
     }
     row
 }
@@ -31,6 +40,13 @@ fn wait(row: usize) -> u64
     }
 }
 
+// So long behind the last of so many runs in a row.
+pub(crate) fn ready_behind(last: &PastRun, row: usize) -> u64
+    ensures { result ≡ later last.now.recorded (wait_of row) }
+{
+    last.recorded().saturating_add(wait(row))
+}
+
 /// The moment from which on the next attempt may be made, in seconds: behind the moment at which the last
 /// exit was recorded by 10, 20, 40, 80, 160 and from then on 300 seconds, the more the more runs there
 /// were since the latest one that lasted ten minutes. A sum past the greatest moment is that moment.
@@ -38,7 +54,5 @@ pub fn ready_at(runs: &[PastRun]) -> u64
     requires { 0 < length runs.now }
     ensures { result ≡ ready_at runs.now }
 {
-    runs[runs.len() - 1]
-        .recorded()
-        .saturating_add(wait(row(runs)))
+    ready_behind(&runs[runs.len() - 1], row(runs))
 }

@@ -1,6 +1,7 @@
-ghost use Rattle.std.specs.Prelude.{◌≡◌, ◌≤◌, ◌++◌, [], ◌∷◌, OnOk, OnErr};
-ghost use Rattle.lifecycle.specs.BackOff.{Run, lasted};
+ghost use Rattle.std.specs.Prelude.{◌≡◌, ◌≤◌, ◌<◌, ◌++◌, [], ◌∷◌, length, OnOk, OnErr};
+ghost use Rattle.lifecycle.specs.BackOff.{Run, lasted, ready_at};
 
+use crate::back_off::{next_row, ready_behind, row};
 use std::alloc::{AllocError, Global};
 use std::marker::Model;
 
@@ -67,19 +68,22 @@ impl PastRun {
     }
 }
 
-/// The runs of a container that ended, the oldest first.
+/// The runs of a container that ended, the oldest first, with how many of them the back-off counts.
 #[derive(Drop)]
 pub struct Runs {
     runs: Vec<PastRun>,
+    row: usize,
 }
 
 impl Model for Runs {
-    ghost use Rattle.std.specs.Prelude.{List};
-    ghost use Rattle.lifecycle.specs.BackOff.{Run};
+    ghost use Rattle.std.specs.Prelude.{◌≡◌, ◌≤◌, List, length};
+    ghost use Rattle.lifecycle.specs.BackOff.{Run, row_of};
 
     ghost Value = { List Run };
 
     ghost view = { λ r. r.runs.items };
+
+    ghost invariant = { λ r. (r.row ≡ row_of r.runs.items) × (r.row ≤ length r.runs.items) };
 }
 
 impl Runs {
@@ -89,6 +93,7 @@ impl Runs {
     {
         Runs {
             runs: Vec::new(alloc),
+            row: 0,
         }
     }
 
@@ -96,7 +101,8 @@ impl Runs {
     pub fn of(runs: Vec<PastRun>) -> Runs
         ensures { result ≡ runs.items }
     {
-        Runs { runs }
+        let row = row(&runs);
+        Runs { runs, row }
     }
 
     /// Adds the latest run. Where there is no memory for it, it is dropped and the rest is as it was.
@@ -104,7 +110,9 @@ impl Runs {
         ensures ok { OnOk result (self.new ≡ self.old ++ run ∷ []) }
         ensures err { OnErr result (self.new ≡ self.old) }
     {
+        let row = next_row(self.row, &run);
         self.runs.push(run)?;
+        self.row = row;
         Ok(())
     }
 
@@ -113,6 +121,14 @@ impl Runs {
         ensures { result.now ≡ self.now }
     {
         self.runs.as_slice()
+    }
+
+    /// What [`ready_at`](crate::ready_at) says of them, which takes as long however many they are.
+    pub fn ready_at(&self) -> u64
+        requires { 0 < length self.now }
+        ensures { result ≡ ready_at self.now }
+    {
+        ready_behind(&self.runs[self.runs.len() - 1], self.row)
     }
 
     /// The list itself.

@@ -1,6 +1,6 @@
 -- What a book of a node is, and what it keeps: this project's own. docs/SEMANTICS.md, "The agent: the history of
 -- a node".
-use Rattle.std.specs.Prelude.{◌≡◌, ℕ, ◌+◌, ◌≤◌, Bool, List, length}
+use Rattle.std.specs.Prelude.{◌≡◌, ℕ, ◌+◌, ◌^◌, ◌≤◌, ◌<◌, Bool, List, length, All}
 use Rattle.worker_pod.specs.declared.settings.Settings.{Settings}
 use Rattle.worker_core.specs.declared.events.AgentEvent.{AgentEvent}
 use Rattle.worker_core.specs.declared.events.AgentEvent.TheVariants.{Admit, Delete, Claim, Report, Tick, Abandon}
@@ -8,16 +8,20 @@ use Rattle.worker_core.specs.Kept.{KeptNode}
 use Rattle.worker_core.specs.Slots.{held_in}
 use Rattle.node_lock.specs.declared.entries.Entry.{Entry}
 use Rattle.node_lock.specs.declared.limits.TheConstants.{MAX_ENTRIES}
-use Rattle.node_lock.specs.Histories.{EndsAt}
+use Rattle.node_lock.specs.Histories.{GoesOn}
+use Rattle.node_lock.specs.Receipts.{Received, Stands}
 use Rattle.node_lock.specs.Rooms.{room_for}
 
 pub record Books : Type 0 where
   pub settings : Settings
   pub node : KeptNode
+  -- how many entries the earlier parts of the history had
+  pub before : ℕ
+  -- the entries of the part that is there
   pub history : List Entry
   -- the amount of all shares of the count
   pub total : ℕ
-  -- how many entries the history may have
+  -- how many entries a part may have
   pub limit : ℕ
   pub closed : Bool
 
@@ -25,14 +29,31 @@ pub record Books : Type 0 where
 abbrev pub used : List Entry → KeptNode → ℕ
 used history node = length history + held_in node.slots
 
--- what a book keeps: the node is where its history ends, each entry is counted, and the limit and the memory have
--- room for the ends of all claims that are held
-pub record IsKept (settings : Settings) (node : KeptNode) (history : List Entry) (total limit capacity : ℕ) : Type 0 where
-  pub ends : EndsAt settings history node
+-- there are numbers for the entries of one more part
+abbrev pub HasNumbers : ℕ → Type 0
+HasNumbers before = before + MAX_ENTRIES < 2 ^ 64
+
+-- what a book keeps: the node is where its history ends, with all parts that went, each entry of the part that is
+-- there is counted, and the limit and the memory have room for the ends of all claims that are held
+pub record IsKept (settings : Settings) (node : KeptNode) (before : ℕ) (history : List Entry) (total limit capacity : ℕ) : Type 0 where
+  pub goes_on : GoesOn settings before history node
+  pub numbers : HasNumbers before
   pub counted : total ≡ length history
   pub small : limit ≤ MAX_ENTRIES
   pub within : used history node ≤ limit
   pub room : used history node ≤ capacity
+
+-- the number of the last entry, from 1 over all parts
+abbrev pub last_number : Books → ℕ
+last_number book = book.before + length book.history
+
+-- a part may come to its end: it has entries, no claim is held, the receipts stand in it, and there are numbers for
+-- the next part
+pub record MayEnd (book : Books) (receipts : List Received) : Type 0 where
+  pub some : 0 < length book.history
+  pub free : held_in book.node.slots ≡ 0
+  pub audited : All (Stands book.before book.history) receipts
+  pub numbers : HasNumbers (last_number book)
 
 -- how many entries there are once this event was taken, and the claims that are held then have ended
 abbrev pub needed : Books → AgentEvent → ℕ

@@ -1,6 +1,6 @@
 -- Histories of a node, as one thread could have made them: this project's own. docs/SEMANTICS.md, "The agent:
 -- the history of a node".
-use Rattle.std.specs.Prelude.{◌≡◌, List, [], ◌∷◌, reverse}
+use Rattle.std.specs.Prelude.{◌≡◌, ℕ, List, [], ◌∷◌, ◌++◌, length, reverse}
 use Rattle.worker_pod.specs.declared.settings.Settings.{Settings}
 use Rattle.worker_core.specs.declared.answers.Answer.{Answer}
 use Rattle.worker_core.specs.declared.events.AgentEvent.{AgentEvent}
@@ -22,6 +22,13 @@ IsLegal settings history = (last : NodeState) × Leads (empty_node settings) his
 -- the history is legal, and what is kept of the node stands for where it ends
 abbrev pub EndsAt : Settings → List Entry → KeptNode → Type 0
 EndsAt settings history kept = (last : NodeState) × Leads (empty_node settings) history last × StandsFor kept last
+
+-- The same of a history that was written in parts: so many entries went before those that are there, and with
+-- them in front the history is legal, from the empty node on.
+pub record GoesOn (settings : Settings) (before : ℕ) (history : List Entry) (kept : KeptNode) : Type 0 where
+  pub gone : List Entry
+  pub before_is : length gone ≡ before
+  pub ends : EndsAt settings (gone ++ history) kept
 
 -- every node that was kept takes the event with this answer, and comes to one that is kept then
 abbrev pub IsStep : KeptNode → AgentEvent → Answer → KeptNode → Type 0

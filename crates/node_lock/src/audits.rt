@@ -13,19 +13,22 @@ fn entry_at(history: &[Entry], place: usize) -> &Entry
 }
 
 // Whether the receipt's entry stands where its number says.
-fn stands(history: &[Entry], receipt: &Receipt) -> bool
-    ensures { IsTrue result ↔ Stands history.now receipt.now }
+fn stands(before: u64, history: &[Entry], receipt: &Receipt) -> bool
+    ensures { IsTrue result ↔ Stands before history.now receipt.now }
 {
     let number = receipt.number();
-    if number == 0 || number > history.len() as u64 {
+    if number <= before || number - before > history.len() as u64 {
         return false;
     }
-    entry_at(history, (number - 1) as usize).same(receipt.entry())
+    entry_at(history, (number - before - 1) as usize).same(receipt.entry())
 }
 
-/// Whether each of the receipts stands in the history, at its number. So it is where there are none.
-pub fn audit(history: &[Entry], receipts: &[Receipt]) -> bool
-    ensures { IsTrue result ↔ All (Stands history.now) receipts.now }
+/// Whether each of the receipts stands at its number in the part of a history behind so many entries. So it is
+/// where there are none.
+pub fn audit(before: u64, history: &[Entry], receipts: &[Receipt]) -> bool
+    ensures { IsTrue result ↔ All (Stands before history.now) receipts.now }
 {
-    receipts.iter().all(|receipt| stands(history, receipt))
+    receipts
+        .iter()
+        .all(|receipt| stands(before, history, receipt))
 }

@@ -1,11 +1,13 @@
-ghost use Rattle.std.specs.Prelude.{◌≡◌, ◌↔◌, ◌+◌, ◌<◌, ◌≤◌, ◌++◌, [], ◌∷◌, true, false, length, nat_le, IfOk, OnOk, OnErr, IsOk};
+ghost use Rattle.std.specs.Prelude.{◌≡◌, ◌↔◌, ◌+◌, ◌<◌, ◌≤◌, ◌++◌, [], ◌∷◌, List, true, false, length, nat_le, Err, IfOk, IsTrue, OnOk, OnErr, IsOk};
 ghost use Rattle.worker_core.specs.Kept.{after_event, answer_of, fresh_node};
 ghost use Rattle.worker_core.specs.Slots.{held_in};
 ghost use Rattle.node_lock.specs.declared.limits.TheConstants.{MAX_ENTRIES};
-ghost use Rattle.node_lock.specs.Books.{needed, worker_of};
-ghost use Rattle.node_lock.specs.Histories.{EndsAt, IsLegal};
+ghost use Rattle.node_lock.specs.Books.{HasNumbers, MayEnd, last_number, needed, worker_of};
+ghost use Rattle.node_lock.specs.Histories.{EndsAt, GoesOn};
+ghost use Rattle.node_lock.specs.declared.entries.Entry.{Entry};
 ghost use Rattle.node_lock.specs.Rooms.{gives_up, room_for};
 
+use crate::audits::audit;
 use crate::entries::Entry;
 use crate::faults::BookFault;
 use crate::limits::{MAX_ENTRIES, PARTS};
@@ -19,13 +21,15 @@ use std::sync::ledger::{Blank, Ledger, Share};
 use worker_core::{AgentEvent, Node};
 use worker_pod::Settings;
 
-/// The node that workers share, the history of what they did, and the count of its entries. It belongs
-/// behind a lock: each of its calls is one step, and uses no file and no socket.
+/// The node that workers share, the history of what they did, and the count of its entries. A history is written
+/// in parts: the entries of a part are dropped once it has ended, and the next one goes on at the node where it
+/// ended. A book belongs behind a lock: each of its calls is one step, and uses no file and no socket.
 #[derive(Drop)]
 pub struct Book<L: Ledger> {
     alloc: Global,
     settings: Settings,
     node: Node,
+    before: u64,
     history: Vec<Entry>,
     count: ledger::Book<L>,
     limit: usize,
@@ -41,18 +45,19 @@ impl<L: Ledger> Model for Book<L> {
     ghost view = { λ b. record {
       settings = b.settings;
       node = b.node;
+      before = b.before;
       history = b.history.items;
       total = b.count.total;
       limit = b.limit;
       closed = b.closed;
     } };
 
-    ghost invariant = { λ b. IsKept b.settings b.node b.history.items b.count.total b.limit (vec_capacity b.history) };
+    ghost invariant = { λ b. IsKept b.settings b.node b.before b.history.items b.count.total b.limit (vec_capacity b.history) };
 }
 
 impl<L: Ledger> Book<L> {
-    /// A book of a node without pods, which may come to have `limit` entries, and the share that counts
-    /// them, with all parts of its ledger.
+    /// A book of a node without pods, each part of whose history may come to have `limit` entries, and the share
+    /// that counts them, with all parts of its ledger.
     pub fn with_limit(
         alloc: Global,
         settings: Settings,
@@ -64,6 +69,7 @@ impl<L: Ledger> Book<L> {
         requires limit { limit ≤ MAX_ENTRIES }
         ensures node { result.0.node ≡ fresh_node settings }
         ensures history { result.0.history ≡ [] }
+        ensures before { result.0.before ≡ 0 }
         ensures settings { result.0.settings ≡ settings }
         ensures limit { result.0.limit ≡ limit }
         ensures open { result.0.closed ≡ false }
@@ -75,6 +81,7 @@ impl<L: Ledger> Book<L> {
             alloc,
             settings,
             node: Node::new(alloc, settings),
+            before: 0,
             history: Vec::new(alloc),
             count,
             limit,
@@ -83,16 +90,33 @@ impl<L: Ledger> Book<L> {
         (book, share)
     }
 
-    /// What happened so far, the oldest entry first.
+    /// What happened in the part that is there, the oldest entry first.
     pub fn history(&self) -> &[Entry]
         ensures value { result.now ≡ self.now.history }
         ensures counted { self.now.total ≡ length result.now }
 
-        // One thread could have made it, and the node is where it ends.
-        ensures legal { IsLegal self.now.settings result.now }
-        ensures ends { EndsAt self.now.settings result.now self.now.node }
+        // With the parts that went it is one history, which a single thread could have made, and the node is where
+        // it ends.
+        ensures legal { GoesOn self.now.settings self.now.before result.now self.now.node }
     {
         self.history.as_slice()
+    }
+
+    /// How many entries the earlier parts of the history had.
+    pub fn before(&self) -> u64
+        ensures { result ≡ self.now.before }
+    {
+        self.before
+    }
+
+    /// The number of the last entry, from 1 over all parts, and 0 where there is none.
+    pub fn last_number(&self) -> u64
+        ensures value { result ≡ last_number self.now }
+
+        // There are numbers for a whole part more.
+        ensures room { HasNumbers self.now.before }
+    {
+        self.before + self.history.len() as u64
     }
 
     /// The node, lent.
@@ -130,7 +154,7 @@ impl<L: Ledger> Book<L> {
         requires own { worker_of event ≡ worker }
 
         // The entry is the worker's, and is answered what the node's step gives.
-        ensures number { IfOk result (λ r. r.number ≡ length self.new.history) }
+        ensures number { IfOk result (λ r. r.number ≡ last_number self.new) }
         ensures worker { IfOk result (λ r. r.entry.worker ≡ worker) }
         ensures event { IfOk result (λ r. r.entry.event ≡ event) }
         ensures answer { IfOk result (λ r. r.entry.answer ≡ answer_of self.old.node event) }
@@ -138,7 +162,12 @@ impl<L: Ledger> Book<L> {
         ensures node { OnOk result (self.new.node ≡ after_event self.old.node event) }
         ensures counted { OnOk result (share.new.amount ≡ share.old.amount + 1) }
 
+        // Whatever went, with it in front the history goes on.
+        ensures goes_on { OnOk result ((gone : List Entry) → EndsAt self.old.settings (gone ++ self.old.history) self.old.node
+            → EndsAt self.new.settings (gone ++ self.new.history) self.new.node) }
+
         // The rest stays.
+        ensures before { self.new.before ≡ self.old.before }
         ensures settings { self.new.settings ≡ self.old.settings }
         ensures limit { self.new.limit ≡ self.old.limit }
         ensures closed { self.new.closed ≡ self.old.closed }
@@ -163,8 +192,46 @@ impl<L: Ledger> Book<L> {
             event,
         )?;
         self.count.add(share, 1);
-        let number = self.history.len() as u64;
-        Ok(Receipt::new(number, entry))
+        Ok(Receipt::new(self.last_number(), entry))
+    }
+
+    /// Ends a part of the history, whose receipts are all here: its entries and receipts are dropped, and the next
+    /// part goes on at the node where this one ended, open and with room for as many entries. HistoryFull where
+    /// the part has no entries, where a claim is held, where a receipt doesn't stand at its number, or where there
+    /// are no numbers for another part; that changes nothing. No memory is taken.
+    pub fn end_part(&mut self, tally: &mut Tally<L>) -> Result<(), BookFault>
+        requires whole { tally.old.parts ≡ L.parts }
+        ensures when { IsOk result ↔ MayEnd self.old tally.old.receipts }
+        ensures fault { OnErr result (result ≡ Err BookFault.HistoryFull) }
+        ensures node { self.new.node ≡ self.old.node }
+        ensures before { OnOk result (self.new.before ≡ last_number self.old) }
+        ensures history { OnOk result (self.new.history ≡ []) }
+        ensures receipts { OnOk result (tally.new.receipts ≡ []) }
+        ensures open { OnOk result (self.new.closed ≡ false) }
+        ensures settings { self.new.settings ≡ self.old.settings }
+        ensures limit { self.new.limit ≡ self.old.limit }
+        ensures parts { tally.new.parts ≡ tally.old.parts }
+        ensures err { OnErr result (self.new ≡ self.old) }
+        ensures kept { OnErr result (tally.new ≡ tally.old) }
+    {
+        if !self.may_end(tally) {
+            return Err(BookFault::HistoryFull);
+        }
+        self.before = self.last_number();
+        self.history.clear();
+        tally.clear(&mut self.count);
+        self.closed = false;
+        Ok(())
+    }
+
+    // Whether the part may end.
+    fn may_end(&self, tally: &Tally<L>) -> bool
+        ensures { IsTrue result ↔ MayEnd self.now tally.now.receipts }
+    {
+        !self.history.is_empty()
+            && self.node.held() == 0
+            && u64::MAX - self.last_number() >= MAX_ENTRIES as u64
+            && audit(self.before, self.history.as_slice(), tally.receipts())
     }
 
     /// No worker that waits shall wait any longer.
@@ -181,8 +248,8 @@ impl<L: Ledger> Book<L> {
         self.closed
     }
 
-    /// How many entries there are. That is the number of the tally's receipts too, where it has all parts
-    /// of the ledger. Nothing changes.
+    /// How many entries the part has. That is the number of the tally's receipts too, where it has all parts of
+    /// the ledger. Nothing changes.
     pub fn entries(&mut self, tally: &mut Tally<L>) -> u64
         ensures length { result ≡ length self.old.history }
         ensures all { tally.old.parts ≡ L.parts → result ≡ length tally.old.receipts }

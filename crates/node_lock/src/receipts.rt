@@ -3,7 +3,7 @@ ghost use Rattle.std.specs.Prelude.{◌≡◌};
 use crate::entries::Entry;
 use std::marker::Model;
 
-/// The proof of one entry: its number in the history, from 1, and a copy of it. Only
+/// The proof of one entry: its number, from 1 over all parts of the history, and a copy of it. Only
 /// [`Book::record`](crate::Book::record) makes one, and none is copied.
 #[derive(Debug, Drop)]
 pub struct Receipt {
@@ -26,7 +26,7 @@ impl Receipt {
         Receipt { number, entry }
     }
 
-    /// Where the entry stands in the history, from 1.
+    /// Where the entry stands in the history, from 1 over all of its parts.
     pub fn number(&self) -> u64
         ensures { result ≡ self.now.number }
     {

@@ -1,4 +1,4 @@
-ghost use Rattle.std.specs.Prelude.{◌≡◌, ◌+◌, ◌++◌, length, IfErr, OnOk, OnErr};
+ghost use Rattle.std.specs.Prelude.{◌≡◌, ◌+◌, ◌++◌, [], length, IfErr, OnOk, OnErr};
 
 use crate::receipts::Receipt;
 use std::marker::Model;
@@ -40,6 +40,16 @@ impl<L: Ledger> Tally<L> {
         self.receipts.as_slice()
     }
 
+    /// The share, and the receipts that it counts.
+    pub fn into_share(self) -> (Share<L>, Vec<Receipt>)
+        ensures parts { result.0.parts ≡ self.parts }
+        ensures receipts { result.1.items ≡ self.receipts }
+        ensures counted { result.0.amount ≡ length result.1.items }
+    {
+        let Tally { share, receipts } = self;
+        (share, receipts)
+    }
+
     /// Takes in another tally of the same book: its receipts come last. Where there is no memory for them it
     /// comes back.
     pub fn join(&mut self, other: Tally<L>) -> Result<(), Tally<L>>
@@ -65,5 +75,17 @@ impl<L: Ledger> Tally<L> {
         ensures same { self.new ≡ self.old }
     {
         count.audit(&mut self.share);
+    }
+
+    // Drops the receipts, and counts their entries no longer. The share is the whole, so nothing is counted then.
+    pub(crate) fn clear(&mut self, count: &mut ledger::Book<L>)
+        requires whole { self.old.parts ≡ L.parts }
+        ensures none { count.new.total ≡ 0 }
+        ensures receipts { self.new.receipts ≡ [] }
+        ensures parts { self.new.parts ≡ self.old.parts }
+    {
+        self.counted(count);
+        count.sub(&mut self.share, self.receipts.len() as u64);
+        self.receipts.clear();
     }
 }

@@ -109,7 +109,7 @@ impl<B: Baseline> SharedRuntime<B> {
     }
 
     /// Serves a request, with what the reads of its files gave. The registry's lock, and then that of the
-    /// sandbox's cells, are held until the reply is made; while cells are listed, that of the cells alone. The
+    /// sandbox's cells, are held until the reply is made; cells are listed under that of the cells alone. The
     /// cells of a sandbox that is removed are let go of once neither is held.
     pub fn serve<R: Wait>(&self, rt: &R, request: Request, files: FileAnswers) -> Reply
         ensures { MayServe B.filter request files result }
@@ -129,8 +129,10 @@ impl<B: Baseline> SharedRuntime<B> {
         }
         let sandboxes = self.sandboxes.lock(rt);
         let list = sandboxes.there(uid_of(&request.call))?;
-        let cells = list.cells.lock(rt);
+        // Whoever waits for these cells holds up no other sandbox. A sandbox that is removed meanwhile has none,
+        // which is what is told of it then.
         drop(sandboxes);
+        let cells = list.cells.lock(rt);
         let answer = tell_cells(self.alloc, &request.call, &cells)?;
         Some(Reply {
             id: request.id,

@@ -55,6 +55,15 @@ impl<L: Ledger> Coordinator<L> {
         }
     }
 
+    /// The coordinator who did what a tally tells, and goes on from there.
+    pub(crate) fn resume(tally: Tally<L>) -> Coordinator<L>
+        requires part { 0 < tally.parts }
+        ensures { result ≡ tally }
+    {
+        let (share, receipts) = tally.into_share();
+        Coordinator { share, receipts }
+    }
+
     /// Records an event of worker 0, and tells why the node refused it, if it did.
     pub fn record<R: Wait>(
         &mut self,

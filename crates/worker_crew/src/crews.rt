@@ -1,9 +1,9 @@
 //! Workers in threads of their own.
-ghost use Rattle.std.specs.Prelude.{◌≡◌, ◌+◌, ◌<◌, IfSome, IsTrue, vec_len};
+ghost use Rattle.std.specs.Prelude.{◌≡◌, ◌+◌, ◌<◌, ◌≤◌, IfSome, IsTrue, vec_len};
 ghost use Rattle.node_lock.specs.declared.limits.TheConstants.{PARTS};
 
 use crate::coordinator::Coordinator;
-use crate::pace::{Counterpart, Ended, Pace, keep_time};
+use crate::pace::{Counterpart, Ended, Pace, TimeKeeper};
 use crate::shared::Shared;
 use crate::worker::{Gate, Peer, work};
 use crate::worker_share::WorkerShare;
@@ -14,20 +14,27 @@ use std::sync::ledger::Ledger;
 use std::thread::{Promise, PromisedHandle, Scope, Threads, scope, scope_env};
 use std::time::Clock;
 
-// A worker gives back its part.
+// What a worker gives back.
+#[derive(Drop)]
+struct WorkerEnd<L: Ledger, P> {
+    tally: Tally<L>,
+    peer: P,
+}
+
+// It gives back its part.
 #[derive(Clone, Copy)]
 struct OnePart;
 
-impl<L: Ledger> Promise<Tally<L>> for OnePart {
+impl<L: Ledger, P> Promise<WorkerEnd<L, P>> for OnePart {
     ghost use Rattle.std.specs.Prelude.{◌≡◌};
 
-    ghost kept_by = { λ _ tally. tally.parts ≡ 1 };
+    ghost kept_by = { λ _ end. end.tally.parts ≡ 1 };
 }
 
 // The threads that were started, and whether each worker got one.
 #[derive(Drop)]
-struct WorkerPool<L: Ledger> {
-    threads: Vec<PromisedHandle<Tally<L>, OnePart>>,
+struct WorkerPool<L: Ledger, P: Drop> {
+    threads: Vec<PromisedHandle<WorkerEnd<L, P>, OnePart>>,
     complete: bool,
 }
 
@@ -39,14 +46,14 @@ fn serve<L: Ledger, P: Peer + Drop, G: Gate, R: Wait>(
     gate: &G,
     own: WorkerShare<L>,
     peer: P,
-) -> Tally<L>
-    ensures { result.parts ≡ 1 }
+) -> WorkerEnd<L, P>
+    ensures { result.tally.parts ≡ 1 }
 {
     let mut peer = peer;
     let WorkerShare { worker, share } = own;
     let tally = work(rt, alloc, shared, worker, share, &mut peer, gate);
     shared.end(rt);
-    tally
+    WorkerEnd { tally, peer }
 }
 
 // Gives each peer a worker, numbered from 1, in a thread of its own.
@@ -65,10 +72,11 @@ fn start_workers<
     gate: &'e G,
     coordinator: &mut Coordinator<L>,
     peers: Vec<P>,
-) -> WorkerPool<L>
+) -> WorkerPool<L, P>
     requires few { vec_len peers < PARTS }
     requires parts { vec_len peers < coordinator.old.parts }
-    ensures { IsTrue result.complete → coordinator.new.parts + vec_len result.threads ≡ coordinator.old.parts }
+    ensures parts { IsTrue result.complete → coordinator.new.parts + vec_len result.threads ≡ coordinator.old.parts }
+    ensures few { vec_len result.threads < PARTS }
 {
     let mut threads = Vec::new(alloc);
     let mut worker = 0;
@@ -78,8 +86,8 @@ fn start_workers<
         shared.begin(rt);
         let started = scope.spawn_with(
             OnePart,
-            move || -> Tally<L>
-                ensures { result.parts ≡ 1 }
+            move || -> WorkerEnd<L, P>
+                ensures { result.tally.parts ≡ 1 }
             { serve(rt, alloc, shared, gate, own, peer) },
         );
         let Ok(thread) = started else {
@@ -102,22 +110,43 @@ fn start_workers<
     }
 }
 
-// Waits for each worker, and joins its receipts to these.
-fn join_workers<L: Ledger, R: Threads>(rt: &R, all: &mut Tally<L>, pool: WorkerPool<L>) -> bool
-    ensures { IsTrue result → IsTrue pool.complete × (all.new.parts ≡ all.old.parts + vec_len pool.threads) }
+// Waits for each worker, joins its receipts to these, and keeps its peer.
+fn join_workers<L: Ledger, P: Drop, R: Threads>(
+    rt: &R,
+    all: &mut Tally<L>,
+    peers: &mut Vec<P>,
+    pool: WorkerPool<L, P>,
+) -> bool
+    ensures whole { IsTrue result → IsTrue pool.complete × (all.new.parts ≡ all.old.parts + vec_len pool.threads) }
+    ensures few { vec_len peers.new ≤ vec_len peers.old + vec_len pool.threads }
 {
     let WorkerPool { threads, complete } = pool;
     let mut whole = complete;
     for thread in threads {
-        if all.join(thread.join(rt)).is_err() {
+        let WorkerEnd { tally, peer } = thread.join(rt);
+        if all.join(tally).is_err() || peers.push(peer).is_err() {
             whole = false;
         }
     }
     whole
 }
 
-// Works in a scope of threads.
-fn run<
+// Who works at a part of a history, before it and behind it.
+#[derive(Drop)]
+struct WorkGroup<L: Ledger, P: Drop> {
+    coordinator: Coordinator<L>,
+    peers: Vec<P>,
+}
+
+// What is left of a part: the receipts for all that was done in it, and the peers.
+#[derive(Drop)]
+struct PartEnd<L: Ledger, P: Drop> {
+    tally: Tally<L>,
+    peers: Vec<P>,
+}
+
+// Works in a scope of threads until the part of the history is full, or there is nothing left to wait for.
+fn work_part<
     's,
     'e,
     L: Ledger + Send + Sync + 's,
@@ -132,36 +161,79 @@ fn run<
     shared: &'e Shared<L>,
     gate: &'e G,
     counterpart: &'e C,
-    coordinator: Coordinator<L>,
-    peers: Vec<P>,
-    pace: Pace,
-) -> (Ended, Option<Tally<L>>)
-    requires few { vec_len peers < PARTS }
-    requires parts { vec_len peers < coordinator.parts }
-    ensures { IfSome result.1 (λ tally. tally.parts ≡ coordinator.parts) }
+    crew: WorkGroup<L, P>,
+    keeper: TimeKeeper,
+) -> (Ended, Option<PartEnd<L, P>>)
+    requires few { vec_len crew.peers < PARTS }
+    requires parts { crew.coordinator.parts ≡ PARTS }
+    ensures parts { IfSome result.1 (λ end. end.tally.parts ≡ PARTS) }
+    ensures few { IfSome result.1 (λ end. vec_len end.peers < PARTS) }
 {
-    let mut coordinator = coordinator;
+    let WorkGroup {
+        mut coordinator,
+        peers,
+    } = crew;
     let pool = start_workers(scope, rt, alloc, shared, gate, &mut coordinator, peers);
-    let ended = if pool.complete {
-        keep_time(rt, shared, counterpart, &mut coordinator, pace)
+    let mut ended = if pool.complete {
+        keeper.keep(rt, shared, counterpart, &mut coordinator)
     } else {
         Ended::Memory
     };
     shared.close(rt);
-    counterpart.end_calls();
-    let mut all = coordinator.into_tally();
-    if join_workers(rt, &mut all, pool) {
-        (ended, Some(all))
+    if ended == Ended::HistoryFull {
+        ended = keeper.rest(rt, shared);
+    }
+    if ended != Ended::HistoryFull {
+        counterpart.end_calls();
+    }
+    let mut tally = coordinator.into_tally();
+    let mut back = Vec::new(alloc);
+    if join_workers(rt, &mut tally, &mut back, pool) {
+        (ended, Some(PartEnd { tally, peers: back }))
     } else {
         (ended, None)
     }
 }
 
+// One part of a history.
+fn part<
+    L: Ledger + Send + Sync,
+    P: Peer + Send + Drop,
+    G: Gate + Sync,
+    C: Counterpart + Sync,
+    R: Threads + Wait + Clock + Sync,
+>(
+    rt: &R,
+    alloc: Global,
+    shared: &Shared<L>,
+    gate: &G,
+    counterpart: &C,
+    crew: WorkGroup<L, P>,
+    keeper: TimeKeeper,
+) -> (Ended, Option<PartEnd<L, P>>)
+    requires few { vec_len crew.peers < PARTS }
+    requires parts { crew.coordinator.parts ≡ PARTS }
+    ensures parts { IfSome result.1 (λ end. end.tally.parts ≡ PARTS) }
+    ensures few { IfSome result.1 (λ end. vec_len end.peers < PARTS) }
+{
+    scope(
+        scope_env(),
+        rt,
+        move |scope| -> (Ended, Option<PartEnd<L, P>>)
+            requires few { vec_len crew.peers < PARTS }
+            requires parts { crew.coordinator.parts ≡ PARTS }
+            ensures parts { IfSome result.1 (λ end. end.tally.parts ≡ PARTS) }
+            ensures few { IfSome result.1 (λ end. vec_len end.peers < PARTS) }
+        { work_part(scope, rt, alloc, shared, gate, counterpart, crew, keeper) },
+    )
+}
+
 /// Starts a worker for each of these peers, numbered from 1, in a thread of its own, and tells the time beside
 /// them until there is nothing left to wait for; a clock that is counted waits for the counterpart's containers
-/// before it moves on. The book is closed then, and calls that are under way are ended. The tally has the
-/// receipts of all workers and the coordinator's, for all that was done; none where they could not be brought
-/// together.
+/// before it moves on. Where a part of the history is full the workers come to rest, and begin anew at the next
+/// part; HistoryFull is told where the part can't end. The book is closed at last, and calls that are under way
+/// are ended. The tally has the receipts of all workers and the coordinator's, for all that was done in the last
+/// part; none where they could not be brought together.
 pub fn crew<
     L: Ledger + Send + Sync,
     P: Peer + Send + Drop,
@@ -179,28 +251,24 @@ pub fn crew<
     pace: Pace,
 ) -> (Ended, Option<Tally<L>>)
     requires few { vec_len peers < PARTS }
-    requires parts { vec_len peers < coordinator.parts }
-    ensures { IfSome result.1 (λ tally. tally.parts ≡ coordinator.parts) }
+    requires parts { coordinator.parts ≡ PARTS }
+    requires whole { L.parts ≡ PARTS }
+    ensures { IfSome result.1 (λ tally. tally.parts ≡ PARTS) }
 {
-    scope(
-        scope_env(),
-        rt,
-        move |scope| -> (Ended, Option<Tally<L>>)
-            requires few { vec_len peers < PARTS }
-            requires parts { vec_len peers < coordinator.parts }
-            ensures { IfSome result.1 (λ tally. tally.parts ≡ coordinator.parts) }
-        {
-            run(
-                scope,
-                rt,
-                alloc,
-                shared,
-                gate,
-                counterpart,
-                coordinator,
-                peers,
-                pace,
-            )
-        },
-    )
+    let keeper = TimeKeeper::start(rt, pace);
+    let mut crew = WorkGroup { coordinator, peers };
+    for _ in rt.forever() {
+        let (ended, left) = part(rt, alloc, shared, gate, counterpart, crew, keeper);
+        let Some(PartEnd { mut tally, peers }) = left else {
+            return (ended, None);
+        };
+        if ended != Ended::HistoryFull || shared.end_part(rt, &mut tally).is_err() {
+            return (ended, Some(tally));
+        }
+        crew = WorkGroup {
+            coordinator: Coordinator::resume(tally),
+            peers,
+        };
+    }
+    unreachable!()
 }

@@ -1,7 +1,9 @@
 //! Whether a node waits for the time alone.
 
 use lifecycle::Phase;
-use worker_core::{MAX_PODS, Node};
+use node_lock::Book;
+use std::sync::ledger::Ledger;
+use worker_core::{AgentEvent, MAX_PODS, Node};
 
 /// Why nobody at work has anything to do.
 #[derive(Clone, Copy, Debug, PartialEq, Eq)]
@@ -10,6 +12,8 @@ pub(crate) enum Standstill {
     Deserted,
     /// Each pod is Succeeded or Failed.
     Over,
+    /// The part of the history that is there takes no claim any longer.
+    Full,
     /// Nothing is due before this moment.
     At(u64),
     /// Nothing will ever be due.
@@ -36,7 +40,12 @@ fn is_over(node: &Node) -> bool {
 }
 
 /// What is to be done at this moment by the one who tells the time. None where the workers have something to do.
-pub(crate) fn standstill_of(node: &Node, workers: u32, now: u64) -> Option<Standstill> {
+pub(crate) fn standstill_of<L: Ledger>(
+    book: &Book<L>,
+    workers: u32,
+    now: u64,
+) -> Option<Standstill> {
+    let node = book.node();
     if workers == 0 {
         return Some(Standstill::Deserted);
     }
@@ -45,6 +54,9 @@ pub(crate) fn standstill_of(node: &Node, workers: u32, now: u64) -> Option<Stand
     }
     if is_over(node) {
         return Some(Standstill::Over);
+    }
+    if !book.has_room(&AgentEvent::Claim(1)) {
+        return Some(Standstill::Full);
     }
     match node.next_due() {
         None => Some(Standstill::Never),

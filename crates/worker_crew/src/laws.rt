@@ -1,8 +1,8 @@
 ghost use Rattle.std.specs.Prelude.{◌≡◌};
-ghost use Rattle.worker_crew.specs.declared.pace.TheConstants.{NAP};
+ghost use Rattle.worker_crew.specs.declared.pace.TheConstants.{LONGEST_WAIT};
 
 /// What the constants of this crate are.
 pub fn constants_are_as_stated()
-    // milliseconds
-    ensures nap { NAP ≡ 50 }
+    // seconds
+    ensures longest_wait { LONGEST_WAIT ≡ 3600 }
 {}

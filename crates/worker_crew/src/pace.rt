@@ -7,7 +7,6 @@ use crate::idle::Standstill;
 use crate::shared::Shared;
 use std::sync::Wait;
 use std::sync::ledger::Ledger;
-use std::thread;
 use std::time::{Clock, Duration, Instant};
 use worker_core::AgentEvent;
 
@@ -30,7 +29,7 @@ pub enum Ended {
     TimeUp,
     /// A growth was refused, or a thread could not be made.
     Memory,
-    /// The history takes no claim any longer.
+    /// The part of the history that is there takes no claim any longer.
     HistoryFull,
 }
 
@@ -44,22 +43,118 @@ pub trait Counterpart {
     fn end_calls(&self);
 }
 
-// How many milliseconds the machine's clock is not looked at.
-pub(crate) const NAP: u64 = 50;
+/// The greatest number of seconds for which the machine's clock is not looked at.
+pub(crate) const LONGEST_WAIT: u64 = 3_600;
 
-/// Tells the time until there is nothing left to wait for.
-pub(crate) fn keep_time<L: Ledger, C: Counterpart, R: Wait + Clock>(
-    rt: &R,
-    shared: &Shared<L>,
-    counterpart: &C,
-    coordinator: &mut Coordinator<L>,
+/// Tells the time beside workers, from one start on over all parts of a history.
+#[derive(Clone, Copy)]
+pub(crate) struct TimeKeeper {
     pace: Pace,
-) -> Ended
-    ensures { coordinator.new.parts ≡ coordinator.old.parts }
-{
-    match pace {
-        Pace::Counted(until) => count(rt, shared, counterpart, coordinator, until),
-        Pace::Machine(until) => watch(rt, shared, coordinator, until),
+    // None where the clock can't be read, which then stands still.
+    start: Option<Instant>,
+}
+
+impl TimeKeeper {
+    /// Begins now.
+    pub(crate) fn start<R: Clock>(rt: &R, pace: Pace) -> TimeKeeper {
+        TimeKeeper {
+            pace,
+            start: Instant::now(rt).ok(),
+        }
+    }
+
+    /// Tells the time until there is nothing left to wait for, or the part of the history is full.
+    pub(crate) fn keep<L: Ledger, C: Counterpart, R: Wait + Clock>(
+        &self,
+        rt: &R,
+        shared: &Shared<L>,
+        counterpart: &C,
+        coordinator: &mut Coordinator<L>,
+    ) -> Ended
+        ensures { coordinator.new.parts ≡ coordinator.old.parts }
+    {
+        match self.pace {
+            Pace::Counted(until) => count(rt, shared, counterpart, coordinator, until),
+            Pace::Machine(until) => self.watch(rt, shared, coordinator, until),
+        }
+    }
+
+    /// Waits for the workers of a part that is full: each ends once its call has come back, or the last moment
+    /// was reached before.
+    pub(crate) fn rest<L: Ledger, R: Wait + Clock>(&self, rt: &R, shared: &Shared<L>) -> Ended {
+        if let Pace::Machine(Some(until)) = self.pace {
+            for _ in rt.forever() {
+                if shared.wait_deserted_for(rt, self.left_until(rt, until)) {
+                    break;
+                }
+                if self.seconds(rt) >= until {
+                    return Ended::TimeUp;
+                }
+            }
+        } else {
+            shared.wait_deserted(rt);
+        }
+        Ended::HistoryFull
+    }
+
+    fn elapsed<R: Clock>(&self, rt: &R) -> Duration {
+        match self.start.map(|start| start.elapsed(rt)) {
+            Some(Ok(passed)) => passed,
+            Some(Err(_)) | None => Duration::ZERO,
+        }
+    }
+
+    fn seconds<R: Clock>(&self, rt: &R) -> u64 {
+        self.elapsed(rt).as_secs()
+    }
+
+    // How long it is until this moment.
+    fn left_until<R: Clock>(&self, rt: &R, moment: u64) -> Duration {
+        Duration::from_secs(moment)
+            .saturating_sub(self.elapsed(rt))
+            .min(Duration::from_secs(LONGEST_WAIT))
+    }
+
+    fn watch<L: Ledger, R: Wait + Clock>(
+        &self,
+        rt: &R,
+        shared: &Shared<L>,
+        coordinator: &mut Coordinator<L>,
+        until: Option<u64>,
+    ) -> Ended
+        ensures { coordinator.new.parts ≡ coordinator.old.parts }
+    {
+        for _ in rt.forever() {
+            let now = self.seconds(rt);
+            let found = shared.standstill(rt, now);
+            match found {
+                Some(Standstill::Deserted) => return fault_of(rt, shared),
+                Some(Standstill::Full) => return Ended::HistoryFull,
+                // Nothing is due, so no entry is spent on the time.
+                Some(Standstill::Over | Standstill::Never | Standstill::At(_)) => {}
+                None => {
+                    if now > shared.moment() && !ticked(rt, shared, coordinator, now) {
+                        return fault_of(rt, shared);
+                    }
+                }
+            }
+            if until.is_some_and(|until| now >= until) {
+                return Ended::TimeUp;
+            }
+            let next = next_look(found, now).min(until.unwrap_or(u64::MAX));
+            shared.wait_change(rt, now, found, self.left_until(rt, next));
+        }
+        unreachable!()
+    }
+}
+
+// When the clock is to be looked at again, if nothing changes before: where workers have something to do, in a
+// second.
+fn next_look(found: Option<Standstill>, now: u64) -> u64 {
+    match found {
+        Some(Standstill::At(due)) => due,
+        Some(_) => u64::MAX,
+        None => now.saturating_add(1),
     }
 }
 
@@ -72,6 +167,21 @@ fn fault_of<L: Ledger, R: Wait>(rt: &R, shared: &Shared<L>) -> Ended {
     }
 }
 
+// Tells this moment. Workers that the tick wakes are to find it. False where the book took no entry.
+fn ticked<L: Ledger, R: Wait>(
+    rt: &R,
+    shared: &Shared<L>,
+    coordinator: &mut Coordinator<L>,
+    now: u64,
+) -> bool
+    ensures { coordinator.new.parts ≡ coordinator.old.parts }
+{
+    shared.tell(now);
+    coordinator
+        .record(rt, shared, AgentEvent::Tick(now))
+        .is_ok()
+}
+
 fn count<L: Ledger, C: Counterpart, R: Wait>(
     rt: &R,
     shared: &Shared<L>,
@@ -81,12 +191,12 @@ fn count<L: Ledger, C: Counterpart, R: Wait>(
 ) -> Ended
     ensures { coordinator.new.parts ≡ coordinator.old.parts }
 {
-    let mut now = 0;
     for _ in rt.forever() {
-        match shared.next_standstill(rt, now) {
+        match shared.next_standstill(rt, shared.moment()) {
             None => {}
             Some(Standstill::Over) => return Ended::Settled,
             Some(Standstill::Never) => return Ended::TimeUp,
+            Some(Standstill::Full) => return Ended::HistoryFull,
             Some(Standstill::Deserted) => return fault_of(rt, shared),
             Some(Standstill::At(due)) => {
                 if due > until {
@@ -94,62 +204,11 @@ fn count<L: Ledger, C: Counterpart, R: Wait>(
                 }
                 // What is asked at the next moment does not hang on how far a runner has come.
                 counterpart.wait_idle();
-                // Workers that the tick wakes are to find the new moment.
-                shared.tell(due);
-                if coordinator
-                    .record(rt, shared, AgentEvent::Tick(due))
-                    .is_err()
-                {
+                if !ticked(rt, shared, coordinator, due) {
                     return fault_of(rt, shared);
                 }
-                now = due;
             }
         }
-    }
-    unreachable!()
-}
-
-// The seconds since the start. A clock that can't be read stands still.
-fn seconds_since<R: Clock>(rt: &R, start: Option<Instant>) -> u64 {
-    match start.map(|start| start.elapsed(rt)) {
-        Some(Ok(passed)) => passed.as_secs(),
-        Some(Err(_)) | None => 0,
-    }
-}
-
-fn watch<L: Ledger, R: Wait + Clock>(
-    rt: &R,
-    shared: &Shared<L>,
-    coordinator: &mut Coordinator<L>,
-    until: Option<u64>,
-) -> Ended
-    ensures { coordinator.new.parts ≡ coordinator.old.parts }
-{
-    let start = Instant::now(rt).ok();
-    let mut told = 0;
-    for _ in rt.forever() {
-        let now = seconds_since(rt, start);
-        match shared.standstill(rt, now) {
-            Some(Standstill::Deserted) => return fault_of(rt, shared),
-            // Nothing is due, so no entry is spent on the time.
-            Some(Standstill::Over | Standstill::Never | Standstill::At(_)) => {}
-            None => {
-                if now > told {
-                    shared.tell(now);
-                    if coordinator
-                        .record(rt, shared, AgentEvent::Tick(now))
-                        .is_err()
-                    {
-                        return fault_of(rt, shared);
-                    }
-                    told = now;
-                }
-            }
-        }
-        if until.is_some_and(|until| now >= until) {
-            return Ended::TimeUp;
-        }
-        thread::sleep(rt, Duration::from_millis(NAP));
     }
     unreachable!()
 }

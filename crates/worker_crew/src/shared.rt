@@ -1,13 +1,14 @@
 //! The node's book behind its lock, and the workers that wait for it to change.
-ghost use Rattle.std.specs.Prelude.{◌≡◌, ◌+◌, ◌<◌, IfOk, IfSome, IfNone, OnOk, OnErr, OnSome};
+ghost use Rattle.std.specs.Prelude.{◌≡◌, ◌+◌, ◌<◌, [], IfOk, IfSome, IfNone, OnOk, OnErr, OnSome};
 ghost use Rattle.worker_core.specs.declared.events.AgentEvent.TheVariants.{Claim};
 ghost use Rattle.node_lock.specs.Books.{worker_of};
 
 use crate::idle::{Standstill, standstill_of};
-use node_lock::{Book, BookFault, Receipt};
+use node_lock::{Book, BookFault, Receipt, Tally};
 use std::sync::atomic::{AtomicU64, Ordering};
 use std::sync::ledger::{Ledger, Share};
-use std::sync::{Condvar, Mutex, Wait};
+use std::sync::{Condvar, CondvarTimeouts, Mutex, Wait};
+use std::time::{Clock, Duration};
 use worker_core::{AgentEvent, Answer};
 
 /// What stands under the lock: the book, and how many workers have not ended.
@@ -22,9 +23,10 @@ struct Guarded<L: Ledger> {
 #[derive(Drop)]
 pub struct Shared<L: Ledger> {
     guarded: Mutex<Guarded<L>>,
-    // Wakes the workers that were given nothing: at each entry of worker 0, when a worker ends, and once the
-    // book is closed. The end of a claim makes nothing due but its own pod, and whoever held that claims
-    // next.
+    // Wakes one of the workers that were given nothing where a request is due behind an entry of worker 0, or
+    // behind a claim, so that no more are woken than have something to do; and all of them when a worker ends,
+    // and once the book is closed. The end of a claim makes nothing due but its own pod, and whoever held that
+    // claims next.
     due: Condvar,
     // Wakes worker 0: at each entry that is no claim, when a worker ends, and once the book is closed.
     changed: Condvar,
@@ -50,7 +52,7 @@ fn record_behind<L: Ledger>(
     ensures uncounted { IfNone result (share.new.amount ≡ share.old.amount) }
     ensures parts { share.new.parts ≡ share.old.parts }
 {
-    if (book.history().len() as u64) < last {
+    if book.last_number() < last {
         return None;
     }
     book.record(share, worker, event).ok()
@@ -86,7 +88,13 @@ impl<L: Ledger> Shared<L> {
         book
     }
 
-    /// Records an event of worker 0, and wakes all that wait.
+    // Whether a request is due for a pod that nobody holds.
+    fn is_due(&self, book: &Book<L>) -> bool {
+        let now = self.moment();
+        book.node().next_due().is_some_and(|due| due <= now)
+    }
+
+    /// Records an event of worker 0, and wakes a worker where something is due behind it.
     pub(crate) fn record<R: Wait>(
         &self,
         rt: &R,
@@ -103,8 +111,11 @@ impl<L: Ledger> Shared<L> {
     {
         let mut guarded = self.guarded.lock(rt);
         let recorded = guarded.book.record(share, 0, event);
+        let wakes = self.is_due(&guarded.book);
         drop(guarded);
-        self.due.notify_all();
+        if wakes {
+            self.due.notify_one();
+        }
         self.changed.notify_all();
         recorded
     }
@@ -160,7 +171,13 @@ impl<L: Ledger> Shared<L> {
             return None;
         }
         let event = AgentEvent::Claim(worker);
-        record_behind(&mut guarded.book, share, worker, event, last)
+        let recorded = record_behind(&mut guarded.book, share, worker, event, last);
+        let wakes = self.is_due(&guarded.book);
+        drop(guarded);
+        if wakes {
+            self.due.notify_one();
+        }
+        recorded
     }
 
     /// A worker is about to begin.
@@ -181,16 +198,62 @@ impl<L: Ledger> Shared<L> {
     /// What is to be done at this moment: None where workers have something to do.
     pub(crate) fn standstill<R: Wait>(&self, rt: &R, now: u64) -> Option<Standstill> {
         let guarded = self.guarded.lock(rt);
-        standstill_of(guarded.book.node(), guarded.workers, now)
+        standstill_of(&guarded.book, guarded.workers, now)
     }
 
     /// The same, once workers have nothing to do.
     pub(crate) fn next_standstill<R: Wait>(&self, rt: &R, now: u64) -> Option<Standstill> {
         let guarded = self.guarded.lock(rt);
         let guarded = self.changed.wait_while(rt, guarded, |guarded| {
-            standstill_of(guarded.book.node(), guarded.workers, now).is_none()
+            standstill_of(&guarded.book, guarded.workers, now).is_none()
         });
-        standstill_of(guarded.book.node(), guarded.workers, now)
+        standstill_of(&guarded.book, guarded.workers, now)
+    }
+
+    /// Waits until there is something else to be done at this moment than what was found, for so long at most.
+    pub(crate) fn wait_change<R: Wait + Clock>(
+        &self,
+        rt: &R,
+        now: u64,
+        found: Option<Standstill>,
+        most: Duration,
+    ) {
+        let guarded = self.guarded.lock(rt);
+        let (guarded, timed) = self
+            .changed
+            .wait_timeout_while(rt, guarded, most, |guarded| {
+                standstill_of(&guarded.book, guarded.workers, now) == found
+            });
+        drop((guarded, timed));
+    }
+
+    /// Waits until no worker is left.
+    pub(crate) fn wait_deserted<R: Wait>(&self, rt: &R) {
+        let guarded = self.guarded.lock(rt);
+        let guarded = self
+            .changed
+            .wait_while(rt, guarded, |guarded| guarded.workers > 0);
+        drop(guarded);
+    }
+
+    /// The same, for so long at most. Tells whether none is left.
+    pub(crate) fn wait_deserted_for<R: Wait + Clock>(&self, rt: &R, most: Duration) -> bool {
+        let guarded = self.guarded.lock(rt);
+        let (guarded, timed) = self
+            .changed
+            .wait_timeout_while(rt, guarded, most, |guarded| guarded.workers > 0);
+        drop((guarded, timed));
+        self.guarded.lock(rt).workers == 0
+    }
+
+    /// Ends a part of the history, whose workers have ended and whose receipts are all here.
+    pub(crate) fn end_part<R: Wait>(&self, rt: &R, tally: &mut Tally<L>) -> Result<(), BookFault>
+        requires whole { tally.old.parts ≡ L.parts }
+        ensures receipts { OnOk result (tally.new.receipts ≡ []) }
+        ensures parts { tally.new.parts ≡ tally.old.parts }
+        ensures kept { OnErr result (tally.new ≡ tally.old) }
+    {
+        self.guarded.lock(rt).book.end_part(tally)
     }
 
     /// Whether the book takes a claim still.
@@ -198,9 +261,9 @@ impl<L: Ledger> Shared<L> {
         self.guarded.lock(rt).book.has_room(&AgentEvent::Claim(1))
     }
 
-    /// How many entries the book's history has now.
-    pub fn entries<R: Wait>(&self, rt: &R) -> usize {
-        self.guarded.lock(rt).book.history().len()
+    /// How many entries the history has now, over all of its parts.
+    pub fn entries<R: Wait>(&self, rt: &R) -> u64 {
+        self.guarded.lock(rt).book.last_number()
     }
 
     /// The moment that was told last.

@@ -2,7 +2,7 @@ ghost use Rattle.std.specs.Prelude.{◌≡◌, ◌<◌, ◌≤◌, IfSome};
 ghost use Rattle.worker_pod.specs.Wants.{again, look_from, want_of};
 
 use crate::settings::LAST_ATTEMPT;
-use lifecycle::{RestartPolicy, Stage, Track, may_restart, ready_at};
+use lifecycle::{RestartPolicy, Stage, Track, may_restart};
 
 // What is done for a container, at one of its attempts.
 #[derive(Clone, Copy)]
@@ -44,10 +44,9 @@ fn again(policy: RestartPolicy, track: &Track, attempt: u32) -> Option<u64>
     ensures value { result ≡ again policy track.now attempt }
     ensures more { IfSome result (λ _. attempt < LAST_ATTEMPT) }
 {
-    let runs = track.runs.as_slice();
-    let code = runs.last()?.code();
+    let code = track.runs.as_slice().last()?.code();
     if may_restart(policy, track.init, code) && attempt < LAST_ATTEMPT {
-        Some(ready_at(runs))
+        Some(track.runs.ready_at())
     } else {
         None
     }
