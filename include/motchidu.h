@@ -11,7 +11,8 @@
  * retells. What no proof sees is the caller, who owes this: each pointer points at as much memory as its
  * length says, which may be read, and written where it is an output; an output overlaps with nothing else
  * that is passed; no other thread writes to what is passed before the function returns. An array of length
- * 0 may be NULL, `at` may not.
+ * 0 may be NULL, and so may `at` in C and in C++, by the two macros below: who calls the library's own
+ * motchidu_verify and motchidu_longest, as from another language, owes a place there.
  *
  * The functions take memory by malloc while they run, and give it back by free; the two are C's own, or
  * keep C's promises. motchidu_compile needs 128 KiB of stack, as a profile's text may have 127 objects in
@@ -77,23 +78,23 @@ enum motchidu_status {
  * are left as they were; 32,768 bytes are room for any. With MOTCHIDU_NO_ROOM *length is how many bytes it
  * takes, and nothing is written. With any other answer *length is left as it was as well.
  */
-uint32_t motchidu_compile(const uint8_t *profile, size_t profile_len,
-                          uint8_t *filter, size_t filter_len, size_t *length);
+enum motchidu_status motchidu_compile(const uint8_t *profile, size_t profile_len,
+                                      uint8_t *filter, size_t filter_len, size_t *length);
 
 /*
  * Checks the filter of filter_len bytes as motchidu_verify does, with its answers. With MOTCHIDU_ACCEPTED
  * *longest becomes the most instructions that a way through the filter has, whatever the call: no run
  * takes more steps.
  */
-uint32_t motchidu_longest(const uint8_t *filter, size_t filter_len, uint32_t *longest, size_t *at);
+enum motchidu_status motchidu_longest(const uint8_t *filter, size_t filter_len, uint32_t *longest, size_t *at);
 
 /*
  * Checks the filter of filter_len bytes.
  *
- * Answers a number of enum motchidu_status. Where it marks a place, *at becomes that place, counted in
- * instructions from 0; else *at is left as it was.
+ * Where the answer marks a place, *at becomes that place, counted in instructions from 0; else *at is left
+ * as it was.
  */
-uint32_t motchidu_verify(const uint8_t *filter, size_t filter_len, size_t *at);
+enum motchidu_status motchidu_verify(const uint8_t *filter, size_t filter_len, size_t *at);
 
 /*
  * Checks the filter of filter_len bytes once, and runs it on each call of a list.
@@ -104,10 +105,65 @@ uint32_t motchidu_verify(const uint8_t *filter, size_t filter_len, size_t *at);
  * action in its upper 16 bits, seccomp(2)), and steps[i] the number of instructions that it executed, the
  * last one included, which is never above filter_len / 8. With any other answer nothing is written.
  */
-uint32_t motchidu_run_all(const uint8_t *filter, size_t filter_len,
-                          const uint8_t *calls, size_t calls_len,
-                          uint32_t *values, size_t values_len,
-                          uint32_t *steps, size_t steps_len);
+enum motchidu_status motchidu_run_all(const uint8_t *filter, size_t filter_len,
+                                      const uint8_t *calls, size_t calls_len,
+                                      uint32_t *values, size_t values_len,
+                                      uint32_t *steps, size_t steps_len);
+
+/* The name of a status, as the project's programs print it, and of a number that is none "Unknown". */
+static inline const char *motchidu_status_text(enum motchidu_status status)
+{
+    switch (status) {
+    case MOTCHIDU_ACCEPTED: return "Accepted";
+    case MOTCHIDU_LENGTH: return "Length";
+    case MOTCHIDU_TOO_LONG: return "TooLong";
+    case MOTCHIDU_BAD_CODE: return "BadCode";
+    case MOTCHIDU_EMPTY: return "Empty";
+    case MOTCHIDU_BAD_OFFSET: return "BadOffset";
+    case MOTCHIDU_BAD_JUMP: return "BadJump";
+    case MOTCHIDU_BAD_WORD: return "BadWord";
+    case MOTCHIDU_BAD_SHIFT: return "BadShift";
+    case MOTCHIDU_ZERO_DIVISOR: return "ZeroDivisor";
+    case MOTCHIDU_NO_FINAL_RETURN: return "NoFinalReturn";
+    case MOTCHIDU_UNSTORED: return "Unstored";
+    case MOTCHIDU_MEMORY: return "Memory";
+    case MOTCHIDU_LENGTHS: return "Lengths";
+    case MOTCHIDU_NOT_JSON: return "NotJson";
+    case MOTCHIDU_NOT_OBJECT: return "NotObject";
+    case MOTCHIDU_MISSING: return "Missing";
+    case MOTCHIDU_WRONG_TYPE: return "WrongType";
+    case MOTCHIDU_UNKNOWN_ACTION: return "UnknownAction";
+    case MOTCHIDU_UNKNOWN_OP: return "UnknownOp";
+    case MOTCHIDU_BAD_INDEX: return "BadIndex";
+    case MOTCHIDU_EMPTY_NAMES: return "EmptyNames";
+    case MOTCHIDU_REPEATED_INDEX: return "RepeatedIndex";
+    case MOTCHIDU_ERRNO_NOT_ALLOWED: return "ErrnoNotAllowed";
+    case MOTCHIDU_ERRNO_TOO_LARGE: return "ErrnoTooLarge";
+    case MOTCHIDU_UNKNOWN_CALL: return "UnknownCall";
+    case MOTCHIDU_NOTIFY: return "Notify";
+    case MOTCHIDU_TOO_LARGE: return "TooLarge";
+    case MOTCHIDU_TOO_HEAVY: return "TooHeavy";
+    case MOTCHIDU_NO_ROOM: return "NoRoom";
+    }
+    return "Unknown";
+}
+
+/* The library's own two are told a place in any case; the parentheses keep these macros away from them. */
+static inline enum motchidu_status motchidu_longest_or_null(const uint8_t *filter, size_t filter_len,
+                                                            uint32_t *longest, size_t *at)
+{
+    size_t nowhere = 0;
+    return (motchidu_longest)(filter, filter_len, longest, at ? at : &nowhere);
+}
+
+static inline enum motchidu_status motchidu_verify_or_null(const uint8_t *filter, size_t filter_len, size_t *at)
+{
+    size_t nowhere = 0;
+    return (motchidu_verify)(filter, filter_len, at ? at : &nowhere);
+}
+
+#define motchidu_longest(filter, filter_len, longest, at) motchidu_longest_or_null(filter, filter_len, longest, at)
+#define motchidu_verify(filter, filter_len, at) motchidu_verify_or_null(filter, filter_len, at)
 
 #ifdef __cplusplus
 }

@@ -47,7 +47,7 @@ count c/every_status $?
 if lacks objcopy; then
   echo "examples/c/two_libraries: skipped, there is no objcopy"
 else
-  renamed=$(sed -n -E 's/^uint32_t motchidu_([a-z_]+)\(.*/--redefine-sym motchidu_\1=other_\1/p' include/motchidu.h)
+  renamed=$(sed -n -E 's/^enum motchidu_status motchidu_([a-z_]+)\(.*/--redefine-sym motchidu_\1=other_\1/p' include/motchidu.h)
   # shellcheck disable=SC2086
   objcopy $renamed $library/libmotchidu.a "$out/libother.a" \
     && build two_libraries -I$library $library/libmotchidu.a -Wl,--whole-archive "$out/libother.a" -Wl,--no-whole-archive \

@@ -141,13 +141,34 @@ static void expect_longest(const char *name, const void *code, size_t len, uint3
     expect(name, longest, 0, want == MOTCHIDU_ACCEPTED ? want_longest : NOWHERE, 0);
 }
 
+/* In the order of their numbers. */
+static const char *const names[] = {
+    "Accepted", "Length", "TooLong", "BadCode", "Empty", "BadOffset", "BadJump", "BadWord", "BadShift", "ZeroDivisor",
+    "NoFinalReturn", "Unstored", "Memory", "Lengths", "NotJson", "NotObject", "Missing", "WrongType", "UnknownAction",
+    "UnknownOp", "BadIndex", "EmptyNames", "RepeatedIndex", "ErrnoNotAllowed", "ErrnoTooLarge", "UnknownCall", "Notify",
+    "TooLarge", "TooHeavy", "NoRoom", "Unknown",
+};
+
+static void expect_names(void) {
+    for (size_t i = 0; i < sizeof names / sizeof *names; i++)
+        if (strcmp(motchidu_status_text((enum motchidu_status)i), names[i]) != 0) {
+            printf("%zu is %s\n", i, motchidu_status_text((enum motchidu_status)i));
+            wrong++;
+        }
+}
+
 int main(void) {
     size_t at;
+    expect_names();
     for (size_t i = 0; i < sizeof rows / sizeof *rows; i++) {
         uint32_t status = verify(rows[i].code, rows[i].len, &at);
         expect(rows[i].name, status, at, rows[i].want, rows[i].at);
         expect_run(rows[i].name, rows[i].code, rows[i].len, 128, 2, rows[i].want);
         expect_longest(rows[i].name, rows[i].code, rows[i].len, rows[i].want, 2, rows[i].at);
+        uint32_t longest = NOWHERE;
+        const uint8_t *code = (const uint8_t *)rows[i].code;
+        expect(rows[i].name, motchidu_verify(code, rows[i].len, NULL), 0, rows[i].want, 0);
+        expect(rows[i].name, motchidu_longest(code, rows[i].len, &longest, NULL), 0, rows[i].want, 0);
     }
     static const struct sock_filter dead[] = {ALLOW, LOAD_NR, ALLOW};
     expect_longest("a return in front", dead, sizeof dead, MOTCHIDU_ACCEPTED, 1, NOWHERE);

@@ -15,9 +15,9 @@ int main(int argc, char **argv) {
     fclose(file);
 
     size_t at = 0;
-    uint32_t status = motchidu_verify(filter, len, &at);
+    enum motchidu_status status = motchidu_verify(filter, len, &at);
     if (status != MOTCHIDU_ACCEPTED) {
-        printf("refused %u at %zu\n", status, at);
+        printf("refused %s at %zu\n", motchidu_status_text(status), at);
         return 1;
     }
 

@@ -1,8 +1,8 @@
 /* Built as a shared library and preloaded, it writes each call by which a program makes, moves or removes a
  * file or a socket to the file that the variable CALLS names, and its answer.
  *
- * FAIL_ACCEPT=N lets the first N calls of accept4 fail for want of descriptors, FAIL_THREAD=N the N-th and each
- * later call that starts a thread. SLOW_UNLINK=N has each unlink wait for N seconds first, SLOW_COPY=N the third
+ * FAIL_OPEN=FILE has each open of this path fail with the number OPEN_ERROR. FAIL_ACCEPT=N lets the first N calls of
+ * accept4 fail for want of descriptors, FAIL_THREAD=N the N-th and each later call that starts a thread. SLOW_UNLINK=N has each unlink wait for N seconds first, SLOW_COPY=N the third
  * copy of a descriptor. TAKEN=1 has a file come to stand where a link is to be made. LOCK_AFTER=FILE has the first
  * lock wait until FILE is gone, seven seconds at most, and a second more. SLOW_WAKE=N lets a thread that gave a
  * lock back to one that waits for it rest for N microseconds. */
@@ -15,6 +15,7 @@
 #include <stdarg.h>
 #include <stdio.h>
 #include <stdlib.h>
+#include <string.h>
 #include <sys/file.h>
 #include <sys/socket.h>
 #include <sys/stat.h>
@@ -67,6 +68,20 @@ int unlink(const char *path)
 }
 
 int rmdir(const char *path) { return told(NEXT(rmdir)(path), "rmdir", path, ""); }
+
+int open(const char *path, int flags, ...)
+{
+  const char *failing = getenv("FAIL_OPEN");
+  va_list more;
+  va_start(more, flags);
+  mode_t mode = va_arg(more, mode_t);
+  va_end(more);
+  if (failing && strcmp(path, failing) == 0) {
+    errno = atoi(getenv("OPEN_ERROR"));
+    return -1;
+  }
+  return NEXT(open)(path, flags, mode);
+}
 
 int bind(int socket, const struct sockaddr *address, socklen_t length)
 {

@@ -1,5 +1,6 @@
 -- What nodeagent does with its line, and how it ends: this project's own. docs/SEMANTICS.md, "Programs".
-use Rattle.std.specs.Prelude.{ℕ, ◌==◌, if◌then◌else◌, List, [], Option, Some, None, unwrap_or}
+use Rattle.std.specs.Prelude.{ℕ, ◌==◌, if◌then◌else◌, List, [], ◌++◌, codes, Option, Some, None, unwrap_or}
+use Rattle.std.specs.Fmt.{decimal}
 use Rattle.command_line.specs.declared.nodeagent.NodeagentLine.{NodeagentLine}
 use Rattle.cri_msgs.specs.declared.version.Version.{Version}
 use Rattle.cri_msgs.specs.declared.version.Version.TheVariants.{V1, V2}
@@ -47,3 +48,7 @@ stop_at ended.HistoryFull = HistoryFull
 stop_at ended.Settled = Server Memory
 stop_at ended.TimeUp = Server Memory
 stop_at ended.Memory = Server Memory
+
+-- the line with which it begins, where it tells of itself: over which socket it works, on how many pods
+abbrev pub working_text : List ℕ → ℕ → List ℕ
+working_text socket pods = codes "works over " ++ (socket ++ (codes ", pods: " ++ decimal pods))

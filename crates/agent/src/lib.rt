@@ -10,6 +10,7 @@ mod dialing;
 mod inputs;
 mod laws;
 mod limits;
+mod lost;
 mod nodeagent;
 mod peers;
 mod stops;

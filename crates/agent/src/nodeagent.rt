@@ -9,14 +9,16 @@ use crate::limits::{MAX_WORKERS, POLL, RUNNERS, SETTLE_UNTIL};
 use crate::peers::{Calls, SocketPeer, Told};
 use crate::stops::AgentStop;
 use crate::tables::table;
+use crate::telling::working_line;
 use bpf_verify::Filter;
 use command_line::{NodeagentLine, nodeagent_line};
 use cri_msgs::Version;
+use node_io::Cause;
 use node_lock::{Book, BookFault, MAX_ENTRIES, PARTS};
 use runner::Baseline;
 use runtime_server::{
-    Address, Connections, ServerStop, Site, Teller, accept_all, baseline_at, socket_stop,
-    start_runners,
+    Address, Connections, ServerStop, Site, Teller, accept_all, baseline_at, look_at_folders,
+    socket_stop, start_runners,
 };
 use std::alloc::{AllocError, Global};
 use std::io::Write;
@@ -43,18 +45,19 @@ pub fn nodeagent_run<R: Threads + Wait + Clock + Copy + Send + Sync + 'static, O
     match run(rt, system, words) {
         Ok(end) => match out.write_all(end.text.as_bytes()) {
             Ok(()) => end.status,
-            Err(_) => tell_stop(&AgentStop::Server(ServerStop::Unwritten), err),
+            Err(error) => {
+                let unwritten = ServerStop::Unwritten(Cause::of(&error));
+                tell_stop(&AgentStop::Server(unwritten), err)
+            }
         },
         Err(stop) => tell_stop(&stop, err),
     }
 }
 
-// Tells why the program ends, and gives its status.
+// Tells why the program ends, and gives its status, also where nobody hears it.
 fn tell_stop<E: Write>(stop: &AgentStop<'_>, err: &mut E) -> u8 {
-    match write!(err, "{stop}") {
-        Ok(()) => stop.status(),
-        Err(_) => ServerStop::Unwritten.status(),
-    }
+    let _ = write!(err, "{stop}");
+    stop.status()
 }
 
 // With what a run that was not stopped ends.
@@ -70,6 +73,9 @@ fn run<'a, R: Threads + Wait + Clock + Copy + Send + Sync + 'static>(
     words: &'a [String],
 ) -> Result<RunEnd, AgentStop<'a>> {
     let line = nodeagent_line(system.alloc(), words)?;
+    if line.with_runtime {
+        look_at_folders(system, [line.scripts, line.profiles])?;
+    }
     run_line::<Brand, R>(rt, system, &line, Blank::new(PARTS))
 }
 
@@ -228,6 +234,10 @@ fn run_crew<L: Ledger + Send + Sync, B: Baseline + Send + Sync, R: Threads + Wai
     requires whole { L.parts ≡ PARTS }
 {
     let peers = peers(rt, system, line, calls)?;
+    if let Some(told) = &calls.told {
+        let working = working_line(system.alloc(), line.socket, line.manifests.len());
+        told.teller.tell(rt, working);
+    }
     let (ended, tally) = crew(
         rt,
         system.alloc(),
@@ -277,7 +287,7 @@ fn run_beside<
 {
     let site = match Site::<B>::open(rt, system, address_of(line), baseline) {
         Ok(site) => site,
-        Err(error) => return Err(AgentStop::Server(socket_stop(line.socket, error))),
+        Err(fault) => return Err(AgentStop::Server(socket_stop(line.socket, fault))),
     };
     Ok(run_at(rt, system, line, &site, shared, calls, coordinator)?)
 }

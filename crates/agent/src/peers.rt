@@ -3,12 +3,14 @@ ghost use Rattle.std.specs.Prelude.{◌≡◌, IfOk};
 
 use crate::dialing::{Deadline, TimedStream, connect};
 use crate::limits::PATIENCE;
+use crate::lost::{LostCall, Why};
 use crate::telling::call_line;
 use cri_frames::{Lost, call_over};
 use cri_msgs::{Reply, Request, Version};
-use node_io::StreamWire;
+use node_io::{Cause, StreamWire};
 use runtime_server::{Connections, Teller};
 use std::alloc::Global;
+use std::io;
 use std::sync::Wait;
 use std::sync::ledger::Ledger;
 use std::time::Clock;
@@ -29,6 +31,14 @@ pub(crate) struct Calls<'a, L: Ledger, R: Wait> {
     pub(crate) told: Option<Told<'a, L, R>>,
 }
 
+// A connection to a listener whose queue has no place would have to be waited for.
+fn not_connected(error: &io::Error) -> Why {
+    match Cause::of(error) {
+        Cause::WouldBlock => Why::QueueFull,
+        cause => Why::NotConnected(cause),
+    }
+}
+
 /// The runtime behind the socket at a path. Each call has a connection of its own.
 #[derive(Drop)]
 pub(crate) struct SocketPeer<'a, L: Ledger, R: Wait> {
@@ -43,16 +53,17 @@ pub(crate) struct SocketPeer<'a, L: Ledger, R: Wait> {
 
 impl<L: Ledger, R: Wait + Clock> SocketPeer<'_, L, R> {
     // A call may take so long from its connection to its reply.
-    fn ask(&self, request: &Request) -> Result<Reply, Lost>
+    fn ask(&self, request: &Request) -> Result<Reply, LostCall>
         ensures { IfOk result (λ reply. reply.id ≡ request.now.id) }
     {
         let (rt, open) = (self.rt, self.calls.open);
         let deadline = Deadline::in_seconds(rt, PATIENCE);
-        let Ok(stream) = connect(rt, self.system, open, self.path, deadline) else {
-            return Err(Lost::WriteFailed(0));
+        let stream = match connect(rt, self.system, open, self.path, deadline) {
+            Ok(stream) => stream,
+            Err(error) => return Err(LostCall::before(not_connected(&error))),
         };
         let Some(place) = open.enter(rt, &stream) else {
-            return Err(Lost::WriteFailed(0));
+            return Err(LostCall::before(Why::Ending));
         };
         let mut wire = StreamWire::new(TimedStream {
             rt,
@@ -61,7 +72,10 @@ impl<L: Ledger, R: Wait + Clock> SocketPeer<'_, L, R> {
         });
         let came = call_over(self.alloc, &mut wire, request, self.version);
         open.leave(rt, place);
-        came
+        match came {
+            Ok(reply) => Ok(reply),
+            Err(lost) => Err(LostCall::on_the_way(lost, wire.cause())),
+        }
     }
 }
 
@@ -72,11 +86,18 @@ impl<L: Ledger, R: Wait + Clock> Peer for SocketPeer<'_, L, R> {
     ghost may = { λ request outcome. IfOk outcome (λ reply. reply.id ≡ request.id) };
 
     fn call(&mut self, request: &Request) -> Result<Reply, Lost> {
+        let moment = match &self.calls.told {
+            Some(told) => told.shared.moment(),
+            None => 0,
+        };
         let came = self.ask(request);
         if let Some(told) = &self.calls.told {
-            let line = call_line(self.alloc, told.shared.moment(), request, &came);
+            let line = call_line(self.alloc, moment, request, &came);
             told.teller.tell(told.rt, line);
         }
-        came
+        match came {
+            Ok(reply) => Ok(reply),
+            Err(call) => Err(call.lost),
+        }
     }
 }

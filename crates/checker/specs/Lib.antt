@@ -2,6 +2,7 @@ pub mod ArrowText
 pub mod CallWords
 pub mod Compared
 pub mod LineText
+pub mod NoteText
 pub mod PickText
 pub mod PickedText
 pub mod StopText

@@ -1,29 +1,31 @@
 -- What is printed where a program ends before its work is done, this project's own: docs/SEMANTICS.md,
 -- "Programs". Nothing is said of a refused command line: its text is clap's.
-use Rattle.std.specs.Prelude.{ℕ, List, [], ◌++◌, codes, Option, Some, None}
+use Rattle.std.specs.Prelude.{ℕ, List, ◌++◌, codes, Option, Some, None}
 use Rattle.bpf_verify.specs.RefusalText.{refusal_text}
 use Rattle.compile.specs.FaultText.{fault_text as compile_fault_text}
 use Rattle.manifest.specs.Faults.{fault_text as pod_fault_text}
 use Rattle.oci_profile.specs.Faults.{fault_text as profile_fault_text}
 use Rattle.script.specs.FaultText.{fault_text as script_fault_text}
 use Rattle.verdict.specs.FaultText.{fault_text as stack_fault_text}
-use Rattle.node_io.specs.FaultText.{fault_text as file_fault_text}
+use Rattle.node_io.specs.Causes.{cause_text}
+use Rattle.node_io.specs.FaultText.{caused_text}
 use Rattle.checker.specs.Compared.{difference_text, reason_of}
 use Rattle.checker.specs.declared.stop.Stop.{Stop}
-use Rattle.checker.specs.declared.stop.Stop.TheVariants.{Refused, Profile, Compile, Manifest, Script, StackFilter, Stack, Differ, Undecided, CommandLine, BadNumber, File, Unwritten, Memory}
+use Rattle.checker.specs.declared.stop.Stop.TheVariants.{Refused, Profile, Compile, Manifest, Script, StackFilter, Stack, Differ, Undecided, CommandLine, BadNumber, File, SameFile, Unwritten, Memory}
 
 abbrev pub stop_text : Stop → Option (List ℕ)
-stop_text (Refused refusal) = Some (codes "refused " ++ refusal_text refusal ++ codes "\n")
-stop_text (Profile fault) = Some (codes "refused " ++ profile_fault_text fault ++ codes "\n")
-stop_text (Compile fault) = Some (codes "refused " ++ compile_fault_text fault ++ codes "\n")
-stop_text (Manifest fault) = Some (codes "refused " ++ pod_fault_text fault ++ codes "\n")
-stop_text (Script fault) = Some (codes "refused script " ++ script_fault_text fault ++ codes "\n")
-stop_text (StackFilter refusal) = Some (codes "refused filter " ++ refusal_text refusal ++ codes "\n")
-stop_text (Stack fault) = Some (codes "refused filter " ++ stack_fault_text fault ++ codes "\n")
+stop_text (Refused path refusal) = Some (codes "refused " ++ refusal_text refusal ++ codes "\n")
+stop_text (Profile path fault) = Some (codes "refused " ++ profile_fault_text fault ++ codes "\n")
+stop_text (Compile path fault) = Some (codes "refused " ++ compile_fault_text fault ++ codes "\n")
+stop_text (Manifest path fault) = Some (codes "refused " ++ pod_fault_text fault ++ codes "\n")
+stop_text (Script path fault) = Some (codes "refused script " ++ script_fault_text fault ++ codes "\n")
+stop_text (StackFilter path refusal) = Some (codes "refused filter " ++ refusal_text refusal ++ codes "\n")
+stop_text (Stack path fault) = Some (codes "refused filter " ++ stack_fault_text fault ++ codes "\n")
 stop_text (Differ difference) = Some (difference_text difference ++ codes "\n")
 stop_text (Undecided doubt) = Some (codes "undecided: " ++ reason_of doubt ++ codes "\n")
 stop_text (CommandLine error) = None
 stop_text (BadNumber word) = Some (codes "seccheck: " ++ word.now ++ codes ": BadNumber\n")
-stop_text (File path fault) = Some (codes "seccheck: " ++ path.now ++ codes ": " ++ file_fault_text fault ++ codes "\n")
-stop_text Unwritten = Some []
+stop_text (File path caused) = Some (codes "seccheck: " ++ path.now ++ codes ": " ++ caused_text caused ++ codes "\n")
+stop_text (SameFile path) = Some (codes "seccheck: " ++ path.now ++ codes ": Failed (the profile itself)\n")
+stop_text (Unwritten cause) = Some (codes "seccheck: standard output: Failed (" ++ cause_text cause ++ codes ")\n")
 stop_text Memory = Some (codes "seccheck: Memory\n")

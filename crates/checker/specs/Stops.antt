@@ -3,6 +3,7 @@
 use Rattle.std.specs.Prelude.{◌≡◌, ◌≢◌, ℕ, List, Bool, true, false}
 use Rattle.bpf_verify.specs.declared.refusal.Refusal.{Refusal}
 use Rattle.bpf_verify.specs.declared.refusal.Refusal.TheVariants.{Code}
+use Rattle.node_io.specs.declared.faults.CausedFault.{CausedFault}
 use Rattle.node_io.specs.declared.faults.FileFault.{FileFault}
 use Rattle.node_io.specs.declared.faults.FileFault.TheVariants as file
 use Rattle.checker.specs.declared.stop.Stop.{Stop}
@@ -23,81 +24,93 @@ use Rattle.verdict.specs.declared.stack.StackFault.{StackFault}
 use Rattle.verdict.specs.declared.stack.StackFault.TheVariants as stack
 
 -- the one filter of a command is refused
-abbrev pub of_refusal : Refusal → Stop
-of_refusal (Code code.Memory) = why.Memory
-of_refusal refusal = why.Refused refusal
+abbrev pub IsOfRefusal : List ℕ → Refusal → Stop → Type 0
+IsOfRefusal path (Code code.Memory) stop = stop ≡ why.Memory
+IsOfRefusal path fault (why.Refused word told) = (word.now ≡ path) × (told ≡ fault)
+IsOfRefusal path fault stop = ⊥
 
 -- a filter of a stack is refused
-abbrev pub of_stack_refusal : Refusal → Stop
-of_stack_refusal (Code code.Memory) = why.Memory
-of_stack_refusal refusal = why.StackFilter refusal
+abbrev pub IsOfStackRefusal : List ℕ → Refusal → Stop → Type 0
+IsOfStackRefusal path (Code code.Memory) stop = stop ≡ why.Memory
+IsOfStackRefusal path fault (why.StackFilter word told) = (word.now ≡ path) × (told ≡ fault)
+IsOfStackRefusal path fault stop = ⊥
 
 -- the profile is refused
-abbrev pub of_profile_fault : ProfileFault → Stop
-of_profile_fault profile.Memory = why.Memory
-of_profile_fault fault = why.Profile fault
+abbrev pub IsOfProfileFault : List ℕ → ProfileFault → Stop → Type 0
+IsOfProfileFault path profile.Memory stop = stop ≡ why.Memory
+IsOfProfileFault path fault (why.Profile word told) = (word.now ≡ path) × (told ≡ fault)
+IsOfProfileFault path fault stop = ⊥
 
 -- the profile is not compiled
-abbrev pub of_compile_fault : CompileFault → Stop
-of_compile_fault compile.Memory = why.Memory
-of_compile_fault fault = why.Compile fault
+abbrev pub IsOfCompileFault : List ℕ → CompileFault → Stop → Type 0
+IsOfCompileFault path compile.Memory stop = stop ≡ why.Memory
+IsOfCompileFault path fault (why.Compile word told) = (word.now ≡ path) × (told ≡ fault)
+IsOfCompileFault path fault stop = ⊥
 
 -- the manifest is refused
-abbrev pub of_pod_fault : PodFault → Stop
-of_pod_fault pod.Memory = why.Memory
-of_pod_fault fault = why.Manifest fault
+abbrev pub IsOfPodFault : List ℕ → PodFault → Stop → Type 0
+IsOfPodFault path pod.Memory stop = stop ≡ why.Memory
+IsOfPodFault path fault (why.Manifest word told) = (word.now ≡ path) × (told ≡ fault)
+IsOfPodFault path fault stop = ⊥
 
 -- the script is refused
-abbrev pub of_script_fault : ScriptFault → Stop
-of_script_fault script.Memory = why.Memory
-of_script_fault fault = why.Script fault
+abbrev pub IsOfScriptFault : List ℕ → ScriptFault → Stop → Type 0
+IsOfScriptFault path script.Memory stop = stop ≡ why.Memory
+IsOfScriptFault path fault (why.Script word told) = (word.now ≡ path) × (told ≡ fault)
+IsOfScriptFault path fault stop = ⊥
 
 -- the stack does not take the filter
-abbrev pub of_stack_fault : StackFault → Stop
-of_stack_fault stack.Memory = why.Memory
-of_stack_fault fault = why.Stack fault
+abbrev pub IsOfStackFault : List ℕ → StackFault → Stop → Type 0
+IsOfStackFault path stack.Memory stop = stop ≡ why.Memory
+IsOfStackFault path fault (why.Stack word told) = (word.now ≡ path) × (told ≡ fault)
+IsOfStackFault path fault stop = ⊥
 
 -- the command line is refused
 abbrev pub IsOfCommandLine : Error → Stop → Type 0
 IsOfCommandLine error stop = (kind_of error ≡ kind.OutOfMemory → stop ≡ why.Memory) × (kind_of error ≢ kind.OutOfMemory → stop ≡ why.CommandLine error)
 
 -- a file can't be read or written
-abbrev pub IsOfFile : List ℕ → FileFault → Stop → Type 0
-IsOfFile path file.Memory stop = stop ≡ why.Memory
-IsOfFile path fault (why.File word told) = (word.now ≡ path) × (told ≡ fault)
-IsOfFile path fault stop = ⊥
+abbrev pub IsOfFault : List ℕ → CausedFault → FileFault → Stop → Type 0
+IsOfFault path caused file.Memory stop = stop ≡ why.Memory
+IsOfFault path caused fault (why.File word told) = (word.now ≡ path) × (told ≡ caused)
+IsOfFault path caused fault stop = ⊥
+
+abbrev pub IsOfFile : List ℕ → CausedFault → Stop → Type 0
+IsOfFile path caused stop = IsOfFault path caused caused.fault stop
 
 -- input refused, and filters that differ or may differ 1; command line refused 2; a file that can't be read, and what can't be written 3; want of
 -- memory 4
 abbrev pub status_of : Stop → ℕ
-status_of (why.Refused refusal) = 1
-status_of (why.Profile fault) = 1
-status_of (why.Compile fault) = 1
-status_of (why.Manifest fault) = 1
-status_of (why.Script fault) = 1
-status_of (why.StackFilter refusal) = 1
-status_of (why.Stack fault) = 1
+status_of (why.Refused path refusal) = 1
+status_of (why.Profile path fault) = 1
+status_of (why.Compile path fault) = 1
+status_of (why.Manifest path fault) = 1
+status_of (why.Script path fault) = 1
+status_of (why.StackFilter path refusal) = 1
+status_of (why.Stack path fault) = 1
 status_of (why.Differ difference) = 1
 status_of (why.Undecided doubt) = 1
 status_of (why.CommandLine error) = 2
 status_of (why.BadNumber word) = 2
 status_of (why.File path fault) = 3
-status_of why.Unwritten = 3
+status_of (why.SameFile path) = 3
+status_of (why.Unwritten cause) = 3
 status_of why.Memory = 4
 
 -- that input is refused, or differs, is the program's answer
 abbrev pub is_refusal : Stop → Bool
-is_refusal (why.Refused refusal) = true
-is_refusal (why.Profile fault) = true
-is_refusal (why.Compile fault) = true
-is_refusal (why.Manifest fault) = true
-is_refusal (why.Script fault) = true
-is_refusal (why.StackFilter refusal) = true
-is_refusal (why.Stack fault) = true
+is_refusal (why.Refused path refusal) = true
+is_refusal (why.Profile path fault) = true
+is_refusal (why.Compile path fault) = true
+is_refusal (why.Manifest path fault) = true
+is_refusal (why.Script path fault) = true
+is_refusal (why.StackFilter path refusal) = true
+is_refusal (why.Stack path fault) = true
 is_refusal (why.Differ difference) = true
 is_refusal (why.Undecided doubt) = true
 is_refusal (why.CommandLine error) = false
 is_refusal (why.BadNumber word) = false
 is_refusal (why.File path fault) = false
-is_refusal why.Unwritten = false
+is_refusal (why.SameFile path) = false
+is_refusal (why.Unwritten cause) = false
 is_refusal why.Memory = false

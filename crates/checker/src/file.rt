@@ -1,5 +1,6 @@
-use node_io::FileFault;
+use node_io::{Cause, CausedFault};
 use std::io::{self, ErrorKind};
+use std::os::unix::fs::MetadataExt;
 use std::{fs, rt};
 
 /// Writes a file anew.
@@ -7,13 +8,22 @@ pub(crate) fn write_file<R: rt::Files + AllocGlobal>(
     rt: &R,
     path: &str,
     bytes: &[u8],
-) -> Result<(), FileFault> {
-    fs::write(rt, path, bytes).map_err(fault_of)
+) -> Result<(), CausedFault> {
+    fs::write(rt, path, bytes).map_err(unwritten)
 }
 
-fn fault_of(error: io::Error) -> FileFault {
+// A file that is not there is made, but no folder.
+fn unwritten(error: io::Error) -> CausedFault {
     match error.kind() {
-        ErrorKind::OutOfMemory => FileFault::Memory,
-        _ => FileFault::Failed,
+        ErrorKind::NotFound => CausedFault::failed(Cause::NoFolder),
+        _ => CausedFault::from(error),
+    }
+}
+
+/// Whether two paths lead to one file, whatever links there are.
+pub(crate) fn is_same_file<R: rt::Files>(rt: &R, first: &str, second: &str) -> bool {
+    match (fs::metadata(rt, first), fs::metadata(rt, second)) {
+        (Ok(first), Ok(second)) => first.dev() == second.dev() && first.ino() == second.ino(),
+        _ => false,
     }
 }

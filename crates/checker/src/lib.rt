@@ -11,6 +11,7 @@ mod compared;
 mod file;
 mod judging;
 mod line;
+mod notes;
 mod picked;
 mod playing;
 mod seccheck;

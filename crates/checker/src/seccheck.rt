@@ -1,19 +1,23 @@
 use crate::compared::{BUDGET, is_profile, same_line, same_or_stop};
-use crate::file::write_file;
+use crate::file::{is_same_file, write_file};
 use crate::judging::judge;
 use crate::line::{accepted, compiled, judged_line, longest, outcome_lines};
+use crate::notes::note_of;
 use crate::picked::picked_lines;
 use crate::playing::play;
 use crate::show::code_lines;
-use crate::stop::{Stop, stop_at};
+use crate::stop::{
+    Stop, compile_stop, filter_stop, manifest_stop, profile_stop, script_stop, stack_filter_stop,
+    stack_stop, stop_at,
+};
 use crate::words::{attempt_at, call_at, command, word_at};
 use bpf_compare::{Scope, compare};
 use bpf_verify::{Filter, Refusal, filter_of};
 use call_data::SysCall;
 use clap::error::ErrorKind;
 use compile::compile;
-use node_io::{Files, MAX_FILE_BYTES, SystemFiles};
-use std::io::{self, Write};
+use node_io::{Cause, MAX_FILE_BYTES, read_file};
+use std::io::Write;
 use std::rt;
 use verdict::Stack;
 
@@ -30,23 +34,26 @@ pub fn seccheck_run<R: rt::Files + AllocGlobal, O: Write, E: Write>(
     let stop = match text_of(rt, words) {
         Ok(text) => match out.write_all(text.as_bytes()) {
             Ok(()) => return 0,
-            Err(_) => Stop::Unwritten,
+            Err(error) => Stop::Unwritten(Cause::of(&error)),
         },
         Err(stop) => stop,
     };
-    match tell(&stop, out, err) {
-        Ok(()) => stop.status(),
-        Err(_) => Stop::Unwritten.status(),
+    if !stop.is_answer() {
+        return tell(&stop, err);
     }
+    if let Err(error) = write!(out, "{stop}") {
+        return tell(&Stop::Unwritten(Cause::of(&error)), err);
+    }
+    if let Some(note) = note_of(rt, &stop) {
+        let _ = write!(err, "{note}");
+    }
+    stop.status()
 }
 
-/// Says why the program ends: on standard output that its input is refused, else on standard error.
-fn tell<O: Write, E: Write>(stop: &Stop, out: &mut O, err: &mut E) -> io::Result<()> {
-    if stop.is_answer() {
-        write!(out, "{stop}")
-    } else {
-        write!(err, "{stop}")
-    }
+/// Says on standard error why the program ends, and gives its status, also where nobody hears it.
+fn tell<E: Write>(stop: &Stop, err: &mut E) -> u8 {
+    let _ = write!(err, "{stop}");
+    stop.status()
 }
 
 /// What the program prints where nothing stops it.
@@ -95,13 +102,14 @@ fn text_of<'a, R: rt::Files + AllocGlobal>(
 /// That the profile was compiled and its filter written. The file is opened once there is a filter.
 fn compile_text<'a, R: rt::Files + AllocGlobal>(
     rt: &R,
-    profile: &'a str,
+    path: &'a str,
     out: &'a str,
 ) -> Result<String, Stop<'a>> {
-    let bytes = bytes_at(rt, profile)?;
-    let profile = oci_profile::read(rt.alloc(), &bytes)?;
-    let filter = compile(rt.alloc(), &profile)?;
+    let filter = profile_filter(rt, path, &bytes_at(rt, path)?)?;
     let code = bpf_code::write(rt.alloc(), filter.insns())?;
+    if is_same_file(rt, path, out) {
+        return Err(Stop::SameFile(out));
+    }
     write_file(rt, out, &code).map_err(|fault| stop_at(out, fault))?;
     Ok(compiled(rt.alloc(), filter.len())?)
 }
@@ -121,7 +129,10 @@ fn verify_text<'a, R: rt::Files + AllocGlobal>(rt: &R, path: &'a str) -> Result<
 /// The instructions of a file that is a list of them.
 fn show_text<'a, R: rt::Files + AllocGlobal>(rt: &R, path: &'a str) -> Result<String, Stop<'a>> {
     let bytes = bytes_at(rt, path)?;
-    let code = bpf_code::read(rt.alloc(), &bytes).map_err(Refusal::Code)?;
+    let code = bpf_code::read(rt.alloc(), &bytes).map_err(|fault| filter_stop(
+        path,
+        Refusal::Code(fault),
+    ))?;
     Ok(code_lines(rt.alloc(), &code)?)
 }
 
@@ -151,12 +162,12 @@ fn compare_text<'a, R: rt::Files + AllocGlobal>(
 /// The record of a script that is played under the filters, and the code with which it ends.
 fn play_text<'a, R: rt::Files + AllocGlobal>(
     rt: &R,
-    script: &'a str,
+    path: &'a str,
     filters: &[&'a str],
     attempt: u32,
 ) -> Result<String, Stop<'a>> {
-    let bytes = bytes_at(rt, script)?;
-    let script = script::read(rt.alloc(), &bytes)?;
+    let bytes = bytes_at(rt, path)?;
+    let script = script::read(rt.alloc(), &bytes).map_err(|fault| script_stop(path, fault))?;
     let stack = stack_at(rt, filters)?;
     let outcome = play(rt.alloc(), script, stack, attempt)?;
     Ok(outcome_lines(rt.alloc(), &outcome)?)
@@ -169,7 +180,7 @@ fn pick_text<'a, R: rt::Files + AllocGlobal>(
     seccomp_default: bool,
 ) -> Result<String, Stop<'a>> {
     let bytes = bytes_at(rt, path)?;
-    let pod = manifest::read(rt.alloc(), &bytes)?;
+    let pod = manifest::read(rt.alloc(), &bytes).map_err(|fault| manifest_stop(path, fault))?;
     Ok(picked_lines(rt.alloc(), &pod, seccomp_default)?)
 }
 
@@ -180,8 +191,10 @@ fn stack_at<'a, R: rt::Files + AllocGlobal>(rt: &R, paths: &[&'a str]) -> Result
     for path in paths {
         let bytes = bytes_at(rt, path)?;
         match filter_of(rt.alloc(), &bytes) {
-            Ok(filter) => stack.push(filter)?,
-            Err(refusal) => return Err(Stop::of_stack_filter(refusal)),
+            Ok(filter) => stack
+                .push(filter)
+                .map_err(|(_, fault)| stack_stop(path, fault))?,
+            Err(refusal) => return Err(stack_filter_stop(path, refusal)),
         }
     }
     Ok(stack)
@@ -190,7 +203,7 @@ fn stack_at<'a, R: rt::Files + AllocGlobal>(rt: &R, paths: &[&'a str]) -> Result
 /// The filter in a file.
 fn filter_at<'a, R: rt::Files + AllocGlobal>(rt: &R, path: &'a str) -> Result<Filter, Stop<'a>> {
     let bytes = bytes_at(rt, path)?;
-    Ok(filter_of(rt.alloc(), &bytes)?)
+    filter_of(rt.alloc(), &bytes).map_err(|refusal| filter_stop(path, refusal))
 }
 
 /// The filter in a file, or that of the profile in it.
@@ -200,16 +213,24 @@ fn filter_or_profile_at<'a, R: rt::Files + AllocGlobal>(
 ) -> Result<Filter, Stop<'a>> {
     let bytes = bytes_at(rt, path)?;
     if is_profile(&bytes) {
-        let profile = oci_profile::read(rt.alloc(), &bytes)?;
-        Ok(compile(rt.alloc(), &profile)?)
+        profile_filter(rt, path, &bytes)
     } else {
-        Ok(filter_of(rt.alloc(), &bytes)?)
+        filter_of(rt.alloc(), &bytes).map_err(|refusal| filter_stop(path, refusal))
     }
+}
+
+/// The filter of the profile that these bytes of a file are.
+fn profile_filter<'a, R: rt::Files + AllocGlobal>(
+    rt: &R,
+    path: &'a str,
+    bytes: &[u8],
+) -> Result<Filter, Stop<'a>> {
+    let alloc = rt.alloc();
+    let profile = oci_profile::read(alloc, bytes).map_err(|fault| profile_stop(path, fault))?;
+    compile(alloc, &profile).map_err(|fault| compile_stop(path, fault))
 }
 
 /// The bytes of a file.
 fn bytes_at<'a, R: rt::Files + AllocGlobal>(rt: &R, path: &'a str) -> Result<Vec<u8>, Stop<'a>> {
-    SystemFiles::anywhere(rt)
-        .read(path, MAX_FILE_BYTES)
-        .map_err(|fault| stop_at(path, fault))
+    read_file(rt, path, MAX_FILE_BYTES).map_err(|fault| stop_at(path, fault))
 }

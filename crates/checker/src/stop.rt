@@ -1,12 +1,12 @@
-ghost use Rattle.checker.specs.Stops.{IsOfFile};
+ghost use Rattle.checker.specs.Stops.{IsOfCompileFault, IsOfFile, IsOfPodFault, IsOfProfileFault, IsOfRefusal, IsOfScriptFault, IsOfStackFault, IsOfStackRefusal};
 
 use crate::compared::{Difference, reason};
 use bpf_code::CodeFault;
 use bpf_compare::Doubt;
-use bpf_verify::{Filter, Refusal};
+use bpf_verify::Refusal;
 use compile::CompileFault;
 use manifest::PodFault;
-use node_io::FileFault;
+use node_io::{Cause, CausedFault, FileFault};
 use oci_profile::ProfileFault;
 use script::ScriptFault;
 use std::alloc::{AllocError, AllocFailed};
@@ -16,20 +16,20 @@ use verdict::StackFault;
 /// Why a program ends before its work is done.
 #[derive(Debug, Drop)]
 pub(crate) enum Stop<'a> {
-    /// The one filter of a command is refused.
-    Refused(Refusal),
-    /// The profile is refused.
-    Profile(ProfileFault),
-    /// The profile is not compiled.
-    Compile(CompileFault),
-    /// The manifest is refused.
-    Manifest(PodFault),
-    /// The script is refused.
-    Script(ScriptFault),
-    /// A filter of a stack is refused.
-    StackFilter(Refusal),
-    /// A stack does not take a filter.
-    Stack(StackFault),
+    /// The one filter of a command, in this file, is refused.
+    Refused(&'a str, Refusal),
+    /// The profile in this file is refused.
+    Profile(&'a str, ProfileFault),
+    /// The profile in this file is not compiled.
+    Compile(&'a str, CompileFault),
+    /// The manifest in this file is refused.
+    Manifest(&'a str, PodFault),
+    /// The script in this file is refused.
+    Script(&'a str, ScriptFault),
+    /// A filter of a stack, in this file, is refused.
+    StackFilter(&'a str, Refusal),
+    /// A stack does not take the filter in this file.
+    Stack(&'a str, StackFault),
     /// The two filters differ.
     Differ(Difference),
     /// Whether the two filters differ was not found out.
@@ -38,10 +38,12 @@ pub(crate) enum Stop<'a> {
     CommandLine(clap::Error),
     /// A word of the command line is no number of its range.
     BadNumber(&'a str),
-    /// A file can't be read.
-    File(&'a str, FileFault),
+    /// A file can't be read or written.
+    File(&'a str, CausedFault),
+    /// What is to be written is the file that was read.
+    SameFile(&'a str),
     /// What is to be printed can't be written.
-    Unwritten,
+    Unwritten(Cause),
     /// A growth was refused.
     Memory,
 }
@@ -55,11 +57,12 @@ impl Stop<'_> {
         ensures { result ≡ status_of self.now }
     {
         match self {
-            Stop::Refused(_) | Stop::Profile(_) | Stop::Compile(_) | Stop::Manifest(_) => 1,
-            Stop::Script(_) | Stop::StackFilter(_) | Stop::Stack(_) => 1,
+            Stop::Refused(_, _) | Stop::Profile(_, _) | Stop::Compile(_, _) => 1,
+            Stop::Manifest(_, _) | Stop::Script(_, _) => 1,
+            Stop::StackFilter(_, _) | Stop::Stack(_, _) => 1,
             Stop::Differ(_) | Stop::Undecided(_) => 1,
             Stop::CommandLine(_) | Stop::BadNumber(_) => 2,
-            Stop::File(_, _) | Stop::Unwritten => 3,
+            Stop::File(_, _) | Stop::SameFile(_) | Stop::Unwritten(_) => 3,
             Stop::Memory => 4,
         }
     }
@@ -71,13 +74,13 @@ impl Stop<'_> {
     {
         matches!(
             self,
-            Stop::Refused(_)
-                | Stop::Profile(_)
-                | Stop::Compile(_)
-                | Stop::Manifest(_)
-                | Stop::Script(_)
-                | Stop::StackFilter(_)
-                | Stop::Stack(_)
+            Stop::Refused(_, _)
+                | Stop::Profile(_, _)
+                | Stop::Compile(_, _)
+                | Stop::Manifest(_, _)
+                | Stop::Script(_, _)
+                | Stop::StackFilter(_, _)
+                | Stop::Stack(_, _)
                 | Stop::Differ(_)
                 | Stop::Undecided(_)
         )
@@ -92,119 +95,21 @@ impl fmt::Display for Stop<'_> {
 
     fn fmt<W: fmt::Write>(&self, f: &mut fmt::Formatter<W>) -> fmt::Result {
         match self {
-            Stop::Refused(refusal) => writeln!(f, "refused {refusal}"),
-            Stop::Profile(fault) => writeln!(f, "refused {fault}"),
-            Stop::Compile(fault) => writeln!(f, "refused {fault}"),
-            Stop::Manifest(fault) => writeln!(f, "refused {fault}"),
-            Stop::Script(fault) => writeln!(f, "refused script {fault}"),
-            Stop::StackFilter(refusal) => writeln!(f, "refused filter {refusal}"),
-            Stop::Stack(fault) => writeln!(f, "refused filter {fault}"),
+            Stop::Refused(_, refusal) => writeln!(f, "refused {refusal}"),
+            Stop::Profile(_, fault) => writeln!(f, "refused {fault}"),
+            Stop::Compile(_, fault) => writeln!(f, "refused {fault}"),
+            Stop::Manifest(_, fault) => writeln!(f, "refused {fault}"),
+            Stop::Script(_, fault) => writeln!(f, "refused script {fault}"),
+            Stop::StackFilter(_, refusal) => writeln!(f, "refused filter {refusal}"),
+            Stop::Stack(_, fault) => writeln!(f, "refused filter {fault}"),
             Stop::Differ(difference) => writeln!(f, "{difference}"),
             Stop::Undecided(doubt) => writeln!(f, "undecided: {}", reason(*doubt)),
             Stop::CommandLine(error) => write!(f, "{error}"),
             Stop::BadNumber(word) => writeln!(f, "seccheck: {word}: BadNumber"),
             Stop::File(path, fault) => writeln!(f, "seccheck: {path}: {fault}"),
-            Stop::Unwritten => Ok(()),
+            Stop::SameFile(path) => writeln!(f, "seccheck: {path}: Failed (the profile itself)"),
+            Stop::Unwritten(cause) => writeln!(f, "seccheck: standard output: Failed ({cause})"),
             Stop::Memory => writeln!(f, "seccheck: Memory"),
-        }
-    }
-}
-
-impl<'a> From<Refusal> for Stop<'a> {
-    ghost use Rattle.std.specs.Prelude.{◌≡◌};
-    ghost use Rattle.checker.specs.Stops.{of_refusal};
-
-    ghost from_gives = { λ refusal stop. stop ≡ of_refusal refusal };
-
-    fn from(refusal: Refusal) -> Stop<'a> {
-        match refusal {
-            Refusal::Code(CodeFault::Memory) => Stop::Memory,
-            _ => Stop::Refused(refusal),
-        }
-    }
-}
-
-impl<'a> Stop<'a> {
-    ghost use Rattle.std.specs.Prelude.{◌≡◌};
-    ghost use Rattle.checker.specs.Stops.{of_stack_refusal};
-
-    /// Why a filter of a stack stops the program.
-    pub(crate) fn of_stack_filter(refusal: Refusal) -> Stop<'a>
-        ensures { result ≡ of_stack_refusal refusal }
-    {
-        match refusal {
-            Refusal::Code(CodeFault::Memory) => Stop::Memory,
-            _ => Stop::StackFilter(refusal),
-        }
-    }
-}
-
-impl<'a> From<ProfileFault> for Stop<'a> {
-    ghost use Rattle.std.specs.Prelude.{◌≡◌};
-    ghost use Rattle.checker.specs.Stops.{of_profile_fault};
-
-    ghost from_gives = { λ fault stop. stop ≡ of_profile_fault fault };
-
-    fn from(fault: ProfileFault) -> Stop<'a> {
-        match fault {
-            ProfileFault::Memory => Stop::Memory,
-            _ => Stop::Profile(fault),
-        }
-    }
-}
-
-impl<'a> From<CompileFault> for Stop<'a> {
-    ghost use Rattle.std.specs.Prelude.{◌≡◌};
-    ghost use Rattle.checker.specs.Stops.{of_compile_fault};
-
-    ghost from_gives = { λ fault stop. stop ≡ of_compile_fault fault };
-
-    fn from(fault: CompileFault) -> Stop<'a> {
-        match fault {
-            CompileFault::Memory => Stop::Memory,
-            CompileFault::TooLong => Stop::Compile(fault),
-        }
-    }
-}
-
-impl<'a> From<PodFault> for Stop<'a> {
-    ghost use Rattle.std.specs.Prelude.{◌≡◌};
-    ghost use Rattle.checker.specs.Stops.{of_pod_fault};
-
-    ghost from_gives = { λ fault stop. stop ≡ of_pod_fault fault };
-
-    fn from(fault: PodFault) -> Stop<'a> {
-        match fault {
-            PodFault::Memory => Stop::Memory,
-            _ => Stop::Manifest(fault),
-        }
-    }
-}
-
-impl<'a> From<ScriptFault> for Stop<'a> {
-    ghost use Rattle.std.specs.Prelude.{◌≡◌};
-    ghost use Rattle.checker.specs.Stops.{of_script_fault};
-
-    ghost from_gives = { λ fault stop. stop ≡ of_script_fault fault };
-
-    fn from(fault: ScriptFault) -> Stop<'a> {
-        match fault {
-            ScriptFault::Memory => Stop::Memory,
-            _ => Stop::Script(fault),
-        }
-    }
-}
-
-impl<'a> From<(Filter, StackFault)> for Stop<'a> {
-    ghost use Rattle.std.specs.Prelude.{◌≡◌};
-    ghost use Rattle.checker.specs.Stops.{of_stack_fault};
-
-    ghost from_gives = { λ refused stop. stop ≡ of_stack_fault refused.1 };
-
-    fn from(refused: (Filter, StackFault)) -> Stop<'a> {
-        match refused.1 {
-            StackFault::Memory => Stop::Memory,
-            fault => Stop::Stack(fault),
         }
     }
 }
@@ -245,11 +150,81 @@ impl<'a> From<clap::Error> for Stop<'a> {
 }
 
 /// Why a file stops the program.
-pub(crate) fn stop_at(path: &str, fault: FileFault) -> Stop<'_>
-    ensures { IsOfFile path.now fault result }
+pub(crate) fn stop_at(path: &str, caused: CausedFault) -> Stop<'_>
+    ensures { IsOfFile path.now caused result }
+{
+    match caused.fault {
+        FileFault::Memory => Stop::Memory,
+        _ => Stop::File(path, caused),
+    }
+}
+
+/// Why the one filter of a command stops the program.
+pub(crate) fn filter_stop(path: &str, refusal: Refusal) -> Stop<'_>
+    ensures { IsOfRefusal path.now refusal result }
+{
+    match refusal {
+        Refusal::Code(CodeFault::Memory) => Stop::Memory,
+        _ => Stop::Refused(path, refusal),
+    }
+}
+
+/// Why a filter of a stack stops the program.
+pub(crate) fn stack_filter_stop(path: &str, refusal: Refusal) -> Stop<'_>
+    ensures { IsOfStackRefusal path.now refusal result }
+{
+    match refusal {
+        Refusal::Code(CodeFault::Memory) => Stop::Memory,
+        _ => Stop::StackFilter(path, refusal),
+    }
+}
+
+/// Why a stack stops the program.
+pub(crate) fn stack_stop(path: &str, fault: StackFault) -> Stop<'_>
+    ensures { IsOfStackFault path.now fault result }
 {
     match fault {
-        FileFault::Memory => Stop::Memory,
-        _ => Stop::File(path, fault),
+        StackFault::Memory => Stop::Memory,
+        _ => Stop::Stack(path, fault),
+    }
+}
+
+/// Why a profile stops the program.
+pub(crate) fn profile_stop(path: &str, fault: ProfileFault) -> Stop<'_>
+    ensures { IsOfProfileFault path.now fault result }
+{
+    match fault {
+        ProfileFault::Memory => Stop::Memory,
+        _ => Stop::Profile(path, fault),
+    }
+}
+
+/// Why the compiler stops the program.
+pub(crate) fn compile_stop(path: &str, fault: CompileFault) -> Stop<'_>
+    ensures { IsOfCompileFault path.now fault result }
+{
+    match fault {
+        CompileFault::Memory => Stop::Memory,
+        _ => Stop::Compile(path, fault),
+    }
+}
+
+/// Why a manifest stops the program.
+pub(crate) fn manifest_stop(path: &str, fault: PodFault) -> Stop<'_>
+    ensures { IsOfPodFault path.now fault result }
+{
+    match fault {
+        PodFault::Memory => Stop::Memory,
+        _ => Stop::Manifest(path, fault),
+    }
+}
+
+/// Why a script stops the program.
+pub(crate) fn script_stop(path: &str, fault: ScriptFault) -> Stop<'_>
+    ensures { IsOfScriptFault path.now fault result }
+{
+    match fault {
+        ScriptFault::Memory => Stop::Memory,
+        _ => Stop::Script(path, fault),
     }
 }

@@ -6,7 +6,7 @@ ghost use Rattle.command_line.specs.Words.{told};
 use crate::call_words::call;
 use call_data::SysCall;
 use clap::{Arg, ArgAction, ArgMatches, Command};
-use command_line::word_or;
+use command_line::{VERSION, word_or};
 use std::alloc::{AllocError, Global};
 
 /// The program's name.
@@ -15,6 +15,7 @@ pub(crate) const PROGRAM: &str = "seccheck";
 /// The command line of `seccheck`.
 pub(crate) fn command<'a>(alloc: Global) -> Result<Command<'a>, AllocError> {
     Command::new(alloc, PROGRAM)
+        .version(VERSION)
         .about("Compiles seccomp profiles, looks at filters, and runs them")
         .subcommand_required(true)
         .subcommand(compile(alloc)?)?

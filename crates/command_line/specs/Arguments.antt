@@ -3,9 +3,13 @@
 use Rattle.std.specs.Prelude.{ℕ, [], List, true, Bool, codes, Some, unwrap_or}
 use Rattle.std.specs.Str.{bytes_eq}
 use Rattle.clap.specs.Lexer.{usize_max}
-use Rattle.clap.specs.Simple.{new_rule}
+use Rattle.clap.specs.Simple.{App, new_rule, on_top}
 use Rattle.clap.specs.Walk.{Row, Rule, all_of, first_of}
 use Rattle.clap.specs.declared.builder.action.ArgAction.TheVariants.{SetTrue}
+
+-- with `--version`
+abbrev pub versioned : App → App
+versioned app = on_top (λ shape. record shape { has_version = true }) app
 
 -- `--id VALUE`
 abbrev pub option_rule : List ℕ → Rule

@@ -1,10 +1,10 @@
 -- The line `nodeagent --socket PATH [--with-runtime] [--scripts DIR] [--profiles DIR] [--baseline FILTER]
 -- [--seccomp-default] [--workers N] [--settle] [--until S] [--cri N] [--history N] [--verbose] MANIFEST..`, this project's
 -- own: docs/SEMANTICS.md, "Programs".
-use Rattle.std.specs.Prelude.{ℕ, ◌^◌, List, Bool, codes, map, Option, Result, Ok, Err, option_map}
+use Rattle.std.specs.Prelude.{ℕ, ◌^◌, List, Bool, true, false, codes, map, Option, Some, None, Result, Ok, Err, option_map}
 use Rattle.clap.specs.Simple.{App, new_app, with_rule}
 use Rattle.clap.specs.Walk.{Row, first_of}
-use Rattle.command_line.specs.Arguments.{flag_rule, folder_of, is_set, option_rule, word_of, words_of, words_rule}
+use Rattle.command_line.specs.Arguments.{flag_rule, folder_of, is_set, option_rule, versioned, word_of, words_of, words_rule}
 use Rattle.command_line.specs.Scriptd.{serving}
 use Rattle.command_line.specs.Words.{written_if_there, written_within}
 use Rattle.command_line.specs.declared.nodeagent.NodeagentLine.{NodeagentLine}
@@ -27,7 +27,7 @@ abbrev pub running : App → App
 running app = naming (speaking (settling (choosing (serving app))))
 
 unfoldable pub nodeagent : App
-nodeagent = running (new_app (codes "nodeagent"))
+nodeagent = running (versioned (new_app (codes "nodeagent")))
 
 -- its numbers, looked at in the order of the line
 abbrev pub numbers_of : Result ℕ (List ℕ) → Result (Option ℕ) (List ℕ) → Result ℕ (List ℕ) → Result ℕ (List ℕ) → Result Numbers (List ℕ)
@@ -71,6 +71,16 @@ nodeagent_with rows (Ok numbers) = Ok (record {
   verbose = is_set (codes "verbose") rows;
   manifests = words_of (codes "MANIFEST") rows;
 })
+
+-- the option that stands on the line without --with-runtime, and is for a runtime beside the agent alone
+abbrev pub idle_among : Bool → Option (List ℕ) → Option (List ℕ) → Option (List ℕ)
+idle_among true scripts profiles = None
+idle_among false (Some folder) profiles = Some (codes "--scripts")
+idle_among false None (Some folder) = Some (codes "--profiles")
+idle_among false None None = None
+
+abbrev pub idle_in : List Row → Option (List ℕ)
+idle_in rows = idle_among (is_set (codes "with-runtime") rows) (first_of (codes "scripts") rows) (first_of (codes "profiles") rows)
 
 -- what the matches of a line say, or the first word that writes no number of its range
 abbrev pub nodeagent_in : List Row → Result Nodeagent (List ℕ)

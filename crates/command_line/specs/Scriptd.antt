@@ -3,7 +3,7 @@
 use Rattle.std.specs.Prelude.{ℕ, List, Bool, codes, Option, Result, Ok, Err, option_map}
 use Rattle.clap.specs.Simple.{App, new_app, with_rule}
 use Rattle.clap.specs.Walk.{Row, first_of}
-use Rattle.command_line.specs.Arguments.{flag_rule, folder_of, is_set, option_rule, required_rule, word_of}
+use Rattle.command_line.specs.Arguments.{flag_rule, folder_of, is_set, option_rule, required_rule, versioned, word_of}
 use Rattle.command_line.specs.Words.{written_within}
 use Rattle.command_line.specs.declared.scriptd.ScriptdLine.{ScriptdLine}
 
@@ -18,7 +18,7 @@ abbrev pub stepping : App → App
 stepping app = with_rule (with_rule app (option_rule (codes "runners"))) (flag_rule (codes "verbose"))
 
 unfoldable pub scriptd : App
-scriptd = stepping (serving (new_app (codes "scriptd")))
+scriptd = stepping (serving (versioned (new_app (codes "scriptd"))))
 
 -- what the line says
 pub record Scriptd : Type 0 where

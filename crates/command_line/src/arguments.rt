@@ -1,11 +1,21 @@
 // The arguments of a command line, as clap takes them.
 ghost use Rattle.std.specs.Prelude.{◌≡◌, false, IfOk};
-ghost use Rattle.clap.specs.Simple.{app_of, with_rule};
+ghost use Rattle.clap.specs.Simple.{app_of, new_app, with_rule};
 ghost use Rattle.clap.specs.Walk.{rule_of};
-ghost use Rattle.command_line.specs.Arguments.{flag_rule, option_rule, required_rule, words_rule};
+ghost use Rattle.command_line.specs.Arguments.{flag_rule, option_rule, required_rule, versioned, words_rule};
 
 use clap::{Arg, ArgAction, Command};
 use std::alloc::{AllocError, Global};
+
+/// The version of the programs, as `--version` tells it.
+pub const VERSION: &str = "0.1.0";
+
+/// The command line of a program, with `--version`.
+pub(crate) fn versioned<'a>(alloc: Global, program: &'static str) -> Command<'a>
+    ensures { app_of result ≡ versioned (new_app program.now) }
+{
+    Command::new(alloc, program).version(VERSION)
+}
 
 /// An option with a value.
 pub(crate) fn with_option<'a>(

@@ -7,6 +7,8 @@ pub enum LineFault<'a> {
     Refused(clap::Error),
     /// The first word that writes no number, or one out of its range.
     BadNumber(&'a str),
+    /// This option is for a runtime in the same process, which was not asked for.
+    WithoutRuntime(&'static str),
     /// A growth was refused.
     Memory,
 }

@@ -11,6 +11,7 @@ mod number;
 mod scriptd;
 mod written;
 
+pub use arguments::VERSION;
 pub use fault::LineFault;
 pub use nodeagent::{NodeagentLine, Numbers, nodeagent_line};
 pub use number::{number_of, word_of};

@@ -1,4 +1,4 @@
-ghost use Rattle.std.specs.Prelude.{◌≡◌, [], IfErr, IfOk, Ok, map, option_map, unwrap_or};
+ghost use Rattle.std.specs.Prelude.{◌≡◌, [], None, IfErr, IfOk, Ok, map, option_map, unwrap_or};
 ghost use Rattle.std.specs.String.{string_bytes};
 ghost use Rattle.clap.specs.Matches.{found_of};
 ghost use Rattle.clap.specs.Faults.{fault_of};
@@ -6,9 +6,9 @@ ghost use Rattle.clap.specs.Simple.{app_of, matches_of};
 ghost use Rattle.clap.specs.Walk.{rows_of};
 ghost use Rattle.command_line.specs.Faults.{TellsFault};
 ghost use Rattle.command_line.specs.Words.{told};
-ghost use Rattle.command_line.specs.Nodeagent.{choosing, naming, nodeagent, nodeagent_in, nodeagent_of, nodeagent_with, numbers_in, running, settling, speaking};
+ghost use Rattle.command_line.specs.Nodeagent.{choosing, idle_in, naming, nodeagent, nodeagent_in, nodeagent_of, nodeagent_with, numbers_in, running, settling, speaking};
 
-use crate::arguments::{with_flag, with_option, with_words};
+use crate::arguments::{versioned, with_flag, with_option, with_words};
 use crate::fault::LineFault;
 use crate::matched::{folder_at, is_set, required_at, word_at, words_at};
 use crate::scriptd::{matches_in, serving};
@@ -63,9 +63,15 @@ pub fn nodeagent_line<'a>(
     // of memory.
     ensures taken { IfOk result (λ _. fault_of nodeagent (map string_bytes words.now) ≡ []) }
     ensures line { IfOk result (λ line. nodeagent_in (matches_of nodeagent (map string_bytes words.now)) ≡ Ok (nodeagent_of line)) }
-    ensures fault { IfErr result (TellsFault (fault_of nodeagent (map string_bytes words.now)) (nodeagent_in (matches_of nodeagent (map string_bytes words.now)))) }
+    ensures fault { IfErr result (TellsFault (fault_of nodeagent (map string_bytes words.now)) (idle_in (matches_of nodeagent (map string_bytes words.now))) (nodeagent_in (matches_of nodeagent (map string_bytes words.now)))) }
+
+    // An option that would do nothing is refused.
+    ensures used { IfOk result (λ _. idle_in (matches_of nodeagent (map string_bytes words.now)) ≡ None) }
 {
     let matches = matches_in(nodeagent(alloc)?, words)?;
+    if let Some(option) = idle(&matches) {
+        return Err(LineFault::WithoutRuntime(option));
+    }
     match line_numbers(&matches) {
         Ok(numbers) => Ok(said(alloc, &matches, numbers)?),
         Err(word) => Err(LineFault::BadNumber(word)),
@@ -76,7 +82,7 @@ pub fn nodeagent_line<'a>(
 fn nodeagent<'a>(alloc: Global) -> Result<Command<'a>, AllocError>
     ensures { IfOk result (λ c. app_of c ≡ nodeagent) }
 {
-    let command = Command::new(alloc, "nodeagent").about(
+    let command = versioned(alloc, "nodeagent").about(
         "Runs pods by the containers of a runtime behind a socket, and tells what became of them",
     );
     running(alloc, command)
@@ -161,6 +167,21 @@ fn speaking<'a>(alloc: Global, command: Command<'a>) -> Result<Command<'a>, Allo
         "N",
         "how many entries a part of the history has, 1024 to 1048576 [default: 65536]",
     )
+}
+
+// What stands on the line for a runtime that the agent does not run.
+fn idle(matches: &ArgMatches) -> Option<&'static str>
+    ensures { option_map (λ w. w.now) result ≡ idle_in (rows_of (found_of matches.now)) }
+{
+    if is_set(matches, "with-runtime") {
+        None
+    } else if word_at(matches, "scripts").is_some() {
+        Some("--scripts")
+    } else if word_at(matches, "profiles").is_some() {
+        Some("--profiles")
+    } else {
+        None
+    }
 }
 
 fn line_numbers<'a>(matches: &ArgMatches<'a>) -> Result<Numbers, &'a str>

@@ -1,4 +1,4 @@
-ghost use Rattle.std.specs.Prelude.{◌≡◌, [], true, IfErr, IfOk, Ok, map};
+ghost use Rattle.std.specs.Prelude.{◌≡◌, [], true, None, IfErr, IfOk, Ok, map};
 ghost use Rattle.std.specs.Result.{result_map_both};
 ghost use Rattle.std.specs.String.{string_bytes};
 ghost use Rattle.clap.specs.Matches.{found_of};
@@ -8,7 +8,7 @@ ghost use Rattle.clap.specs.Walk.{rows_of};
 ghost use Rattle.command_line.specs.Faults.{IsRefusal, TellsFault};
 ghost use Rattle.command_line.specs.Scriptd.{folders, scriptd, scriptd_in, scriptd_of, serving, stepping};
 
-use crate::arguments::{with_flag, with_option, with_required};
+use crate::arguments::{versioned, with_flag, with_option, with_required};
 use crate::fault::LineFault;
 use crate::matched::{folder_at, is_set, required_at, word_at};
 use crate::written::number_within;
@@ -42,7 +42,7 @@ pub fn scriptd_line<'a>(
     // of memory.
     ensures taken { IfOk result (λ _. fault_of scriptd (map string_bytes words.now) ≡ []) }
     ensures line { IfOk result (λ line. scriptd_in (matches_of scriptd (map string_bytes words.now)) ≡ Ok (scriptd_of line)) }
-    ensures fault { IfErr result (TellsFault (fault_of scriptd (map string_bytes words.now)) (scriptd_in (matches_of scriptd (map string_bytes words.now)))) }
+    ensures fault { IfErr result (TellsFault (fault_of scriptd (map string_bytes words.now)) None (scriptd_in (matches_of scriptd (map string_bytes words.now)))) }
 {
     let matches = matches_in(scriptd(alloc)?, words)?;
     match said(&matches) {
@@ -55,7 +55,7 @@ pub fn scriptd_line<'a>(
 fn scriptd<'a>(alloc: Global) -> Result<Command<'a>, AllocError>
     ensures { IfOk result (λ c. app_of c ≡ scriptd) }
 {
-    let command = Command::new(alloc, "scriptd").about(
+    let command = versioned(alloc, "scriptd").about(
         "Runs containers, which are scripts, behind a socket that takes CRI calls",
     );
     stepping(alloc, serving(alloc, command)?)

@@ -1,3 +1,4 @@
+pub mod Causes
 pub mod Counts
 pub mod FaultText
 pub mod Held

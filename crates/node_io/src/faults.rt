@@ -1,5 +1,10 @@
+ghost use Rattle.std.specs.Prelude.{◌≡◌};
+ghost use Rattle.node_io.specs.Causes.{failed_by};
+
+use crate::causes::Cause;
 use std::alloc::AllocError;
 use std::fmt;
+use std::io::{self, ErrorKind};
 use thiserror::Error;
 
 /// Why a read of a file gave no bytes.
@@ -40,5 +45,80 @@ impl fmt::Display for FileFault {
             FileFault::Failed => "Failed",
             FileFault::Memory => "Memory",
         })
+    }
+}
+
+/// A fault, and why it came where the system says so.
+#[derive(Clone, Copy, Debug, PartialEq, Eq)]
+pub struct CausedFault {
+    pub fault: FileFault,
+    /// Of a failure alone: the other faults are causes of their own.
+    pub cause: Option<Cause>,
+}
+
+impl CausedFault {
+    /// A failure with this cause.
+    pub fn failed(cause: Cause) -> CausedFault
+        ensures { result ≡ failed_by cause }
+    {
+        CausedFault {
+            fault: FileFault::Failed,
+            cause: Some(cause),
+        }
+    }
+}
+
+impl From<FileFault> for CausedFault {
+    ghost use Rattle.std.specs.Prelude.{◌≡◌};
+    ghost use Rattle.node_io.specs.Causes.{by_itself};
+
+    ghost from_gives = { λ fault caused. caused ≡ by_itself fault };
+
+    fn from(fault: FileFault) -> CausedFault {
+        CausedFault { fault, cause: None }
+    }
+}
+
+impl From<AllocError> for CausedFault {
+    ghost use Rattle.std.specs.Prelude.{◌≡◌};
+    ghost use Rattle.node_io.specs.Causes.{by_itself};
+    ghost use Rattle.node_io.specs.declared.faults.FileFault.TheVariants.{Memory};
+
+    ghost from_gives = { λ _ caused. caused ≡ by_itself Memory };
+
+    fn from(_: AllocError) -> CausedFault {
+        CausedFault::from(FileFault::Memory)
+    }
+}
+
+impl From<io::Error> for CausedFault {
+    ghost use Rattle.std.specs.Prelude.{◌≡◌};
+    ghost use Rattle.std.specs.IoError.{error_kind, raw_os_error};
+    ghost use Rattle.node_io.specs.Causes.{caused_by};
+
+    ghost from_gives = { λ error caused. caused ≡ caused_by (error_kind error) (raw_os_error error) };
+
+    fn from(error: io::Error) -> CausedFault {
+        match error.kind() {
+            ErrorKind::NotFound => CausedFault::from(FileFault::NotFound),
+            ErrorKind::OutOfMemory => CausedFault::from(FileFault::Memory),
+            _ => CausedFault::failed(Cause::of(&error)),
+        }
+    }
+}
+
+/// The fault's name, and behind it in brackets why it came: `Failed (permission denied)`.
+impl fmt::Display for CausedFault {
+    ghost use Rattle.std.specs.Prelude.{Some};
+    ghost use Rattle.node_io.specs.FaultText.{caused_text};
+
+    ghost output = { λ caused. Some (caused_text caused) };
+
+    fn fmt<W: fmt::Write>(&self, f: &mut fmt::Formatter<W>) -> fmt::Result {
+        let fault = self.fault;
+        match self.cause {
+            Some(cause) => write!(f, "{fault} ({cause})"),
+            None => write!(f, "{fault}"),
+        }
     }
 }

@@ -5,6 +5,7 @@
 //! hold, so that contracts of what is built on them can speak of bytes; real ones don't.
 #![tactic(auto)]
 
+mod causes;
 mod faults;
 mod files;
 mod laws;
@@ -15,11 +16,12 @@ mod stream_wire;
 mod system_files;
 mod wire;
 
-pub use faults::FileFault;
+pub use causes::Cause;
+pub use faults::{CausedFault, FileFault};
 pub use files::{Files, MAX_FILE_BYTES};
 pub use laws::constants_are_as_stated;
 pub use memory_files::{MemoryFiles, StoredFile};
 pub use memory_wire::MemoryWire;
 pub use stream_wire::StreamWire;
-pub use system_files::SystemFiles;
+pub use system_files::{SystemFiles, look_at_folder, read_file};
 pub use wire::{Wire, WireFault};

@@ -1,7 +1,8 @@
 ghost use Rattle.std.specs.Prelude.{◌≡◌, ◌≤◌, IfOk, length};
 ghost use Rattle.node_io.specs.Held.{AreAll};
 
-use crate::faults::FileFault;
+use crate::causes::Cause;
+use crate::faults::{CausedFault, FileFault};
 use std::alloc::Global;
 use std::io::Read;
 
@@ -15,23 +16,24 @@ pub(crate) fn read_all<S: Read>(
     alloc: Global,
     source: &mut S,
     limit: u64,
-) -> Result<Vec<u8>, FileFault>
+) -> Result<Vec<u8>, CausedFault>
     ensures all { IfOk result (λ bytes. AreAll (S.remaining source.old) bytes.items) }
     ensures within { IfOk result (λ bytes. length bytes.items ≤ limit) }
 {
     let mut bytes = Vec::new(alloc);
     let mut piece = [0u8; PIECE];
     for _ in 0..=limit {
-        let Ok(count) = source.read(&mut piece) else {
-            return Err(FileFault::Failed);
+        let count = match source.read(&mut piece) {
+            Ok(count) => count,
+            Err(error) => return Err(CausedFault::failed(Cause::of(&error))),
         };
         if count == 0 {
             return Ok(bytes);
         }
         if count as u64 > limit - bytes.len() as u64 {
-            return Err(FileFault::TooLarge);
+            return Err(CausedFault::from(FileFault::TooLarge));
         }
         bytes.extend_from_slice(&piece[..count])?;
     }
-    Err(FileFault::TooLarge)
+    Err(CausedFault::from(FileFault::TooLarge))
 }

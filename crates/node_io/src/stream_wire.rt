@@ -1,8 +1,11 @@
-ghost use Rattle.std.specs.Prelude.{◌≡◌, ◌≤◌};
+ghost use Rattle.std.specs.Prelude.{◌≡◌, ◌≤◌, Some};
+ghost use Rattle.std.specs.IoError.{error_kind, raw_os_error};
+ghost use Rattle.node_io.specs.Causes.{cause_of, waited};
 ghost use Rattle.node_io.specs.Counts.{HasRisen};
 
+use crate::causes::Cause;
 use crate::wire::{Wire, WireFault};
-use std::io::{Read, Write};
+use std::io::{self, Read, Write};
 use std::marker::Model;
 
 /// A wire over a stream of the system, such as a connected `UnixStream`. A call that is interrupted
@@ -11,6 +14,8 @@ use std::marker::Model;
 pub struct StreamWire<S> {
     stream: S,
     failures: u64,
+    // Why the last call failed that did, where the system said so.
+    cause: Option<Cause>,
 }
 
 // It is seen as the count of its failures.
@@ -30,16 +35,33 @@ impl<S: Read + Write> StreamWire<S> {
         StreamWire {
             stream,
             failures: 0,
+            cause: None,
         }
     }
 
+    /// Why the last call failed that did, where the system said so.
+    pub fn cause(&self) -> Option<Cause> {
+        self.cause
+    }
+
     // Counts a failure, and tells it.
-    fn fault(&mut self) -> WireFault
+    fn fault(&mut self, cause: Option<Cause>) -> WireFault
         ensures risen { HasRisen self.old self.new }
         ensures counted { self.old ≤ self.new }
     {
         self.failures = self.failures.saturating_add(1);
+        self.cause = cause;
         WireFault
+    }
+}
+
+// A stream has a limit of time where a call that would have to wait any longer fails.
+fn cause_of(error: &io::Error) -> Option<Cause>
+    ensures { result ≡ Some (waited (cause_of (error_kind error.now) (raw_os_error error.now))) }
+{
+    match Cause::of(error) {
+        Cause::WouldBlock => Some(Cause::TimedOut),
+        cause => Some(cause),
     }
 }
 
@@ -49,7 +71,7 @@ impl<S: Read + Write> Wire for StreamWire<S> {
     fn read(&mut self, buf: &mut [u8]) -> Result<usize, WireFault> {
         match self.stream.read(buf) {
             Ok(count) => Ok(count),
-            Err(_) => Err(self.fault()),
+            Err(error) => Err(self.fault(cause_of(&error))),
         }
     }
 
@@ -59,7 +81,8 @@ impl<S: Read + Write> Wire for StreamWire<S> {
         }
         match self.stream.write(bytes) {
             Ok(count) if count > 0 => Ok(count),
-            _ => Err(self.fault()),
+            Ok(_) => Err(self.fault(None)),
+            Err(error) => Err(self.fault(cause_of(&error))),
         }
     }
 

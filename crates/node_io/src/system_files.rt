@@ -3,12 +3,12 @@ ghost use Rattle.std.specs.Option.{option_map};
 ghost use Rattle.std.specs.String.{string_bytes};
 ghost use Rattle.node_io.specs.System.{climbs, descends, opened_in};
 
-use crate::faults::FileFault;
+use crate::causes::Cause;
+use crate::faults::{CausedFault, FileFault};
 use crate::files::Files;
 use crate::reading::read_all;
 use std::alloc::AllocError;
 use std::fs::{Metadata, OpenFile};
-use std::io::{self, ErrorKind};
 use std::marker::Model;
 use std::{fs, rt};
 
@@ -54,6 +54,12 @@ impl<'a, R: rt::Files + AllocGlobal> SystemFiles<'a, R> {
         }
     }
 
+    /// Why a read of this path fails now, where the system says so.
+    pub fn cause(&self, path: &str, limit: u64) -> Option<Cause> {
+        let opened = self.opened(path).ok()??;
+        read_file(self.rt, opened.as_str(), limit).err()?.cause
+    }
+
     // The path that is opened.
     fn opened(&self, path: &str) -> Result<Option<String>, AllocError>
         ensures value { IfOk result (λ opened. option_map string_bytes opened ≡ opened_in self.now.folder path.now) }
@@ -74,7 +80,10 @@ impl<'a, R: rt::Files + AllocGlobal> SystemFiles<'a, R> {
         ensures outside { opened_in self.now.folder path.now ≡ None → result ≡ Err FileFault.NotFound }
     {
         match self.opened(path)? {
-            Some(opened) => read_regular(self.rt, opened.as_str(), limit),
+            Some(opened) => match read_file(self.rt, opened.as_str(), limit) {
+                Ok(bytes) => Ok(bytes),
+                Err(caused) => Err(caused.fault),
+            },
             None => Err(FileFault::NotFound),
         }
     }
@@ -103,37 +112,42 @@ fn climbs(path: &str) -> bool
     path.split('/').any(|part| part == "..")
 }
 
-fn read_regular<R: rt::Files + AllocGlobal>(
+/// The bytes of a regular file of the system, by any path, if they are no more than the limit. What else stands at
+/// the path is not opened, and counts as a failure, and so does a read that is interrupted.
+pub fn read_file<R: rt::Files + AllocGlobal>(
     rt: &R,
     path: &str,
     limit: u64,
-) -> Result<Vec<u8>, FileFault>
+) -> Result<Vec<u8>, CausedFault>
     ensures within { IfOk result (λ bytes. length bytes.items ≤ limit) }
 {
     // A pipe is not opened: that would wait for its writer.
-    judge(&fs::metadata(rt, path).map_err(fault_of)?, limit)?;
-    let mut file = fs::open(rt, path).map_err(fault_of)?;
+    judge(&fs::metadata(rt, path)?, limit)?;
+    let mut file = fs::open(rt, path)?;
     // Another file may stand at the path by now.
-    judge(&file.metadata().map_err(fault_of)?, limit)?;
+    judge(&file.metadata()?, limit)?;
     read_all(rt.alloc(), &mut file, limit)
 }
 
 // Whether a file is read.
-fn judge(about: &Metadata, limit: u64) -> Result<(), FileFault> {
-    if !about.is_file() {
-        Err(FileFault::Failed)
+fn judge(about: &Metadata, limit: u64) -> Result<(), CausedFault> {
+    if about.is_dir() {
+        Err(CausedFault::failed(Cause::IsFolder))
+    } else if !about.is_file() {
+        Err(CausedFault::failed(Cause::NotRegular))
     } else if about.len() > limit {
-        Err(FileFault::TooLarge)
+        Err(CausedFault::from(FileFault::TooLarge))
     } else {
         Ok(())
     }
 }
 
-fn fault_of(error: io::Error) -> FileFault {
-    match error.kind() {
-        ErrorKind::NotFound => FileFault::NotFound,
-        ErrorKind::OutOfMemory => FileFault::Memory,
-        _ => FileFault::Failed,
+/// Whether there is a folder at a path.
+pub fn look_at_folder<R: rt::Files>(rt: &R, path: &str) -> Result<(), CausedFault> {
+    if fs::metadata(rt, path)?.is_dir() {
+        Ok(())
+    } else {
+        Err(CausedFault::failed(Cause::NotFolder))
     }
 }
 

@@ -1,15 +1,20 @@
 -- What is told where a program that serves a runtime ends before its work is done, this project's own:
 -- docs/SEMANTICS.md, "Programs". Nothing is said of a refused command line: its text is clap's.
-use Rattle.std.specs.Prelude.{ℕ, List, [], ◌++◌, codes, Option, Some, None}
+use Rattle.std.specs.Prelude.{ℕ, List, ◌++◌, codes, Option, Some, None}
+use Rattle.std.specs.Fmt.{decimal}
 use Rattle.bpf_code.specs.declared.fault.CodeFault.{CodeFault}
 use Rattle.bpf_code.specs.declared.fault.CodeFault.TheVariants as code
 use Rattle.bpf_verify.specs.declared.fault.Fault.{Fault}
 use Rattle.bpf_verify.specs.declared.fault.Fault.TheVariants as fault
 use Rattle.bpf_verify.specs.declared.refusal.Refusal.{Refusal}
 use Rattle.bpf_verify.specs.declared.refusal.Refusal.TheVariants as refused
-use Rattle.node_io.specs.FaultText.{fault_text as file_fault_text}
+use Rattle.node_io.specs.Causes.{cause_text}
+use Rattle.node_io.specs.FaultText.{caused_text}
+use Rattle.runtime_server.specs.declared.socket_fault.SocketFault.{SocketFault}
+use Rattle.runtime_server.specs.declared.socket_fault.SocketFault.TheVariants as socket
+use Rattle.runtime_server.specs.declared.sockets.TheConstants.{MAX_NAME}
 use Rattle.runtime_server.specs.declared.stops.ServerStop.{ServerStop}
-use Rattle.runtime_server.specs.declared.stops.ServerStop.TheVariants.{CommandLine, BadNumber, Baseline, File, Socket, Unwritten, Memory}
+use Rattle.runtime_server.specs.declared.stops.ServerStop.TheVariants.{CommandLine, BadNumber, WithoutRuntime, Baseline, File, Socket, Unwritten, Memory}
 
 -- the name of a filter's fault, without its place
 abbrev pub code_fault_name : CodeFault → List ℕ
@@ -33,12 +38,23 @@ abbrev pub refusal_name : Refusal → List ℕ
 refusal_name (refused.Code found) = code_fault_name found
 refusal_name (refused.Filter found) = filter_fault_name found
 
+-- why no socket can be had
+abbrev pub socket_text : SocketFault → List ℕ
+socket_text socket.Listens = codes "a runtime listens there"
+socket_text socket.Taken = codes "something else stands there"
+socket_text socket.NoFolder = codes "no such folder"
+socket_text socket.TooLong = codes "path too long, at most " ++ (decimal MAX_NAME ++ codes " bytes")
+socket_text socket.Folders = codes "its folders .new0 to .new99 are taken"
+socket_text (socket.System cause) = cause_text cause
+socket_text socket.Memory = codes "Memory"
+
 -- of the program with this name
 abbrev pub stop_text : List ℕ → ServerStop → Option (List ℕ)
 stop_text program (CommandLine error) = None
 stop_text program (BadNumber word) = Some (program ++ codes ": " ++ word.now ++ codes ": BadNumber\n")
+stop_text program (WithoutRuntime option) = Some (program ++ codes ": " ++ option.now ++ codes ": WithoutRuntime\n")
 stop_text program (Baseline path refusal) = Some (program ++ codes ": " ++ path.now ++ codes ": " ++ refusal_name refusal ++ codes "\n")
-stop_text program (File path fault) = Some (program ++ codes ": " ++ path.now ++ codes ": " ++ file_fault_text fault ++ codes "\n")
-stop_text program (Socket path) = Some (program ++ codes ": " ++ path.now ++ codes ": Failed\n")
-stop_text program Unwritten = Some []
+stop_text program (File path caused) = Some (program ++ codes ": " ++ path.now ++ codes ": " ++ caused_text caused ++ codes "\n")
+stop_text program (Socket path fault) = Some (program ++ codes ": " ++ path.now ++ codes ": Failed (" ++ socket_text fault ++ codes ")\n")
+stop_text program (Unwritten cause) = Some (program ++ codes ": standard output: Failed (" ++ cause_text cause ++ codes ")\n")
 stop_text program Memory = Some (program ++ codes ": Memory\n")

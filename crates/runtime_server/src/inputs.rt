@@ -1,9 +1,9 @@
-//! The files that the command lines name.
+//! The files and folders that the command lines name.
 
 use crate::stops::{ServerStop, file_stop};
 use bpf_code::CodeFault;
 use bpf_verify::{Filter, Refusal, filter_of};
-use node_io::{Files, MAX_FILE_BYTES, SystemFiles};
+use node_io::{MAX_FILE_BYTES, look_at_folder, read_file};
 use std::rt;
 
 /// The bytes of a file.
@@ -11,10 +11,23 @@ pub fn bytes_at<'a, R: rt::Files + AllocGlobal>(
     rt: &R,
     path: &'a str,
 ) -> Result<Vec<u8>, ServerStop<'a>> {
-    match SystemFiles::anywhere(rt).read(path, MAX_FILE_BYTES) {
+    match read_file(rt, path, MAX_FILE_BYTES) {
         Ok(bytes) => Ok(bytes),
         Err(fault) => Err(file_stop(path, fault)),
     }
+}
+
+/// That there is a folder at each of these paths.
+pub fn look_at_folders<'a, R: rt::Files>(
+    rt: &R,
+    paths: [&'a str; 2],
+) -> Result<(), ServerStop<'a>> {
+    for path in paths {
+        if let Err(fault) = look_at_folder(rt, path) {
+            return Err(file_stop(path, fault));
+        }
+    }
+    Ok(())
 }
 
 /// The node's own filter, if the line names one.

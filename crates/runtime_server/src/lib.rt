@@ -7,11 +7,13 @@
 #![tactic(auto)]
 
 mod connections;
+mod diagnosis;
 mod engine;
 mod inputs;
 mod laws;
 mod scriptd;
 mod site;
+mod socket_fault;
 mod sockets;
 mod stops;
 mod teller;
@@ -19,10 +21,11 @@ mod telling;
 
 pub use connections::{Connections, MAX_CONNECTIONS};
 pub use engine::{Engine, EngineHost, start_runners};
-pub use inputs::{baseline_at, bytes_at};
+pub use inputs::{baseline_at, bytes_at, look_at_folders};
 pub use laws::constants_are_as_stated;
 pub use scriptd::scriptd_run;
 pub use site::{Address, Site, accept_all};
+pub use socket_fault::SocketFault;
 pub use stops::{ServerStop, Told, file_stop, socket_stop};
 pub use teller::{MAX_WAITING, READER_PATIENCE, Teller};
-pub use telling::{answered, asked};
+pub use telling::{answered, asked, refusal_name};

@@ -1,7 +1,7 @@
 ghost use Rattle.std.specs.Prelude.{◌≡◌};
 
 use crate::engine::start_runners;
-use crate::inputs::baseline_at;
+use crate::inputs::{baseline_at, look_at_folders};
 use crate::site::{Address, Site, accept_all};
 use crate::stops::{ServerStop, Told, socket_stop};
 use bpf_verify::Filter;
@@ -31,16 +31,14 @@ pub fn scriptd_run<R: Threads + Wait + Clock + Copy + Send + Sync + 'static, O: 
     }
 }
 
-// Tells why the program ends, and gives its status.
+// Tells why the program ends, and gives its status, also where nobody hears it.
 fn tell_stop<E: Write>(stop: &ServerStop<'_>, err: &mut E) -> u8 {
     let told = Told {
         program: "scriptd",
         stop,
     };
-    match write!(err, "{told}") {
-        Ok(()) => stop.status(),
-        Err(_) => ServerStop::Unwritten.status(),
-    }
+    let _ = write!(err, "{told}");
+    stop.status()
 }
 
 fn run<'a, R: Threads + Wait + Clock + Copy + Send + Sync + 'static>(
@@ -49,6 +47,7 @@ fn run<'a, R: Threads + Wait + Clock + Copy + Send + Sync + 'static>(
     words: &'a [String],
 ) -> Result<(), ServerStop<'a>> {
     let line = scriptd_line(system.alloc(), words)?;
+    look_at_folders(system, [line.scripts, line.profiles])?;
     let baseline = baseline_at(system, line.baseline)?;
     run_line::<Brand, R>(rt, system, &line, baseline)
 }
@@ -68,7 +67,7 @@ fn run_line<
 {
     let site = match Site::<B>::open(rt, system, address_of(line), baseline) {
         Ok(site) => site,
-        Err(error) => return Err(socket_stop(line.socket, error)),
+        Err(fault) => return Err(socket_stop(line.socket, fault)),
     };
     Ok(serve(rt, system, &site, line.runners)?)
 }

@@ -2,17 +2,18 @@
 ghost use Rattle.std.specs.Prelude.{◌≡◌, IfOk, Some};
 
 use crate::connections::Connections;
+use crate::diagnosis::{is_of_files, wrong_in};
 use crate::engine::{Engine, EngineHost};
+use crate::socket_fault::SocketFault;
 use crate::sockets::Socket;
 use crate::teller::Teller;
-use crate::telling::{asked, reply_line};
+use crate::telling::{asked, listening_line, reply_line};
 use bpf_verify::Filter;
 use cri_msgs::{Reply, Request};
 use node_io::{StreamWire, SystemFiles};
 use runner::{Baseline, Host, Service, serve_wire};
 use runtime_core::FileAnswers;
 use std::alloc::Global;
-use std::io;
 use std::os::unix::net::UnixStream;
 use std::sync::{Arc, Wait};
 use std::thread::{self, Scope, Threads};
@@ -55,7 +56,7 @@ impl<'a, B: Baseline> Site<'a, B> {
         system: &HostRuntime,
         address: Address<'a>,
         baseline: Option<Filter>,
-    ) -> io::Result<Site<'a, B>>
+    ) -> Result<Site<'a, B>, SocketFault>
         requires { baseline ≡ B.filter }
         ensures { IfOk result (λ site. site.address ≡ address.entry) }
     {
@@ -65,10 +66,14 @@ impl<'a, B: Baseline> Site<'a, B> {
         } else {
             None
         };
+        let socket = Socket::at(system, address.socket)?;
+        if let Some(teller) = &teller {
+            teller.tell(rt, listening_line(system.alloc(), address));
+        }
         Ok(Site {
             alloc: system.alloc(),
             address,
-            socket: Socket::at(system, address.socket)?,
+            socket,
             connections,
             teller,
             engine: Engine::new(system.alloc(), baseline),
@@ -88,9 +93,20 @@ impl<'a, B: Baseline> Site<'a, B> {
 #[derive(Drop)]
 struct ToldHost<'a, B: Baseline, R: Wait> {
     rt: &'a R,
+    system: &'a HostRuntime,
     site: &'a Site<'a, B>,
     host: EngineHost<'a, B, R>,
     connection: u64,
+}
+
+impl<B: Baseline, R: Wait> ToldHost<'_, B, R> {
+    // What is wrong with the files of a request. Where there is no memory to say it, it is told without.
+    fn wrong_in(&self, request: &Request, files: &FileAnswers) -> Option<String> {
+        let address = self.site.address;
+        let scripts = SystemFiles::within(self.system, address.scripts);
+        let profiles = SystemFiles::within(self.system, address.profiles);
+        wrong_in(self.site.alloc, &scripts, &profiles, request, files).unwrap_or(None)
+    }
 }
 
 impl<B: Baseline, R: Wait> Host for ToldHost<'_, B, R> {
@@ -103,8 +119,14 @@ impl<B: Baseline, R: Wait> Host for ToldHost<'_, B, R> {
             return self.host.serve(request, files);
         };
         let asked = asked(self.site.alloc, &request);
+        let wrong = self.wrong_in(&request, &files);
         let reply = self.host.serve(request, files);
-        let line = reply_line(self.site.alloc, self.connection, asked, &reply);
+        let wrong = if is_of_files(&reply.answer) {
+            wrong
+        } else {
+            None
+        };
+        let line = reply_line(self.site.alloc, self.connection, asked, &reply, wrong);
         teller.tell(self.rt, line);
         reply
     }
@@ -133,6 +155,7 @@ fn service_for<'a, B: Baseline, R: Wait>(
         profiles: SystemFiles::within(system, site.address.profiles),
         host: ToldHost {
             rt,
+            system,
             site,
             host: site.engine.host(rt),
             connection,

@@ -5,7 +5,8 @@
 //! it from before it looks at what stands there until after it took its own socket away: so no program takes
 //! the socket of another for one that was left over.
 
-use std::fs::{DirBuilder, File, Metadata, OpenOptions, Permissions};
+use crate::socket_fault::SocketFault;
+use std::fs::{DirBuilder, File, Metadata, OpenOptions, Permissions, TryLockError};
 use std::io::{self, ErrorKind};
 use std::net::{Net, Shutdown};
 use std::os::fd::{AsRawFd, OwnedFd};
@@ -34,9 +35,9 @@ pub(crate) struct Socket {
 impl Socket {
     /// Listens at this path. A left-over socket there, to which nobody listens, is replaced; one that is
     /// live, and anything else, is left alone, and refused.
-    pub(crate) fn at(rt: &HostRuntime, path: &str) -> io::Result<Socket> {
+    pub(crate) fn at(rt: &HostRuntime, path: &str) -> Result<Socket, SocketFault> {
         if path.len() > MAX_NAME {
-            return Err(io::Error::from(ErrorKind::InvalidInput));
+            return Err(SocketFault::TooLong);
         }
         let lock = PathLock::of(rt, path)?;
         match listener_at(rt, path) {
@@ -81,7 +82,7 @@ struct PathLock {
 
 impl PathLock {
     // Takes the lock beside this path; nobody is waited for who has it.
-    fn of(rt: &HostRuntime, path: &str) -> io::Result<PathLock> {
+    fn of(rt: &HostRuntime, path: &str) -> Result<PathLock, SocketFault> {
         let name = format!(in rt.alloc(); "{path}.lock")?;
         for _ in 0..LOCKS {
             let file = OpenOptions::new()
@@ -89,12 +90,16 @@ impl PathLock {
                 .create(true)
                 .mode(0o600)
                 .open(rt, name.as_str())?;
-            file.try_lock()?;
+            match file.try_lock() {
+                Ok(()) => {}
+                Err(TryLockError::WouldBlock) => return Err(SocketFault::Listens),
+                Err(TryLockError::Error(error)) => return Err(error.into()),
+            }
             if is_named(rt, &file, name.as_str())? {
                 return Ok(PathLock { _file: file, name });
             }
         }
-        Err(io::Error::from(ErrorKind::AddrInUse))
+        Err(SocketFault::Listens)
     }
 
     // Takes its file away. Only who has the lock may do that.
@@ -114,7 +119,7 @@ fn is_named(rt: &HostRuntime, file: &File, name: &str) -> io::Result<bool> {
 }
 
 // A new socket that listens at this path, and what its file is known by.
-fn listener_at(rt: &HostRuntime, path: &str) -> io::Result<(UnixListener, Metadata)> {
+fn listener_at(rt: &HostRuntime, path: &str) -> Result<(UnixListener, Metadata), SocketFault> {
     make_way(rt, path)?;
     let folder = own_folder(rt, path)?;
     let made = made_in(rt, folder.as_str(), path);
@@ -125,42 +130,42 @@ fn listener_at(rt: &HostRuntime, path: &str) -> io::Result<(UnixListener, Metada
 }
 
 // Nothing stands at the path from here on, or it can't be had.
-fn make_way<R: rt::Files + Net>(rt: &R, path: &str) -> io::Result<()> {
-    match fs::symlink_metadata(rt, path) {
-        Ok(about) if is_left_over(rt, path, &about) => fs::remove_file(rt, path),
-        Ok(_) => Err(io::Error::from(ErrorKind::AddrInUse)),
-        Err(error) if error.kind() == ErrorKind::NotFound => Ok(()),
-        Err(error) => Err(error),
-    }
-}
-
-// Whether this is a socket to which nobody listens. One whose queue is full is not waited for: it is live.
-fn is_left_over<R: Net>(rt: &R, path: &str, about: &Metadata) -> bool {
+fn make_way<R: rt::Files + Net>(rt: &R, path: &str) -> Result<(), SocketFault> {
+    let about = match fs::symlink_metadata(rt, path) {
+        Ok(about) => about,
+        Err(error) if error.kind() == ErrorKind::NotFound => return Ok(()),
+        Err(error) => return Err(error.into()),
+    };
     if !about.file_type().is_socket() {
-        return false;
+        return Err(SocketFault::Taken);
     }
+    // One whose queue is full is not waited for: it is live.
     match mio::net::UnixStream::connect(rt, path) {
-        Ok(_) => false,
-        Err(error) => error.kind() == ErrorKind::ConnectionRefused,
+        Ok(_) => Err(SocketFault::Listens),
+        Err(error) => match error.kind() {
+            ErrorKind::ConnectionRefused => Ok(fs::remove_file(rt, path)?),
+            ErrorKind::WouldBlock => Err(SocketFault::Listens),
+            _ => Err(SocketFault::Taken),
+        },
     }
 }
 
 // A new folder beside the path, for this user alone.
-fn own_folder<R: rt::Files + AllocGlobal>(rt: &R, path: &str) -> io::Result<String> {
+fn own_folder<R: rt::Files + AllocGlobal>(rt: &R, path: &str) -> Result<String, SocketFault> {
     for number in 0..FOLDERS {
         let folder = format!(in rt.alloc(); "{path}.new{number}")?;
         match DirBuilder::new().mode(0o700).create(rt, folder.as_str()) {
             Ok(()) => return Ok(folder),
             Err(error) if error.kind() == ErrorKind::AlreadyExists => {}
-            Err(error) => return Err(error),
+            Err(error) => return Err(error.into()),
         }
     }
-    Err(io::Error::from(ErrorKind::AlreadyExists))
+    Err(SocketFault::Folders)
 }
 
 // A socket that is made in this folder, and named by the path where nothing has come to stand there
 // meanwhile.
-fn made_in(rt: &HostRuntime, folder: &str, path: &str) -> io::Result<UnixListener> {
+fn made_in(rt: &HostRuntime, folder: &str, path: &str) -> Result<UnixListener, SocketFault> {
     let own = format!(in rt.alloc(); "{folder}/s")?;
     let listener = listener_in(rt, folder, own.as_str())?;
     let named = named_by(rt, own.as_str(), path);
@@ -180,7 +185,11 @@ fn listener_in(rt: &HostRuntime, folder: &str, own: &str) -> io::Result<UnixList
     UnixListener::bind(rt, short.as_str())
 }
 
-fn named_by<R: rt::Files>(rt: &R, own: &str, path: &str) -> io::Result<()> {
+fn named_by<R: rt::Files>(rt: &R, own: &str, path: &str) -> Result<(), SocketFault> {
     fs::set_permissions(rt, own, Permissions::from_mode(0o600))?;
-    fs::hard_link(rt, own, path)
+    match fs::hard_link(rt, own, path) {
+        Ok(()) => Ok(()),
+        Err(error) if error.kind() == ErrorKind::AlreadyExists => Err(SocketFault::Taken),
+        Err(error) => Err(error.into()),
+    }
 }

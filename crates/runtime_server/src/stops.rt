@@ -1,14 +1,14 @@
 ghost use Rattle.std.specs.Prelude.{◌≡◌};
 ghost use Rattle.runtime_server.specs.StopText.{refusal_name};
-ghost use Rattle.runtime_server.specs.Stops.{IsOfFile};
+ghost use Rattle.runtime_server.specs.Stops.{IsOfFile, IsOfSocket};
 
+use crate::socket_fault::SocketFault;
 use bpf_code::CodeFault;
 use bpf_verify::{Fault, Refusal};
 use command_line::LineFault;
-use node_io::FileFault;
+use node_io::{Cause, CausedFault, FileFault};
 use std::alloc::{AllocError, AllocFailed};
 use std::fmt;
-use std::io::{self, ErrorKind};
 
 /// Why a program that serves a runtime ends before its work is done.
 #[derive(Debug, Drop)]
@@ -17,14 +17,16 @@ pub enum ServerStop<'a> {
     CommandLine(clap::Error),
     /// A word of the command line is no number of its range.
     BadNumber(&'a str),
+    /// This option is for a runtime in the same process, which was not asked for.
+    WithoutRuntime(&'static str),
     /// The node's own filter is refused.
     Baseline(&'a str, Refusal),
-    /// A file can't be read.
-    File(&'a str, FileFault),
+    /// A file can't be read, or there is no such folder.
+    File(&'a str, CausedFault),
     /// No socket can be had at this path.
-    Socket(&'a str),
+    Socket(&'a str, SocketFault),
     /// What is to be printed can't be written.
-    Unwritten,
+    Unwritten(Cause),
     /// A growth was refused, or a thread.
     Memory,
 }
@@ -39,8 +41,9 @@ impl ServerStop<'_> {
     {
         match self {
             ServerStop::Baseline(_, _) => 1,
-            ServerStop::CommandLine(_) | ServerStop::BadNumber(_) => 2,
-            ServerStop::File(_, _) | ServerStop::Socket(_) | ServerStop::Unwritten => 3,
+            ServerStop::CommandLine(_) | ServerStop::BadNumber(_) | ServerStop::WithoutRuntime(_) =>
+                2,
+            ServerStop::File(_, _) | ServerStop::Socket(_, _) | ServerStop::Unwritten(_) => 3,
             ServerStop::Memory => 4,
         }
     }
@@ -91,14 +94,21 @@ impl fmt::Display for Told<'_, '_> {
         match self.stop {
             ServerStop::CommandLine(error) => write!(f, "{error}"),
             ServerStop::BadNumber(word) => writeln!(f, "{program}: {word}: BadNumber"),
+            ServerStop::WithoutRuntime(option) => writeln!(
+                f,
+                "{program}: {option}: WithoutRuntime"
+            ),
             ServerStop::Baseline(path, refusal) => writeln!(
                 f,
                 "{program}: {path}: {}",
                 name_of(*refusal)
             ),
             ServerStop::File(path, fault) => writeln!(f, "{program}: {path}: {fault}"),
-            ServerStop::Socket(path) => writeln!(f, "{program}: {path}: Failed"),
-            ServerStop::Unwritten => Ok(()),
+            ServerStop::Socket(path, fault) => writeln!(f, "{program}: {path}: Failed ({fault})"),
+            ServerStop::Unwritten(cause) => writeln!(
+                f,
+                "{program}: standard output: Failed ({cause})"
+            ),
             ServerStop::Memory => writeln!(f, "{program}: Memory"),
         }
     }
@@ -136,25 +146,28 @@ impl<'a> From<LineFault<'a>> for ServerStop<'a> {
         match fault {
             LineFault::Refused(error) => ServerStop::CommandLine(error),
             LineFault::BadNumber(word) => ServerStop::BadNumber(word),
+            LineFault::WithoutRuntime(option) => ServerStop::WithoutRuntime(option),
             LineFault::Memory => ServerStop::Memory,
         }
     }
 }
 
 /// Why a file stops the program.
-pub fn file_stop(path: &str, fault: FileFault) -> ServerStop<'_>
-    ensures { IsOfFile path.now fault result }
+pub fn file_stop(path: &str, caused: CausedFault) -> ServerStop<'_>
+    ensures { IsOfFile path.now caused result }
 {
-    match fault {
+    match caused.fault {
         FileFault::Memory => ServerStop::Memory,
-        _ => ServerStop::File(path, fault),
+        _ => ServerStop::File(path, caused),
     }
 }
 
-/// Why there is no socket at a path.
-pub fn socket_stop(path: &str, error: io::Error) -> ServerStop<'_> {
-    match error.kind() {
-        ErrorKind::OutOfMemory => ServerStop::Memory,
-        _ => ServerStop::Socket(path),
+/// Why a socket stops the program.
+pub fn socket_stop(path: &str, fault: SocketFault) -> ServerStop<'_>
+    ensures { IsOfSocket path.now fault result }
+{
+    match fault {
+        SocketFault::Memory => ServerStop::Memory,
+        _ => ServerStop::Socket(path, fault),
     }
 }

@@ -1,10 +1,21 @@
 //! The line that is told of each event, where that is asked for: who, which pod, the request and its answer,
-//! the messages as they are written.
+//! the messages as they are written, and behind a refusal its name and why it came.
+ghost use Rattle.std.specs.Prelude.{◌≡◌, IfOk, string_bytes};
+ghost use Rattle.runtime_server.specs.Telling.{listening_text, name_behind, refusal_text};
 
-use cri_msgs::{Reply, Request, Version};
+use crate::site::Address;
+use cri_msgs::{Answer, Refusal, Reply, Request, Version};
 use runtime_core::uid_of;
 use std::alloc::{AllocError, Global};
 use std::str;
+
+/// The line with which a runtime begins that tells of itself.
+pub(crate) fn listening_line(alloc: Global, address: Address<'_>) -> Result<String, AllocError>
+    ensures { IfOk result (λ line. string_bytes line ≡ listening_text address.entry) }
+{
+    let (socket, scripts, profiles) = (address.socket, address.scripts, address.profiles);
+    format!(in alloc; "listens at {socket}, scripts in {scripts}, profiles in {profiles}")
+}
 
 // A message without its version, which stands last in it.
 fn unversioned(message: &[u8]) -> &str {
@@ -19,24 +30,58 @@ pub fn asked(alloc: Global, request: &Request) -> Result<String, AllocError> {
     format!(in alloc; "{uid} {}}}", unversioned(text.as_slice()))
 }
 
-/// The text of a reply.
+/// The text of a reply, and behind a refusal its name.
 pub fn answered(alloc: Global, reply: &Reply) -> Result<String, AllocError> {
     let text = reply.write(alloc, Version::V2)?;
-    format!(in alloc; "{}}}", unversioned(text.as_slice()))
+    let name = name_behind(alloc, &reply.answer)?;
+    format!(in alloc; "{}}}{}", unversioned(text.as_slice()), name.as_str())
 }
 
-/// What a runtime was asked over a connection, and what it answered.
+fn name_behind(alloc: Global, answer: &Answer) -> Result<String, AllocError>
+    ensures { IfOk result (λ text. string_bytes text ≡ name_behind answer.now) }
+{
+    match answer {
+        Answer::Refused(refusal) => {
+            let name = refusal_name(*refusal);
+            format!(in alloc; " refused {name}")
+        }
+        _ => Ok(String::new(alloc)),
+    }
+}
+
+/// The name of a refusal.
+pub fn refusal_name(refusal: Refusal) -> &'static str
+    ensures { result.now ≡ refusal_text refusal }
+{
+    match refusal {
+        Refusal::InvalidArgument => "InvalidArgument",
+        Refusal::NotFound => "NotFound",
+        Refusal::AlreadyExists => "AlreadyExists",
+        Refusal::ResourceExhausted => "ResourceExhausted",
+        Refusal::FailedPrecondition => "FailedPrecondition",
+        Refusal::Internal => "Internal",
+        Refusal::Memory => "Memory",
+    }
+}
+
+/// What a runtime was asked over a connection, what it answered, and what is wrong with the request's files where
+/// that is known.
 pub(crate) fn reply_line(
     alloc: Global,
     connection: u64,
     asked: Result<String, AllocError>,
     reply: &Reply,
+    wrong: Option<String>,
 ) -> Result<String, AllocError> {
     let asked = asked?;
     let answered = answered(alloc, reply)?;
-    format!(in alloc;
+    let mut line = format!(in alloc;
         "connection {connection} {} {}",
         asked.as_str(),
         answered.as_str()
-    )
+    )?;
+    if let Some(wrong) = wrong {
+        write!(line, ": {}", wrong.as_str())?;
+    }
+    Ok(line)
 }

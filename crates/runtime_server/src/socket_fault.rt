@@ -1,0 +1,71 @@
+use crate::sockets::MAX_NAME;
+use node_io::Cause;
+use std::alloc::AllocError;
+use std::fmt;
+use std::io::{self, ErrorKind};
+
+/// Why there is no socket at a path.
+#[derive(Clone, Copy, Debug, PartialEq, Eq)]
+pub enum SocketFault {
+    /// A runtime listens there, or is about to.
+    Listens,
+    /// What stands there is no socket of a runtime.
+    Taken,
+    /// The folder of the path is not there.
+    NoFolder,
+    /// The path is longer than the name of a socket may be.
+    TooLong,
+    /// The folders in which the socket could be made are all taken.
+    Folders,
+    /// The system refused a call.
+    System(Cause),
+    /// A growth was refused, or a thread.
+    Memory,
+}
+
+impl From<AllocError> for SocketFault {
+    ghost use Rattle.std.specs.Prelude.{◌≡◌};
+    ghost use Rattle.runtime_server.specs.declared.socket_fault.SocketFault.TheVariants.{Memory};
+
+    ghost from_gives = { λ _ fault. fault ≡ Memory };
+
+    fn from(_: AllocError) -> SocketFault {
+        SocketFault::Memory
+    }
+}
+
+impl From<io::Error> for SocketFault {
+    ghost use Rattle.std.specs.Prelude.{◌≡◌};
+    ghost use Rattle.std.specs.IoError.{error_kind, raw_os_error};
+    ghost use Rattle.runtime_server.specs.Stops.{of_error};
+
+    ghost from_gives = { λ error fault. fault ≡ of_error (error_kind error) (raw_os_error error) };
+
+    fn from(error: io::Error) -> SocketFault {
+        match error.kind() {
+            ErrorKind::NotFound => SocketFault::NoFolder,
+            ErrorKind::OutOfMemory => SocketFault::Memory,
+            _ => SocketFault::System(Cause::of(&error)),
+        }
+    }
+}
+
+/// A few words of plain English.
+impl fmt::Display for SocketFault {
+    ghost use Rattle.std.specs.Prelude.{Some};
+    ghost use Rattle.runtime_server.specs.StopText.{socket_text};
+
+    ghost output = { λ fault. Some (socket_text fault) };
+
+    fn fmt<W: fmt::Write>(&self, f: &mut fmt::Formatter<W>) -> fmt::Result {
+        match self {
+            SocketFault::Listens => f.write_str("a runtime listens there"),
+            SocketFault::Taken => f.write_str("something else stands there"),
+            SocketFault::NoFolder => f.write_str("no such folder"),
+            SocketFault::TooLong => write!(f, "path too long, at most {MAX_NAME} bytes"),
+            SocketFault::Folders => f.write_str("its folders .new0 to .new99 are taken"),
+            SocketFault::System(cause) => write!(f, "{cause}"),
+            SocketFault::Memory => f.write_str("Memory"),
+        }
+    }
+}
