@@ -78,18 +78,18 @@ start_value profile call nr start single is alike = elim (cases_eq nr single) [
 ]
 
 -- what a part of the tree gives
-abbrev pub TreeGives : Profile → List ℕ → List Insn → ℕ → ℕ → ℕ → Type 0
-TreeGives profile starts code at from to =
-    (call : SysCall) (levels most : ℕ) → IsCall call → IsEnough profile most → IsBetween starts from to call.nr → to - from ≤ 2 ^ levels
+abbrev pub TreeGives : Profile → List ℕ → List Insn → ℕ → ℕ → ℕ → ℕ → Type 0
+TreeGives profile starts code at from to room =
+    (call : SysCall) (levels most : ℕ) → IsCall call → IsEnough profile most → IsBetween starts from to call.nr → room ≤ 2 ^ levels
     → Gives code call at call.nr (chosen profile call.nr call) (most + 2 * levels)
 
-pub node_gives : (profile : Profile) (starts : List ℕ) (one two three new : List Insn) (from middle to low high miss : ℕ) → from < middle → middle < to → middle < length starts
-    → middle - from ≤ to - middle → to - middle ≤ middle - from + 1 → TreeGives profile starts one low from middle → TreeGives profile starts two high middle to → Keeps one two
+pub node_gives : (profile : Profile) (starts : List ℕ) (one two three new : List Insn) (from middle to low high miss room half : ℕ) → 1 < room → half + half ≤ room + 1
+    → TreeGives profile starts one low from middle half → TreeGives profile starts two high middle to half → Keeps one two
     → ((call : SysCall) (a v m : ℕ) → Gives two call low a v m → Gives three call miss a v (m + 1)) → Keeps two three
     → ((call : SysCall) (a v m : ℕ) → Gives three call (cond (nat_le (slice_index starts middle) a) high miss) a v m → Gives new call (length new - 1) a v (m + 1))
-    → TreeGives profile starts new (length new - 1) from to
-node_gives profile starts one two three new from middle to low high miss low_in high_in start_in half halves lows highs keeps nears keeps_more jumps call zero most is_call enough between small = absurd (omega arith)
-node_gives profile starts one two three new from middle to low high miss low_in high_in start_in half halves lows highs keeps nears keeps_more jumps call (suc levels) most is_call enough between small =
+    → TreeGives profile starts new (length new - 1) from to room
+node_gives profile starts one two three new from middle to low high miss room half some halved lows highs keeps nears keeps_more jumps call zero most is_call enough between small = absurd (omega arith)
+node_gives profile starts one two three new from middle to low high miss room half some halved lows highs keeps nears keeps_more jumps call (suc levels) most is_call enough between small =
     let twice : 2 ^ suc levels ≡ 2 ^ levels * 2 = pow-suc 2 levels in
     let nr : ℕ = call.nr in
     let value : ℕ = chosen profile nr call in

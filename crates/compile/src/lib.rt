@@ -14,6 +14,7 @@ mod fault;
 mod halves;
 mod leaf;
 mod ranges;
+mod shares;
 mod singles;
 mod tree;
 mod weight;

@@ -43,23 +43,23 @@ pub returns-clause-means : goal.returns-clause-means
 returns-clause-means c =
     let profile : Profile = c.args.profile.now in
     let n : ℕ = length c.as_slice-2.result.now in
-    let Found : List Insn → Type 0 = λ filter. (call : SysCall) (levels most : ℕ) → IsCall call → IsEnough profile most → n ≤ 2 ^ levels
+    let Found : List Insn → Type 0 = λ filter. (call : SysCall) (levels most : ℕ) → IsCall call → IsEnough profile most → c.room-room.result ≤ 2 ^ levels
     → (steps : ℕ) × (steps ≤ most + 2 * levels + 3) × Runs filter call (meaning profile call) steps in
     let Wanted : List Insn → Type 0 = λ filter. (call : SysCall) → IsCall call → (steps : ℕ) × Runs filter call (meaning profile call) steps in
     IfOk-weaker c.assemble.result Found Wanted (λ filter found call is_call.
-    let run = found call n (steps_of profile.entries + 2) is_call (inl (omega arith)) (levels_enough n) in
+    let run = found call c.room-room.result (steps_of profile.entries + 2) is_call (inl (omega arith)) (levels_enough c.room-room.result) in
     (run.0, run.2)) c.assemble.ensures.runs
 
 pub returns-clause-few : goal.returns-clause-few
 returns-clause-few c =
     let profile : Profile = c.args.profile.now in
     let n : ℕ = length c.as_slice-2.result.now in
-    let Found : List Insn → Type 0 = λ filter. (call : SysCall) (levels most : ℕ) → IsCall call → IsEnough profile most → n ≤ 2 ^ levels
+    let Found : List Insn → Type 0 = λ filter. (call : SysCall) (levels most : ℕ) → IsCall call → IsEnough profile most → c.room-room.result ≤ 2 ^ levels
     → (steps : ℕ) × (steps ≤ most + 2 * levels + 3) × Runs filter call (meaning profile call) steps in
     let Wanted : List Insn → Type 0 = λ filter. AreBare profile.entries → (call : SysCall) (d : ℕ) → IsCall call → HasDigits (2 * named_below profile.entries NUMBER_LIMIT + 1) d
     → (steps : ℕ) × (steps ≤ 5 + 2 * d) × Runs filter call (meaning profile call) steps in
     let fewer : n ≤ 2 + 2 * named_below profile.entries NUMBER_LIMIT =
     omega (arith, ap length c.as_slice-2.ensures.value, c.in_ok-split.ensures.few, ap length c.as_slice.ensures.value, c.in_ok-plain.ensures.few) in
     IfOk-weaker c.assemble.result Found Wanted (λ filter found bare call d is_call digits.
-    let run = found call d 2 is_call (inr (bare, omega arith)) (omega (arith, fewer, digits.below)) in
+    let run = found call d 2 is_call (inr (bare, omega arith)) (omega (arith, fewer, digits.below, c.room-room.ensures.bare bare, ap length c.as_slice-2.ensures.value)) in
     (run.0, omega (arith, run.1), run.2)) c.assemble.ensures.runs
