@@ -79,7 +79,7 @@ pub steps_some : (entries : List Entry) → 0 < steps_of entries
 steps_some [] = omega arith
 steps_some (entry ∷ entries) = omega (arith, steps_some entries)
 
-value_of-cond : (b : Bool) (one other : Decision) → value_of (cond b one other) ≡ cond b (value_of one) (value_of other)
+pub value_of-cond : (b : Bool) (one other : Decision) → value_of (cond b one other) ≡ cond b (value_of one) (value_of other)
 value_of-cond true one other = refl
 value_of-cond false one other = refl
 

@@ -31,6 +31,10 @@ other_size profile start single other =
     let apart : (single == start) ≡ false = grind (arith, nat_tests) in
     ap (λ b. 1 + added_of profile.entries start + cond b 0 (3 + added_of profile.entries single)) apart ∙ omega arith
 
+pub least_size : (profile : Profile) (start single : ℕ) → 1 + added_of profile.entries start ≤ range_size profile start single
+unfolding range_size
+least_size profile start single = omega arith
+
 -- the rest of a range, behind the branch that leads to its single number: with a step to spare
 pub record IsBehind (profile : Profile) (code : List Insn) (call : SysCall) (place value most : ℕ) : Type 0 where
   pub left : ℕ

@@ -47,6 +47,7 @@ fn assemble(
     let kill = code.value(Decision::KillProcess.value())?;
     tree(
         &mut code,
+        alloc,
         profile,
         starts,
         singles,

@@ -11,11 +11,12 @@ use crate::code::{Code, REACH, Test};
 use crate::leaf::leaf;
 use crate::shares::parting;
 use oci_profile::Profile;
-use std::alloc::AllocError;
+use std::alloc::{AllocError, Global};
 
 /// One range, the number being in A: its single number is tested first.
 fn range_leaf(
     code: &mut Code,
+    alloc: Global,
     profile: &Profile,
     start: u32,
     single: u32,
@@ -30,11 +31,11 @@ fn range_leaf(
     ensures keeps { Keeps code.old code.new }
     ensures grows { length code.old ≤ length code.new }
 {
-    let other = leaf(code, profile, start)?;
+    let other = leaf(code, alloc, profile, start)?;
     if single == start {
         return Ok(other);
     }
-    let hit = leaf(code, profile, single)?;
+    let hit = leaf(code, alloc, profile, single)?;
     let miss = code.near(other, REACH - 1)?;
     code.jump(Test::Equal, single, hit, miss)
 }
@@ -43,6 +44,7 @@ fn range_leaf(
 /// one above it, so that no way is long, however the ranges are parted.
 pub(crate) fn tree(
     code: &mut Code,
+    alloc: Global,
     profile: &Profile,
     starts: &[u32],
     singles: &[u32],
@@ -72,12 +74,16 @@ pub(crate) fn tree(
     ensures grows { length code.old ≤ length code.new }
 {
     if to - from == 1 {
-        return range_leaf(code, profile, starts[from], singles[from]);
+        return range_leaf(code, alloc, profile, starts[from], singles[from]);
     }
     let half = room - room / 2;
     let middle = parting(shares, from, to, half);
-    let low = tree(code, profile, starts, singles, shares, from, middle, half)?;
-    let high = tree(code, profile, starts, singles, shares, middle, to, half)?;
+    let low = tree(
+        code, alloc, profile, starts, singles, shares, from, middle, half,
+    )?;
+    let high = tree(
+        code, alloc, profile, starts, singles, shares, middle, to, half,
+    )?;
     let miss = code.near(low, REACH - 1)?;
     code.jump(Test::GreaterOrEqual, starts[middle], high, miss)
 }

@@ -13,6 +13,18 @@ use Rattle.compile.proofs.Words.{GivesAlways-more}
 use Rattle.compile.proofs.Leaves.{x32_chosen, native_chosen, steps_some, steps_take, added_take}
 use Rattle.compile.proofs.leaf.leaf.Goals as goal
 
+pub entries_leaf-requires : goal.entries_leaf-requires
+entries_leaf-requires c =
+    record {
+      short =
+          omega (
+            arith,
+            c.requires,
+            added_take c.as_slice-entries.result.now c.bare_end-end.result.0 c.args.nr,
+            ap (λ es. added_of es c.args.nr) c.as_slice-entries.ensures.value,
+          );
+    }
+
 pub returns-then-nr-ge-X32_BIT-clause-gives : goal.returns-then-nr-ge-X32_BIT-clause-gives
 returns-then-nr-ge-X32_BIT-clause-gives c =
     let new : List Insn = c.value-then-nr-ge-X32_BIT.new.self in
@@ -27,19 +39,19 @@ returns-then-nr-ge-X32_BIT-clause-gives c =
 pub returns-clause-gives : goal.returns-clause-gives
 returns-clause-gives c =
     let profile = c.args.profile.now in
-    let new : List Insn = c.chain_leaf.new.code in
+    let new : List Insn = c.entries_leaf.new.code in
     let entries : List Entry = c.as_slice-entries.result.now in
     let part : List Entry = take c.bare_end-end.result.0 entries in
     let Decided : ℕ → Type 0 = λ at. (call : SysCall) → IsCall call → GivesAlways new call at (value_of (decision_of part c.bare_end-end.result.1 c.args.nr call)) (steps_of part) in
     let Wanted : ℕ → Type 0 = λ at. (call : SysCall) → IsCall call → GivesAlways new call at (chosen profile c.args.nr call) (steps_of profile.entries) in
-    IfOk-weaker c.chain_leaf.result Decided Wanted (λ at decided call is_call.
+    IfOk-weaker c.entries_leaf.result Decided Wanted (λ at decided call is_call.
     let same : chosen profile c.args.nr call ≡ value_of (decision_of part c.bare_end-end.result.1 c.args.nr call) =
     native_chosen profile c.args.nr call c.if-nr-ge-X32_BIT.false
     ∙ ap (λ es. value_of (decision_of es profile.default c.args.nr call)) (sym c.as_slice-entries.ensures.value) ∙ ap value_of (c.bare_end-end.ensures.same call) in
     let fewer : steps_of part ≤ steps_of profile.entries = omega (arith, steps_take entries c.bare_end-end.result.0, ap steps_of c.as_slice-entries.ensures.value) in
-    rw same (GivesAlways-more new call at _ (steps_of part) (steps_of profile.entries) (decided call is_call) fewer)) c.chain_leaf.ensures.gives
+    rw same (GivesAlways-more new call at _ (steps_of part) (steps_of profile.entries) (decided call is_call) fewer)) c.entries_leaf.ensures.gives
 
 pub returns-clause-longer : goal.returns-clause-longer
 returns-clause-longer c =
-    on_ok_weaker c.chain_leaf.result (λ longer.
-    omega (arith, longer, added_take c.as_slice-entries.result.now c.bare_end-end.result.0 c.args.nr, ap (λ es. added_of es c.args.nr) c.as_slice-entries.ensures.value)) c.chain_leaf.ensures.longer
+    on_ok_weaker c.entries_leaf.result (λ longer.
+    omega (arith, longer, added_take c.as_slice-entries.result.now c.bare_end-end.result.0 c.args.nr, ap (λ es. added_of es c.args.nr) c.as_slice-entries.ensures.value)) c.entries_leaf.ensures.longer

@@ -9,8 +9,15 @@ use Rattle.compile.specs.Backward.{Gives}
 use Rattle.compile.specs.Sizes.{IsEnough, steps_of, range_size}
 use Rattle.compile.proofs.Building.{gives_more, front_is}
 use Rattle.compile.proofs.Scanning.{same_size}
-use Rattle.compile.proofs.Trees.{enough_steps, other_size, behind, range_given, range_value, start_value}
+use Rattle.compile.proofs.Trees.{enough_steps, least_size, other_size, behind, range_given, range_value, start_value}
 use Rattle.compile.proofs.tree.range_leaf.Goals as goal
+
+pub leaf-requires : goal.leaf-requires
+leaf-requires c = record { short = omega (arith, c.requires.short, least_size c.args.profile.now c.args.start c.args.single) }
+
+pub leaf-requires-2 : goal.leaf-requires-2
+leaf-requires-2 c =
+    record { short = omega (arith, c.requires.short, other_size c.args.profile.now c.args.start c.args.single c.if-single-start.false, c.in_ok-other.ensures.longer) }
 
 pub returns-then-single-start-clause-gives : goal.returns-then-single-start-clause-gives
 returns-then-single-start-clause-gives c = λ call most is_call enough alike.
