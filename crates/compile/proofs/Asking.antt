@@ -9,7 +9,8 @@ use Rattle.oci_profile.specs.Decision.{value_of}
 use Rattle.oci_profile.specs.Meaning.{all_hold, names, decision_of}
 use Rattle.compile.specs.declared.arms.Arm.{Arm}
 use Rattle.compile.specs.Arms.{arm_holds, arms_value}
-use Rattle.compile.specs.Sizes.{added_of, steps_of}
+use Rattle.compile.specs.Bounds.{conditions_at}
+use Rattle.compile.specs.Sizes.{added_of, steps_at}
 use Rattle.compile.proofs.Deciding.{decision_from}
 use Rattle.compile.proofs.Leaves.{value_of-cond}
 
@@ -62,10 +63,10 @@ pub added_from : (entries : List Entry) (nr at : ℕ) (entry : Entry) → at < l
 added_from entries nr at entry inside is =
     at_drop_more (λ es. added_of es nr) entries at entry inside ∙ ap (λ (e : Entry). cond (names e nr) (1 + 6 * length e.conds) 0 + added_of (drop (at + 1) entries) nr) (sym is)
 
-pub steps_from : (entries : List Entry) (at : ℕ) (entry : Entry) → at < length entries → entry ≡ get_or entries at entry
-    → steps_of (drop at entries) ≡ 6 * length entry.conds + steps_of (drop (at + 1) entries)
-steps_from entries at entry inside is =
-    at_drop_more steps_of entries at entry inside ∙ ap (λ (e : Entry). 6 * length e.conds + steps_of (drop (at + 1) entries)) (sym is)
+pub conditions_from : (entries : List Entry) (nr at : ℕ) (entry : Entry) → at < length entries → entry ≡ get_or entries at entry
+    → conditions_at (drop at entries) nr ≡ cond (names entry nr) (length entry.conds) 0 + conditions_at (drop (at + 1) entries) nr
+conditions_from entries nr at entry inside is =
+    at_drop_more (λ es. conditions_at es nr) entries at entry inside ∙ ap (λ (e : Entry). cond (names e nr) (length e.conds) 0 + conditions_at (drop (at + 1) entries) nr) (sym is)
 
 -- what a loop over the entries has found so far: what they ask stands in the arms, and the rest is still to be asked
 pub record ArmsSoFar (entries : List Entry) (nr index : ℕ) (arms : List Arm) (done : ℕ) : Type 0 where
@@ -73,7 +74,7 @@ pub record ArmsSoFar (entries : List Entry) (nr index : ℕ) (arms : List Arm) (
       ≡ arms_value arms (slice_index call.args index) (value_of (decision_of (drop done entries) last nr call))
   pub index_in : 0 < length arms → index < 6
   pub many : 7 * length arms + added_of (drop done entries) nr ≤ added_of entries nr
-  pub steps : 6 * length arms + steps_of (drop done entries) ≤ steps_of entries
+  pub steps : length arms + conditions_at (drop done entries) nr ≤ conditions_at entries nr
 
 pub so_far_more : (entries : List Entry) (nr index at : ℕ) (entry : Entry) (arms news : List Arm) (arm : Arm) → at < length entries → entry ≡ get_or entries at entry
     → names entry nr ≡ true → ((call : SysCall) → all_hold entry call ≡ arm_holds arm (slice_index call.args index)) → arm.value ≡ value_of entry.decision
@@ -87,7 +88,7 @@ so_far_more entries nr index at entry arms news arm inside is it_names holds val
           rw whole (asked_more entries last nr at call entry arms arm (slice_index call.args index) inside is it_names (holds call) value (before.same last call));
       index_in = λ _. index_in;
       many = omega (arith, len, added, counted, one, before.many);
-      steps = omega (arith, len, steps_from entries at entry inside is, one, before.steps);
+      steps = omega (arith, len, conditions_from entries nr at entry inside is, ap (λ b. cond b (length entry.conds) 0) it_names, one, before.steps);
     }
 
 pub so_far_past : (entries : List Entry) (nr index at : ℕ) (entry : Entry) (arms news : List Arm) → at < length entries → entry ≡ get_or entries at entry
@@ -100,5 +101,5 @@ so_far_past entries nr index at entry arms news inside is unnamed whole before =
       same = λ last call. rw whole (asked_past entries last nr at call entry arms (slice_index call.args index) inside is unnamed (before.same last call));
       index_in = λ some. before.index_in (omega arith);
       many = omega (arith, len, added, counted, before.many);
-      steps = omega (arith, len, steps_from entries at entry inside is, before.steps);
+      steps = omega (arith, len, conditions_from entries nr at entry inside is, ap (λ b. cond b (length entry.conds) 0) unnamed, before.steps);
     }

@@ -1,13 +1,13 @@
 ghost use Rattle.std.specs.Bool.{OnFalse};
-ghost use Rattle.std.specs.Prelude.{◌≡◌, ◌≢◌, ◌≤◌, ◌<◌, ◌+◌, ◌*◌, ℕ, length, IfOk, IfSome, slice_index};
+ghost use Rattle.std.specs.Prelude.{◌≡◌, ◌≢◌, ◌≤◌, ◌<◌, ◌+◌, ◌*◌, ℕ, length, IfOk, IfSome, IsTrue, slice_index};
 ghost use Rattle.call_data.specs.declared.sys_call.SysCall.{SysCall};
 ghost use Rattle.oci_profile.specs.declared.decision.Decision.{Decision};
 ghost use Rattle.oci_profile.specs.Decision.{value_of};
 ghost use Rattle.oci_profile.specs.Meaning.{all_hold, compares, decision_of};
 ghost use Rattle.compile.specs.Arms.{arm_holds, arms_value};
-ghost use Rattle.compile.specs.Sizes.{added_of, steps_of};
+ghost use Rattle.compile.specs.Sizes.{added_of, steps_at};
 
-use oci_profile::{Entry, Op};
+use oci_profile::{Cond, Entry, Op};
 use std::alloc::{AllocError, Global};
 
 /// An entry that asks for nothing but where one argument lies.
@@ -102,7 +102,7 @@ fn arm_of(entry: &Entry, index: u32) -> Option<Arm>
     ensures same { IfSome result (λ arm. (call : SysCall) → all_hold entry.now call ≡ arm_holds arm (slice_index call.args index)) }
 {
     let conds = entry.conds.as_slice();
-    if conds.len() != 1 || u32::from(conds[0].index) != index || is_masked(conds[0].op) {
+    if !is_single(conds) || u32::from(conds[0].index) != index || is_masked(conds[0].op) {
         return None;
     }
     Some(Arm {
@@ -141,7 +141,7 @@ pub(crate) fn asked_arms(
         → value_of (decision_of entries.now last nr call) ≡ arms_value it.arms.items (slice_index call.args it.index) (value_of last))) }
     ensures index_in { IfOk result (λ found. IfSome found (λ it. 0 < length it.arms.items → it.index < 6)) }
     ensures many { IfOk result (λ found. IfSome found (λ it. 7 * length it.arms.items ≤ added_of entries.now nr)) }
-    ensures steps { IfOk result (λ found. IfSome found (λ it. 6 * length it.arms.items + 1 ≤ steps_of entries.now)) }
+    ensures steps { IfOk result (λ found. IfSome found (λ it. 6 * length it.arms.items + 1 ≤ steps_at entries.now nr)) }
 {
     let index = asked(entries, nr);
     let mut arms = Vec::new(alloc);
@@ -154,6 +154,12 @@ pub(crate) fn asked_arms(
         }
     }
     Ok(Some(Arms { index, arms }))
+}
+
+fn is_single(conds: &[Cond]) -> bool
+    ensures { IsTrue result → length conds.now ≡ 1 }
+{
+    conds.len() == 1
 }
 
 fn is_masked(op: Op) -> bool

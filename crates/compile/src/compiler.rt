@@ -7,7 +7,7 @@ ghost use Rattle.call_data.specs.CallData.{IsCall};
 ghost use Rattle.oci_profile.specs.Meaning.{meaning, weight};
 ghost use Rattle.sys_table.specs.declared.table.TheConstants.{NUMBER_LIMIT};
 ghost use Rattle.compile.specs.declared.fault.CompileFault.{CompileFault};
-ghost use Rattle.compile.specs.Bounds.{AreBare, HasDigits, named_below};
+ghost use Rattle.compile.specs.Bounds.{AreBare, HasDigits, conditions_at, named_below};
 ghost use Rattle.compile.specs.Ranges.{AreSplit};
 ghost use Rattle.compile.specs.Sizes.{IsAsLong, IsEnough, split_size};
 
@@ -93,6 +93,9 @@ fn light_filter(alloc: Global, profile: &Profile) -> Result<Filter, AllocError>
     ensures means { IfOk result (λ filter. (call : SysCall) → IsCall call → (steps : ℕ) × Runs filter call (meaning profile.now call) steps) }
     ensures few { IfOk result (λ filter. AreBare profile.now.entries → (call : SysCall) (d : ℕ) → IsCall call
         → HasDigits (2 * named_below profile.now.entries NUMBER_LIMIT + 1) d → (steps : ℕ) × (steps ≤ 5 + 2 * d) × Runs filter call (meaning profile.now call) steps) }
+    ensures bounded { IfOk result (λ filter. (call : SysCall) (d m : ℕ) → IsCall call
+        → HasDigits (2 * named_below profile.now.entries NUMBER_LIMIT + 1) d → ((nr : ℕ) → conditions_at profile.now.entries nr ≤ m)
+        → (steps : ℕ) × (steps ≤ 10 + 2 * d + 6 * m) × Runs filter call (meaning profile.now call) steps) }
 {
     let plain = ranges(alloc, profile)?;
     let split = with_singles(alloc, profile, plain.as_slice())?;
@@ -126,6 +129,12 @@ pub fn compile(alloc: Global, profile: &Profile) -> Result<Filter, CompileFault>
     // w counts the numbers that are named, each once.
     ensures few { IfOk result (λ filter. AreBare profile.now.entries → (call : SysCall) (d : ℕ) → IsCall call
         → HasDigits (2 * named_below profile.now.entries NUMBER_LIMIT + 1) d → (steps : ℕ) × (steps ≤ 5 + 2 * d) × Runs filter call (meaning profile.now call) steps) }
+
+    // Where the entries that name a number have at most m conditions, whatever the number is, it is six steps
+    // more for each of these, and five more in all.
+    ensures bounded { IfOk result (λ filter. (call : SysCall) (d m : ℕ) → IsCall call
+        → HasDigits (2 * named_below profile.now.entries NUMBER_LIMIT + 1) d → ((nr : ℕ) → conditions_at profile.now.entries nr ≤ m)
+        → (steps : ℕ) × (steps ≤ 10 + 2 * d + 6 * m) × Runs filter call (meaning profile.now call) steps) }
 {
     if is_heavy(profile) {
         return Err(CompileFault::TooLong);

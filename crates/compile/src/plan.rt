@@ -6,7 +6,7 @@ ghost use Rattle.call_data.specs.CallData.{IsCall};
 ghost use Rattle.oci_profile.specs.Decision.{value_of};
 ghost use Rattle.oci_profile.specs.Meaning.{decision_of};
 ghost use Rattle.compile.specs.Arms.{AreWhole, Plans, arms_value, leaf_sizes, leaf_size};
-ghost use Rattle.compile.specs.Sizes.{added_of, steps_of};
+ghost use Rattle.compile.specs.Sizes.{added_of, steps_at};
 
 use crate::arms::{Arm, Arms, alike_to, asked_arms, value_at};
 use crate::halves::high;
@@ -171,7 +171,7 @@ pub(crate) fn plan_for(
     ensures ranges { IfOk result (λ found. IfSome found (λ plan. AreWhole plan.starts.items plan.values.items)) }
     ensures short { IfOk result (λ found. IfSome found (λ plan.
         leaf_sizes plan.values.items plan.beyond (length plan.values.items) + 3 * length plan.starts.items ≤ added_of entries.now nr + 3)) }
-    ensures few { IfOk result (λ found. IfSome found (λ plan. 2 * length plan.starts.items + 5 ≤ steps_of entries.now)) }
+    ensures few { IfOk result (λ found. IfSome found (λ plan. 2 * length plan.starts.items + 5 ≤ steps_at entries.now nr)) }
 {
     let Some(asked) = asked_arms(alloc, entries, nr)? else {
         return Ok(None);
