@@ -10,7 +10,7 @@ use Rattle.oci_profile.specs.Meaning.{all_hold, names, decision_of}
 use Rattle.compile.specs.Bounds.{IsBare, named}
 use Rattle.compile.proofs.Leaves.{bare_holds}
 
-decision_from : (entries : List Entry) (default : Decision) (nr at : ℕ) (call : SysCall) (entry : Entry) → at < length entries → entry ≡ get_or entries at entry
+pub decision_from : (entries : List Entry) (default : Decision) (nr at : ℕ) (call : SysCall) (entry : Entry) → at < length entries → entry ≡ get_or entries at entry
     → decision_of (drop at entries) default nr call ≡ cond (names entry nr && all_hold entry call) entry.decision (decision_of (drop (at + 1) entries) default nr call)
 decision_from entries default nr at call entry inside is =
     at_drop_more (λ es. decision_of es default nr call) entries at entry inside

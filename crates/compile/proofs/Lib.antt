@@ -9,3 +9,7 @@ pub mod Splitting
 pub mod Trees
 pub mod Weights
 pub mod Assembled
+pub mod Asking
+pub mod Choices
+pub mod Lowering
+pub mod Planning

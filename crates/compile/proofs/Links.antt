@@ -1,15 +1,16 @@
 -- One entry in front of those that a number leads to.
-use Rattle.std.proofs.Common.{◌≡◌, ℕ, ◌+◌, ◌-◌, ◌*◌, ◌<◌, ◌≤◌, ◌==◌, ◌&&◌, Bool, true, false, cond, List, [], ◌∷◌, Option, Some, length, refl, sym, ap, ◌∙◌, subst, arith, add-one, drop, get_or}
+use Rattle.std.proofs.Common.{◌≡◌, ◌≢◌, ℕ, ◌+◌, ◌-◌, ◌*◌, ◌<◌, ◌≤◌, ◌==◌, ◌&&◌, Bool, true, false, cond, List, [], ◌∷◌, Option, Some, length, refl, sym, ap, ◌∙◌, subst, arith, add-one, drop, get_or}
 use Rattle.bpf_code.specs.declared.insn.Insn.{Insn}
 use Rattle.call_data.specs.declared.sys_call.SysCall.{SysCall}
 use Rattle.compile.specs.declared.chain.Known.{Known}
 use Rattle.compile.specs.Backward.{Gives, GivesAlways, Keeps, data_word}
+use Rattle.compile.specs.Arms.{arm_holds}
 use Rattle.compile.specs.Chains.{LinkGives}
 use Rattle.oci_profile.specs.declared.conditions.Cond.{Cond}
 use Rattle.oci_profile.specs.declared.conditions.Op.{Op}
 use Rattle.oci_profile.specs.declared.profile.Entry.{Entry}
 use Rattle.std.specs.Prelude.{slice_index}
-use Rattle.oci_profile.specs.declared.conditions.Op.TheVariants.{NotEqual, Equal}
+use Rattle.oci_profile.specs.declared.conditions.Op.TheVariants.{NotEqual, Less, LessOrEqual, Equal, GreaterOrEqual, Greater, MaskedEqual}
 use Rattle.oci_profile.specs.Meaning.{holds_on, all_of, all_hold, compares}
 use Rattle.std.proofs.Math.Seq.{drop-cons}
 use Rattle.std.proofs.lemmas.List.{drop_all}
@@ -57,7 +58,7 @@ true_is : (one : Bool) → (one && true) ≡ one
 true_is true = refl
 true_is false = refl
 
-one_holds : (conds : List Cond) (call : SysCall) → length conds ≡ 1 → all_of conds call ≡ holds_on (get_or conds 0 no_cond) call
+pub one_holds : (conds : List Cond) (call : SysCall) → length conds ≡ 1 → all_of conds call ≡ holds_on (get_or conds 0 no_cond) call
 one_holds [] call one = absurd (omega arith)
 one_holds (first ∷ []) call one = true_is (holds_on first call)
 one_holds (first ∷ second ∷ conds) call one = absurd (omega arith)
@@ -137,3 +138,23 @@ always_same code call place one other_test v value other m most same_test same_v
 pub holds_listed : (entry : Entry) (call : SysCall) (conds : List Cond) → conds ≡ entry.conds → all_hold entry call ≡ all_of (drop 0 conds) call
 unfolding all_hold
 holds_listed entry call conds same = ap (λ cs. all_of cs call) (sym same)
+
+-- without a mask the second number is not looked at
+two_unseen : (op : Op) (value two arg : ℕ) → op ≢ MaskedEqual → compares op value two arg ≡ compares op value 0 arg
+two_unseen NotEqual value two arg other = refl
+two_unseen Less value two arg other = refl
+two_unseen LessOrEqual value two arg other = refl
+two_unseen Equal value two arg other = refl
+two_unseen GreaterOrEqual value two arg other = refl
+two_unseen Greater value two arg other = refl
+two_unseen MaskedEqual value two arg other = absurd (other refl)
+
+pub arm_same : (entry : Entry) (call : SysCall) (conds : List Cond) (index value : ℕ) → conds ≡ entry.conds → length conds ≡ 1 → (get_or conds 0 no_cond).op ≢ MaskedEqual
+    → index ≡ (get_or conds 0 no_cond).index
+    → all_hold entry call ≡ arm_holds (record { op = (get_or conds 0 no_cond).op; with = (get_or conds 0 no_cond).value; value = value }) (slice_index call.args index)
+unfolding all_hold
+arm_same entry call conds index value same one op is =
+    let first : Cond = get_or conds 0 no_cond in
+    ap (λ cs. all_of cs call) (sym same) ∙ one_holds conds call one
+    ∙ ap (λ i. compares first.op first.value first.value_two (slice_index call.args i)) (sym is)
+    ∙ two_unseen first.op first.value first.value_two (slice_index call.args index) op

@@ -12,7 +12,8 @@ use Rattle.oci_profile.specs.declared.profile.Profile.{Profile}
 use Rattle.oci_profile.specs.Entries.{AreEntries, IsFit}
 use Rattle.oci_profile.specs.Meaning.{names, entry_weight, weight}
 use Rattle.compile.specs.Bounds.{named, named_below}
-use Rattle.compile.specs.Sizes.{IsAsLong, added_of, added_below}
+use Rattle.compile.proofs.Leaves.{counted_most}
+use Rattle.compile.specs.Sizes.{IsAsLong, added_of, added_below, steps_at}
 
 -- how many numbers below this one stand in a list, each counted once
 once_in : List ℕ → ℕ → ℕ
@@ -153,3 +154,18 @@ grows_above (suc n) = omega (arith, pow-suc 2 n, grows_above n)
 -- enough levels for any number of ranges
 pub levels_enough : (n : ℕ) → n ≤ 2 ^ n
 levels_enough n = omega (arith, grows_above n)
+
+-- enough steps for the entries of any number
+abbrev pub all_steps : List Entry → ℕ
+all_steps [] = 1
+all_steps (entry ∷ entries) = 6 * length entry.conds + all_steps entries
+
+pub steps_all : (entries : List Entry) (nr : ℕ) → steps_at entries nr ≤ all_steps entries
+steps_all [] nr = omega arith
+steps_all (entry ∷ entries) nr = omega (arith, counted_most (names entry nr) (length entry.conds), steps_all entries nr)
+
+pub four_times : (d : ℕ) → 2 ^ (d + 2) ≡ 4 * 2 ^ d
+four_times d =
+    let more : d + 2 ≡ suc (suc d) = omega arith in
+    let twice : 2 ^ suc (suc d) ≡ 4 * 2 ^ d = omega (arith, pow-suc 2 (suc d), pow-suc 2 d) in
+    ap (λ n. 2 ^ n) more ∙ twice

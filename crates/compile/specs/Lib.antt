@@ -4,4 +4,5 @@ pub mod Tests
 pub mod Chains
 pub mod Sizes
 pub mod Ranges
+pub mod Arms
 pub mod FaultText

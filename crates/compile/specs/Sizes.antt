@@ -4,7 +4,7 @@ use Rattle.std.specs.Prelude.{ℕ, zero, suc, ◌+◌, ◌*◌, ◌≤◌, ◌<�
 use Rattle.oci_profile.specs.declared.profile.Entry.{Entry}
 use Rattle.oci_profile.specs.declared.profile.Profile.{Profile}
 use Rattle.oci_profile.specs.Meaning.{names}
-use Rattle.compile.specs.Bounds.{AreBare}
+use Rattle.compile.specs.Bounds.{AreBare, conditions_at}
 use Rattle.compile.specs.declared.code.TheConstants.{RECENT}
 
 -- the instructions of the entries that name the number
@@ -17,14 +17,13 @@ unfoldable pub added_below : List Entry → ℕ → ℕ
 added_below entries zero = 0
 added_below entries (suc n) = added_of entries n + added_below entries n
 
--- the steps through the entries, and the return
-abbrev pub steps_of : List Entry → ℕ
-steps_of [] = 1
-steps_of (entry ∷ entries) = 6 * length entry.conds + steps_of entries
+-- the steps through the entries that name the number, and the return
+abbrev pub steps_at : List Entry → ℕ → ℕ
+steps_at entries nr = 1 + 6 * conditions_at entries nr
 
 -- so many steps are enough in a range: one test finds its single number, and a jump may lead to the rest
 abbrev pub IsEnough : Profile → ℕ → Type 0
-IsEnough profile most = (steps_of profile.entries + 2 ≤ most) ⊎ (AreBare profile.entries × (2 ≤ most))
+IsEnough profile most = ((nr : ℕ) → steps_at profile.entries nr + 2 ≤ most) ⊎ (AreBare profile.entries × (2 ≤ most))
 
 -- the instructions of one range, where the single number that is treated in another way is not its start
 unfoldable pub range_size : Profile → ℕ → ℕ → ℕ

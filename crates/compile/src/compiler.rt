@@ -1,4 +1,4 @@
-ghost use Rattle.std.specs.Prelude.{◌≡◌, ◌≤◌, ◌<◌, ◌+◌, ◌*◌, ◌^◌, ◌↔◌, ℕ, Err, IfOk, length};
+ghost use Rattle.std.specs.Prelude.{◌≡◌, ◌≤◌, ◌<◌, ◌+◌, ◌*◌, ◌^◌, ◌↔◌, ℕ, Err, IfOk, length, true};
 ghost use Rattle.bpf_code.specs.declared.limits.TheConstants.{MAX_INSNS};
 ghost use Rattle.bpf_machine.specs.Runs.{Runs};
 ghost use Rattle.bpf_verify.specs.Sound.{IsSound};
@@ -7,7 +7,7 @@ ghost use Rattle.call_data.specs.CallData.{IsCall};
 ghost use Rattle.oci_profile.specs.Meaning.{meaning, weight};
 ghost use Rattle.sys_table.specs.declared.table.TheConstants.{NUMBER_LIMIT};
 ghost use Rattle.compile.specs.declared.fault.CompileFault.{CompileFault};
-ghost use Rattle.compile.specs.Bounds.{AreBare, HasDigits, named_below};
+ghost use Rattle.compile.specs.Bounds.{AreBare, HasDigits, conditions_at, named_below};
 ghost use Rattle.compile.specs.Ranges.{AreSplit};
 ghost use Rattle.compile.specs.Sizes.{IsAsLong, IsEnough, split_size};
 
@@ -20,7 +20,7 @@ use crate::tree::tree;
 use crate::weight::is_heavy;
 use bpf_verify::Filter;
 use call_data::NATIVE_ARCH;
-use oci_profile::{Decision, Profile};
+use oci_profile::{Decision, Entry, Profile};
 use std::alloc::{AllocError, Global};
 
 /// The tests of the architecture and the number, and the tree over the ranges.
@@ -29,24 +29,60 @@ fn assemble(
     profile: &Profile,
     starts: &[u32],
     singles: &[u32],
+    shares: &[u64],
+    room: usize,
 ) -> Result<Filter, AllocError>
+    requires paired { length shares.now ≡ length starts.now }
+    requires room_in { length starts.now ≤ room }
     requires split { AreSplit profile.now starts.now singles.now }
     requires many { 2 ≤ length starts.now }
     requires short { split_size profile.now starts.now singles.now 0 (length starts.now) + 4 ≤ MAX_INSNS }
     ensures sound { IfOk result (λ filter. IsSound filter) }
     ensures long { IfOk result (λ filter. IsAsLong (split_size profile.now starts.now singles.now 0 (length starts.now)) (length filter)) }
-    ensures runs { IfOk result (λ filter. (call : SysCall) (levels most : ℕ) → IsCall call → IsEnough profile.now most → length starts.now ≤ 2 ^ levels
+    ensures runs { IfOk result (λ filter. (call : SysCall) (levels most : ℕ) → IsCall call → IsEnough profile.now most → room ≤ 2 ^ levels
         → (steps : ℕ) × (steps ≤ most + 2 * levels + 3) × Runs filter call (meaning profile.now call) steps) }
 {
     words();
     let mut code = Code::new(alloc);
     let kill = code.value(Decision::KillProcess.value())?;
-    tree(&mut code, profile, starts, singles, 0, starts.len())?;
+    tree(
+        &mut code,
+        alloc,
+        profile,
+        starts,
+        singles,
+        shares,
+        0,
+        starts.len(),
+        room,
+    )?;
     let native = code.load(0)?;
     let foreign = code.near(kill, REACH)?;
     code.jump(Test::Equal, NATIVE_ARCH, native, foreign)?;
     code.load(4)?;
     Ok(code.filter())
+}
+
+/// For how many ranges the tree has room: where there are conditions two levels more than are needed, so
+/// that numbers with conditions can be found by fewer tests than the others.
+fn room(profile: &Profile, many: usize) -> usize
+    ensures bare { AreBare profile.now.entries → result ≡ many }
+    ensures least { many ≤ result }
+    ensures most { result ≤ 4 * many }
+{
+    if are_bare(profile.entries.as_slice()) {
+        many
+    } else {
+        many.saturating_mul(4)
+    }
+}
+
+fn are_bare(entries: &[Entry]) -> bool
+    ensures { AreBare entries.now → result ≡ true }
+{
+    entries
+        .iter()
+        .all(|entry| entry.conds.as_slice().is_empty())
 }
 
 /// The filter of a profile that is light enough.
@@ -57,14 +93,20 @@ fn light_filter(alloc: Global, profile: &Profile) -> Result<Filter, AllocError>
     ensures means { IfOk result (λ filter. (call : SysCall) → IsCall call → (steps : ℕ) × Runs filter call (meaning profile.now call) steps) }
     ensures few { IfOk result (λ filter. AreBare profile.now.entries → (call : SysCall) (d : ℕ) → IsCall call
         → HasDigits (2 * named_below profile.now.entries NUMBER_LIMIT + 1) d → (steps : ℕ) × (steps ≤ 5 + 2 * d) × Runs filter call (meaning profile.now call) steps) }
+    ensures bounded { IfOk result (λ filter. (call : SysCall) (d m : ℕ) → IsCall call
+        → HasDigits (2 * named_below profile.now.entries NUMBER_LIMIT + 1) d → ((nr : ℕ) → conditions_at profile.now.entries nr ≤ m)
+        → (steps : ℕ) × (steps ≤ 10 + 2 * d + 6 * m) × Runs filter call (meaning profile.now call) steps) }
 {
     let plain = ranges(alloc, profile)?;
     let split = with_singles(alloc, profile, plain.as_slice())?;
+    let room = room(profile, split.starts.len());
     assemble(
         alloc,
         profile,
         split.starts.as_slice(),
         split.singles.as_slice(),
+        split.shares.as_slice(),
+        room,
     )
 }
 
@@ -87,6 +129,12 @@ pub fn compile(alloc: Global, profile: &Profile) -> Result<Filter, CompileFault>
     // w counts the numbers that are named, each once.
     ensures few { IfOk result (λ filter. AreBare profile.now.entries → (call : SysCall) (d : ℕ) → IsCall call
         → HasDigits (2 * named_below profile.now.entries NUMBER_LIMIT + 1) d → (steps : ℕ) × (steps ≤ 5 + 2 * d) × Runs filter call (meaning profile.now call) steps) }
+
+    // Where the entries that name a number have at most m conditions, whatever the number is, it is six steps
+    // more for each of these, and five more in all.
+    ensures bounded { IfOk result (λ filter. (call : SysCall) (d m : ℕ) → IsCall call
+        → HasDigits (2 * named_below profile.now.entries NUMBER_LIMIT + 1) d → ((nr : ℕ) → conditions_at profile.now.entries nr ≤ m)
+        → (steps : ℕ) × (steps ≤ 10 + 2 * d + 6 * m) × Runs filter call (meaning profile.now call) steps) }
 {
     if is_heavy(profile) {
         return Err(CompileFault::TooLong);

@@ -1,4 +1,4 @@
-ghost use Rattle.std.specs.Prelude.{◌≡◌, ◌≤◌, ◌<◌, ◌+◌, ◌*◌, ◌&&◌, ℕ, length, take, IfOk, IsTrue, OnOk, true, false, if◌then◌else◌};
+ghost use Rattle.std.specs.Prelude.{◌≡◌, ◌≤◌, ◌<◌, ◌+◌, ◌*◌, ◌^◌, ◌&&◌, ℕ, length, take, IfOk, IsTrue, OnOk, true, false, if◌then◌else◌};
 ghost use Rattle.std.specs.Bool.{OnFalse};
 ghost use Rattle.call_data.specs.declared.sys_call.SysCall.{SysCall};
 ghost use Rattle.call_data.specs.CallData.{IsCall};
@@ -7,13 +7,15 @@ ghost use Rattle.oci_profile.specs.Meaning.{all_hold, chosen, decision_of, names
 ghost use Rattle.compile.specs.Backward.{GivesAlways, Keeps};
 ghost use Rattle.compile.specs.Bounds.{AreBare, IsBare};
 ghost use Rattle.compile.specs.Chains.{LinkGives, Stands, owed};
-ghost use Rattle.compile.specs.Sizes.{added_of, steps_of};
+ghost use Rattle.compile.specs.Sizes.{added_of, steps_at};
 ghost use Rattle.compile.specs.declared.code.TheConstants.{RECENT};
 
 use crate::chain::{Chain, add_link, settle};
 use crate::code::Code;
+use crate::fan::fan;
+use crate::plan::plan_for;
 use oci_profile::{Decision, Entry, Profile, X32_BIT};
-use std::alloc::AllocError;
+use std::alloc::{AllocError, Global};
 
 /// Whether the entry decides of the number without a condition.
 pub(crate) fn decides(entry: &Entry, nr: u32) -> bool
@@ -43,7 +45,7 @@ fn add_named(code: &mut Code, entry: &Entry, nr: u32, chain: Chain) -> Result<Ch
     requires stands { Stands code.old chain.known chain.place }
     ensures gives { IfOk result (λ next. (call : SysCall) (other most : ℕ) → IsCall call → 0 < most
         → LinkGives code.old call chain.known chain.place other most
-        → LinkGives code.new call next.known next.place (if names entry.now nr && all_hold entry.now call then value_of entry.now.decision else other) (most + 6 * length entry.now.conds)) }
+        → LinkGives code.new call next.known next.place (if names entry.now nr && all_hold entry.now call then value_of entry.now.decision else other) (most + 6 * (if names entry.now nr then length entry.now.conds else 0))) }
     ensures stands { IfOk result (λ next. Stands code.new next.known next.place) }
     ensures longer { IfOk result (λ next. length code.new + owed next.known ≤ length code.old + owed chain.known + (if names entry.now nr then 1 + 6 * length entry.now.conds else 0)) }
     ensures keeps { Keeps code.old code.new }
@@ -65,7 +67,7 @@ fn chain_leaf(
     nr: u32,
 ) -> Result<usize, AllocError>
     ensures gives { IfOk result (λ at. (call : SysCall) → IsCall call
-        → GivesAlways code.new call at (value_of (decision_of entries.now last nr call)) (steps_of entries.now)) }
+        → GivesAlways code.new call at (value_of (decision_of entries.now last nr call)) (steps_at entries.now nr)) }
     ensures inside { IfOk result (λ at. at < length code.new) }
     ensures recent { IfOk result (λ at. length code.new ≤ at + RECENT) }
     ensures longer { OnOk result (length code.new ≤ length code.old + 1 + added_of entries.now nr) }
@@ -80,10 +82,39 @@ fn chain_leaf(
     settle(code, chain)
 }
 
-/// What the profile decides of a number, whatever is in A.
-pub(crate) fn leaf(code: &mut Code, profile: &Profile, nr: u32) -> Result<usize, AllocError>
+/// The same, as a choice by one argument where that is no longer.
+fn entries_leaf(
+    code: &mut Code,
+    alloc: Global,
+    entries: &[Entry],
+    last: &Decision,
+    nr: u32,
+) -> Result<usize, AllocError>
+    requires short { length code.old + added_of entries.now nr < 2 ^ 32 }
     ensures gives { IfOk result (λ at. (call : SysCall) → IsCall call
-        → GivesAlways code.new call at (chosen profile.now nr call) (steps_of profile.now.entries)) }
+        → GivesAlways code.new call at (value_of (decision_of entries.now last.now nr call)) (steps_at entries.now nr)) }
+    ensures inside { IfOk result (λ at. at < length code.new) }
+    ensures recent { IfOk result (λ at. length code.new ≤ at + RECENT) }
+    ensures longer { OnOk result (length code.new ≤ length code.old + 1 + added_of entries.now nr) }
+    ensures keeps { Keeps code.old code.new }
+    ensures grows { length code.old ≤ length code.new }
+{
+    let Some(plan) = plan_for(alloc, entries, *last, nr)? else {
+        return chain_leaf(code, entries, *last, nr);
+    };
+    fan(code, alloc, &plan)
+}
+
+/// What the profile decides of a number, whatever is in A.
+pub(crate) fn leaf(
+    code: &mut Code,
+    alloc: Global,
+    profile: &Profile,
+    nr: u32,
+) -> Result<usize, AllocError>
+    requires short { length code.old + added_of profile.now.entries nr < 2 ^ 32 }
+    ensures gives { IfOk result (λ at. (call : SysCall) → IsCall call
+        → GivesAlways code.new call at (chosen profile.now nr call) (steps_at profile.now.entries nr)) }
     ensures inside { IfOk result (λ at. at < length code.new) }
     ensures recent { IfOk result (λ at. length code.new ≤ at + RECENT) }
     ensures longer { OnOk result (length code.new ≤ length code.old + 1 + added_of profile.now.entries nr) }
@@ -96,5 +127,5 @@ pub(crate) fn leaf(code: &mut Code, profile: &Profile, nr: u32) -> Result<usize,
     }
     let entries = profile.entries.as_slice();
     let (end, last) = bare_end(entries, profile.default, nr);
-    chain_leaf(code, &entries[..end], last, nr)
+    entries_leaf(code, alloc, &entries[..end], &last, nr)
 }

@@ -2,18 +2,25 @@
 //!
 //! A filter's value is what its profile says, `specs/Meaning.antt` of `oci_profile`, at every call. Code is
 //! built from its end, where a place stays as it is while more is put in front (`code.rt`): first a number's
-//! entries (`leaf.rt`), in tests of 32-bit halves (`halves.rt`), then a balanced tree over ranges of numbers
-//! that are treated alike (`tree.rt`), then the test of the architecture (`compiler.rt`).
+//! entries (`leaf.rt`), in tests of 32-bit halves, one after another (`chain.rt`) or as a choice by one
+//! argument (`fan.rt`), then a tree over ranges of numbers that are treated alike (`tree.rt`), then the test
+//! of the architecture (`compiler.rt`).
 #![tactic(auto)]
 
+mod arms;
 mod chain;
+mod choice;
 mod code;
 mod compiler;
 mod condition;
+mod fan;
 mod fault;
 mod halves;
 mod leaf;
+mod lows;
+mod plan;
 mod ranges;
+mod shares;
 mod singles;
 mod tree;
 mod weight;

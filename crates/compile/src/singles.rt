@@ -5,6 +5,7 @@ ghost use Rattle.compile.specs.Ranges.{AreRanges, AreSplit, IsBetween};
 ghost use Rattle.compile.specs.Sizes.{range_size, split_size};
 
 use crate::ranges::{are_alike, decided};
+use crate::shares::shares;
 use oci_profile::Profile;
 use std::alloc::{AllocError, Global};
 
@@ -14,6 +15,8 @@ use std::alloc::{AllocError, Global};
 pub(crate) struct Ranges {
     pub(crate) starts: Vec<u32>,
     pub(crate) singles: Vec<u32>,
+    /// What each range counts where the tree over them is parted.
+    pub(crate) shares: Vec<u64>,
 }
 
 /// Makes one range of three whose outer ones are treated alike and whose inner one has one number: a test of
@@ -24,6 +27,7 @@ pub(crate) fn with_singles(
     starts: &[u32],
 ) -> Result<Ranges, AllocError>
     requires ranges { AreRanges profile.now starts.now }
+    ensures paired { IfOk result (λ ranges. length ranges.shares.items ≡ length ranges.starts.items) }
     ensures split { IfOk result (λ ranges. AreSplit profile.now ranges.starts.items ranges.singles.items) }
     ensures few { IfOk result (λ ranges. length ranges.starts.items ≤ length starts.now) }
     ensures many { IfOk result (λ ranges. 2 ≤ length starts.now → 2 ≤ length ranges.starts.items) }
@@ -39,9 +43,11 @@ pub(crate) fn with_singles(
         singles.push(single)?;
         at = next;
     }
+    let shares = shares(alloc, profile, news.as_slice(), singles.as_slice())?;
     Ok(Ranges {
         starts: news,
         singles,
+        shares,
     })
 }
 

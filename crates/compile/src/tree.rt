@@ -9,12 +9,14 @@ ghost use Rattle.compile.specs.declared.code.TheConstants.{RECENT};
 
 use crate::code::{Code, REACH, Test};
 use crate::leaf::leaf;
+use crate::shares::parting;
 use oci_profile::Profile;
-use std::alloc::AllocError;
+use std::alloc::{AllocError, Global};
 
 /// One range, the number being in A: its single number is tested first.
 fn range_leaf(
     code: &mut Code,
+    alloc: Global,
     profile: &Profile,
     start: u32,
     single: u32,
@@ -29,39 +31,36 @@ fn range_leaf(
     ensures keeps { Keeps code.old code.new }
     ensures grows { length code.old ≤ length code.new }
 {
-    let other = leaf(code, profile, start)?;
+    let other = leaf(code, alloc, profile, start)?;
     if single == start {
         return Ok(other);
     }
-    let hit = leaf(code, profile, single)?;
+    let hit = leaf(code, alloc, profile, single)?;
     let miss = code.near(other, REACH - 1)?;
     code.jump(Test::Equal, single, hit, miss)
 }
 
-/// The place between two that leaves as many on both sides, or one more on the second.
-fn half_way(from: usize, to: usize) -> usize
-    requires { from + 1 < to }
-    ensures inside { (from < result) × (result < to) }
-    ensures half { (result - from ≤ to - result) × (to - result ≤ result - from + 1) }
-{
-    from + (to - from) / 2
-}
-
-/// The tree over these ranges, the number being in A.
+/// The tree over the ranges from one to another, the number being in A. Each level has half the room of the
+/// one above it, so that no way is long, however the ranges are parted.
 pub(crate) fn tree(
     code: &mut Code,
+    alloc: Global,
     profile: &Profile,
     starts: &[u32],
     singles: &[u32],
+    shares: &[u64],
     from: usize,
     to: usize,
+    room: usize,
 ) -> Result<usize, AllocError>
+    requires paired { length shares.now ≡ length starts.now }
+    requires room_in { to - from ≤ room }
     requires split { AreSplit profile.now starts.now singles.now }
     requires some { from < to }
     requires to_in { to ≤ length starts.now }
     requires short { length code.old + split_size profile.now starts.now singles.now from (to - from) < 2 ^ 32 }
     ensures gives { IfOk result (λ at. (call : SysCall) (levels most : ℕ) → IsCall call → IsEnough profile.now most
-        → IsBetween starts.now from to call.nr → to - from ≤ 2 ^ levels
+        → IsBetween starts.now from to call.nr → room ≤ 2 ^ levels
         → Gives code.new call at call.nr (chosen profile.now call.nr call) (most + 2 * levels)) }
     ensures inside { IfOk result (λ at. at < length code.new) }
     ensures recent { IfOk result (λ at. length code.new ≤ at + RECENT) }
@@ -75,11 +74,16 @@ pub(crate) fn tree(
     ensures grows { length code.old ≤ length code.new }
 {
     if to - from == 1 {
-        return range_leaf(code, profile, starts[from], singles[from]);
+        return range_leaf(code, alloc, profile, starts[from], singles[from]);
     }
-    let middle = half_way(from, to);
-    let low = tree(code, profile, starts, singles, from, middle)?;
-    let high = tree(code, profile, starts, singles, middle, to)?;
+    let half = room - room / 2;
+    let middle = parting(shares, from, to, half);
+    let low = tree(
+        code, alloc, profile, starts, singles, shares, from, middle, half,
+    )?;
+    let high = tree(
+        code, alloc, profile, starts, singles, shares, middle, to, half,
+    )?;
     let miss = code.near(low, REACH - 1)?;
     code.jump(Test::GreaterOrEqual, starts[middle], high, miss)
 }

@@ -42,3 +42,43 @@ pub(crate) fn entry(
 ) -> Result<String, AllocError> {
     format!(in alloc; "{{\"names\":[{names}],\"action\":\"SCMP_ACT_{action}\"{more}}}")
 }
+
+/// Numbers at the edges of the halves.
+pub(crate) const EDGES: [u64; 8] = [
+    0,
+    1,
+    0xffff_ffff,
+    0x1_0000_0000,
+    0x1_0000_0001,
+    0x2_0000_0000,
+    0xffff_ffff_0000_0000,
+    u64::MAX,
+];
+
+pub(crate) const OPS: [&str; 7] = ["NE", "LT", "LE", "EQ", "GE", "GT", "MASKED_EQ"];
+
+pub(crate) const ACTIONS: [&str; 6] = ["ALLOW", "LOG", "TRAP", "KILL", "KILL_PROCESS", "ERRNO"];
+
+/// The next number of a fixed generator.
+pub(crate) fn next(state: u64) -> u64 {
+    state
+        .wrapping_mul(6_364_136_223_846_793_005)
+        .wrapping_add(1_442_695_040_888_963_407)
+}
+
+pub(crate) fn edge(state: u64) -> u64 {
+    EDGES[(state >> 33) as usize % 8]
+}
+
+/// A condition on this argument.
+pub(crate) fn cond(
+    alloc: Global,
+    index: u32,
+    op: &str,
+    value: u64,
+    two: u64,
+) -> Result<String, AllocError> {
+    format!(in alloc;
+        "{{\"index\":{index},\"value\":{value},\"valueTwo\":{two},\"op\":\"SCMP_CMP_{op}\"}}"
+    )
+}

@@ -1,4 +1,6 @@
-use crate::drawn_profiles::{call, entry, filter_of, profile_of};
+use crate::drawn_profiles::{
+    ACTIONS, EDGES, OPS, call, cond, edge, entry, filter_of, next, profile_of,
+};
 use bpf_machine::run;
 use bpf_verify::Filter;
 use compile::{CompileFault, compile};
@@ -6,39 +8,6 @@ use oci_profile::Profile;
 use std::alloc::{AllocError, Global};
 use std::test::Fail;
 use sys_table::name;
-
-const EDGES: [u64; 8] = [
-    0,
-    1,
-    0xffff_ffff,
-    0x1_0000_0000,
-    0x1_0000_0001,
-    0x2_0000_0000,
-    0xffff_ffff_0000_0000,
-    u64::MAX,
-];
-
-const OPS: [&str; 7] = ["NE", "LT", "LE", "EQ", "GE", "GT", "MASKED_EQ"];
-
-const ACTIONS: [&str; 6] = ["ALLOW", "LOG", "TRAP", "KILL", "KILL_PROCESS", "ERRNO"];
-
-/// The next number of a fixed generator.
-fn next(state: u64) -> u64 {
-    state
-        .wrapping_mul(6_364_136_223_846_793_005)
-        .wrapping_add(1_442_695_040_888_963_407)
-}
-
-fn edge(state: u64) -> u64 {
-    EDGES[(state >> 33) as usize % 8]
-}
-
-/// A condition on this argument.
-fn cond(alloc: Global, index: u32, op: &str, value: u64, two: u64) -> Result<String, AllocError> {
-    format!(in alloc;
-        "{{\"index\":{index},\"value\":{value},\"valueTwo\":{two},\"op\":\"SCMP_CMP_{op}\"}}"
-    )
-}
 
 /// Whether the filter returns what the profile says, at these numbers with edges for arguments.
 fn agree(filter: &Filter, profile: &Profile, from: u32, to: u32) -> bool {

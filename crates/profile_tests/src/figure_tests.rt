@@ -23,8 +23,8 @@ fn figures_of_the_default(rt: HostRuntime) -> Result<(), Fail> {
     let filter = filter_of(&rt, &profile)?;
     let (most, all) = steps_of(&filter);
     assert!(rt; filter.len() <= 62, "{}", filter.len());
-    assert!(rt; most <= 14, "{most}");
-    assert!(rt; all <= 4284, "{all}");
+    assert!(rt; most <= 12, "{most}");
+    assert!(rt; all <= 4170, "{all}");
     let mut with_args = 0;
     let mut plain = 0;
     for nr in 0..451 {
@@ -47,8 +47,8 @@ fn figures_of_the_default(rt: HostRuntime) -> Result<(), Fail> {
             plain = plain.max(steps);
         }
     }
-    assert!(rt; plain <= 10, "{plain}");
-    assert!(rt; with_args <= 18, "{with_args}");
+    assert!(rt; plain <= 11, "{plain}");
+    assert!(rt; with_args <= 16, "{with_args}");
     Ok(())
 }
 

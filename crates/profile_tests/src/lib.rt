@@ -3,6 +3,8 @@
 #![tactic(auto)]
 
 #[cfg(test)]
+mod argument_tests;
+#[cfg(test)]
 mod compare_tests;
 #[cfg(test)]
 mod default_tests;

@@ -6,7 +6,6 @@ use Rattle.oci_profile.specs.Decision.{value_of}
 use Rattle.oci_profile.specs.Meaning.{meaning}
 use Rattle.compile.specs.Backward.{Gives, GivesAlways}
 use Rattle.compile.specs.Ranges.{IsBetween}
-use Rattle.compile.proofs.Leaves.{steps_some}
 use Rattle.compile.proofs.Trees.{enough_steps}
 use Rattle.compile.proofs.Assembled.{assembled}
 use Rattle.compile.proofs.compiler.assemble.Goals as goal
@@ -17,7 +16,7 @@ returns-clause-runs c = λ call levels most is_call enough small.
     let starts : List ℕ = c.args.starts.now in
     let whole : List Insn = c.load-2.new.self in
     let between : IsBetween starts 0 (length starts) call.nr = record { above = omega (arith, c.requires.split.first); below = λ more. absurd (omega arith) } in
-    let some : 0 < most = omega (arith, enough_steps profile most enough, steps_some profile.entries) in
+    let some : 0 < most = omega (arith, enough_steps profile call.nr most enough) in
     let root = c.in_ok-tree.ensures.front (omega (arith, c.requires.many)) in
     let found = c.in_ok-tree.ensures.gives call levels most is_call enough between (omega (arith, small)) in
     let kills : GivesAlways c.load.new.self call c.in_ok-kill.kill (value_of KillProcess) 1 = λ a.

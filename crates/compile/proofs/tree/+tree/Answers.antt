@@ -18,19 +18,19 @@ returns-then-to-from-eq1-clause-longer t c =
 
 pub tree-requires : goal.tree-requires
 tree-requires t c =
-    let middle : ℕ = c.half_way-middle.result in
+    let middle : ℕ = c.parting-middle.result in
     let sizes = split_at c.args.profile.now c.args.starts.now c.args.singles.now c.args.from middle c.args.to (omega arith) (omega arith) in
-    (omega arith, (c.requires.split, (omega arith, (omega (arith, c.requires.to_in), omega (arith, c.requires.short)))))
+    (omega arith, (c.requires.paired, (omega (arith, c.parting-middle.ensures.room.0), (c.requires.split, (omega arith, (omega (arith, c.requires.to_in), omega (arith, c.requires.short)))))))
 
 pub tree-requires-2 : goal.tree-requires-2
 tree-requires-2 t c =
-    let middle : ℕ = c.half_way-middle.result in
+    let middle : ℕ = c.parting-middle.result in
     let sizes = split_at c.args.profile.now c.args.starts.now c.args.singles.now c.args.from middle c.args.to (omega arith) (omega arith) in
-    (omega arith, (c.requires.split, (omega arith, (c.requires.to_in, omega (arith, c.requires.short, c.in_ok-low.ensures.longer)))))
+    (omega arith, (c.requires.paired, (omega (arith, c.parting-middle.ensures.room.1), (c.requires.split, (omega arith, (c.requires.to_in, omega (arith, c.requires.short, c.in_ok-low.ensures.longer)))))))
 
 pub near-requires-clause-short : goal.near-requires-clause-short
 near-requires-clause-short t c =
-    let middle : ℕ = c.half_way-middle.result in
+    let middle : ℕ = c.parting-middle.result in
     let sizes = split_at c.args.profile.now c.args.starts.now c.args.singles.now c.args.from middle c.args.to (omega arith) (omega arith) in
     omega (arith, c.requires.short, c.in_ok-low.ensures.longer, c.in_ok-high.ensures.longer)
 
@@ -39,11 +39,11 @@ returns-clause-gives t c =
     let profile : Profile = c.args.profile.now in
     let starts : List ℕ = c.args.starts.now in
     let new : List Insn = c.jump.new.self in
-    let middle : ℕ = c.half_way-middle.result in
-    front_is (λ at. TreeGives profile starts new at c.args.from c.args.to) new c.jump.result c.jump.ensures.at
+    let middle : ℕ = c.parting-middle.result in
+    front_is (λ at. TreeGives profile starts new at c.args.from c.args.to c.args.room) new c.jump.result c.jump.ensures.at
     (on_ok_weaker c.jump.result (λ jumps.
-    node_gives profile starts c.tree.new.code c.tree-2.new.code c.near.new.self new c.args.from middle c.args.to c.in_ok-low.low c.in_ok-high.high c.in_ok-miss.miss
-    c.half_way-middle.ensures.inside.0 c.half_way-middle.ensures.inside.1 (omega (arith, c.requires.to_in, c.half_way-middle.ensures.inside.1)) c.half_way-middle.ensures.half.0 c.half_way-middle.ensures.half.1 c.in_ok-low.ensures.gives c.in_ok-high.ensures.gives c.in_ok-high.ensures.keeps
+    node_gives profile starts c.tree.new.code c.tree-2.new.code c.near.new.self new c.args.from middle c.args.to c.in_ok-low.low c.in_ok-high.high c.in_ok-miss.miss c.args.room
+    _ (omega (arith, c.requires.room_in, c.parting-middle.ensures.inside.0, c.parting-middle.ensures.inside.1)) (omega arith) c.in_ok-low.ensures.gives c.in_ok-high.ensures.gives c.in_ok-high.ensures.keeps
     (λ call a v m. c.in_ok-miss.ensures.gives call a v m) c.in_ok-miss.ensures.keeps (λ call a v m. jumps call a v m)) c.jump.ensures.gives)
 
 pub returns-then-to-from-eq1-clause-compact : goal.returns-then-to-from-eq1-clause-compact
@@ -52,7 +52,7 @@ returns-then-to-from-eq1-clause-compact t c =
 
 pub returns-clause-compact : goal.returns-clause-compact
 returns-clause-compact t c =
-    let middle : ℕ = c.half_way-middle.result in
+    let middle : ℕ = c.parting-middle.result in
     let sizes = split_at c.args.profile.now c.args.starts.now c.args.singles.now c.args.from middle c.args.to (omega arith) (omega arith) in
     on_ok_weaker c.jump.result (λ longer many small.
     let same = c.in_ok-miss.ensures.same (omega (arith, small, c.in_ok-low.ensures.longer, c.in_ok-high.ensures.longer)) in
@@ -60,6 +60,6 @@ returns-clause-compact t c =
 
 pub returns-clause-longer : goal.returns-clause-longer
 returns-clause-longer t c =
-    let middle : ℕ = c.half_way-middle.result in
+    let middle : ℕ = c.parting-middle.result in
     let sizes = split_at c.args.profile.now c.args.starts.now c.args.singles.now c.args.from middle c.args.to (omega arith) (omega arith) in
     on_ok_weaker c.jump.result (λ longer. omega (arith, longer, c.in_ok-low.ensures.longer, c.in_ok-high.ensures.longer, c.in_ok-miss.ensures.longer)) c.jump.ensures.longer

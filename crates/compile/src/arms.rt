@@ -1,0 +1,169 @@
+ghost use Rattle.std.specs.Bool.{OnFalse};
+ghost use Rattle.std.specs.Prelude.{◌≡◌, ◌≢◌, ◌≤◌, ◌<◌, ◌+◌, ◌*◌, ℕ, length, IfOk, IfSome, IsTrue, slice_index};
+ghost use Rattle.call_data.specs.declared.sys_call.SysCall.{SysCall};
+ghost use Rattle.oci_profile.specs.declared.decision.Decision.{Decision};
+ghost use Rattle.oci_profile.specs.Decision.{value_of};
+ghost use Rattle.oci_profile.specs.Meaning.{all_hold, compares, decision_of};
+ghost use Rattle.compile.specs.Arms.{arm_holds, arms_value};
+ghost use Rattle.compile.specs.Sizes.{added_of, steps_at};
+
+use oci_profile::{Cond, Entry, Op};
+use std::alloc::{AllocError, Global};
+
+/// An entry that asks for nothing but where one argument lies.
+#[derive(Clone, Copy)]
+pub(crate) struct Arm {
+    pub(crate) op: Op,
+    /// What the argument is compared with.
+    pub(crate) with: u64,
+    /// What is returned where it compares so.
+    pub(crate) value: u32,
+}
+
+impl Arm {
+    fn holds(&self, arg: u64) -> bool
+        ensures { result ≡ arm_holds self.now arg }
+    {
+        match self.op {
+            Op::NotEqual => arg != self.with,
+            Op::Less => arg < self.with,
+            Op::LessOrEqual => arg <= self.with,
+            Op::Equal => arg == self.with,
+            Op::GreaterOrEqual => arg >= self.with,
+            Op::Greater => arg > self.with,
+            Op::MaskedEqual => arg & self.with == 0,
+        }
+    }
+
+    /// A number up to which the arm holds as it does at this one, or does not hold as it does not here.
+    fn reach(&self, from: u64) -> u64
+        ensures from_in { from ≤ result }
+        ensures alike { (arg : ℕ) → from ≤ arg → arg ≤ result → arm_holds self.now arg ≡ arm_holds self.now from }
+    {
+        match self.op {
+            Op::Equal | Op::NotEqual => {
+                if from == self.with {
+                    from
+                } else {
+                    below(from, self.with)
+                }
+            }
+            Op::Less | Op::GreaterOrEqual => below(from, self.with),
+            Op::LessOrEqual | Op::Greater => {
+                if from <= self.with {
+                    self.with
+                } else {
+                    u64::MAX
+                }
+            }
+            Op::MaskedEqual => from,
+        }
+    }
+}
+
+/// The last number below an edge, or the last of all behind it.
+fn below(from: u64, edge: u64) -> u64
+    ensures from_in { from ≤ result }
+    ensures before { from < edge → result + 1 ≡ edge }
+{
+    if from < edge { edge - 1 } else { u64::MAX }
+}
+
+/// What is returned for this argument.
+pub(crate) fn value_at(arms: &[Arm], arg: u64, other: u32) -> u32
+    ensures { result ≡ arms_value arms.now arg other }
+{
+    for arm in arms {
+        if arm.holds(arg) {
+            return arm.value;
+        }
+    }
+    other
+}
+
+/// The last argument, up to one, to which from this one on the same is returned.
+pub(crate) fn alike_to(arms: &[Arm], from: u64, last: u64) -> u64
+    requires { from ≤ last }
+    ensures inside { (from ≤ result) × (result ≤ last) }
+    ensures alike { (arg other : ℕ) → from ≤ arg → arg ≤ result → arms_value arms.now arg other ≡ arms_value arms.now from other }
+{
+    let mut end = last;
+    for arm in arms {
+        end = end.min(arm.reach(from));
+    }
+    end
+}
+
+/// The entry as an arm, if it asks this argument where it lies, and nothing else.
+fn arm_of(entry: &Entry, index: u32) -> Option<Arm>
+    ensures index_in { IfSome result (λ _. index < 6) }
+    ensures one { IfSome result (λ _. length entry.now.conds ≡ 1) }
+    ensures value { IfSome result (λ arm. arm.value ≡ value_of entry.now.decision) }
+    ensures same { IfSome result (λ arm. (call : SysCall) → all_hold entry.now call ≡ arm_holds arm (slice_index call.args index)) }
+{
+    let conds = entry.conds.as_slice();
+    if !is_single(conds) || u32::from(conds[0].index) != index || is_masked(conds[0].op) {
+        return None;
+    }
+    Some(Arm {
+        op: conds[0].op,
+        with: conds[0].value,
+        value: entry.decision.value(),
+    })
+}
+
+/// The argument that the first of these entries asks that names the number and has conditions.
+fn asked(entries: &[Entry], nr: u32) -> u32 {
+    for entry in entries {
+        if let ([cond, ..], true) = (entry.conds.as_slice(), entry.names(nr)) {
+            return u32::from(cond.index);
+        }
+    }
+    0
+}
+
+/// What the entries that name a number ask of one argument, in order.
+#[derive(Drop)]
+pub(crate) struct Arms {
+    /// Which argument.
+    pub(crate) index: u32,
+    pub(crate) arms: Vec<Arm>,
+}
+
+/// The entries that name the number as arms, if each of them asks the same argument where it lies, and
+/// nothing else.
+pub(crate) fn asked_arms(
+    alloc: Global,
+    entries: &[Entry],
+    nr: u32,
+) -> Result<Option<Arms>, AllocError>
+    ensures same { IfOk result (λ found. IfSome found (λ it. (last : Decision) (call : SysCall)
+        → value_of (decision_of entries.now last nr call) ≡ arms_value it.arms.items (slice_index call.args it.index) (value_of last))) }
+    ensures index_in { IfOk result (λ found. IfSome found (λ it. 0 < length it.arms.items → it.index < 6)) }
+    ensures many { IfOk result (λ found. IfSome found (λ it. 7 * length it.arms.items ≤ added_of entries.now nr)) }
+    ensures steps { IfOk result (λ found. IfSome found (λ it. 6 * length it.arms.items + 1 ≤ steps_at entries.now nr)) }
+{
+    let index = asked(entries, nr);
+    let mut arms = Vec::new(alloc);
+    for entry in entries {
+        if entry.names(nr) {
+            match arm_of(entry, index) {
+                Some(arm) => arms.push(arm)?,
+                None => return Ok(None),
+            }
+        }
+    }
+    Ok(Some(Arms { index, arms }))
+}
+
+fn is_single(conds: &[Cond]) -> bool
+    ensures { IsTrue result → length conds.now ≡ 1 }
+{
+    conds.len() == 1
+}
+
+fn is_masked(op: Op) -> bool
+    ensures { OnFalse result (op ≢ Op.MaskedEqual) }
+{
+    matches!(op, Op::MaskedEqual)
+}
