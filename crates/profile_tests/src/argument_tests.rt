@@ -131,3 +131,30 @@ fn drawn_conditions(rt: HostRuntime) -> Result<(), Fail> {
     }
     Ok(())
 }
+
+// What was said before is said again, in an entry that can't be reached: it costs nothing.
+#[test]
+fn entries_that_are_hidden(rt: HostRuntime) -> Result<(), Fail> {
+    let pair = "{\"names\":[\"read\"],\"action\":\"SCMP_ACT_TRAP\",\"args\":[
+        {\"index\":0,\"value\":16,\"op\":\"SCMP_CMP_EQ\"},{\"index\":2,\"value\":7,\"op\":\"SCMP_CMP_EQ\"}]}";
+    let protocol = "{\"names\":[\"read\"],\"action\":\"SCMP_ACT_ALLOW\",\"args\":[
+        {\"index\":2,\"value\":9,\"op\":\"SCMP_CMP_NE\"}]}";
+    let family = asks(rt.alloc(), "LOG", "NE", 16)?;
+    let said = format!(in rt.alloc(); "{pair},{protocol},{family}")?;
+    let again = format!(in rt.alloc(); "{pair},{protocol},{family},{protocol}")?;
+    let short = filter_of(&rt, &profile_of(&rt, "ERRNO", said.as_str())?)?;
+    let profile = profile_of(&rt, "ERRNO", again.as_str())?;
+    let filter = filter_of(&rt, &profile)?;
+    assert_eq!(rt; filter.len(), short.len());
+    for first in [15, 16, 17, 0x1_0000_0010] {
+        for third in [7, 9, 0x1_0000_0009] {
+            let call = call(0, first, third);
+            assert_eq!(rt;
+                run(&filter, &call).value,
+                profile.value_on(&call),
+                "{first} {third}"
+            );
+        }
+    }
+    Ok(())
+}
