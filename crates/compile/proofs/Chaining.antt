@@ -1,5 +1,5 @@
 -- What the entries of a profile decide of one number, as chains from the last entry to the first.
-use Rattle.std.proofs.Common.{◌≡◌, ℕ, ◌+◌, ◌-◌, ◌*◌, ◌<◌, ◌≤◌, ◌&&◌, inl, inr, Bool, true, false, cond, List, [], ◌∷◌, ◌++◌, Option, Some, None, length, refl, sym, ap, ◌∙◌, subst, arith, drop, take, get_or}
+use Rattle.std.proofs.Common.{◌≡◌, ℕ, ◌+◌, ◌-◌, ◌*◌, ◌<◌, ◌≤◌, inl, inr, Bool, true, false, cond, List, [], ◌∷◌, ◌++◌, Option, Some, None, length, refl, sym, ap, ◌∙◌, subst, arith, drop, take, get_or}
 use Rattle.std.specs.Prelude.{◌||◌}
 use Rattle.std.specs.List.{list_any}
 use Rattle.std.proofs.lemmas.Bool.{cases_Bool}
@@ -11,16 +11,14 @@ use Rattle.call_data.specs.CallData.{IsCall}
 use Rattle.oci_profile.specs.declared.decision.Decision.{Decision}
 use Rattle.oci_profile.specs.declared.profile.Entry.{Entry}
 use Rattle.oci_profile.specs.Decision.{value_of}
-use Rattle.oci_profile.specs.Meaning.{all_hold, names, decision_of}
+use Rattle.oci_profile.specs.Meaning.{names, decision_of}
 use Rattle.compile.specs.declared.chain.Known.{Known}
 use Rattle.compile.specs.declared.chain.Chain.{Chain}
 use Rattle.compile.specs.Backward.{Keeps}
-use Rattle.compile.specs.Bounds.{conditions_at}
 use Rattle.compile.specs.Chains.{ChainGives, IsHidden, LinkGives, Stands, applies, owed}
 use Rattle.compile.specs.Sizes.{added_of, steps_at}
 use Rattle.compile.proofs.Asking.{added_from, conditions_from}
 use Rattle.compile.proofs.Deciding.{decision_from}
-use Rattle.compile.proofs.Leaves.{value_of-cond}
 use Rattle.compile.proofs.Words.{GivesAlways-more}
 
 LinkGives-more : (code : List Insn) (call : SysCall) (link : Option Known) (place value most more : ℕ) → most ≤ more → LinkGives code call link place value most → LinkGives code call link place value more

@@ -1,11 +1,9 @@
 -- What the entries of a profile decide of one number, as chains.
-use Rattle.std.proofs.Common.{◌≡◌, ℕ, zero, suc, ◌+◌, ◌-◌, ◌*◌, ◌<◌, ◌≤◌, ◌&&◌, Bool, true, false, cond, List, [], ◌∷◌, ◌++◌, Option, Some, None, length, refl, sym, ap, ◌∙◌, subst, arith, drop, take, get_or}
+use Rattle.std.proofs.Common.{◌≡◌, ℕ, zero, suc, ◌+◌, ◌*◌, ◌<◌, ◌≤◌, ◌&&◌, Bool, true, false, cond, List, [], ◌∷◌, ◌++◌, Option, Some, None, length, refl, sym, ap, ◌∙◌, subst, arith, take, get_or}
 use Rattle.std.proofs.lemmas.List.{take_more}
-use Rattle.std.proofs.Math.Seq.{drop-cons}
 use Rattle.std.proofs.lemmas.List.Elements.{All-get_or}
 use Rattle.bpf_code.specs.declared.insn.Insn.{Insn}
 use Rattle.call_data.specs.declared.sys_call.SysCall.{SysCall}
-use Rattle.call_data.specs.CallData.{IsCall}
 use Rattle.oci_profile.specs.declared.conditions.Cond.{Cond}
 use Rattle.oci_profile.specs.declared.decision.Decision.{Decision}
 use Rattle.oci_profile.specs.declared.decision.Decision.TheVariants.{KillProcess}
@@ -16,11 +14,9 @@ use Rattle.std.proofs.lemmas.Bool.Decides.{nat_tests}
 use Rattle.oci_profile.specs.Decision.{value_of}
 use Rattle.oci_profile.specs.Meaning.{all_of, all_hold, names, decision_of, chosen}
 use Rattle.compile.specs.declared.chain.Known.{Known}
-use Rattle.compile.specs.declared.chain.Chain.{Chain}
-use Rattle.compile.specs.Backward.{Keeps}
 use Rattle.compile.specs.Bounds.{IsBare, AreBare, conditions_at}
-use Rattle.compile.specs.Chains.{LinkGives, Stands, owed}
-use Rattle.compile.specs.Sizes.{added_of, steps_at}
+use Rattle.compile.specs.Chains.{LinkGives}
+use Rattle.compile.specs.Sizes.{added_of}
 use Rattle.compile.proofs.Words.{GivesAlways-more}
 
 none_hold : (conds : List Cond) (call : SysCall) → length conds ≡ 0 → all_of conds call ≡ true

@@ -1,17 +1,20 @@
-ghost use Rattle.std.specs.Prelude.{◌≡◌, ◌<◌, ◌&&◌, IsTrue, true, false, length, take, slice_index_or};
-ghost use Rattle.std.specs.List.{list_any};
+ghost use Rattle.std.specs.Prelude.{◌≡◌, ◌&&◌, IsTrue, true, false};
 ghost use Rattle.call_data.specs.declared.sys_call.SysCall.{SysCall};
 ghost use Rattle.oci_profile.specs.declared.conditions.Cond.{Cond};
 ghost use Rattle.oci_profile.specs.declared.profile.Entry.{Entry};
-ghost use Rattle.oci_profile.specs.Meaning.{all_hold, all_of, holds_on, names};
+ghost use Rattle.oci_profile.specs.Meaning.{all_hold, all_of, holds_on};
 ghost use Rattle.compile.specs.Chains.{IsHidden};
 
 use oci_profile::{Cond, Entry, Op};
 
-/// Whether an entry before this one applies wherever this one does.
+/// Whether an entry before this one applies wherever this one does, as it does to no call of a number that it
+/// does not name.
 pub(crate) fn is_hidden(before: &[Entry], entry: &Entry, nr: u32) -> bool
     ensures { IsTrue result → (call : SysCall) → IsHidden before.now entry.now nr call }
 {
+    if !entry.names(nr) {
+        return true;
+    }
     for earlier in before {
         if earlier.names(nr) && hides(earlier, entry) {
             return true;

@@ -28,7 +28,7 @@ fn asks(alloc: Global, action: &str, op: &str, value: u64) -> Result<String, All
     entry(alloc, "\"read\"", action, args.as_str())
 }
 
-// Each operator against each on one argument, at numbers that overlap, touch, and stand at edges of the halves.
+// Each operator against each on one argument, at numbers that overlap, touch, and stand at the halves' edges.
 #[test]
 fn operators_against_each_other(rt: HostRuntime) -> Result<(), Fail> {
     let values = [1, 0xffff_ffff, 0x1_0000_0000];

@@ -1,4 +1,4 @@
-use Rattle.compile.proofs.Chaining.{chain_start, chain_more, chain_whole}
+use Rattle.compile.proofs.Chaining.{chain_more}
 use Rattle.compile.proofs.leaf.chain_leaf.Goals as goal
 
 pub loop-done-preserved : goal.loop-done-preserved
