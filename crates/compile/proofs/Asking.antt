@@ -1,5 +1,5 @@
 -- Entries that ask one argument where it lies, as arms.
-use Rattle.std.proofs.Common.{◌≡◌, ℕ, ◌+◌, ◌*◌, ◌<◌, ◌≤◌, ◌&&◌, Bool, true, false, cond, List, [], ◌∷◌, ◌++◌, length, refl, sym, ap, ◌∙◌, arith, drop, take, get_or, length-append}
+use Rattle.std.proofs.Common.{◌≡◌, ℕ, ◌+◌, ◌*◌, ◌<◌, ◌≤◌, ◌&&◌, true, false, cond, List, [], ◌∷◌, ◌++◌, length, refl, sym, ap, ◌∙◌, arith, drop, take, get_or, length-append}
 use Rattle.std.proofs.lemmas.List.{take_more, at_drop_more}
 use Rattle.std.specs.Prelude.{slice_index}
 use Rattle.call_data.specs.declared.sys_call.SysCall.{SysCall}
@@ -10,7 +10,7 @@ use Rattle.oci_profile.specs.Meaning.{all_hold, names, decision_of}
 use Rattle.compile.specs.declared.arms.Arm.{Arm}
 use Rattle.compile.specs.Arms.{arm_holds, arms_value}
 use Rattle.compile.specs.Bounds.{conditions_at}
-use Rattle.compile.specs.Sizes.{added_of, steps_at}
+use Rattle.compile.specs.Sizes.{added_of}
 use Rattle.compile.proofs.Deciding.{decision_from}
 use Rattle.compile.proofs.Leaves.{value_of-cond}
 

@@ -1,11 +1,9 @@
 -- What the entries of a profile decide of one number, as chains.
-use Rattle.std.proofs.Common.{◌≡◌, ℕ, zero, suc, ◌+◌, ◌-◌, ◌*◌, ◌<◌, ◌≤◌, ◌&&◌, Bool, true, false, cond, List, [], ◌∷◌, ◌++◌, Option, Some, None, length, refl, sym, ap, ◌∙◌, subst, arith, drop, take, get_or}
+use Rattle.std.proofs.Common.{◌≡◌, ℕ, zero, suc, ◌+◌, ◌*◌, ◌<◌, ◌≤◌, ◌&&◌, Bool, true, false, cond, List, [], ◌∷◌, ◌++◌, Option, Some, None, length, refl, sym, ap, ◌∙◌, subst, arith, take, get_or}
 use Rattle.std.proofs.lemmas.List.{take_more}
-use Rattle.std.proofs.Math.Seq.{drop-cons}
 use Rattle.std.proofs.lemmas.List.Elements.{All-get_or}
 use Rattle.bpf_code.specs.declared.insn.Insn.{Insn}
 use Rattle.call_data.specs.declared.sys_call.SysCall.{SysCall}
-use Rattle.call_data.specs.CallData.{IsCall}
 use Rattle.oci_profile.specs.declared.conditions.Cond.{Cond}
 use Rattle.oci_profile.specs.declared.decision.Decision.{Decision}
 use Rattle.oci_profile.specs.declared.decision.Decision.TheVariants.{KillProcess}
@@ -16,11 +14,9 @@ use Rattle.std.proofs.lemmas.Bool.Decides.{nat_tests}
 use Rattle.oci_profile.specs.Decision.{value_of}
 use Rattle.oci_profile.specs.Meaning.{all_of, all_hold, names, decision_of, chosen}
 use Rattle.compile.specs.declared.chain.Known.{Known}
-use Rattle.compile.specs.declared.chain.Chain.{Chain}
-use Rattle.compile.specs.Backward.{Keeps}
 use Rattle.compile.specs.Bounds.{IsBare, AreBare, conditions_at}
-use Rattle.compile.specs.Chains.{LinkGives, Stands, owed}
-use Rattle.compile.specs.Sizes.{added_of, steps_at}
+use Rattle.compile.specs.Chains.{LinkGives}
+use Rattle.compile.specs.Sizes.{added_of}
 use Rattle.compile.proofs.Words.{GivesAlways-more}
 
 none_hold : (conds : List Cond) (call : SysCall) → length conds ≡ 0 → all_of conds call ≡ true
@@ -66,15 +62,6 @@ unnamed_link code call (Some known) place value other most more true holds unnam
 unnamed_link code call (Some known) place value other most more false holds unnamed larger gives =
     ((gives.0.0, omega (arith, gives.0.1), gives.0.2), GivesAlways-more code call known.check _ most more gives.1 larger)
 
--- what a loop over the entries from the last one has put so far
-pub record ChainSoFar (old code : List Insn) (chain : Chain) (entries : List Entry) (last : Decision) (nr done : ℕ) : Type 0 where
-  pub gives : (call : SysCall) → IsCall call
-      → LinkGives code call chain.known chain.place (value_of (decision_of (drop (length entries - done) entries) last nr call)) (steps_at (drop (length entries - done) entries) nr)
-  pub stands : Stands code chain.known chain.place
-  pub short : length code + owed chain.known ≤ length old + 1 + added_of (drop (length entries - done) entries) nr
-  pub keeps : Keeps old code
-  pub grows : length old ≤ length code
-
 pub value_of-cond : (b : Bool) (one other : Decision) → value_of (cond b one other) ≡ cond b (value_of one) (value_of other)
 value_of-cond true one other = refl
 value_of-cond false one other = refl
@@ -108,35 +95,3 @@ x32_chosen profile nr call large = ap (λ b. cond b (value_of KillProcess) (valu
 pub native_chosen : (profile : Profile) (nr : ℕ) (call : SysCall) → nr < 0x40000000 → chosen profile nr call ≡ value_of (decision_of profile.entries profile.default nr call)
 unfolding chosen
 native_chosen profile nr call small = ap (λ b. cond b (value_of KillProcess) (value_of (decision_of profile.entries profile.default nr call))) (below nr 0x40000000 small)
-
-link_put : (code : List Insn) (call : SysCall) (link : Option Known) (place : ℕ) (applies : Bool) (one other : Decision) (conds rest : ℕ)
-    → LinkGives code call link place (cond applies (value_of one) (value_of other)) (1 + 6 * rest + 6 * conds) → LinkGives code call link place (value_of (cond applies one other)) (1 + 6 * (conds + rest))
-link_put code call link place applies one other conds rest gives =
-    let sum : 1 + 6 * (conds + rest) ≡ 1 + 6 * rest + 6 * conds = omega arith in
-    rw (value_of-cond applies one other, sum) gives
-
--- one more entry put
-pub chain_more : (old code new : List Insn) (chain next : Chain) (entries : List Entry) (last : Decision) (nr done : ℕ) (entry : Entry) → done < length entries
-    → entry ≡ get_or entries (length entries - 1 - done) entry → ChainSoFar old code chain entries last nr done
-    → ((call : SysCall) (other most : ℕ) → IsCall call → 0 < most → LinkGives code call chain.known chain.place other most
-    → LinkGives new call next.known next.place (cond (names entry nr && all_hold entry call) (value_of entry.decision) other) (most + 6 * cond (names entry nr) (length entry.conds) 0))
-    → Stands new next.known next.place → length new + owed next.known ≤ length code + owed chain.known + cond (names entry nr) (1 + 6 * length entry.conds) 0
-    → Keeps code new → length code ≤ length new → ChainSoFar old new next entries last nr (done + 1)
-chain_more old code new chain next entries last nr done entry inside is so_far adds stands short keeps grows =
-    let rest : List Entry = drop (length entries - done) entries in
-    let at : ℕ = length entries - 1 - done in
-    let index : suc at ≡ length entries - done = omega arith in
-    let now : length entries - (done + 1) ≡ at = omega arith in
-    let at_in : at < length entries = omega arith in
-    let whole : drop (length entries - (done + 1)) entries ≡ entry ∷ rest =
-    ap (λ n. drop n entries) now ∙ drop-cons entries at entry at_in ∙ ap (λ n. get_or entries at entry ∷ drop n entries) index ∙ ap (λ (e : Entry). e ∷ rest) (sym is) in
-    record {
-      gives = λ call is_call.
-          let P : List Entry → Type 0 = λ es. LinkGives new call next.known next.place (value_of (decision_of es last nr call)) (steps_at es nr) in
-          let put = adds call (value_of (decision_of rest last nr call)) (steps_at rest nr) is_call (omega arith) (so_far.gives call is_call) in
-          subst P (sym whole) (link_put new call next.known next.place (names entry nr && all_hold entry call) entry.decision (decision_of rest last nr call) (cond (names entry nr) (length entry.conds) 0) (conditions_at rest nr) put);
-      stands = stands;
-      short = omega (arith, ap (λ es. added_of es nr) whole, so_far.short, short);
-      keeps = λ call place a value most gives. keeps call place a value most (so_far.keeps call place a value most gives);
-      grows = omega (arith, so_far.grows, grows);
-    }

@@ -10,6 +10,7 @@ pub mod Trees
 pub mod Weights
 pub mod Assembled
 pub mod Asking
+pub mod Chaining
 pub mod Choices
 pub mod Lowering
 pub mod Planning

@@ -1,10 +1,10 @@
 -- The ranges of lower halves, from the lowest one on.
-use Rattle.std.proofs.Common.{◌≡◌, ◌≢◌, ℕ, ◌+◌, ◌-◌, ◌*◌, ◌^◌, ◌<◌, ◌≤◌, ◌⊎◌, inl, inr, List, [], ◌∷◌, ◌++◌, Option, Some, None, length, refl, sym, ap, ◌∙◌, arith, length-append}
+use Rattle.std.proofs.Common.{◌≡◌, ℕ, ◌+◌, ◌-◌, ◌*◌, ◌<◌, ◌≤◌, inl, inr, List, [], ◌∷◌, ◌++◌, Option, Some, length, sym, ap, ◌∙◌, arith, length-append}
 use Rattle.std.specs.Prelude.{slice_index}
 use Rattle.std.proofs.lemmas.Bool.{cases_lt}
 use Rattle.std.proofs.lemmas.Option.{same_Some}
 use Rattle.compile.specs.declared.arms.Arm.{Arm}
-use Rattle.compile.specs.Arms.{arms_value, AreLows, AreWhole}
+use Rattle.compile.specs.Arms.{arms_value, AreLows}
 use Rattle.compile.specs.Ranges.{IsBetween}
 use Rattle.compile.proofs.Scanning.{index_front, index_last}
 

@@ -1,5 +1,5 @@
 -- A plan's returns, and the choice among them, as code.
-use Rattle.std.proofs.Common.{◌≡◌, ◌≢◌, ℕ, ◌+◌, ◌*◌, ◌/◌, ◌%◌, ◌^◌, ◌<◌, ◌≤◌, ◌==◌, inl, inr, Bool, true, false, cond, List, [], ◌∷◌, ◌++◌, length, length-append, refl, sym, ap, ◌∙◌, subst, arith, add-one}
+use Rattle.std.proofs.Common.{◌≡◌, ℕ, ◌+◌, ◌*◌, ◌/◌, ◌%◌, ◌^◌, ◌<◌, ◌≤◌, ◌==◌, inl, inr, Bool, true, false, cond, List, [], ◌∷◌, ◌++◌, length, length-append, sym, ap, ◌∙◌, subst, arith, add-one}
 use Rattle.std.specs.Prelude.{slice_index}
 use Rattle.std.proofs.lemmas.Bool.{cases_lt, cases_eq, eq-eqb}
 use Rattle.std.proofs.lemmas.Bool.Decides.{nat_tests}
@@ -9,8 +9,7 @@ use Rattle.compile.specs.declared.plan.Plan.{Plan}
 use Rattle.compile.specs.Arms.{AreWhole, Plans, leaf_size, leaf_sizes}
 use Rattle.compile.specs.Backward.{Gives, GivesAlways, Keeps, data_word}
 use Rattle.compile.specs.Ranges.{IsBetween}
-use Rattle.compile.proofs.Building.{gives_more}
-use Rattle.compile.proofs.Choices.{PlacesGive, ChoiceGives}
+use Rattle.compile.proofs.Choices.{ChoiceGives}
 use Rattle.compile.proofs.Scanning.{index_front, index_last}
 use Rattle.compile.proofs.Words.{GivesAlways-more}
 

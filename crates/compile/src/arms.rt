@@ -3,7 +3,7 @@ ghost use Rattle.std.specs.Prelude.{◌≡◌, ◌≢◌, ◌≤◌, ◌<◌, �
 ghost use Rattle.call_data.specs.declared.sys_call.SysCall.{SysCall};
 ghost use Rattle.oci_profile.specs.declared.decision.Decision.{Decision};
 ghost use Rattle.oci_profile.specs.Decision.{value_of};
-ghost use Rattle.oci_profile.specs.Meaning.{all_hold, compares, decision_of};
+ghost use Rattle.oci_profile.specs.Meaning.{all_hold, decision_of};
 ghost use Rattle.compile.specs.Arms.{arm_holds, arms_value};
 ghost use Rattle.compile.specs.Sizes.{added_of, steps_at};
 

@@ -1,18 +1,20 @@
-ghost use Rattle.std.specs.Prelude.{◌≡◌, ◌≤◌, ◌<◌, ◌+◌, ◌*◌, ◌^◌, ◌&&◌, ℕ, length, take, IfOk, IsTrue, OnOk, true, false, if◌then◌else◌};
+ghost use Rattle.std.specs.Prelude.{◌≡◌, ◌≤◌, ◌<◌, ◌+◌, ◌*◌, ◌^◌, ◌&&◌, ℕ, length, take, drop, IfOk, IsTrue, OnOk, true, false, if◌then◌else◌};
 ghost use Rattle.std.specs.Bool.{OnFalse};
 ghost use Rattle.call_data.specs.declared.sys_call.SysCall.{SysCall};
 ghost use Rattle.call_data.specs.CallData.{IsCall};
+ghost use Rattle.oci_profile.specs.declared.decision.Decision.{Decision};
 ghost use Rattle.oci_profile.specs.Decision.{value_of};
 ghost use Rattle.oci_profile.specs.Meaning.{all_hold, chosen, decision_of, names};
 ghost use Rattle.compile.specs.Backward.{GivesAlways, Keeps};
 ghost use Rattle.compile.specs.Bounds.{AreBare, IsBare};
-ghost use Rattle.compile.specs.Chains.{LinkGives, Stands, owed};
+ghost use Rattle.compile.specs.Chains.{ChainGives, LinkGives, Stands, owed};
 ghost use Rattle.compile.specs.Sizes.{added_of, steps_at};
 ghost use Rattle.compile.specs.declared.code.TheConstants.{RECENT};
 
 use crate::chain::{Chain, add_link, settle};
 use crate::code::Code;
 use crate::fan::fan;
+use crate::hiding::is_hidden;
 use crate::plan::plan_for;
 use oci_profile::{Decision, Entry, Profile, X32_BIT};
 use std::alloc::{AllocError, Global};
@@ -58,6 +60,31 @@ fn add_named(code: &mut Code, entry: &Entry, nr: u32, chain: Chain) -> Result<Ch
     }
 }
 
+/// Puts the entry at a place in front, if it names the number and is not hidden by an entry before it.
+fn add_seen(
+    code: &mut Code,
+    entries: &[Entry],
+    at: usize,
+    nr: u32,
+    chain: Chain,
+) -> Result<Chain, AllocError>
+    requires at_in { at < length entries.now }
+    requires stands { Stands code.old chain.known chain.place }
+    ensures gives { IfOk result (λ next. (call : SysCall) (last : Decision) → IsCall call
+        → ChainGives code.old call chain.known chain.place entries.now last nr (at + 1) → ChainGives code.new call next.known next.place entries.now last nr at) }
+    ensures stands { IfOk result (λ next. Stands code.new next.known next.place) }
+    ensures longer { IfOk result (λ next. length code.new + owed next.known + added_of (drop (at + 1) entries.now) nr ≤ length code.old + owed chain.known + added_of (drop at entries.now) nr) }
+    ensures keeps { Keeps code.old code.new }
+    ensures grows { length code.old ≤ length code.new }
+{
+    let entry = &entries[at];
+    if is_hidden(&entries[..at], entry, nr) {
+        Ok(chain)
+    } else {
+        add_named(code, entry, nr, chain)
+    }
+}
+
 /// What the entries decide of a number, the last entry put first: the first that names the number and
 /// whose conditions all hold, else this.
 fn chain_leaf(
@@ -77,7 +104,7 @@ fn chain_leaf(
     let place = code.value(last.value())?;
     let mut chain = Chain { place, known: None };
     for done in 0..entries.len() {
-        chain = add_named(code, &entries[entries.len() - 1 - done], nr, chain)?;
+        chain = add_seen(code, entries, entries.len() - 1 - done, nr, chain)?;
     }
     settle(code, chain)
 }

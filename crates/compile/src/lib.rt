@@ -16,6 +16,7 @@ mod condition;
 mod fan;
 mod fault;
 mod halves;
+mod hiding;
 mod leaf;
 mod lows;
 mod plan;

@@ -28,7 +28,7 @@ fn asks(alloc: Global, action: &str, op: &str, value: u64) -> Result<String, All
     entry(alloc, "\"read\"", action, args.as_str())
 }
 
-// Each operator against each on one argument, at numbers that overlap, touch, and stand at edges of the halves.
+// Each operator against each on one argument, at numbers that overlap, touch, and stand at the halves' edges.
 #[test]
 fn operators_against_each_other(rt: HostRuntime) -> Result<(), Fail> {
     let values = [1, 0xffff_ffff, 0x1_0000_0000];
@@ -128,6 +128,33 @@ fn drawn_conditions(rt: HostRuntime) -> Result<(), Fail> {
         let profile = profile_of(&rt, "ERRNO", entries.as_str())?;
         let filter = filter_of(&rt, &profile)?;
         assert!(rt; agree_at(&filter, &profile, &EDGES), "{entries}");
+    }
+    Ok(())
+}
+
+// What was said before is said again, in an entry that can't be reached: it costs nothing.
+#[test]
+fn entries_that_are_hidden(rt: HostRuntime) -> Result<(), Fail> {
+    let pair = "{\"names\":[\"read\"],\"action\":\"SCMP_ACT_TRAP\",\"args\":[
+        {\"index\":0,\"value\":16,\"op\":\"SCMP_CMP_EQ\"},{\"index\":2,\"value\":7,\"op\":\"SCMP_CMP_EQ\"}]}";
+    let protocol = "{\"names\":[\"read\"],\"action\":\"SCMP_ACT_ALLOW\",\"args\":[
+        {\"index\":2,\"value\":9,\"op\":\"SCMP_CMP_NE\"}]}";
+    let family = asks(rt.alloc(), "LOG", "NE", 16)?;
+    let said = format!(in rt.alloc(); "{pair},{protocol},{family}")?;
+    let again = format!(in rt.alloc(); "{pair},{protocol},{family},{protocol}")?;
+    let short = filter_of(&rt, &profile_of(&rt, "ERRNO", said.as_str())?)?;
+    let profile = profile_of(&rt, "ERRNO", again.as_str())?;
+    let filter = filter_of(&rt, &profile)?;
+    assert_eq!(rt; filter.len(), short.len());
+    for first in [15, 16, 17, 0x1_0000_0010] {
+        for third in [7, 9, 0x1_0000_0009] {
+            let call = call(0, first, third);
+            assert_eq!(rt;
+                run(&filter, &call).value,
+                profile.value_on(&call),
+                "{first} {third}"
+            );
+        }
     }
     Ok(())
 }

@@ -1,4 +1,4 @@
-use Rattle.std.proofs.Common.{arith, min}
+use Rattle.std.proofs.Common.{arith}
 use Rattle.compile.proofs.Asking.{alike_more}
 use Rattle.compile.proofs.arms.alike_to.Goals as goal
 

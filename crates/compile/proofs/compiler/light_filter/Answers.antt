@@ -8,7 +8,7 @@ use Rattle.oci_profile.specs.declared.profile.Profile.{Profile}
 use Rattle.oci_profile.specs.Meaning.{meaning, weight}
 use Rattle.sys_table.specs.declared.table.TheConstants.{NUMBER_LIMIT}
 use Rattle.compile.specs.Bounds.{AreBare, HasDigits, conditions_at, named_below}
-use Rattle.compile.specs.Sizes.{IsAsLong, IsEnough, added_below, split_size, steps_at}
+use Rattle.compile.specs.Sizes.{IsAsLong, IsEnough, added_below, split_size}
 use Rattle.compile.proofs.Weights.{light_fits, levels_enough, no_heavier, all_steps, steps_all, four_times}
 use Rattle.compile.proofs.compiler.light_filter.Goals as goal
 

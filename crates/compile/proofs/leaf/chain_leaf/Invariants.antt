@@ -1,4 +1,4 @@
-use Rattle.compile.proofs.Leaves.{ChainSoFar}
+use Rattle.compile.proofs.Chaining.{ChainSoFar}
 use Rattle.compile.proofs.leaf.chain_leaf.Given as goal
 
 abbrev pub invariant-loop-done : goal.invariant-loop-done

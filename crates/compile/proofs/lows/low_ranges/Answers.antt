@@ -1,7 +1,7 @@
 use Rattle.std.proofs.Common.{◌≡◌, ℕ, ◌+◌, ◌-◌, ◌*◌, ◌<◌, ◌≤◌, ◌∙◌, List, refl, sym, ap, arith}
 use Rattle.compile.specs.declared.arms.Arm.{Arm}
 use Rattle.compile.specs.Arms.{arms_value}
-use Rattle.compile.proofs.Lowering.{IsStretch, low_same, low_more, low_end}
+use Rattle.compile.proofs.Lowering.{IsStretch, low_same, low_more}
 use Rattle.compile.proofs.lows.low_ranges.Goals as goal
 use Rattle.compile.proofs.lows.low_ranges.Goals.{then-not-is_same+in_ok-push+in_ok-push-2, else-not-is_same}
 
