@@ -1,6 +1,7 @@
 //! The manifests that the command line names.
 
 use crate::stops::AgentStop;
+use checker::{text_spot, yaml_hint};
 use manifest::{Pod, PodFault};
 use runtime_server::{ServerStop, bytes_at};
 use std::rt;
@@ -14,6 +15,10 @@ pub(crate) fn pod_at<'a, R: rt::Files + AllocGlobal>(
     match manifest::read(rt.alloc(), &bytes) {
         Ok(pod) => Ok(pod),
         Err(PodFault::Memory) => Err(AgentStop::Server(ServerStop::Memory)),
+        Err(PodFault::NotJson) => {
+            let spot = text_spot(rt.alloc(), &bytes);
+            Err(AgentStop::NoJson(path, spot, yaml_hint(&bytes)))
+        }
         Err(fault) => Err(AgentStop::Manifest(path, fault)),
     }
 }

@@ -1,3 +1,4 @@
+use checker::{Hint, Spot};
 use command_line::LineFault;
 use manifest::PodFault;
 use runtime_server::{ServerStop, Told};
@@ -12,6 +13,8 @@ pub(crate) enum AgentStop<'a> {
     Server(ServerStop<'a>),
     /// A manifest is refused.
     Manifest(&'a str, PodFault),
+    /// A manifest is no JSON: from where on, and what is said besides.
+    NoJson(&'a str, Spot, Hint),
     /// The node does not admit the pod of a manifest.
     Pod(&'a str, worker_core::NodeRefusal),
     /// The history of the node has no room for a claim.
@@ -28,7 +31,7 @@ impl AgentStop<'_> {
     {
         match self {
             AgentStop::Server(stop) => stop.status(),
-            AgentStop::Manifest(_, _) | AgentStop::Pod(_, _) => 1,
+            AgentStop::Manifest(_, _) | AgentStop::NoJson(_, _, _) | AgentStop::Pod(_, _) => 1,
             AgentStop::HistoryFull => 4,
         }
     }
@@ -50,6 +53,10 @@ impl fmt::Display for AgentStop<'_> {
                 f,
             ),
             AgentStop::Manifest(path, fault) => writeln!(f, "nodeagent: {path}: {fault}"),
+            AgentStop::NoJson(path, spot, hint) => writeln!(
+                f,
+                "nodeagent: {path}{spot}: NotJson{hint}"
+            ),
             AgentStop::Pod(path, refusal) => writeln!(f, "nodeagent: {path}: {refusal}"),
             AgentStop::HistoryFull => writeln!(f, "nodeagent: HistoryFull"),
         }

@@ -1,5 +1,5 @@
 -- What is read and printed where two filters are compared, this project's own: docs/SEMANTICS.md, "Programs".
-use Rattle.std.specs.Prelude.{ℕ, ◌==◌, ⊤, Bool, true, false, not, ◌||◌, List, ◌++◌, codes, position, Option, Some, None, Result, Ok, Err, slice_index}
+use Rattle.std.specs.Prelude.{ℕ, ◌==◌, ⊤, Bool, true, false, not, ◌||◌, ◌&&◌, nat_le, List, ◌++◌, codes, position, Option, Some, None, Result, Ok, Err, slice_index}
 use Rattle.std.specs.Fmt.{decimal, digits}
 use Rattle.action.specs.Verdict.{name_of, verdict_of}
 use Rattle.bpf_compare.specs.declared.comparison.Comparison.{Comparison}
@@ -24,6 +24,21 @@ brace_at bytes (Some first) = slice_index bytes first == 123
 -- the first byte that is no white space begins an object
 abbrev pub begins_object : List ℕ → Bool
 begins_object bytes = brace_at bytes (position (λ byte. not (is_space byte)) bytes)
+
+abbrev pub is_letter : ℕ → Bool
+is_letter byte = (nat_le 65 byte && nat_le byte 90) || (nat_le 97 byte && nat_le byte 122)
+
+-- a key, `-`, `#` or `%`: YAML 1.2, sections 5.3 and 6
+abbrev pub is_yaml_start : ℕ → Bool
+is_yaml_start byte = is_letter byte || byte == 45 || byte == 35 || byte == 37
+
+abbrev pub yaml_at : List ℕ → Option ℕ → Bool
+yaml_at bytes None = false
+yaml_at bytes (Some first) = is_yaml_start (slice_index bytes first)
+
+-- the first byte that is no white space begins YAML
+abbrev pub begins_yaml : List ℕ → Bool
+begins_yaml bytes = yaml_at bytes (position (λ byte. not (is_space byte)) bytes)
 
 -- a value, its action and data
 abbrev pub value_text : ℕ → List ℕ

@@ -1,6 +1,6 @@
 //! What `seccheck compare` reads and prints.
 ghost use Rattle.std.specs.Prelude.{◌≡◌, ◌<◌, IfOk, IfSome, length, not, position, string_bytes};
-ghost use Rattle.checker.specs.Compared.{begins_object, is_space, reason_of, same_text, told_of};
+ghost use Rattle.checker.specs.Compared.{begins_object, begins_yaml, is_letter, is_space, is_yaml_start, reason_of, same_text, told_of};
 
 use crate::stop::Stop;
 use action::Verdict;
@@ -21,6 +21,28 @@ pub(crate) fn is_profile(bytes: &[u8]) -> bool
         Some(first) => bytes[first] == b'{',
         None => false,
     }
+}
+
+/// Whether a text begins as YAML does: its first byte that is no white space is a letter, `-`, `#` or `%`.
+pub fn begins_yaml(bytes: &[u8]) -> bool
+    ensures { result ≡ begins_yaml bytes.now }
+{
+    match begin(bytes) {
+        Some(first) => is_yaml_start(bytes[first]),
+        None => false,
+    }
+}
+
+fn is_yaml_start(byte: u8) -> bool
+    ensures { result ≡ is_yaml_start byte }
+{
+    is_letter(byte) || byte == b'-' || byte == b'#' || byte == b'%'
+}
+
+fn is_letter(byte: u8) -> bool
+    ensures { result ≡ is_letter byte }
+{
+    (b'A' <= byte && byte <= b'Z') || (b'a' <= byte && byte <= b'z')
 }
 
 /// Where the first byte is that is no white space.

@@ -20,5 +20,6 @@ mod stop;
 mod words;
 
 pub use judging::{Judged, judge};
+pub use notes::{Hint, Spot, text_spot, yaml_hint};
 pub use playing::{Outcome, play};
 pub use seccheck::seccheck_run;

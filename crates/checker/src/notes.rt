@@ -1,7 +1,9 @@
 //! What helps a person who sees that a file is refused: which file, where in it, and what stands there.
 ghost use Rattle.std.specs.Prelude.{◌≡◌};
+ghost use Rattle.checker.specs.Compared.{begins_yaml};
 ghost use Rattle.checker.specs.NoteText.{refusal_name, refusal_spot};
 
+use crate::compared::begins_yaml;
 use crate::stop::Stop;
 use bpf_code::{CodeFault, Insn};
 use bpf_verify::{Fault, Refusal};
@@ -10,11 +12,12 @@ use node_io::{MAX_FILE_BYTES, read_file};
 use oci_profile::ProfileFault;
 use script::ScriptFault;
 use serde_json::Value;
+use std::alloc::Global;
 use std::{fmt, rt};
 
 /// Where in a file something stands.
 #[derive(Clone, Copy, Debug, PartialEq, Eq)]
-pub(crate) enum Spot {
+pub enum Spot {
     /// Nowhere that could be told.
     Whole,
     /// The instruction at this place, from 0.
@@ -29,7 +32,14 @@ pub(crate) struct Note<'a> {
     path: &'a str,
     spot: Spot,
     fault: Named,
+    hint: Hint,
     insn: Option<Insn>,
+}
+
+/// What is said besides of a text that is no JSON: that it begins as YAML, if it does.
+#[derive(Clone, Copy, Debug, PartialEq, Eq)]
+pub struct Hint {
+    pub is_yaml: bool,
 }
 
 /// The fault that a file is refused for, by its name.
@@ -54,6 +64,21 @@ impl fmt::Display for Spot {
             Spot::Whole => Ok(()),
             Spot::At(place) => write!(f, ": {place}"),
             Spot::Text(line, column) => write!(f, ": line {line}, column {column}"),
+        }
+    }
+}
+
+impl fmt::Display for Hint {
+    ghost use Rattle.std.specs.Prelude.{Some};
+    ghost use Rattle.checker.specs.NoteText.{hint_text};
+
+    ghost output = { λ hint. Some (hint_text hint) };
+
+    fn fmt<W: fmt::Write>(&self, f: &mut fmt::Formatter<W>) -> fmt::Result {
+        if self.is_yaml {
+            f.write_str(" (JSON is wanted, and no YAML)")
+        } else {
+            Ok(())
         }
     }
 }
@@ -83,10 +108,10 @@ impl fmt::Display for Note<'_> {
     ghost output = { λ note. Some (note_text note) };
 
     fn fmt<W: fmt::Write>(&self, f: &mut fmt::Formatter<W>) -> fmt::Result {
-        let (path, spot, fault) = (self.path, self.spot, self.fault);
+        let (path, spot, fault, hint) = (self.path, self.spot, self.fault, self.hint);
         match self.insn {
-            Some(insn) => writeln!(f, "seccheck: {path}{spot}: {fault}: {insn}"),
-            None => writeln!(f, "seccheck: {path}{spot}: {fault}"),
+            Some(insn) => writeln!(f, "seccheck: {path}{spot}: {fault}{hint}: {insn}"),
+            None => writeln!(f, "seccheck: {path}{spot}: {fault}{hint}"),
         }
     }
 }
@@ -167,6 +192,7 @@ fn filter_note<'a, R: rt::Files + AllocGlobal>(
         path,
         spot,
         fault: Named::Filter(refusal),
+        hint: Hint { is_yaml: false },
         insn,
     }
 }
@@ -185,24 +211,41 @@ fn text_note<'a, R: rt::Files + AllocGlobal>(
     fault: Named,
     is_text: bool,
 ) -> Note<'a> {
-    let spot = if is_text {
-        json_spot(rt, path).unwrap_or(Spot::Whole)
+    let (spot, hint) = if is_text {
+        json_note(rt, path)
     } else {
-        Spot::Whole
+        (Spot::Whole, Hint { is_yaml: false })
     };
     Note {
         path,
         spot,
         fault,
+        hint,
         insn: None,
     }
 }
 
-// Where a text ceases to be JSON.
-fn json_spot<R: rt::Files + AllocGlobal>(rt: &R, path: &str) -> Option<Spot> {
-    let bytes = read_file(rt, path, MAX_FILE_BYTES).ok()?;
-    match Value::from_slice(rt.alloc(), &bytes) {
-        Err(error) if error.line() > 0 => Some(Spot::Text(error.line(), error.column())),
-        _ => None,
+// Of a file that is no JSON.
+fn json_note<R: rt::Files + AllocGlobal>(rt: &R, path: &str) -> (Spot, Hint) {
+    match read_file(rt, path, MAX_FILE_BYTES) {
+        Ok(bytes) => (text_spot(rt.alloc(), &bytes), yaml_hint(&bytes)),
+        Err(_) => (Spot::Whole, Hint { is_yaml: false }),
+    }
+}
+
+/// What is said besides of a text that is no JSON.
+pub fn yaml_hint(bytes: &[u8]) -> Hint
+    ensures { result.is_yaml ≡ begins_yaml bytes.now }
+{
+    Hint {
+        is_yaml: begins_yaml(bytes),
+    }
+}
+
+/// Where a text ceases to be JSON, by its parser.
+pub fn text_spot(alloc: Global, bytes: &[u8]) -> Spot {
+    match Value::from_slice(alloc, bytes) {
+        Err(error) if error.line() > 0 => Spot::Text(error.line(), error.column()),
+        _ => Spot::Whole,
     }
 }
