@@ -112,8 +112,8 @@ fn light_filter(alloc: Global, profile: &Profile) -> Result<Filter, AllocError>
 
 /// Compiles a profile to a filter.
 ///
-/// A balanced tree finds the call's number among ranges of numbers that the profile treats alike; a number
-/// with conditions leads to its entries in order.
+/// A tree finds the call's number among ranges of numbers that the profile treats alike; a number with
+/// conditions leads to its entries in order, or to a choice among ranges of the one argument that they ask.
 pub fn compile(alloc: Global, profile: &Profile) -> Result<Filter, CompileFault>
     // Told whether there is memory or not; what else is refused is refused for want of memory.
     ensures long { (result ≡ Err CompileFault.TooLong) ↔ (MAX_INSNS < weight profile.now) }
