@@ -86,7 +86,8 @@ enum motchidu_status motchidu_compile(const uint8_t *profile, size_t profile_len
  * *longest becomes the most instructions that a way through the filter has, whatever the call: no run
  * takes more steps.
  */
-enum motchidu_status motchidu_longest(const uint8_t *filter, size_t filter_len, uint32_t *longest, size_t *at);
+enum motchidu_status motchidu_longest(const uint8_t *filter, size_t filter_len,
+                                      uint32_t *longest, size_t *at);
 
 /*
  * Checks the filter of filter_len bytes.
@@ -156,13 +157,15 @@ static inline enum motchidu_status motchidu_longest_or_null(const uint8_t *filte
     return (motchidu_longest)(filter, filter_len, longest, at ? at : &nowhere);
 }
 
-static inline enum motchidu_status motchidu_verify_or_null(const uint8_t *filter, size_t filter_len, size_t *at)
+static inline enum motchidu_status motchidu_verify_or_null(const uint8_t *filter, size_t filter_len,
+                                                           size_t *at)
 {
     size_t nowhere = 0;
     return (motchidu_verify)(filter, filter_len, at ? at : &nowhere);
 }
 
-#define motchidu_longest(filter, filter_len, longest, at) motchidu_longest_or_null(filter, filter_len, longest, at)
+#define motchidu_longest(filter, filter_len, longest, at) \
+    motchidu_longest_or_null(filter, filter_len, longest, at)
 #define motchidu_verify(filter, filter_len, at) motchidu_verify_or_null(filter, filter_len, at)
 
 #ifdef __cplusplus

@@ -143,10 +143,10 @@ static void expect_longest(const char *name, const void *code, size_t len, uint3
 
 /* In the order of their numbers. */
 static const char *const names[] = {
-    "Accepted", "Length", "TooLong", "BadCode", "Empty", "BadOffset", "BadJump", "BadWord", "BadShift", "ZeroDivisor",
-    "NoFinalReturn", "Unstored", "Memory", "Lengths", "NotJson", "NotObject", "Missing", "WrongType", "UnknownAction",
-    "UnknownOp", "BadIndex", "EmptyNames", "RepeatedIndex", "ErrnoNotAllowed", "ErrnoTooLarge", "UnknownCall", "Notify",
-    "TooLarge", "TooHeavy", "NoRoom", "Unknown",
+    "Accepted", "Length", "TooLong", "BadCode", "Empty", "BadOffset", "BadJump", "BadWord", "BadShift",
+    "ZeroDivisor", "NoFinalReturn", "Unstored", "Memory", "Lengths", "NotJson", "NotObject", "Missing",
+    "WrongType", "UnknownAction", "UnknownOp", "BadIndex", "EmptyNames", "RepeatedIndex", "ErrnoNotAllowed",
+    "ErrnoTooLarge", "UnknownCall", "Notify", "TooLarge", "TooHeavy", "NoRoom", "Unknown",
 };
 
 static void expect_names(void) {

@@ -66,7 +66,8 @@ impl LostCall {
         }
     }
 
-    /// A call that was lost on its way, with what its wire says. Only a read or a write that failed has a cause.
+    /// A call that was lost on its way, with what its wire says. Only a read or a write that failed has a
+    /// cause.
     pub(crate) fn on_the_way(lost: Lost, cause: Option<Cause>) -> LostCall {
         let why = match lost {
             Lost::WriteFailed(_) | Lost::ReadFailed => cause.map(Why::Failed),

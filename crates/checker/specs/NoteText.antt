@@ -1,4 +1,5 @@
--- What is told on standard error of a file that is refused, this project's own: docs/SEMANTICS.md, "Programs".
+-- What is told on standard error of a file that is refused, this project's own: docs/SEMANTICS.md,
+-- "Programs".
 use Rattle.std.specs.Prelude.{ℕ, List, [], ◌++◌, Bool, true, false, codes, Option, Some, None}
 use Rattle.std.specs.Fmt.{decimal}
 use Rattle.bpf_code.specs.Text.{text_of}

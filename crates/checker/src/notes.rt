@@ -153,8 +153,8 @@ fn refusal_spot(refusal: Refusal) -> Spot
     }
 }
 
-/// What is told of the file that a stop refuses. What stands where the fault is, is read off the file once more;
-/// where that is not to be had, it is left out.
+/// What is told of the file that a stop refuses. What stands where the fault is, is read off the file once
+/// more; where that is not to be had, it is left out.
 pub(crate) fn note_of<'a, R: rt::Files + AllocGlobal>(rt: &R, stop: &Stop<'a>) -> Option<Note<'a>> {
     match stop {
         Stop::Refused(path, refusal) | Stop::StackFilter(path, refusal) => {

@@ -1,5 +1,5 @@
--- Why the system refuses a call on a file, a folder or a socket, by its number (errno(3)) or the kind that std makes of
--- that, and the words for it, this project's own: docs/SEMANTICS.md, "Programs".
+-- Why the system refuses a call on a file, a folder or a socket, by its number (errno(3)) or the kind that
+-- std makes of that, and the words for it, this project's own: docs/SEMANTICS.md, "Programs".
 use Rattle.std.specs.Prelude.{ℕ, ℤ, ◌==◌, ◌||◌, unsigned_abs, if◌then◌else◌, List, ◌++◌, codes, Option, Some, None}
 use Rattle.std.specs.Fmt.{decimal}
 use Rattle.std.specs.declared.io.ErrorKind.{ErrorKind}

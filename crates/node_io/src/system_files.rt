@@ -31,8 +31,8 @@ impl<'a, R> Model for SystemFiles<'a, R> {
 }
 
 impl<'a, R: rt::Files + AllocGlobal> SystemFiles<'a, R> {
-    /// Those below a folder: a path that is empty, absolute or has a part `..` leads to none, and below the empty
-    /// folder none does.
+    /// Those below a folder: a path that is empty, absolute or has a part `..` leads to none, and below the
+    /// empty folder none does.
     pub fn within(rt: &'a R, folder: &'a str) -> SystemFiles<'a, R>
         ensures { result ≡ record { folder = Some folder.now; failures = 0 } }
     {
@@ -112,8 +112,8 @@ fn climbs(path: &str) -> bool
     path.split('/').any(|part| part == "..")
 }
 
-/// The bytes of a regular file of the system, by any path, if they are no more than the limit. What else stands at
-/// the path is not opened, and counts as a failure, and so does a read that is interrupted.
+/// The bytes of a regular file of the system, by any path, if they are no more than the limit. What else
+/// stands at the path is not opened, and counts as a failure, and so does a read that is interrupted.
 pub fn read_file<R: rt::Files + AllocGlobal>(
     rt: &R,
     path: &str,

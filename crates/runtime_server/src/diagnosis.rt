@@ -1,5 +1,5 @@
-//! What is wrong with the files of a request, in the order in which a runtime judges them: the script, then the
-//! profile. A request that is refused for another reason is told without.
+//! What is wrong with the files of a request, in the order in which a runtime judges them: the script, then
+//! the profile. A request that is refused for another reason is told without.
 
 use compile::{CompileFault, compile};
 use cri_msgs::{Answer, Call, Refusal, Request};

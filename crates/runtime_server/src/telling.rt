@@ -64,8 +64,8 @@ pub fn refusal_name(refusal: Refusal) -> &'static str
     }
 }
 
-/// What a runtime was asked over a connection, what it answered, and what is wrong with the request's files where
-/// that is known.
+/// What a runtime was asked over a connection, what it answered, and what is wrong with the request's files
+/// where that is known.
 pub(crate) fn reply_line(
     alloc: Global,
     connection: u64,
