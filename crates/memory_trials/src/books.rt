@@ -220,7 +220,7 @@ struct Audits<L: Ledger> {
 /// What these told: whether the receipts stand, how many entries there are, whether the book is closed, and
 /// whether the part ended.
 #[derive(PartialEq, Drop)]
-struct Audited {
+struct Findings {
     stand: bool,
     entries: u64,
     closed: bool,
@@ -238,9 +238,9 @@ fn auditing<L: Ledger>(alloc: Global, blank: Blank) -> Option<Audits<L>>
 }
 
 impl<L: Ledger> Trial for Audits<L> {
-    type Answer = Audited;
+    type Answer = Findings;
 
-    fn call(&mut self) -> Audited {
+    fn call(&mut self) -> Findings {
         let stand = audit(
             self.book.before(),
             self.book.history(),
@@ -250,7 +250,7 @@ impl<L: Ledger> Trial for Audits<L> {
         self.book.close();
         let closed = self.book.is_closed();
         let ended = self.book.end_part(&mut self.tally).is_ok();
-        Audited {
+        Findings {
             stand,
             entries,
             closed,
@@ -258,8 +258,8 @@ impl<L: Ledger> Trial for Audits<L> {
         }
     }
 
-    fn came(&mut self, answer: &Audited) -> Came {
-        let want = Audited {
+    fn came(&mut self, answer: &Findings) -> Came {
+        let want = Findings {
             stand: true,
             entries: 1,
             closed: true,
