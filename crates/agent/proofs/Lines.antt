@@ -6,29 +6,31 @@ use Rattle.lifecycle.specs.declared.phases.Phase.{Phase}
 use Rattle.lifecycle.specs.declared.track.Track.{Track}
 use Rattle.manifest.specs.declared.pods.Pod.{Pod}
 use Rattle.worker_pod.specs.Next.{phase_in}
+use Rattle.node_watch.specs.declared.forms.Form.{Form}
+use Rattle.node_watch.specs.declared.reasons.Reason.{Reason}
 use Rattle.worker_core.specs.declared.slots.Slot.{Slot}
 use Rattle.agent.specs.Table.{pod_lines, slot_lines}
 
-more : (slots : List Slot) (place : ℕ) (pod : Pod) (tracks : List Track) (phase : Phase)
+more : (form : Form) (reasons : List Reason) (slots : List Slot) (place : ℕ) (pod : Pod) (tracks : List Track) (phase : Phase)
     → slice_get (map (λ slot. slot.state.pod) slots) place ≡ Some pod
     → slice_get (map (λ slot. slot.state.tracks) slots) place ≡ Some tracks
     → slice_get (map (λ slot. phase_in slot.state) slots) place ≡ Some phase
-    → flat_map slot_lines (take (suc place) slots) ≡ flat_map slot_lines (take place slots) ++ pod_lines pod tracks phase
-more [] place pod tracks phase p t h = absurd cc
-more (slot ∷ slots) zero pod tracks phase p t h =
-    let same : slot_lines slot ≡ pod_lines pod tracks phase = cc in
-    append-nil (slot_lines slot) ∙ same
-more (slot ∷ slots) (suc place) pod tracks phase p t h =
-    ap (λ rest. slot_lines slot ++ rest) (more slots place pod tracks phase p t h)
-    ∙ sym (append_assoc (slot_lines slot) (flat_map slot_lines (take place slots)) (pod_lines pod tracks phase))
+    → flat_map (slot_lines form reasons) (take (suc place) slots) ≡ flat_map (slot_lines form reasons) (take place slots) ++ pod_lines form reasons pod tracks phase
+more form reasons [] place pod tracks phase p t h = absurd cc
+more form reasons (slot ∷ slots) zero pod tracks phase p t h =
+    let same : slot_lines form reasons slot ≡ pod_lines form reasons pod tracks phase = cc in
+    append-nil (slot_lines form reasons slot) ∙ same
+more form reasons (slot ∷ slots) (suc place) pod tracks phase p t h =
+    ap (λ rest. slot_lines form reasons slot ++ rest) (more form reasons slots place pod tracks phase p t h)
+    ∙ sym (append_assoc (slot_lines form reasons slot) (flat_map (slot_lines form reasons) (take place slots)) (pod_lines form reasons pod tracks phase))
 
-pub one_more_pod : (slots : List Slot) (place : ℕ) (pod : Pod) (tracks : List Track) (phase : Phase)
+pub one_more_pod : (form : Form) (reasons : List Reason) (slots : List Slot) (place : ℕ) (pod : Pod) (tracks : List Track) (phase : Phase)
     → slice_get (map (λ slot. slot.state.pod) slots) place ≡ Some pod
     → slice_get (map (λ slot. slot.state.tracks) slots) place ≡ Some tracks
     → slice_get (map (λ slot. phase_in slot.state) slots) place ≡ Some phase
-    → flat_map slot_lines (take (place + 1) slots) ≡ flat_map slot_lines (take place slots) ++ pod_lines pod tracks phase
-one_more_pod slots place pod tracks phase p t h =
-    ap (λ n. flat_map slot_lines (take n slots)) (add-one place) ∙ more slots place pod tracks phase p t h
+    → flat_map (slot_lines form reasons) (take (place + 1) slots) ≡ flat_map (slot_lines form reasons) (take place slots) ++ pod_lines form reasons pod tracks phase
+one_more_pod form reasons slots place pod tracks phase p t h =
+    ap (λ n. flat_map (slot_lines form reasons) (take n slots)) (add-one place) ∙ more form reasons slots place pod tracks phase p t h
 
 -- behind the last one there is none
 none : {A : Type 0} (xs : List A) (place : ℕ) → is_some (slice_get xs place) ≡ false → take (suc place) xs ≡ take place xs

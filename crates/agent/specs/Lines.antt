@@ -4,8 +4,13 @@ use Rattle.std.specs.Fmt.{decimal}
 use Rattle.command_line.specs.declared.nodeagent.NodeagentLine.{NodeagentLine}
 use Rattle.cri_msgs.specs.declared.version.Version.{Version}
 use Rattle.cri_msgs.specs.declared.version.Version.TheVariants.{V1, V2}
+use Rattle.node_watch.specs.declared.forms.Form.{Form}
+use Rattle.node_watch.specs.declared.forms.Form.TheVariants.{Text, Json}
+use Rattle.node_watch.specs.declared.reasons.Reason.{Reason}
 use Rattle.runtime_server.specs.declared.stops.ServerStop.TheVariants.{Memory}
 use Rattle.worker_core.specs.Kept.{KeptNode}
+use Rattle.worker_crew.specs.declared.observer.Observed.{Observed}
+use Rattle.worker_crew.specs.declared.observer.Observed.TheVariants as observed
 use Rattle.worker_crew.specs.declared.pace.Ended.{Ended}
 use Rattle.worker_crew.specs.declared.pace.Ended.TheVariants as ended
 use Rattle.worker_crew.specs.declared.pace.Pace.{Pace}
@@ -13,7 +18,7 @@ use Rattle.worker_crew.specs.declared.pace.Pace.TheVariants.{Counted, Machine}
 use Rattle.worker_pod.specs.declared.settings.Settings.{Settings}
 use Rattle.agent.specs.declared.stops.AgentStop.{AgentStop}
 use Rattle.agent.specs.declared.stops.AgentStop.TheVariants.{Server, HistoryFull}
-use Rattle.agent.specs.Table.{table_text}
+use Rattle.agent.specs.Table.{told_table}
 
 -- the version of its requests
 abbrev pub version_for : NodeagentLine → Version
@@ -35,18 +40,30 @@ pace_for line = if line.settle then Counted (unwrap_or line.numbers.until 3600) 
 abbrev pub status_at : Ended → Option ℕ
 status_at ended.Settled = Some 0
 status_at ended.TimeUp = Some 5
+status_at ended.Endless = Some 5
 status_at ended.Memory = None
 status_at ended.HistoryFull = None
 
+abbrev pub form_for : NodeagentLine → Form
+form_for line = if line.json then Json else Text
+
+-- what is kept beside the history: why containers wait, or what changes of them
+abbrev pub observed_for : NodeagentLine → Observed
+observed_for line = if line.watch then observed.Changes (form_for line) else if line.reasons then observed.Reasons else observed.Nothing
+
+abbrev pub reasons_for : NodeagentLine → List Reason → List Reason
+reasons_for line reasons = if line.reasons then reasons else []
+
 -- what is printed behind it
-abbrev pub text_at : NodeagentLine → KeptNode → List ℕ
-text_at line node = if line.settle then table_text node else []
+abbrev pub text_at : NodeagentLine → List Reason → KeptNode → List ℕ
+text_at line reasons node = if line.settle then told_table (form_for line) (reasons_for line reasons) node else []
 
 -- why a run was stopped; memory may lack for the text, too
 abbrev pub stop_at : Ended → AgentStop
 stop_at ended.HistoryFull = HistoryFull
 stop_at ended.Settled = Server Memory
 stop_at ended.TimeUp = Server Memory
+stop_at ended.Endless = Server Memory
 stop_at ended.Memory = Server Memory
 
 -- the line with which it begins, where it tells of itself: over which socket it works, on how many pods

@@ -6,11 +6,12 @@ use Rattle.manifest.specs.Faults.{fault_text as pod_fault_text}
 use Rattle.worker_core.specs.Answers.{refusal_text}
 use Rattle.runtime_server.specs.StopText.{stop_text as server_text}
 use Rattle.agent.specs.declared.stops.AgentStop.{AgentStop}
-use Rattle.agent.specs.declared.stops.AgentStop.TheVariants.{Server, Manifest, NoJson, Pod, HistoryFull}
+use Rattle.agent.specs.declared.stops.AgentStop.TheVariants.{Server, Manifest, NoJson, Pod, RunName, HistoryFull}
 
 abbrev pub stop_text : AgentStop → Option (List ℕ)
 stop_text (Server stop) = server_text (codes "nodeagent") stop
 stop_text (Manifest path fault) = Some (codes "nodeagent: " ++ path.now ++ codes ": " ++ pod_fault_text fault ++ codes "\n")
 stop_text (NoJson path spot hint) = Some (codes "nodeagent: " ++ path.now ++ spot_text spot ++ codes ": NotJson" ++ hint_text hint ++ codes "\n")
 stop_text (Pod path refusal) = Some (codes "nodeagent: " ++ path.now ++ codes ": " ++ refusal_text refusal ++ codes "\n")
+stop_text (RunName name) = Some (codes "nodeagent: " ++ name.now ++ codes ": BadName\n")
 stop_text HistoryFull = Some (codes "nodeagent: HistoryFull\n")

@@ -1,7 +1,7 @@
 -- The table of a node: a line for each pod, in order of admission, and below it a line for each of its
 -- containers, init ones first. The names are those of Kubernetes 1.27, pod lifecycle; the layout is this
 -- project's own: docs/SEMANTICS.md, "The agent: the node".
-use Rattle.std.specs.Prelude.{ℕ, ◌-◌, List, ◌++◌, codes}
+use Rattle.std.specs.Prelude.{ℕ, ◌-◌, List, [], ◌++◌, codes, Option, Some, None}
 use Rattle.std.specs.Fmt.{decimal}
 use Rattle.std.specs.List.{flat_map, zip}
 use Rattle.lifecycle.specs.declared.policy.RestartPolicy.{RestartPolicy}
@@ -14,6 +14,14 @@ use Rattle.lifecycle.specs.Tracks.{started_of, state_of}
 use Rattle.manifest.specs.declared.containers.Container.{Container}
 use Rattle.manifest.specs.declared.pods.Pod.{Pod}
 use Rattle.worker_pod.specs.Next.{phase_in}
+use Rattle.node_watch.specs.declared.forms.Form.{Form}
+use Rattle.node_watch.specs.declared.forms.Form.TheVariants.{Text, Json}
+use Rattle.node_watch.specs.declared.reasons.Reason.{Reason}
+use Rattle.node_watch.specs.declared.reasons.Trouble.{Trouble}
+use Rattle.node_watch.specs.declared.reasons.Trouble.TheVariants.{Refused, Lost}
+use Rattle.node_watch.specs.Calls.{call_name}
+use Rattle.node_watch.specs.Reasons.{reason_for}
+use Rattle.runtime_server.specs.Telling.{refusal_text}
 use Rattle.worker_core.specs.declared.slots.Slot.{Slot}
 use Rattle.worker_core.specs.Kept.{KeptNode}
 
@@ -23,25 +31,75 @@ code_text (Terminated code) = decimal code
 code_text Waiting = codes "-"
 code_text Running = codes "-"
 
+abbrev pub code_value : ContainerState → List ℕ
+code_value (Terminated code) = decimal code
+code_value Waiting = codes "null"
+code_value Running = codes "null"
+
+-- why a call came to nothing
+abbrev pub trouble_text : Trouble → List ℕ
+trouble_text (Refused refusal) = codes "refused " ++ refusal_text refusal
+trouble_text Lost = codes "lost"
+
+-- which call came to nothing, how, and since when
+abbrev pub reason_text : Form → Reason → List ℕ
+reason_text Text reason =
+    codes " " ++ (call_name reason.call ++ (codes " " ++ (trouble_text reason.trouble ++ (codes " since " ++ (decimal reason.since ++ codes " s")))))
+reason_text Json reason =
+    codes ",\"call\":\"" ++ (call_name reason.call ++ (codes "\",\"came\":\"" ++ (trouble_text reason.trouble
+    ++ (codes "\",\"since\":" ++ decimal reason.since))))
+
+-- a container that is over waits for nothing
+abbrev pub why_text : Form → ContainerState → Option Reason → List ℕ
+why_text form (Terminated code) reason = []
+why_text form state None = []
+why_text form state (Some reason) = reason_text form reason
+
 -- how many attempts were started behind the first one
 abbrev pub restarts_of : Track → ℕ
 restarts_of track = started_of track - 1
 
 -- name, state, code and restarts
-abbrev pub container_line : RestartPolicy → Container × Track → List ℕ
-container_line policy (container, track) =
-    codes "  " ++ (container.name ++ (codes " " ++ (state_name (state_of policy track) ++ (codes " "
-    ++ (code_text (state_of policy track) ++ (codes " " ++ (decimal (restarts_of track) ++ codes "\n")))))))
+abbrev pub state_words : List ℕ → ContainerState → ℕ → List ℕ
+state_words name state restarts =
+    codes "  " ++ (name ++ (codes " " ++ (state_name state ++ (codes " " ++ (code_text state ++ (codes " " ++ decimal restarts))))))
+
+-- the same as members of an object
+abbrev pub uid_member : List ℕ → List ℕ
+uid_member uid = codes "{\"pod\":\"" ++ (uid ++ codes "\"")
+
+abbrev pub name_member : List ℕ → List ℕ
+name_member name = codes ",\"container\":\"" ++ (name ++ codes "\"")
+
+abbrev pub state_members : ContainerState → ℕ → List ℕ
+state_members state restarts =
+    codes ",\"state\":\"" ++ (state_name state ++ (codes "\",\"code\":" ++ (code_value state ++ (codes ",\"restarts\":" ++ decimal restarts))))
+
+-- a container's state, and why it waits
+abbrev pub state_line : Form → List ℕ → List ℕ → ContainerState → ℕ → Option Reason → List ℕ
+state_line Text uid name state restarts reason = state_words name state restarts ++ (why_text Text state reason ++ codes "\n")
+state_line Json uid name state restarts reason =
+    uid_member uid ++ (name_member name ++ (state_members state restarts ++ (why_text Json state reason ++ codes "}\n")))
+
+abbrev pub container_line : Form → List Reason → List ℕ → RestartPolicy → Container × Track → List ℕ
+container_line form reasons uid policy (container, track) =
+    state_line form uid container.name (state_of policy track) (restarts_of track) (reason_for uid container.name reasons)
 
 -- uid and phase
-abbrev pub pod_line : Pod → Phase → List ℕ
-pod_line pod phase = codes "POD " ++ (pod.uid ++ (codes " " ++ (phase_name phase ++ codes "\n")))
+abbrev pub pod_line : Form → Pod → Phase → List ℕ
+pod_line Text pod phase = codes "POD " ++ (pod.uid ++ (codes " " ++ (phase_name phase ++ codes "\n")))
+pod_line Json pod phase = codes "{\"pod\":\"" ++ (pod.uid ++ (codes "\",\"phase\":\"" ++ (phase_name phase ++ codes "\"}\n")))
 
-abbrev pub pod_lines : Pod → List Track → Phase → List ℕ
-pod_lines pod tracks phase = pod_line pod phase ++ flat_map (container_line pod.policy) (zip pod.containers.all tracks)
+abbrev pub pod_lines : Form → List Reason → Pod → List Track → Phase → List ℕ
+pod_lines form reasons pod tracks phase =
+    pod_line form pod phase ++ flat_map (container_line form reasons pod.uid pod.policy) (zip pod.containers.all tracks)
 
-abbrev pub slot_lines : Slot → List ℕ
-slot_lines slot = pod_lines slot.state.pod slot.state.tracks (phase_in slot.state)
+abbrev pub slot_lines : Form → List Reason → Slot → List ℕ
+slot_lines form reasons slot = pod_lines form reasons slot.state.pod slot.state.tracks (phase_in slot.state)
+
+-- in this form, with why each container waits by these reasons
+abbrev pub told_table : Form → List Reason → KeptNode → List ℕ
+told_table form reasons node = flat_map (slot_lines form reasons) node.slots
 
 abbrev pub table_text : KeptNode → List ℕ
-table_text node = flat_map slot_lines node.slots
+table_text node = told_table Text [] node

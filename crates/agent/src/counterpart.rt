@@ -9,9 +9,9 @@ use worker_crew::Counterpart;
 /// The runtime of a run of pods, with what is open to it: in this process, with so many runners, or one of which
 /// nothing is known.
 #[derive(Clone, Copy)]
-pub(crate) enum RuntimeBehind<'a, 'o, B: Baseline, R: Wait> {
-    Own(&'a R, &'o Connections, &'a Engine<B>, u32),
-    Other(&'a R, &'o Connections),
+pub(crate) enum RuntimeBehind<'r, 'o, 'e, B: Baseline, R: Wait> {
+    Own(&'r R, &'o Connections, &'e Engine<B>, u32),
+    Other(&'r R, &'o Connections),
 }
 
 // Calls whose peers are quick come back by themselves; the others are cut off a second later.
@@ -25,7 +25,7 @@ fn end_calls<R: Wait + Clock>(rt: &R, open: &Connections) {
     open.close(rt);
 }
 
-impl<B: Baseline, R: Wait + Clock> Counterpart for RuntimeBehind<'_, '_, B, R> {
+impl<B: Baseline, R: Wait + Clock> Counterpart for RuntimeBehind<'_, '_, '_, B, R> {
     fn wait_idle(&self) {
         match self {
             RuntimeBehind::Own(rt, _, engine, runners) => engine.wait_idle(*rt, *runners),

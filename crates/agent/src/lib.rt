@@ -7,12 +7,15 @@
 
 mod counterpart;
 mod dialing;
+mod errands;
+mod folders;
 mod inputs;
 mod laws;
 mod limits;
 mod lost;
 mod nodeagent;
 mod peers;
+mod removal;
 mod stops;
 mod tables;
 mod telling;

@@ -18,3 +18,9 @@ pub(crate) const LAST_CALLS: u64 = 1_000;
 
 /// How often is looked meanwhile whether one is.
 pub(crate) const LOOKS: u64 = 100;
+
+/// How many seconds lie between two looks into a folder of manifests.
+pub(crate) const FOLDER_LOOK: u64 = 1;
+
+/// How many seconds of counted time an agent has at its end to take its pods away.
+pub(crate) const REMOVAL: u64 = 60;

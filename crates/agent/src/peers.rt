@@ -39,26 +39,27 @@ fn not_connected(error: &io::Error) -> Why {
     }
 }
 
-/// The runtime behind the socket at a path. Each call has a connection of its own.
+/// The runtime behind the socket at a path. Each call has a connection of its own. What it lends has a lifetime each,
+/// as it comes from different places.
 #[derive(Drop)]
-pub(crate) struct SocketPeer<'a, L: Ledger, R: Wait> {
-    pub(crate) rt: &'a R,
-    pub(crate) system: &'a HostRuntime,
+pub(crate) struct SocketPeer<'r, 'p, 'c, 'a, L: Ledger, R: Wait> {
+    pub(crate) rt: &'r R,
+    pub(crate) system: HostRuntime,
     pub(crate) alloc: Global,
     pub(crate) path: &'a str,
     // The version in which it is spoken to.
     pub(crate) version: Version,
-    pub(crate) calls: &'a Calls<'a, L, R>,
+    pub(crate) calls: &'p Calls<'c, L, R>,
 }
 
-impl<L: Ledger, R: Wait + Clock> SocketPeer<'_, L, R> {
+impl<L: Ledger, R: Wait + Clock> SocketPeer<'_, '_, '_, '_, L, R> {
     // A call may take so long from its connection to its reply.
     fn ask(&self, request: &Request) -> Result<Reply, LostCall>
         ensures { IfOk result (λ reply. reply.id ≡ request.now.id) }
     {
         let (rt, open) = (self.rt, self.calls.open);
         let deadline = Deadline::in_seconds(rt, PATIENCE);
-        let stream = match connect(rt, self.system, open, self.path, deadline) {
+        let stream = match connect(rt, &self.system, open, self.path, deadline) {
             Ok(stream) => stream,
             Err(error) => return Err(LostCall::before(not_connected(&error))),
         };
@@ -79,7 +80,7 @@ impl<L: Ledger, R: Wait + Clock> SocketPeer<'_, L, R> {
     }
 }
 
-impl<L: Ledger, R: Wait + Clock> Peer for SocketPeer<'_, L, R> {
+impl<L: Ledger, R: Wait + Clock> Peer for SocketPeer<'_, '_, '_, '_, L, R> {
     ghost use Rattle.std.specs.Prelude.{◌≡◌, IfOk};
 
     // A reply has the number of its request. What runs behind the socket is not known.

@@ -17,6 +17,8 @@ pub(crate) enum AgentStop<'a> {
     NoJson(&'a str, Spot, Hint),
     /// The node does not admit the pod of a manifest.
     Pod(&'a str, worker_core::NodeRefusal),
+    /// The name of the run can't be a part of a uid.
+    RunName(&'a str),
     /// The history of the node has no room for a claim.
     HistoryFull,
 }
@@ -32,6 +34,7 @@ impl AgentStop<'_> {
         match self {
             AgentStop::Server(stop) => stop.status(),
             AgentStop::Manifest(_, _) | AgentStop::NoJson(_, _, _) | AgentStop::Pod(_, _) => 1,
+            AgentStop::RunName(_) => 2,
             AgentStop::HistoryFull => 4,
         }
     }
@@ -58,6 +61,7 @@ impl fmt::Display for AgentStop<'_> {
                 "nodeagent: {path}{spot}: NotJson{hint}"
             ),
             AgentStop::Pod(path, refusal) => writeln!(f, "nodeagent: {path}: {refusal}"),
+            AgentStop::RunName(name) => writeln!(f, "nodeagent: {name}: BadName"),
             AgentStop::HistoryFull => writeln!(f, "nodeagent: HistoryFull"),
         }
     }

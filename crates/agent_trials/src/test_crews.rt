@@ -17,7 +17,9 @@ use std::test::Fail;
 use std::thread::{Threads, scope, scope_env, sleep};
 use std::time::{Clock, Duration};
 use worker_core::{AgentEvent, MAX_PODS, Node};
-use worker_crew::{Coordinator, Ended, Gate, Pace, Peer, Shared, crew};
+use worker_crew::{
+    Coordinator, CrewEnd, Ended, Gate, NoErrands, Observed, Pace, Peer, Shared, crew,
+};
 use worker_pod::Settings;
 
 /// The clock of a settle, up to moment 3600.
@@ -137,7 +139,7 @@ pub(crate) fn begun<L: Ledger, R: Wait>(
         version,
     };
     let (book, share) = Book::<L>::with_limit(alloc, settings, limit, blank);
-    let shared = Shared::new(book);
+    let shared = Shared::new(alloc, book, Observed::Nothing);
     let mut coordinator = Coordinator::new(alloc, share);
     for line in pods.lines() {
         let (name, spec) = line.split_once(' ').ok_or("a pod")?;
@@ -204,7 +206,7 @@ pub(crate) fn worked<
                 runtime,
                 runners,
             };
-            let (ended, tally) = crew(
+            let CrewEnd { ended, tally, .. } = crew(
                 rt,
                 alloc,
                 shared,
@@ -212,6 +214,7 @@ pub(crate) fn worked<
                 &counterpart,
                 coordinator,
                 peers,
+                NoErrands,
                 pace,
             );
             runtime.engine.close(rt);
@@ -260,6 +263,7 @@ fn left_of<L: Ledger>(
         Ended::TimeUp => "time is up",
         Ended::Memory => "memory",
         Ended::HistoryFull => "full",
+        Ended::Endless => "endless",
     };
     Ok(Left {
         text: format!(in alloc; "{ended}, {}\n{}", whole && stand, table.as_str())?,

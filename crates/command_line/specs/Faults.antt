@@ -1,11 +1,20 @@
 -- Why a command line is refused, this project's own: docs/SEMANTICS.md, "Programs".
-use Rattle.std.specs.Prelude.{◌≡◌, ◌≢◌, List, [], ℕ, Result, Err, Option, Some, None}
+use Rattle.std.specs.Prelude.{◌≡◌, ◌≢◌, List, [], ℕ, codes, Result, Err, Option, Some, None}
 use Rattle.clap.specs.Kinds.{IsAmong, Kinds}
 use Rattle.clap.specs.Values.{kind_of}
 use Rattle.clap.specs.declared.error.Error.{Error}
 use Rattle.clap.specs.declared.error.kind.ErrorKind.TheVariants as kind
 use Rattle.command_line.specs.declared.fault.LineFault.{LineFault}
-use Rattle.command_line.specs.declared.fault.LineFault.TheVariants.{Refused, BadNumber, WithoutRuntime, Memory}
+use Rattle.command_line.specs.declared.fault.LineFault.TheVariants.{Refused, BadNumber, Misfit as Unfit, Memory}
+use Rattle.command_line.specs.declared.fault.Misfit.{Misfit}
+use Rattle.command_line.specs.declared.fault.Misfit.TheVariants.{WithoutRuntime, WithoutSettle, WithSettle, NothingToTell, Missing}
+
+abbrev pub misfit_text : Misfit → List ℕ
+misfit_text WithoutRuntime = codes "WithoutRuntime"
+misfit_text WithoutSettle = codes "WithoutSettle"
+misfit_text WithSettle = codes "WithSettle"
+misfit_text NothingToTell = codes "NothingToTell"
+misfit_text Missing = codes "Missing"
 
 -- want of memory is told as that, wherever it comes
 abbrev pub IsOfClap : Error → LineFault → Type 0
@@ -15,13 +24,13 @@ IsOfClap error fault = (kind_of error ≡ kind.OutOfMemory → fault ≡ Memory)
 -- wanted
 abbrev pub IsRefusal : Kinds → LineFault → Type 0
 IsRefusal kinds (BadNumber word) = ⊥
-IsRefusal kinds (WithoutRuntime option) = ⊥
+IsRefusal kinds (Unfit word why) = ⊥
 IsRefusal kinds (Refused error) = (kind_of error ≢ kind.OutOfMemory) × IsAmong (kind_of error) kinds
 IsRefusal kinds Memory = Unit {0}
 
--- where clap takes the words, an option that is idle is told first, and then the first word that writes no
--- number of its range
-abbrev pub TellsFault : {Said : Type 0} → Kinds → Option (List ℕ) → Result Said (List ℕ) → LineFault → Type 0
-TellsFault kinds idle said (WithoutRuntime option) = (kinds ≡ []) × (idle ≡ Some option.now)
-TellsFault kinds idle said (BadNumber word) = (kinds ≡ []) × (idle ≡ None) × (said ≡ Err word.now)
-TellsFault kinds idle said fault = IsRefusal kinds fault
+-- where clap takes the words, one that does not go with the others is told first, and then the first word that
+-- writes no number of its range
+abbrev pub TellsFault : {Said : Type 0} → Kinds → Option (List ℕ × Misfit) → Result Said (List ℕ) → LineFault → Type 0
+TellsFault kinds misfit said (Unfit word why) = (kinds ≡ []) × (misfit ≡ Some (word.now, why))
+TellsFault kinds misfit said (BadNumber word) = (kinds ≡ []) × (misfit ≡ None) × (said ≡ Err word.now)
+TellsFault kinds misfit said fault = IsRefusal kinds fault

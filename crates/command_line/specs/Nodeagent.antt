@@ -1,12 +1,14 @@
 -- The line `nodeagent --socket PATH [--with-runtime] [--scripts DIR] [--profiles DIR] [--baseline FILTER]
--- [--seccomp-default] [--workers N] [--settle] [--until S] [--cri N] [--history N] [--verbose] MANIFEST..`, this project's
--- own: docs/SEMANTICS.md, "Programs".
-use Rattle.std.specs.Prelude.{ℕ, ◌^◌, List, Bool, true, false, codes, map, Option, Some, None, Result, Ok, Err, option_map}
+-- [--seccomp-default] [--workers N] [--settle] [--until S] [--cri N] [--history N] [--pods DIR] [--run NAME] [--remove]
+-- [--reasons] [--watch] [--json] [--verbose] [MANIFEST]..`, this project's own: docs/SEMANTICS.md, "Programs".
+use Rattle.std.specs.Prelude.{ℕ, ◌^◌, ◌&&◌, List, Bool, not, if◌then◌else◌, codes, map, Option, Some, None, Result, Ok, Err, option_map}
 use Rattle.clap.specs.Simple.{App, new_app, with_rule}
 use Rattle.clap.specs.Walk.{Row, first_of}
-use Rattle.command_line.specs.Arguments.{flag_rule, folder_of, is_set, option_rule, versioned, word_of, words_of, words_rule}
+use Rattle.command_line.specs.Arguments.{flag_rule, folder_of, has_words, is_set, is_there, option_rule, versioned, word_of, words_of, words_rule}
 use Rattle.command_line.specs.Scriptd.{serving}
 use Rattle.command_line.specs.Words.{written_if_there, written_within}
+use Rattle.command_line.specs.declared.fault.Misfit.{Misfit}
+use Rattle.command_line.specs.declared.fault.Misfit.TheVariants.{WithoutRuntime, WithoutSettle, WithSettle, NothingToTell, Missing}
 use Rattle.command_line.specs.declared.nodeagent.NodeagentLine.{NodeagentLine}
 use Rattle.command_line.specs.declared.nodeagent.Numbers.{Numbers}
 
@@ -20,11 +22,23 @@ settling app = with_rule (with_rule (with_rule app (option_rule (codes "workers"
 abbrev pub speaking : App → App
 speaking app = with_rule (with_rule app (option_rule (codes "cri"))) (option_rule (codes "history"))
 
+abbrev pub coming : App → App
+coming app = with_rule (with_rule app (option_rule (codes "pods"))) (option_rule (codes "run"))
+
+abbrev pub ending : App → App
+ending app = with_rule (with_rule app (flag_rule (codes "remove"))) (flag_rule (codes "reasons"))
+
+abbrev pub telling : App → App
+telling app = with_rule (with_rule app (flag_rule (codes "watch"))) (flag_rule (codes "json"))
+
 abbrev pub naming : App → App
 naming app = with_rule (with_rule app (flag_rule (codes "verbose"))) (words_rule (codes "MANIFEST"))
 
+abbrev pub working : App → App
+working app = speaking (settling (choosing (serving app)))
+
 abbrev pub running : App → App
-running app = naming (speaking (settling (choosing (serving app))))
+running app = naming (telling (ending (coming (working app))))
 
 unfoldable pub nodeagent : App
 nodeagent = running (versioned (new_app (codes "nodeagent")))
@@ -54,6 +68,12 @@ pub record Nodeagent : Type 0 where
   pub seccomp_default : Bool
   pub numbers : Numbers
   pub settle : Bool
+  pub pods : Option (List ℕ)
+  pub run : Option (List ℕ)
+  pub remove : Bool
+  pub reasons : Bool
+  pub watch : Bool
+  pub json : Bool
   pub verbose : Bool
   pub manifests : List (List ℕ)
 
@@ -68,19 +88,50 @@ nodeagent_with rows (Ok numbers) = Ok (record {
   seccomp_default = is_set (codes "seccomp-default") rows;
   numbers = numbers;
   settle = is_set (codes "settle") rows;
+  pods = first_of (codes "pods") rows;
+  run = first_of (codes "run") rows;
+  remove = is_set (codes "remove") rows;
+  reasons = is_set (codes "reasons") rows;
+  watch = is_set (codes "watch") rows;
+  json = is_set (codes "json") rows;
   verbose = is_set (codes "verbose") rows;
   manifests = words_of (codes "MANIFEST") rows;
 })
 
--- the option that stands on the line without --with-runtime, and is for a runtime beside the agent alone
-abbrev pub idle_among : Bool → Option (List ℕ) → Option (List ℕ) → Option (List ℕ)
-idle_among true scripts profiles = None
-idle_among false (Some folder) profiles = Some (codes "--scripts")
-idle_among false None (Some folder) = Some (codes "--profiles")
-idle_among false None None = None
+abbrev pub settles : List Row → Bool
+settles rows = is_set (codes "settle") rows
 
-abbrev pub idle_in : List Row → Option (List ℕ)
-idle_in rows = idle_among (is_set (codes "with-runtime") rows) (first_of (codes "scripts") rows) (first_of (codes "profiles") rows)
+-- with --with-runtime a runtime is beside the agent, which reads scripts and profiles
+abbrev pub reads_nothing : List ℕ → List Row → Bool
+reads_nothing folder rows = not (is_set (codes "with-runtime") rows) && is_there folder rows
+
+-- a run that ends once its pods are over has no use for pods that come later, nor for changes that are told meanwhile; one
+-- that goes on prints no table
+abbrev pub misfit_of_end : List Row → Option (List ℕ × Misfit)
+misfit_of_end rows =
+    if settles rows && is_there (codes "pods") rows then Some (codes "--pods", WithSettle)
+    else if not (settles rows) && is_set (codes "remove") rows then Some (codes "--remove", WithoutSettle)
+    else if not (settles rows) && is_set (codes "reasons") rows then Some (codes "--reasons", WithoutSettle)
+    else if settles rows && is_set (codes "watch") rows then Some (codes "--watch", WithSettle)
+    else if not (settles rows) && (not (is_set (codes "watch") rows) && is_set (codes "json") rows) then Some (codes "--json", NothingToTell)
+    else None
+
+-- the pods are those of manifests, of a folder, or of both
+abbrev pub misfit_of_pods : List Row → Option (List ℕ × Misfit)
+misfit_of_pods rows =
+    if not (is_there (codes "pods") rows) && not (has_words (codes "MANIFEST") rows) then Some (codes "MANIFEST", Missing)
+    else None
+
+abbrev pub or_else : Option (List ℕ × Misfit) → Option (List ℕ × Misfit) → Option (List ℕ × Misfit)
+or_else (Some first) other = Some first
+or_else None other = other
+
+-- the first word, in the order of the line, that does not go with the others
+abbrev pub misfit_in : List Row → Option (List ℕ × Misfit)
+misfit_in rows =
+    if reads_nothing (codes "scripts") rows then Some (codes "--scripts", WithoutRuntime)
+    else if reads_nothing (codes "profiles") rows then Some (codes "--profiles", WithoutRuntime)
+    else or_else (misfit_of_end rows) (misfit_of_pods rows)
 
 -- what the matches of a line say, or the first word that writes no number of its range
 abbrev pub nodeagent_in : List Row → Result Nodeagent (List ℕ)
@@ -97,6 +148,12 @@ nodeagent_of line = record {
   seccomp_default = line.seccomp_default;
   numbers = line.numbers;
   settle = line.settle;
+  pods = option_map (λ w. w.now) line.pods;
+  run = option_map (λ w. w.now) line.run;
+  remove = line.remove;
+  reasons = line.reasons;
+  watch = line.watch;
+  json = line.json;
   verbose = line.verbose;
   manifests = map (λ w. w.now) line.manifests.items;
 }

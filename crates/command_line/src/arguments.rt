@@ -66,7 +66,7 @@ pub(crate) fn with_flag<'a>(
     )
 }
 
-/// One word or more that stand by themselves.
+/// Words that stand by themselves.
 pub(crate) fn with_words<'a>(
     alloc: Global,
     command: Command<'a>,
@@ -75,5 +75,5 @@ pub(crate) fn with_words<'a>(
 ) -> Result<Command<'a>, AllocError>
     ensures { IfOk result (λ c. app_of c ≡ with_rule (app_of command.entry) (words_rule id.now)) }
 {
-    command.arg(Arg::new(alloc, id).num_args(1..).required(true).help(help))
+    command.arg(Arg::new(alloc, id).num_args(1..).help(help))
 }

@@ -1,4 +1,38 @@
 use std::alloc::AllocError;
+use std::fmt;
+
+/// Why a word does not go with the rest of its line.
+#[derive(Clone, Copy, Debug, PartialEq, Eq)]
+pub enum Misfit {
+    /// The option is for a runtime in the same process, which the line does not ask for.
+    WithoutRuntime,
+    /// The option is for a run that ends once its pods are over, which the line does not ask for.
+    WithoutSettle,
+    /// The option is for a run that goes on, and the line asks for one that ends once its pods are over.
+    WithSettle,
+    /// The option says how something is told, and nothing is.
+    NothingToTell,
+    /// The line has to have such a word.
+    Missing,
+}
+
+/// The misfit's name.
+impl fmt::Display for Misfit {
+    ghost use Rattle.std.specs.Prelude.{Some};
+    ghost use Rattle.command_line.specs.Faults.{misfit_text};
+
+    ghost output = { λ misfit. Some (misfit_text misfit) };
+
+    fn fmt<W: fmt::Write>(&self, f: &mut fmt::Formatter<W>) -> fmt::Result {
+        match self {
+            Misfit::WithoutRuntime => f.write_str("WithoutRuntime"),
+            Misfit::WithoutSettle => f.write_str("WithoutSettle"),
+            Misfit::WithSettle => f.write_str("WithSettle"),
+            Misfit::NothingToTell => f.write_str("NothingToTell"),
+            Misfit::Missing => f.write_str("Missing"),
+        }
+    }
+}
 
 /// Why a command line says nothing that a program could do.
 #[derive(Debug, Drop)]
@@ -7,8 +41,8 @@ pub enum LineFault<'a> {
     Refused(clap::Error),
     /// The first word that writes no number, or one out of its range.
     BadNumber(&'a str),
-    /// This option is for a runtime in the same process, which was not asked for.
-    WithoutRuntime(&'static str),
+    /// This word does not go with the others, or has to be there.
+    Misfit(&'static str, Misfit),
     /// A growth was refused.
     Memory,
 }

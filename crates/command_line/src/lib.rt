@@ -12,7 +12,7 @@ mod scriptd;
 mod written;
 
 pub use arguments::VERSION;
-pub use fault::LineFault;
+pub use fault::{LineFault, Misfit};
 pub use nodeagent::{NodeagentLine, Numbers, nodeagent_line};
 pub use number::{number_of, word_of};
 pub use scriptd::{ScriptdLine, scriptd_line};

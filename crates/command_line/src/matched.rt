@@ -2,7 +2,7 @@
 ghost use Rattle.std.specs.Prelude.{◌≡◌, map, option_map};
 ghost use Rattle.clap.specs.Matches.{found_of};
 ghost use Rattle.clap.specs.Walk.{all_of, first_of, rows_of};
-ghost use Rattle.command_line.specs.Arguments.{folder_of, is_set, word_of};
+ghost use Rattle.command_line.specs.Arguments.{folder_of, has_words, is_set, is_there, word_of};
 
 use clap::ArgMatches;
 
@@ -33,6 +33,20 @@ pub(crate) fn is_set(matches: &ArgMatches, id: &str) -> bool
     ensures { result ≡ is_set id.now (rows_of (found_of matches.now)) }
 {
     word_at(matches, id).unwrap_or("") == "true"
+}
+
+/// Whether an option with a word behind it stands on the line.
+pub(crate) fn is_there(matches: &ArgMatches, id: &str) -> bool
+    ensures { result ≡ is_there id.now (rows_of (found_of matches.now)) }
+{
+    word_at(matches, id).is_some()
+}
+
+/// Whether a word stands by itself.
+pub(crate) fn has_words(matches: &ArgMatches, id: &str) -> bool
+    ensures { result ≡ has_words id.now (rows_of (found_of matches.now)) }
+{
+    words_at(matches, id).is_some()
 }
 
 /// The words that stand by themselves.

@@ -6,11 +6,11 @@ ghost use Rattle.clap.specs.Simple.{app_of, matches_of};
 ghost use Rattle.clap.specs.Walk.{rows_of};
 ghost use Rattle.command_line.specs.Faults.{TellsFault};
 ghost use Rattle.command_line.specs.Words.{told};
-ghost use Rattle.command_line.specs.Nodeagent.{choosing, idle_in, naming, nodeagent, nodeagent_in, nodeagent_of, nodeagent_with, numbers_in, running, settling, speaking};
+ghost use Rattle.command_line.specs.Nodeagent.{choosing, coming, ending, misfit_in, misfit_of_end, misfit_of_pods, naming, nodeagent, nodeagent_in, nodeagent_of, nodeagent_with, numbers_in, reads_nothing, running, settling, speaking, telling, working};
 
 use crate::arguments::{versioned, with_flag, with_option, with_words};
-use crate::fault::LineFault;
-use crate::matched::{folder_at, is_set, required_at, word_at, words_at};
+use crate::fault::{LineFault, Misfit};
+use crate::matched::{folder_at, has_words, is_set, is_there, required_at, word_at, words_at};
 use crate::scriptd::{matches_in, serving};
 use crate::written::{number_if_there, number_within};
 use clap::{ArgMatches, Command};
@@ -47,9 +47,21 @@ pub struct NodeagentLine<'a> {
     pub numbers: Numbers,
     /// Whether the clock is a counter, and the program ends once every pod is over.
     pub settle: bool,
+    /// The folder whose manifests come and go with their files.
+    pub pods: Option<&'a str>,
+    /// What the uids end with that no manifest gives.
+    pub run: Option<&'a str>,
+    /// Whether the pods are taken away again at the end.
+    pub remove: bool,
+    /// Whether the table tells why containers wait.
+    pub reasons: bool,
+    /// Whether each change of a pod or a container is told.
+    pub watch: bool,
+    /// Whether the table and the changes are told as JSON.
+    pub json: bool,
     /// Whether each event is told on standard error.
     pub verbose: bool,
-    /// The files of the pods' manifests, one at least.
+    /// The files of the pods' manifests, one at least where there is no folder of them.
     pub manifests: Vec<&'a str>,
 }
 
@@ -63,14 +75,14 @@ pub fn nodeagent_line<'a>(
     // of memory.
     ensures taken { IfOk result (λ _. fault_of nodeagent (map string_bytes words.now) ≡ []) }
     ensures line { IfOk result (λ line. nodeagent_in (matches_of nodeagent (map string_bytes words.now)) ≡ Ok (nodeagent_of line)) }
-    ensures fault { IfErr result (TellsFault (fault_of nodeagent (map string_bytes words.now)) (idle_in (matches_of nodeagent (map string_bytes words.now))) (nodeagent_in (matches_of nodeagent (map string_bytes words.now)))) }
+    ensures fault { IfErr result (TellsFault (fault_of nodeagent (map string_bytes words.now)) (misfit_in (matches_of nodeagent (map string_bytes words.now))) (nodeagent_in (matches_of nodeagent (map string_bytes words.now)))) }
 
-    // An option that would do nothing is refused.
-    ensures used { IfOk result (λ _. idle_in (matches_of nodeagent (map string_bytes words.now)) ≡ None) }
+    // A word that does not go with the others is refused.
+    ensures used { IfOk result (λ _. misfit_in (matches_of nodeagent (map string_bytes words.now)) ≡ None) }
 {
     let matches = matches_in(nodeagent(alloc)?, words)?;
-    if let Some(option) = idle(&matches) {
-        return Err(LineFault::WithoutRuntime(option));
+    if let Some((word, why)) = misfit(&matches) {
+        return Err(LineFault::Misfit(word, why));
     }
     match line_numbers(&matches) {
         Ok(numbers) => Ok(said(alloc, &matches, numbers)?),
@@ -91,9 +103,16 @@ fn nodeagent<'a>(alloc: Global) -> Result<Command<'a>, AllocError>
 fn running<'a>(alloc: Global, command: Command<'a>) -> Result<Command<'a>, AllocError>
     ensures { IfOk result (λ c. app_of c ≡ running (app_of command.entry)) }
 {
+    let command = coming(alloc, working(alloc, command)?)?;
+    let command = telling(alloc, ending(alloc, command)?)?;
+    naming(alloc, command)
+}
+
+fn working<'a>(alloc: Global, command: Command<'a>) -> Result<Command<'a>, AllocError>
+    ensures { IfOk result (λ c. app_of c ≡ working (app_of command.entry)) }
+{
     let command = choosing(alloc, serving(alloc, command)?)?;
-    let command = settling(alloc, command)?;
-    naming(alloc, speaking(alloc, command)?)
+    speaking(alloc, settling(alloc, command)?)
 }
 
 fn choosing<'a>(alloc: Global, command: Command<'a>) -> Result<Command<'a>, AllocError>
@@ -169,16 +188,106 @@ fn speaking<'a>(alloc: Global, command: Command<'a>) -> Result<Command<'a>, Allo
     )
 }
 
-// What stands on the line for a runtime that the agent does not run.
-fn idle(matches: &ArgMatches) -> Option<&'static str>
-    ensures { option_map (λ w. w.now) result ≡ idle_in (rows_of (found_of matches.now)) }
+fn coming<'a>(alloc: Global, command: Command<'a>) -> Result<Command<'a>, AllocError>
+    ensures { IfOk result (λ c. app_of c ≡ coming (app_of command.entry)) }
 {
-    if is_set(matches, "with-runtime") {
+    let command = with_option(
+        alloc,
+        command,
+        "pods",
+        "DIR",
+        "a folder whose manifests, *.json, come and go with their files",
+    )?;
+    with_option(
+        alloc,
+        command,
+        "run",
+        "NAME",
+        "what the uids end with that no manifest gives, behind a dot",
+    )
+}
+
+fn ending<'a>(alloc: Global, command: Command<'a>) -> Result<Command<'a>, AllocError>
+    ensures { IfOk result (λ c. app_of c ≡ ending (app_of command.entry)) }
+{
+    let command = with_flag(
+        alloc,
+        command,
+        "remove",
+        "with --settle: takes the pods away from the runtime at the end",
+    )?;
+    with_flag(
+        alloc,
+        command,
+        "reasons",
+        "with --settle: tells beside each container that is not over why it waits",
+    )
+}
+
+fn telling<'a>(alloc: Global, command: Command<'a>) -> Result<Command<'a>, AllocError>
+    ensures { IfOk result (λ c. app_of c ≡ telling (app_of command.entry)) }
+{
+    let command = with_flag(
+        alloc,
+        command,
+        "watch",
+        "without --settle: prints each change of a pod or a container",
+    )?;
+    with_flag(
+        alloc,
+        command,
+        "json",
+        "prints the table, or the changes, as a JSON object a line",
+    )
+}
+
+// The first word that does not go with the others.
+fn misfit(matches: &ArgMatches) -> Option<(&'static str, Misfit)>
+    ensures { option_map (λ m. (m.0.now, m.1)) result ≡ misfit_in (rows_of (found_of matches.now)) }
+{
+    if reads_nothing(matches, "scripts") {
+        Some(("--scripts", Misfit::WithoutRuntime))
+    } else if reads_nothing(matches, "profiles") {
+        Some(("--profiles", Misfit::WithoutRuntime))
+    } else {
+        match misfit_of_end(matches) {
+            Some(misfit) => Some(misfit),
+            None => misfit_of_pods(matches),
+        }
+    }
+}
+
+// Whether the folder is named, and no runtime would look into it.
+fn reads_nothing(matches: &ArgMatches, folder: &str) -> bool
+    ensures { result ≡ reads_nothing folder.now (rows_of (found_of matches.now)) }
+{
+    !is_set(matches, "with-runtime") && is_there(matches, folder)
+}
+
+fn misfit_of_end(matches: &ArgMatches) -> Option<(&'static str, Misfit)>
+    ensures { option_map (λ m. (m.0.now, m.1)) result ≡ misfit_of_end (rows_of (found_of matches.now)) }
+{
+    let settles = is_set(matches, "settle");
+    if settles && is_there(matches, "pods") {
+        Some(("--pods", Misfit::WithSettle))
+    } else if !settles && is_set(matches, "remove") {
+        Some(("--remove", Misfit::WithoutSettle))
+    } else if !settles && is_set(matches, "reasons") {
+        Some(("--reasons", Misfit::WithoutSettle))
+    } else if settles && is_set(matches, "watch") {
+        Some(("--watch", Misfit::WithSettle))
+    } else if !settles && !is_set(matches, "watch") && is_set(matches, "json") {
+        Some(("--json", Misfit::NothingToTell))
+    } else {
         None
-    } else if word_at(matches, "scripts").is_some() {
-        Some("--scripts")
-    } else if word_at(matches, "profiles").is_some() {
-        Some("--profiles")
+    }
+}
+
+fn misfit_of_pods(matches: &ArgMatches) -> Option<(&'static str, Misfit)>
+    ensures { option_map (λ m. (m.0.now, m.1)) result ≡ misfit_of_pods (rows_of (found_of matches.now)) }
+{
+    if !is_there(matches, "pods") && !has_words(matches, "MANIFEST") {
+        Some(("MANIFEST", Misfit::Missing))
     } else {
         None
     }
@@ -215,6 +324,12 @@ fn said<'a>(
         seccomp_default: is_set(matches, "seccomp-default"),
         numbers,
         settle: is_set(matches, "settle"),
+        pods: word_at(matches, "pods"),
+        run: word_at(matches, "run"),
+        remove: is_set(matches, "remove"),
+        reasons: is_set(matches, "reasons"),
+        watch: is_set(matches, "watch"),
+        json: is_set(matches, "json"),
         verbose: is_set(matches, "verbose"),
         manifests: listed(alloc, words_at(matches, "MANIFEST"))?,
     })

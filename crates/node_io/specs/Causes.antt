@@ -8,7 +8,7 @@ use Rattle.node_io.specs.declared.causes.Cause.{Cause}
 use Rattle.node_io.specs.declared.faults.CausedFault.{CausedFault}
 use Rattle.node_io.specs.declared.faults.FileFault.{FileFault}
 use Rattle.node_io.specs.declared.faults.FileFault.TheVariants as fault
-use Rattle.node_io.specs.declared.causes.Cause.TheVariants.{NotFound, NoFolder, PermissionDenied, IsFolder, NotFolder, NotRegular, NameTooLong, TooManyLinks, TooManyFiles, NoSpace, Quota, ReadOnly, Busy, Device, NotOpen, Interrupted, WouldBlock, Refused, Gone, TimedOut, Number, Other}
+use Rattle.node_io.specs.declared.causes.Cause.TheVariants.{NotFound, NoFolder, PermissionDenied, IsFolder, NotFolder, NotRegular, Outside, NameTooLong, TooManyLinks, TooManyFiles, NoSpace, Quota, ReadOnly, Busy, Device, NotOpen, Interrupted, WouldBlock, Refused, Gone, TimedOut, Number, Other}
 
 -- EIO, EBADF, ENFILE, EMFILE
 abbrev pub cause_numbered : ℕ → Cause
@@ -50,6 +50,7 @@ cause_text PermissionDenied = codes "permission denied"
 cause_text IsFolder = codes "is a directory"
 cause_text NotFolder = codes "not a directory"
 cause_text NotRegular = codes "not a regular file"
+cause_text Outside = codes "a link out of the folder"
 cause_text NameTooLong = codes "name too long"
 cause_text TooManyLinks = codes "too many symbolic links"
 cause_text TooManyFiles = codes "too many open files"

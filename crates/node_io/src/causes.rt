@@ -20,6 +20,8 @@ pub enum Cause {
     NotFolder,
     /// What stands there is neither a regular file nor a folder.
     NotRegular,
+    /// A link leads out of the folder.
+    Outside,
     /// A part of the path is too long.
     NameTooLong,
     /// Links lead on to links without an end.
@@ -116,6 +118,7 @@ impl fmt::Display for Cause {
             Cause::IsFolder => f.write_str("is a directory"),
             Cause::NotFolder => f.write_str("not a directory"),
             Cause::NotRegular => f.write_str("not a regular file"),
+            Cause::Outside => f.write_str("a link out of the folder"),
             Cause::NameTooLong => f.write_str("name too long"),
             Cause::TooManyLinks => f.write_str("too many symbolic links"),
             Cause::TooManyFiles => f.write_str("too many open files"),

@@ -8,13 +8,14 @@ use Rattle.bpf_verify.specs.declared.fault.Fault.{Fault}
 use Rattle.bpf_verify.specs.declared.fault.Fault.TheVariants as fault
 use Rattle.bpf_verify.specs.declared.refusal.Refusal.{Refusal}
 use Rattle.bpf_verify.specs.declared.refusal.Refusal.TheVariants as refused
+use Rattle.command_line.specs.Faults.{misfit_text}
 use Rattle.node_io.specs.Causes.{cause_text}
 use Rattle.node_io.specs.FaultText.{caused_text}
 use Rattle.runtime_server.specs.declared.socket_fault.SocketFault.{SocketFault}
 use Rattle.runtime_server.specs.declared.socket_fault.SocketFault.TheVariants as socket
 use Rattle.runtime_server.specs.declared.sockets.TheConstants.{MAX_NAME}
 use Rattle.runtime_server.specs.declared.stops.ServerStop.{ServerStop}
-use Rattle.runtime_server.specs.declared.stops.ServerStop.TheVariants.{CommandLine, BadNumber, WithoutRuntime, Baseline, File, Socket, Unwritten, Memory}
+use Rattle.runtime_server.specs.declared.stops.ServerStop.TheVariants.{CommandLine, BadNumber, Misfit, Baseline, File, Socket, Unwritten, Memory}
 
 -- the name of a filter's fault, without its place
 abbrev pub code_fault_name : CodeFault → List ℕ
@@ -52,7 +53,7 @@ socket_text socket.Memory = codes "Memory"
 abbrev pub stop_text : List ℕ → ServerStop → Option (List ℕ)
 stop_text program (CommandLine error) = None
 stop_text program (BadNumber word) = Some (program ++ codes ": " ++ word.now ++ codes ": BadNumber\n")
-stop_text program (WithoutRuntime option) = Some (program ++ codes ": " ++ option.now ++ codes ": WithoutRuntime\n")
+stop_text program (Misfit word why) = Some (program ++ codes ": " ++ word.now ++ codes ": " ++ misfit_text why ++ codes "\n")
 stop_text program (Baseline path refusal) = Some (program ++ codes ": " ++ path.now ++ codes ": " ++ refusal_name refusal ++ codes "\n")
 stop_text program (File path caused) = Some (program ++ codes ": " ++ path.now ++ codes ": " ++ caused_text caused ++ codes "\n")
 stop_text program (Socket path fault) = Some (program ++ codes ": " ++ path.now ++ codes ": Failed (" ++ socket_text fault ++ codes ")\n")

@@ -12,13 +12,13 @@ use Rattle.node_io.specs.declared.faults.FileFault.TheVariants as file
 use Rattle.runtime_server.specs.declared.socket_fault.SocketFault.{SocketFault}
 use Rattle.runtime_server.specs.declared.socket_fault.SocketFault.TheVariants as socket
 use Rattle.runtime_server.specs.declared.stops.ServerStop.{ServerStop}
-use Rattle.runtime_server.specs.declared.stops.ServerStop.TheVariants.{CommandLine, BadNumber, WithoutRuntime, Baseline, File, Socket, Unwritten, Memory}
+use Rattle.runtime_server.specs.declared.stops.ServerStop.TheVariants.{CommandLine, BadNumber, Misfit, Baseline, File, Socket, Unwritten, Memory}
 
 abbrev pub status_of : ServerStop → ℕ
 status_of (Baseline path refusal) = 1
 status_of (CommandLine error) = 2
 status_of (BadNumber word) = 2
-status_of (WithoutRuntime option) = 2
+status_of (Misfit word why) = 2
 status_of (File path caused) = 3
 status_of (Socket path fault) = 3
 status_of (Unwritten cause) = 3
@@ -28,7 +28,7 @@ status_of Memory = 4
 abbrev pub of_line_fault : LineFault → ServerStop
 of_line_fault (line.Refused error) = CommandLine error
 of_line_fault (line.BadNumber word) = BadNumber word
-of_line_fault (line.WithoutRuntime option) = WithoutRuntime option
+of_line_fault (line.Misfit word why) = Misfit word why
 of_line_fault line.Memory = Memory
 
 -- a file can't be read

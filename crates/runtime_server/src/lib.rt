@@ -27,5 +27,5 @@ pub use scriptd::scriptd_run;
 pub use site::{Address, Site, accept_all};
 pub use socket_fault::SocketFault;
 pub use stops::{ServerStop, Told, file_stop, socket_stop};
-pub use teller::{MAX_WAITING, READER_PATIENCE, Teller};
+pub use teller::{MAX_WAITING, READER_PATIENCE, Stream, Teller};
 pub use telling::{answered, asked, refusal_name};

@@ -6,7 +6,7 @@ use crate::diagnosis::{is_of_files, wrong_in};
 use crate::engine::{Engine, EngineHost};
 use crate::socket_fault::SocketFault;
 use crate::sockets::Socket;
-use crate::teller::Teller;
+use crate::teller::{Stream, Teller};
 use crate::telling::{asked, listening_line, reply_line};
 use bpf_verify::Filter;
 use cri_msgs::{Reply, Request};
@@ -62,7 +62,7 @@ impl<'a, B: Baseline> Site<'a, B> {
     {
         let connections = Connections::new(system.alloc())?;
         let teller = if address.verbose {
-            Some(Teller::start(*rt, *system)?)
+            Some(Teller::start(*rt, *system, Stream::Error)?)
         } else {
             None
         };

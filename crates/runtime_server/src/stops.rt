@@ -5,7 +5,7 @@ ghost use Rattle.runtime_server.specs.Stops.{IsOfFile, IsOfSocket};
 use crate::socket_fault::SocketFault;
 use bpf_code::CodeFault;
 use bpf_verify::{Fault, Refusal};
-use command_line::LineFault;
+use command_line::{LineFault, Misfit};
 use node_io::{Cause, CausedFault, FileFault};
 use std::alloc::{AllocError, AllocFailed};
 use std::fmt;
@@ -17,8 +17,8 @@ pub enum ServerStop<'a> {
     CommandLine(clap::Error),
     /// A word of the command line is no number of its range.
     BadNumber(&'a str),
-    /// This option is for a runtime in the same process, which was not asked for.
-    WithoutRuntime(&'static str),
+    /// This word of the command line does not go with the others, or has to be there.
+    Misfit(&'static str, Misfit),
     /// The node's own filter is refused.
     Baseline(&'a str, Refusal),
     /// A file can't be read, or there is no such folder.
@@ -41,8 +41,7 @@ impl ServerStop<'_> {
     {
         match self {
             ServerStop::Baseline(_, _) => 1,
-            ServerStop::CommandLine(_) | ServerStop::BadNumber(_) | ServerStop::WithoutRuntime(_) =>
-                2,
+            ServerStop::CommandLine(_) | ServerStop::BadNumber(_) | ServerStop::Misfit(_, _) => 2,
             ServerStop::File(_, _) | ServerStop::Socket(_, _) | ServerStop::Unwritten(_) => 3,
             ServerStop::Memory => 4,
         }
@@ -94,10 +93,7 @@ impl fmt::Display for Told<'_, '_> {
         match self.stop {
             ServerStop::CommandLine(error) => write!(f, "{error}"),
             ServerStop::BadNumber(word) => writeln!(f, "{program}: {word}: BadNumber"),
-            ServerStop::WithoutRuntime(option) => writeln!(
-                f,
-                "{program}: {option}: WithoutRuntime"
-            ),
+            ServerStop::Misfit(word, why) => writeln!(f, "{program}: {word}: {why}"),
             ServerStop::Baseline(path, refusal) => writeln!(
                 f,
                 "{program}: {path}: {}",
@@ -146,7 +142,7 @@ impl<'a> From<LineFault<'a>> for ServerStop<'a> {
         match fault {
             LineFault::Refused(error) => ServerStop::CommandLine(error),
             LineFault::BadNumber(word) => ServerStop::BadNumber(word),
-            LineFault::WithoutRuntime(option) => ServerStop::WithoutRuntime(option),
+            LineFault::Misfit(word, why) => ServerStop::Misfit(word, why),
             LineFault::Memory => ServerStop::Memory,
         }
     }

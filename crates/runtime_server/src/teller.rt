@@ -1,8 +1,9 @@
-//! The lines that threads tell, and the one thread that writes them on standard error: whoever tells a line
-//! waits for no reader.
+//! The lines that threads tell, and the one thread that writes them on standard output or standard error: whoever
+//! tells a line waits for no reader.
 
+use node_io::Cause;
 use std::alloc::{AllocError, Global};
-use std::io::Eprint;
+use std::io::{self, Eprint, Print};
 use std::mem;
 use std::sync::{Arc, Condvar, CondvarTimeouts, Mutex, Wait};
 use std::thread::{Threads, spawn};
@@ -14,6 +15,13 @@ pub const MAX_WAITING: usize = 16_384;
 /// For how many seconds the end of a program waits for a reader that reads nothing.
 pub const READER_PATIENCE: u64 = 10;
 
+/// Where lines are written.
+#[derive(Clone, Copy, Debug, PartialEq, Eq)]
+pub enum Stream {
+    Output,
+    Error,
+}
+
 #[derive(Drop)]
 struct Waiting {
     lines: Vec<String>,
@@ -23,6 +31,8 @@ struct Waiting {
     written: u64,
     // Whether the writer has written all that it took.
     is_idle: bool,
+    // Why a line could not be written, the first one of which this is known.
+    failed: Option<Cause>,
 }
 
 impl Waiting {
@@ -39,11 +49,19 @@ pub struct Teller {
     changed: Condvar,
 }
 
+fn write_line<S: Print + Eprint>(system: &S, stream: Stream, line: &str) -> io::Result<()> {
+    match stream {
+        Stream::Output => println!(system; "{line}"),
+        Stream::Error => eprintln!(system; "{line}"),
+    }
+}
+
 impl Teller {
     /// Starts the writer, in a thread that ends with the program.
     pub fn start<R: Threads + Wait + Copy + Send + 'static>(
         rt: R,
         system: HostRuntime,
+        stream: Stream,
     ) -> Result<Arc<Teller, Global>, AllocError> {
         let alloc = system.alloc();
         let teller = Arc::new(
@@ -55,14 +73,23 @@ impl Teller {
                     left_out: 0,
                     written: 0,
                     is_idle: false,
+                    failed: None,
                 }),
                 changed: Condvar::new(),
             },
         )?;
         let its = Arc::try_clone(&teller)?;
-        let writer = spawn(&rt, move || its.write_lines(&rt, &system))?;
+        let writer = spawn(&rt, move || its.write_lines(&rt, &system, stream))?;
         drop(writer);
         Ok(teller)
+    }
+
+    /// Tells that so many lines are missing here.
+    pub fn miss<R: Wait>(&self, rt: &R, lines: u64) {
+        let mut waiting = self.waiting.lock(rt);
+        waiting.left_out = waiting.left_out.saturating_add(lines);
+        drop(waiting);
+        self.changed.notify_all();
     }
 
     /// Tells a line. One that found no memory, or no place behind the lines that wait, is left out and
@@ -95,20 +122,28 @@ impl Teller {
         (lines, left_out)
     }
 
-    fn count_written<R: Wait>(&self, rt: &R) {
+    fn count_written<R: Wait>(&self, rt: &R, wrote: io::Result<()>) {
         let mut waiting = self.waiting.lock(rt);
         waiting.written = waiting.written.wrapping_add(1);
+        if let (None, Err(error)) = (waiting.failed, wrote) {
+            waiting.failed = Some(Cause::of(&error));
+        }
+    }
+
+    /// Why lines can't be written, where one could not be.
+    pub fn failure<R: Wait>(&self, rt: &R) -> Option<Cause> {
+        self.waiting.lock(rt).failed
     }
 
     // What the writer's thread does. A line that can't be written is lost.
-    fn write_lines<R: Wait, E: Eprint>(&self, rt: &R, system: &E) {
+    fn write_lines<R: Wait, S: Print + Eprint>(&self, rt: &R, system: &S, stream: Stream) {
         for _ in rt.forever() {
             let (lines, left_out) = self.take(rt);
             for line in lines.as_slice() {
-                let _ = eprintln!(system; "{}", line.as_str());
-                self.count_written(rt);
+                self.count_written(rt, write_line(system, stream, line.as_str()));
             }
             if left_out > 0 {
+                // This is no line that was told, so standard error has it in any case.
                 let _ = eprintln!(system; "{left_out} lines left out");
             }
         }

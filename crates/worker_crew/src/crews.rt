@@ -1,8 +1,9 @@
 //! Workers in threads of their own.
-ghost use Rattle.std.specs.Prelude.{◌≡◌, ◌+◌, ◌<◌, ◌≤◌, IfSome, IsTrue, vec_len};
+ghost use Rattle.std.specs.Prelude.{◌≡◌, ◌+◌, ◌<◌, ◌≤◌, IfSome, IsSome, IsTrue, vec_len};
 ghost use Rattle.node_lock.specs.declared.limits.TheConstants.{PARTS};
 
 use crate::coordinator::Coordinator;
+use crate::errands::Errands;
 use crate::pace::{Counterpart, Ended, Pace, TimeKeeper};
 use crate::shared::Shared;
 use crate::worker::{Gate, Peer, work};
@@ -131,18 +132,33 @@ fn join_workers<L: Ledger, P: Drop, R: Threads>(
     whole
 }
 
-// Who works at a part of a history, before it and behind it.
+// Who works at a part of a history, and what worker 0 does beside telling the time.
 #[derive(Drop)]
-struct WorkGroup<L: Ledger, P: Drop> {
+struct WorkGroup<L: Ledger, P: Drop, E: Drop> {
     coordinator: Coordinator<L>,
     peers: Vec<P>,
+    errands: E,
 }
 
-// What is left of a part: the receipts for all that was done in it, and the peers.
+// What is left of a part: the receipts for all that was done in it, if they could be brought together, the peers,
+// and what worker 0 does beside telling the time.
 #[derive(Drop)]
-struct PartEnd<L: Ledger, P: Drop> {
-    tally: Tally<L>,
+struct PartEnd<L: Ledger, P: Drop, E: Drop> {
+    ended: Ended,
+    tally: Option<Tally<L>>,
     peers: Vec<P>,
+    errands: E,
+}
+
+/// What is left of a crew.
+#[derive(Drop)]
+pub struct CrewEnd<L: Ledger, E: Drop> {
+    /// Why it ended.
+    pub ended: Ended,
+    /// The receipts for all that was done in the last part of the history; none where they could not be brought
+    /// together.
+    pub tally: Option<Tally<L>>,
+    pub errands: E,
 }
 
 // Works in a scope of threads until the part of the history is full, or there is nothing left to wait for.
@@ -153,6 +169,7 @@ fn work_part<
     P: Peer + Send + Drop + 's,
     G: Gate + Sync,
     C: Counterpart + Sync,
+    E: Errands + Drop,
     R: Threads + Wait + Clock + Sync,
 >(
     scope: &'s Scope<'s, &'e ()>,
@@ -161,21 +178,22 @@ fn work_part<
     shared: &'e Shared<L>,
     gate: &'e G,
     counterpart: &'e C,
-    crew: WorkGroup<L, P>,
+    crew: WorkGroup<L, P, E>,
     keeper: TimeKeeper,
-) -> (Ended, Option<PartEnd<L, P>>)
+) -> PartEnd<L, P, E>
     requires few { vec_len crew.peers < PARTS }
     requires parts { crew.coordinator.parts ≡ PARTS }
-    ensures parts { IfSome result.1 (λ end. end.tally.parts ≡ PARTS) }
-    ensures few { IfSome result.1 (λ end. vec_len end.peers < PARTS) }
+    ensures parts { IfSome result.tally (λ tally. tally.parts ≡ PARTS) }
+    ensures few { IsSome result.tally → vec_len result.peers < PARTS }
 {
     let WorkGroup {
         mut coordinator,
         peers,
+        mut errands,
     } = crew;
     let pool = start_workers(scope, rt, alloc, shared, gate, &mut coordinator, peers);
     let mut ended = if pool.complete {
-        keeper.keep(rt, shared, counterpart, &mut coordinator)
+        keeper.keep(rt, shared, counterpart, &mut coordinator, &mut errands)
     } else {
         Ended::Memory
     };
@@ -188,10 +206,13 @@ fn work_part<
     }
     let mut tally = coordinator.into_tally();
     let mut back = Vec::new(alloc);
-    if join_workers(rt, &mut tally, &mut back, pool) {
-        (ended, Some(PartEnd { tally, peers: back }))
-    } else {
-        (ended, None)
+    let is_whole = join_workers(rt, &mut tally, &mut back, pool);
+    errands.tell(shared.take_changes(rt));
+    PartEnd {
+        ended,
+        tally: if is_whole { Some(tally) } else { None },
+        peers: back,
+        errands,
     }
 }
 
@@ -201,6 +222,7 @@ fn part<
     P: Peer + Send + Drop,
     G: Gate + Sync,
     C: Counterpart + Sync,
+    E: Errands + Drop,
     R: Threads + Wait + Clock + Sync,
 >(
     rt: &R,
@@ -208,37 +230,38 @@ fn part<
     shared: &Shared<L>,
     gate: &G,
     counterpart: &C,
-    crew: WorkGroup<L, P>,
+    crew: WorkGroup<L, P, E>,
     keeper: TimeKeeper,
-) -> (Ended, Option<PartEnd<L, P>>)
+) -> PartEnd<L, P, E>
     requires few { vec_len crew.peers < PARTS }
     requires parts { crew.coordinator.parts ≡ PARTS }
-    ensures parts { IfSome result.1 (λ end. end.tally.parts ≡ PARTS) }
-    ensures few { IfSome result.1 (λ end. vec_len end.peers < PARTS) }
+    ensures parts { IfSome result.tally (λ tally. tally.parts ≡ PARTS) }
+    ensures few { IsSome result.tally → vec_len result.peers < PARTS }
 {
     scope(
         scope_env(),
         rt,
-        move |scope| -> (Ended, Option<PartEnd<L, P>>)
+        move |scope| -> PartEnd<L, P, E>
             requires few { vec_len crew.peers < PARTS }
             requires parts { crew.coordinator.parts ≡ PARTS }
-            ensures parts { IfSome result.1 (λ end. end.tally.parts ≡ PARTS) }
-            ensures few { IfSome result.1 (λ end. vec_len end.peers < PARTS) }
+            ensures parts { IfSome result.tally (λ tally. tally.parts ≡ PARTS) }
+            ensures few { IsSome result.tally → vec_len result.peers < PARTS }
         { work_part(scope, rt, alloc, shared, gate, counterpart, crew, keeper) },
     )
 }
 
-/// Starts a worker for each of these peers, numbered from 1, in a thread of its own, and tells the time beside
-/// them until there is nothing left to wait for; a clock that is counted waits for the counterpart's containers
-/// before it moves on. Where a part of the history is full the workers come to rest, and begin anew at the next
-/// part; HistoryFull is told where the part can't end. The book is closed at last, and calls that are under way
-/// are ended. The tally has the receipts of all workers and the coordinator's, for all that was done in the last
-/// part; none where they could not be brought together.
+/// Starts a worker for each of these peers, numbered from 1, in a thread of its own, and tells the time and runs
+/// the errands beside them until there is nothing left to wait for; a clock that is counted waits for the
+/// counterpart's containers before it moves on. Where a part of the history is full the workers come to rest, and
+/// begin anew at the next part; HistoryFull is told where the part can't end. The book is closed at last, and calls
+/// that are under way are ended. The tally has the receipts of all workers and the coordinator's, for all that was
+/// done in the last part; none where they could not be brought together.
 pub fn crew<
     L: Ledger + Send + Sync,
     P: Peer + Send + Drop,
     G: Gate + Sync,
     C: Counterpart + Sync,
+    E: Errands + Drop,
     R: Threads + Wait + Clock + Sync,
 >(
     rt: &R,
@@ -248,26 +271,45 @@ pub fn crew<
     counterpart: &C,
     coordinator: Coordinator<L>,
     peers: Vec<P>,
+    errands: E,
     pace: Pace,
-) -> (Ended, Option<Tally<L>>)
+) -> CrewEnd<L, E>
     requires few { vec_len peers < PARTS }
     requires parts { coordinator.parts ≡ PARTS }
     requires whole { L.parts ≡ PARTS }
-    ensures { IfSome result.1 (λ tally. tally.parts ≡ PARTS) }
+    ensures { IfSome result.tally (λ tally. tally.parts ≡ PARTS) }
 {
     let keeper = TimeKeeper::start(rt, pace);
-    let mut crew = WorkGroup { coordinator, peers };
+    let mut crew = WorkGroup {
+        coordinator,
+        peers,
+        errands,
+    };
     for _ in rt.forever() {
-        let (ended, left) = part(rt, alloc, shared, gate, counterpart, crew, keeper);
-        let Some(PartEnd { mut tally, peers }) = left else {
-            return (ended, None);
+        let PartEnd {
+            ended,
+            tally,
+            peers,
+            errands,
+        } = part(rt, alloc, shared, gate, counterpart, crew, keeper);
+        let Some(mut tally) = tally else {
+            return CrewEnd {
+                ended,
+                tally: None,
+                errands,
+            };
         };
         if ended != Ended::HistoryFull || shared.end_part(rt, &mut tally).is_err() {
-            return (ended, Some(tally));
+            return CrewEnd {
+                ended,
+                tally: Some(tally),
+                errands,
+            };
         }
         crew = WorkGroup {
             coordinator: Coordinator::resume(tally),
             peers,
+            errands,
         };
     }
     unreachable!()

@@ -18,6 +18,8 @@ pub(crate) enum Standstill {
     At(u64),
     /// Nothing will ever be due.
     Never,
+    /// Workers have something to do, and had at this moment for so long that it would never end.
+    Endless,
 }
 
 /// Whether a pod in this phase stays in it.
@@ -52,13 +54,15 @@ pub(crate) fn standstill_of<L: Ledger>(
     if node.held() > 0 {
         return None;
     }
-    if is_over(node) {
+    // Of a pod that is over something is due where it was deleted: it has to leave.
+    let due = node.next_due();
+    if due.is_none() && is_over(node) {
         return Some(Standstill::Over);
     }
     if !book.has_room(&AgentEvent::Claim(1)) {
         return Some(Standstill::Full);
     }
-    match node.next_due() {
+    match due {
         None => Some(Standstill::Never),
         Some(due) if due > now => Some(Standstill::At(due)),
         Some(_) => None,

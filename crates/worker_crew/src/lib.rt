@@ -7,16 +7,20 @@
 
 mod coordinator;
 mod crews;
+mod errands;
 mod idle;
 mod laws;
+mod observer;
 mod pace;
 mod shared;
 mod worker;
 mod worker_share;
 
 pub use coordinator::Coordinator;
-pub use crews::crew;
+pub use crews::{CrewEnd, crew};
+pub use errands::{Errands, NoErrands};
 pub use laws::constants_are_as_stated;
+pub use observer::{Changes, MAX_CHANGES, Observed};
 pub use pace::{Counterpart, Ended, Pace};
-pub use shared::Shared;
+pub use shared::{NodeTeller, Shared};
 pub use worker::{Always, Gate, Peer, work};

@@ -3,6 +3,7 @@
 ghost use Rattle.std.specs.Prelude.{◌≡◌};
 
 use crate::coordinator::Coordinator;
+use crate::errands::Errands;
 use crate::idle::Standstill;
 use crate::shared::Shared;
 use std::sync::Wait;
@@ -31,6 +32,8 @@ pub enum Ended {
     Memory,
     /// The part of the history that is there takes no claim any longer.
     HistoryFull,
+    /// A moment of counted time does not end: workers have something to do at it again and again.
+    Endless,
 }
 
 /// The runtime's side of a crew's calls, as far as the clock and the crew's end hang on it.
@@ -64,18 +67,19 @@ impl TimeKeeper {
     }
 
     /// Tells the time until there is nothing left to wait for, or the part of the history is full.
-    pub(crate) fn keep<L: Ledger, C: Counterpart, R: Wait + Clock>(
+    pub(crate) fn keep<L: Ledger, C: Counterpart, E: Errands, R: Wait + Clock>(
         &self,
         rt: &R,
         shared: &Shared<L>,
         counterpart: &C,
         coordinator: &mut Coordinator<L>,
+        errands: &mut E,
     ) -> Ended
         ensures { coordinator.new.parts ≡ coordinator.old.parts }
     {
         match self.pace {
-            Pace::Counted(until) => count(rt, shared, counterpart, coordinator, until),
-            Pace::Machine(until) => self.watch(rt, shared, coordinator, until),
+            Pace::Counted(until) => count(rt, shared, counterpart, coordinator, errands, until),
+            Pace::Machine(until) => self.watch(rt, shared, coordinator, errands, until),
         }
     }
 
@@ -115,33 +119,39 @@ impl TimeKeeper {
             .min(Duration::from_secs(LONGEST_WAIT))
     }
 
-    fn watch<L: Ledger, R: Wait + Clock>(
+    fn watch<L: Ledger, E: Errands, R: Wait + Clock>(
         &self,
         rt: &R,
         shared: &Shared<L>,
         coordinator: &mut Coordinator<L>,
+        errands: &mut E,
         until: Option<u64>,
     ) -> Ended
         ensures { coordinator.new.parts ≡ coordinator.old.parts }
     {
         for _ in rt.forever() {
             let now = self.seconds(rt);
+            if !ran_errands(rt, shared, coordinator, errands, now) {
+                return fault_of(rt, shared);
+            }
             let found = shared.standstill(rt, now);
             match found {
                 Some(Standstill::Deserted) => return fault_of(rt, shared),
                 Some(Standstill::Full) => return Ended::HistoryFull,
                 // Nothing is due, so no entry is spent on the time.
                 Some(Standstill::Over | Standstill::Never | Standstill::At(_)) => {}
-                None => {
+                Some(Standstill::Endless) | None => {
                     if now > shared.moment() && !ticked(rt, shared, coordinator, now) {
                         return fault_of(rt, shared);
                     }
                 }
             }
-            if until.is_some_and(|until| now >= until) {
+            if errands.stops() || until.is_some_and(|until| now >= until) {
                 return Ended::TimeUp;
             }
-            let next = next_look(found, now).min(until.unwrap_or(u64::MAX));
+            let next = next_look(found, now)
+                .min(until.unwrap_or(u64::MAX))
+                .min(next_errand(errands, now));
             shared.wait_change(rt, now, found, self.left_until(rt, next));
         }
         unreachable!()
@@ -156,6 +166,40 @@ fn next_look(found: Option<Standstill>, now: u64) -> u64 {
         Some(_) => u64::MAX,
         None => now.saturating_add(1),
     }
+}
+
+// When there may be an errand again.
+fn next_errand<E: Errands>(errands: &E, now: u64) -> u64 {
+    match errands.pause() {
+        Some(seconds) => now.saturating_add(seconds),
+        None => u64::MAX,
+    }
+}
+
+// Records what is to be recorded at this moment, and tells what changed. False where the book took no entry.
+fn ran_errands<L: Ledger, E: Errands, R: Wait>(
+    rt: &R,
+    shared: &Shared<L>,
+    coordinator: &mut Coordinator<L>,
+    errands: &mut E,
+    now: u64,
+) -> bool
+    ensures { coordinator.new.parts ≡ coordinator.old.parts }
+{
+    for _ in rt.forever() {
+        let Some(event) = errands.next() else {
+            break;
+        };
+        if now > shared.moment() && !ticked(rt, shared, coordinator, now) {
+            return false;
+        }
+        match coordinator.record(rt, shared, event) {
+            Ok(refusal) => errands.recorded(refusal),
+            Err(_) => return false,
+        }
+    }
+    errands.tell(shared.take_changes(rt));
+    true
 }
 
 // Why the book took no event.
@@ -182,26 +226,56 @@ fn ticked<L: Ledger, R: Wait>(
         .is_ok()
 }
 
-fn count<L: Ledger, C: Counterpart, R: Wait>(
+// What is next by counted time.
+enum Next {
+    // It goes on to this moment.
+    To(u64),
+    // It has come to an end.
+    End(Ended),
+    // The book takes no entry.
+    Stuck,
+    // Nothing yet.
+    Nothing,
+}
+
+fn next_of(found: Option<Standstill>, until: u64) -> Next {
+    match found {
+        None => Next::Nothing,
+        Some(Standstill::Over) => Next::End(Ended::Settled),
+        Some(Standstill::Never) => Next::End(Ended::TimeUp),
+        Some(Standstill::Endless) => Next::End(Ended::Endless),
+        Some(Standstill::Full) => Next::End(Ended::HistoryFull),
+        Some(Standstill::Deserted) => Next::Stuck,
+        Some(Standstill::At(due)) if due > until => Next::End(Ended::TimeUp),
+        Some(Standstill::At(due)) => Next::To(due),
+    }
+}
+
+fn count<L: Ledger, C: Counterpart, E: Errands, R: Wait>(
     rt: &R,
     shared: &Shared<L>,
     counterpart: &C,
     coordinator: &mut Coordinator<L>,
+    errands: &mut E,
     until: u64,
 ) -> Ended
     ensures { coordinator.new.parts ≡ coordinator.old.parts }
 {
     for _ in rt.forever() {
-        match shared.next_standstill(rt, shared.moment()) {
-            None => {}
-            Some(Standstill::Over) => return Ended::Settled,
-            Some(Standstill::Never) => return Ended::TimeUp,
-            Some(Standstill::Full) => return Ended::HistoryFull,
-            Some(Standstill::Deserted) => return fault_of(rt, shared),
-            Some(Standstill::At(due)) => {
-                if due > until {
-                    return Ended::TimeUp;
+        let now = shared.moment();
+        if !ran_errands(rt, shared, coordinator, errands, now) {
+            return fault_of(rt, shared);
+        }
+        match next_of(shared.next_standstill(rt, now), errands.until(until)) {
+            Next::Nothing => {}
+            Next::Stuck => return fault_of(rt, shared),
+            Next::End(Ended::HistoryFull) => return Ended::HistoryFull,
+            Next::End(ended) => {
+                if let Some(ended) = errands.at_end(ended, now) {
+                    return ended;
                 }
+            }
+            Next::To(due) => {
                 // What is asked at the next moment does not hang on how far a runner has come.
                 counterpart.wait_idle();
                 if !ticked(rt, shared, coordinator, due) {

@@ -4,19 +4,30 @@ ghost use Rattle.worker_core.specs.declared.events.AgentEvent.TheVariants.{Claim
 ghost use Rattle.node_lock.specs.Books.{worker_of};
 
 use crate::idle::{Standstill, standstill_of};
-use node_lock::{Book, BookFault, Receipt, Tally};
+use crate::observer::{Before, Changes, Observed, Observer};
+use manifest::Uid;
+use node_lock::{Book, BookFault, Entry, Receipt, Tally};
+use node_watch::Reasons;
+use std::alloc::{AllocError, Global};
 use std::sync::atomic::{AtomicU64, Ordering};
 use std::sync::ledger::{Ledger, Share};
 use std::sync::{Condvar, CondvarTimeouts, Mutex, Wait};
 use std::time::{Clock, Duration};
-use worker_core::{AgentEvent, Answer};
+use worker_core::{AgentEvent, Answer, MAX_PODS, Node};
 
-/// What stands under the lock: the book, and how many workers have not ended.
+/// What stands under the lock: the book, how many workers have not ended, the number of the last entry that told
+/// the time, and what is kept of the entries beside the book.
 #[derive(Drop)]
 struct Guarded<L: Ledger> {
     book: Book<L>,
     workers: u32,
+    ticked: u64,
+    observer: Observer,
 }
+
+/// How many entries there may be at one moment of counted time. Behind so many the moment is taken for one that
+/// never ends.
+pub(crate) const MAX_AT_MOMENT: u64 = 1_048_576;
 
 /// A node's book, which its workers share. Its lock is held for one step at a time, and never while a call is
 /// made or a file is read.
@@ -64,11 +75,70 @@ fn has_nothing<L: Ledger>(book: &Book<L>, worker: u32) -> bool {
     !book.is_closed() && matches!(book.node().answer(&claim), Answer::Nothing)
 }
 
+/// Says something of a node.
+pub trait NodeTeller {
+    /// What it says of the node, and of why its containers wait. It touches no file and no socket.
+    fn text(&self, node: &Node, reasons: &Reasons) -> Result<String, AllocError>;
+}
+
+fn has_pod(node: &Node, uid: &Uid) -> bool {
+    for place in 0..MAX_PODS {
+        if node.pod(place).is_some_and(|view| view.pod.uid == *uid) {
+            return true;
+        }
+    }
+    false
+}
+
+fn counted_standstill<L: Ledger>(guarded: &Guarded<L>, now: u64) -> Option<Standstill> {
+    match standstill_of(&guarded.book, guarded.workers, now) {
+        None if guarded.book.last_number().saturating_sub(guarded.ticked) > MAX_AT_MOMENT => Some(
+            Standstill::Endless,
+        ),
+        found => found,
+    }
+}
+
+// What worker 0 recorded is looked at.
+fn observe<L: Ledger>(guarded: &mut Guarded<L>, receipt: &Receipt, moment: u64) {
+    let Entry { event, answer, .. } = receipt.entry();
+    match (event, answer) {
+        (AgentEvent::Tick(_), _) => guarded.ticked = receipt.number(),
+        (AgentEvent::Admit(pod), Answer::Done) => {
+            guarded
+                .observer
+                .admitted(moment, guarded.book.node(), &pod.uid);
+        }
+        _ => {}
+    }
+}
+
+fn before_of<L: Ledger>(guarded: &mut Guarded<L>, worker: u32) -> Option<Before> {
+    guarded.observer.before(guarded.book.node(), worker)
+}
+
+// So is what a worker told of its claim.
+fn observe_end<L: Ledger>(
+    guarded: &mut Guarded<L>,
+    receipt: &Receipt,
+    before: Before,
+    moment: u64,
+) {
+    guarded
+        .observer
+        .ended(moment, guarded.book.node(), receipt.entry(), before);
+}
+
 impl<L: Ledger> Shared<L> {
-    /// A book that is shared from now on.
-    pub fn new(book: Book<L>) -> Shared<L> {
+    /// A book that is shared from now on, and what is to be kept of its entries beside it.
+    pub fn new(alloc: Global, book: Book<L>, observed: Observed) -> Shared<L> {
         Shared {
-            guarded: Mutex::new(Guarded { book, workers: 0 }),
+            guarded: Mutex::new(Guarded {
+                book,
+                workers: 0,
+                ticked: 0,
+                observer: Observer::new(alloc, observed),
+            }),
             due: Condvar::new(),
             changed: Condvar::new(),
             moment: AtomicU64::new(0),
@@ -77,6 +147,11 @@ impl<L: Ledger> Shared<L> {
 
     /// The book, once nobody shares it any longer.
     pub fn into_book(self) -> Book<L> {
+        self.into_parts().0
+    }
+
+    /// The same, and why containers wait.
+    pub fn into_parts(self) -> (Book<L>, Reasons) {
         let Shared {
             guarded,
             due,
@@ -84,8 +159,8 @@ impl<L: Ledger> Shared<L> {
             moment: _,
         } = self;
         drop((due, changed));
-        let Guarded { book, workers: _ } = guarded.into_inner();
-        book
+        let Guarded { book, observer, .. } = guarded.into_inner();
+        (book, observer.into_reasons())
     }
 
     // Whether a request is due for a pod that nobody holds.
@@ -111,6 +186,9 @@ impl<L: Ledger> Shared<L> {
     {
         let mut guarded = self.guarded.lock(rt);
         let recorded = guarded.book.record(share, 0, event);
+        if let Ok(receipt) = &recorded {
+            observe(&mut guarded, receipt, self.moment());
+        }
         let wakes = self.is_due(&guarded.book);
         drop(guarded);
         if wakes {
@@ -140,7 +218,11 @@ impl<L: Ledger> Shared<L> {
         ensures parts { share.new.parts ≡ share.old.parts }
     {
         let mut guarded = self.guarded.lock(rt);
+        let before = before_of(&mut guarded, worker);
         let recorded = record_behind(&mut guarded.book, share, worker, event, last);
+        if let (Some(before), Some(receipt)) = (before, &recorded) {
+            observe_end(&mut guarded, receipt, before, self.moment());
+        }
         drop(guarded);
         self.changed.notify_all();
         recorded
@@ -201,16 +283,17 @@ impl<L: Ledger> Shared<L> {
         standstill_of(&guarded.book, guarded.workers, now)
     }
 
-    /// The same, once workers have nothing to do.
+    /// The same by counted time, once workers have nothing to do, or so much that it would never end.
     pub(crate) fn next_standstill<R: Wait>(&self, rt: &R, now: u64) -> Option<Standstill> {
         let guarded = self.guarded.lock(rt);
         let guarded = self.changed.wait_while(rt, guarded, |guarded| {
-            standstill_of(&guarded.book, guarded.workers, now).is_none()
+            counted_standstill(guarded, now).is_none()
         });
-        standstill_of(&guarded.book, guarded.workers, now)
+        counted_standstill(&guarded, now)
     }
 
-    /// Waits until there is something else to be done at this moment than what was found, for so long at most.
+    /// Waits until there is something else to be done at this moment than what was found, or a change that was not
+    /// told, for so long at most.
     pub(crate) fn wait_change<R: Wait + Clock>(
         &self,
         rt: &R,
@@ -222,7 +305,8 @@ impl<L: Ledger> Shared<L> {
         let (guarded, timed) = self
             .changed
             .wait_timeout_while(rt, guarded, most, |guarded| {
-                standstill_of(&guarded.book, guarded.workers, now) == found
+                !guarded.observer.has_changes()
+                    && standstill_of(&guarded.book, guarded.workers, now) == found
             });
         drop((guarded, timed));
     }
@@ -254,6 +338,41 @@ impl<L: Ledger> Shared<L> {
         ensures kept { OnErr result (tally.new ≡ tally.old) }
     {
         self.guarded.lock(rt).book.end_part(tally)
+    }
+
+    /// What changed and was not told yet, which counts as told from now on.
+    pub(crate) fn take_changes<R: Wait>(&self, rt: &R) -> Changes {
+        self.guarded.lock(rt).observer.take()
+    }
+
+    /// Whether a pod of this uid is on the node.
+    pub fn has_pod<R: Wait>(&self, rt: &R, uid: &Uid) -> bool {
+        let guarded = self.guarded.lock(rt);
+        has_pod(guarded.book.node(), uid)
+    }
+
+    /// The uid of the pod at this place, in order of admission.
+    pub fn uid_at<R: Wait>(
+        &self,
+        rt: &R,
+        alloc: Global,
+        place: usize,
+    ) -> Result<Option<Uid>, AllocError> {
+        let guarded = self.guarded.lock(rt);
+        match guarded.book.node().pod(place) {
+            Some(view) => Ok(Some(view.pod.uid.try_clone(alloc)?)),
+            None => Ok(None),
+        }
+    }
+
+    /// What a teller says of the node and of why its containers wait, under the lock.
+    pub fn told_by<R: Wait, T: NodeTeller>(
+        &self,
+        rt: &R,
+        teller: &T,
+    ) -> Result<String, AllocError> {
+        let guarded = self.guarded.lock(rt);
+        teller.text(guarded.book.node(), guarded.observer.reasons())
     }
 
     /// Whether the book takes a claim still.

@@ -3,8 +3,8 @@ use Rattle.std.proofs.Common.{◌≡◌, ◌<◌, ◌≤◌, length, string_byte
 use Rattle.std.specs.List.{flat_map}
 use Rattle.worker_core.specs.declared.limits.TheConstants.{MAX_PODS}
 use Rattle.agent.specs.Table.{slot_lines}
-use Rattle.agent.proofs.tables.table.Given as goal
+use Rattle.agent.proofs.tables.told_table.Given as goal
 
 abbrev pub invariant-loop-place : goal.invariant-loop-place
 invariant-loop-place l =
-    (string_bytes l.text ≡ flat_map slot_lines (take l.place l.node.slots)) × (0 < l.place → length l.node.slots ≤ MAX_PODS)
+    (string_bytes l.text ≡ flat_map (slot_lines l.form l.reasons) (take l.place l.node.slots)) × (0 < l.place → length l.node.slots ≤ MAX_PODS)

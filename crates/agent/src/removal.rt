@@ -1,0 +1,113 @@
+//! How an agent that ends by itself takes its pods away.
+
+use crate::limits::REMOVAL;
+use manifest::Uid;
+use std::alloc::{AllocError, Global};
+use std::sync::Wait;
+use std::sync::ledger::Ledger;
+use worker_core::MAX_PODS;
+use worker_crew::{Ended, NodeTeller, Shared};
+
+/// What is left to do at the end of a run.
+#[derive(Drop)]
+pub(crate) struct Removal {
+    alloc: Global,
+    // Why the run ended, once it has.
+    ended: Option<Ended>,
+    // Until when pods may leave.
+    until: u64,
+    // The pods that are to be deleted yet.
+    uids: Vec<Uid>,
+    // The table of the pods as they were before.
+    table: Option<String>,
+}
+
+fn uids_on<L: Ledger, R: Wait>(
+    rt: &R,
+    alloc: Global,
+    shared: &Shared<L>,
+) -> Result<Vec<Uid>, AllocError> {
+    let mut uids = Vec::new(alloc);
+    for place in 0..MAX_PODS {
+        if let Some(uid) = shared.uid_at(rt, alloc, place)? {
+            uids.push(uid)?;
+        }
+    }
+    Ok(uids)
+}
+
+impl Removal {
+    pub(crate) fn new(alloc: Global) -> Removal {
+        Removal {
+            alloc,
+            ended: None,
+            until: 0,
+            uids: Vec::new(alloc),
+            table: None,
+        }
+    }
+
+    /// The table of the pods as they were before they were taken away, if they were.
+    pub(crate) fn into_table(self) -> Option<String> {
+        let Removal { uids, table, .. } = self;
+        drop(uids);
+        table
+    }
+
+    /// The run has come to this end at this moment. With what it ends at last; none where pods are to leave first.
+    pub(crate) fn at_end<L: Ledger, R: Wait, T: NodeTeller>(
+        &mut self,
+        rt: &R,
+        shared: &Shared<L>,
+        teller: &T,
+        ended: Ended,
+        now: u64,
+    ) -> Option<Ended> {
+        match self.ended {
+            None => match self.begin(rt, shared, teller, ended, now) {
+                Ok(()) if self.uids.is_empty() => Some(ended),
+                Ok(()) => None,
+                Err(_) => Some(Ended::Memory),
+            },
+            Some(first) => Some(if ended == Ended::Settled {
+                first
+            } else {
+                ended
+            }),
+        }
+    }
+
+    fn begin<L: Ledger, R: Wait, T: NodeTeller>(
+        &mut self,
+        rt: &R,
+        shared: &Shared<L>,
+        teller: &T,
+        ended: Ended,
+        now: u64,
+    ) -> Result<(), AllocError> {
+        let table = shared.told_by(rt, teller)?;
+        self.uids = uids_on(rt, self.alloc, shared)?;
+        self.table = Some(table);
+        self.ended = Some(ended);
+        self.until = now.saturating_add(REMOVAL);
+        Ok(())
+    }
+
+    /// Until which moment is counted, where the run was to count up to this one.
+    pub(crate) fn until(&self, until: u64) -> u64 {
+        match self.ended {
+            Some(_) => self.until,
+            None => until,
+        }
+    }
+
+    /// The pod that is to be deleted next.
+    pub(crate) fn next(&self) -> Option<Uid> {
+        self.uids.last()?.try_clone(self.alloc).ok()
+    }
+
+    /// That pod was deleted.
+    pub(crate) fn recorded(&mut self) {
+        drop(self.uids.pop());
+    }
+}

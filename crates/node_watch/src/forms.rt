@@ -1,0 +1,8 @@
+/// How lines are written.
+#[derive(Clone, Copy, Debug, PartialEq, Eq)]
+pub enum Form {
+    /// As words.
+    Text,
+    /// As an object of JSON (RFC 8259) a line. Neither a uid nor a name has a byte that JSON would escape.
+    Json,
+}

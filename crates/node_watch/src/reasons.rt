@@ -1,0 +1,166 @@
+ghost use Rattle.std.specs.Prelude.{◌≡◌, ◌<◌, ◌∷◌, [], IfOk, OnOk, OnErr, None, Some, Ok, option_copied, vec_len, vec_capacity};
+ghost use Rattle.node_watch.specs.Reasons.{at_place, goes_on, is_same_trouble, noted, place_of, reason_for, since_of, without_at};
+
+use crate::calls::{are_about_one, call_name, concerns};
+use cri_msgs::{Call, Refusal};
+use manifest::{Label, Uid};
+use std::alloc::{AllocError, Global};
+use std::marker::Model;
+
+/// Why a call came to nothing.
+#[derive(Clone, Copy, Debug)]
+pub enum Trouble {
+    /// The runtime refused it.
+    Refused(Refusal),
+    /// No reply came that counts, or the call was given up.
+    Lost,
+}
+
+/// A call that came to nothing.
+#[derive(Debug, Drop)]
+pub struct Reason {
+    pub call: Call,
+    pub trouble: Trouble,
+    /// The moment, in seconds, since which each such call came to nothing in the same way.
+    pub since: u64,
+}
+
+/// Why the containers of a node wait: the calls that came to nothing last, at most one of each container, and one
+/// of each pod as a whole. Contracts see them, the newest one first.
+#[derive(Drop)]
+pub struct Reasons {
+    alloc: Global,
+    list: Vec<Reason>,
+}
+
+impl Model for Reasons {
+    ghost use Rattle.std.specs.Prelude.{List};
+    ghost use Rattle.node_watch.specs.declared.reasons.Reason.{Reason};
+
+    ghost Value = { List Reason };
+
+    ghost view = { λ r. r.list.items };
+}
+
+fn is_same_trouble(trouble: Trouble, other: Trouble) -> bool
+    ensures { result ≡ is_same_trouble trouble other }
+{
+    match (trouble, other) {
+        (Trouble::Refused(refusal), Trouble::Refused(other)) => refusal.number() == other.number(),
+        (Trouble::Lost, Trouble::Lost) => true,
+        (Trouble::Refused(_), Trouble::Lost) | (Trouble::Lost, Trouble::Refused(_)) => false,
+    }
+}
+
+fn goes_on(call: &Call, trouble: Trouble, reason: &Reason) -> bool
+    ensures { result ≡ goes_on call.now trouble reason.now }
+{
+    call_name(&reason.call) == call_name(call) && is_same_trouble(reason.trouble, trouble)
+}
+
+fn since_of(moment: u64, call: &Call, trouble: Trouble, was: Option<&Reason>) -> u64
+    ensures { result ≡ since_of moment call.now trouble (option_copied was.entry) }
+{
+    match was {
+        Some(reason) if goes_on(call, trouble, reason) => reason.since,
+        _ => moment,
+    }
+}
+
+fn place_of(call: &Call, reasons: &[Reason]) -> Option<usize>
+    ensures { result ≡ place_of call.now reasons.now }
+{
+    reasons.iter().position(|r| are_about_one(&r.call, call))
+}
+
+fn at_place(reasons: &[Reason], place: Option<usize>) -> Option<&Reason>
+    ensures { option_copied result ≡ at_place reasons.now place }
+{
+    match place {
+        None => None,
+        Some(place) => reasons.get(place),
+    }
+}
+
+fn forget_at(reasons: &mut Vec<Reason>, place: Option<usize>)
+    ensures items { reasons.new.items ≡ without_at place reasons.old.items }
+    ensures room { vec_len reasons.old < vec_capacity reasons.old → vec_len reasons.new < vec_capacity reasons.new }
+{
+    if let Some(place) = place {
+        if place < reasons.len() {
+            drop(reasons.remove(place));
+        }
+    }
+}
+
+fn put_first(reasons: &mut Vec<Reason>, reason: Reason)
+    requires { vec_len reasons.old < vec_capacity reasons.old }
+    ensures { reasons.new.items ≡ reason ∷ reasons.old.items }
+{
+    let put = reasons.insert(0, reason);
+    let is_there = put.is_ok();
+    prove!(is_there);
+    drop(put);
+}
+
+impl Reasons {
+    /// No call came to nothing yet.
+    pub fn new(alloc: Global) -> Reasons
+        ensures { result ≡ [] }
+    {
+        Reasons {
+            alloc,
+            list: Vec::new(alloc),
+        }
+    }
+
+    /// A call ended at this moment, in seconds: in trouble, or in none. Want of memory changes nothing, and comes
+    /// only where there is trouble.
+    pub fn note(
+        &mut self,
+        moment: u64,
+        call: &Call,
+        trouble: Option<Trouble>,
+    ) -> Result<(), AllocError>
+        ensures ok { OnOk result (self.new ≡ noted moment call.now trouble self.old) }
+        ensures err { OnErr result (self.new ≡ self.old) }
+        ensures only { trouble ≡ None → result ≡ Ok (tt {0}) }
+    {
+        match trouble {
+            None => {
+                let place = place_of(call, self.list.as_slice());
+                forget_at(&mut self.list, place);
+                Ok(())
+            }
+            Some(trouble) => self.add(moment, call, trouble),
+        }
+    }
+
+    // All that takes memory comes before the first change.
+    fn add(&mut self, moment: u64, call: &Call, trouble: Trouble) -> Result<(), AllocError>
+        ensures ok { OnOk result (self.new ≡ noted moment call.now (Some trouble) self.old) }
+        ensures err { OnErr result (self.new ≡ self.old) }
+    {
+        self.list.reserve(1)?;
+        let copy = call.try_clone(self.alloc)?;
+        let place = place_of(call, self.list.as_slice());
+        let since = since_of(moment, call, trouble, at_place(self.list.as_slice(), place));
+        forget_at(&mut self.list, place);
+        put_first(
+            &mut self.list,
+            Reason {
+                call: copy,
+                trouble,
+                since,
+            },
+        );
+        Ok(())
+    }
+
+    /// The last call about this container of the pod that came to nothing, by itself or among all of its pod.
+    pub fn reason_for(&self, uid: &Uid, name: &Label) -> Option<&Reason>
+        ensures { option_copied result ≡ reason_for uid.now name.now self.now }
+    {
+        self.list.iter().find(|r| concerns(uid, name, &r.call))
+    }
+}
