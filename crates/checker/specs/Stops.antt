@@ -18,6 +18,7 @@ use Rattle.manifest.specs.declared.faults.PodFault.{PodFault}
 use Rattle.manifest.specs.declared.faults.PodFault.TheVariants as pod
 use Rattle.oci_profile.specs.declared.faults.ProfileFault.{ProfileFault}
 use Rattle.oci_profile.specs.declared.faults.ProfileFault.TheVariants as profile
+use Rattle.oci_profile.specs.declared.placed.ProfileFaultAt.{ProfileFaultAt}
 use Rattle.script.specs.declared.faults.ScriptFault.{ScriptFault}
 use Rattle.script.specs.declared.faults.ScriptFault.TheVariants as script
 use Rattle.verdict.specs.declared.stack.StackFault.{StackFault}
@@ -35,11 +36,14 @@ IsOfStackRefusal path (Code code.Memory) stop = stop ≡ why.Memory
 IsOfStackRefusal path fault (why.StackFilter word told) = (word.now ≡ path) × (told ≡ fault)
 IsOfStackRefusal path fault stop = ⊥
 
--- the profile is refused
-abbrev pub IsOfProfileFault : List ℕ → ProfileFault → Stop → Type 0
-IsOfProfileFault path profile.Memory stop = stop ≡ why.Memory
-IsOfProfileFault path fault (why.Profile word told) = (word.now ≡ path) × (told ≡ fault)
-IsOfProfileFault path fault stop = ⊥
+-- the profile is refused, for this somewhere in it
+abbrev pub IsOfFoundFault : List ℕ → ProfileFaultAt → ProfileFault → Stop → Type 0
+IsOfFoundFault path found profile.Memory stop = stop ≡ why.Memory
+IsOfFoundFault path found fault (why.Profile word told) = (word.now ≡ path) × (told ≡ found)
+IsOfFoundFault path found fault stop = ⊥
+
+abbrev pub IsOfProfileFault : List ℕ → ProfileFaultAt → Stop → Type 0
+IsOfProfileFault path found stop = IsOfFoundFault path found found.fault stop
 
 -- the profile is not compiled
 abbrev pub IsOfCompileFault : List ℕ → CompileFault → Stop → Type 0

@@ -13,6 +13,7 @@ mod judging;
 mod line;
 mod notes;
 mod picked;
+mod place_notes;
 mod playing;
 mod seccheck;
 mod show;

@@ -7,7 +7,7 @@ use bpf_verify::Refusal;
 use compile::CompileFault;
 use manifest::PodFault;
 use node_io::{Cause, CausedFault, FileFault};
-use oci_profile::ProfileFault;
+use oci_profile::{ProfileFault, ProfileFaultAt};
 use script::ScriptFault;
 use std::alloc::{AllocError, AllocFailed};
 use std::fmt;
@@ -19,7 +19,7 @@ pub(crate) enum Stop<'a> {
     /// The one filter of a command, in this file, is refused.
     Refused(&'a str, Refusal),
     /// The profile in this file is refused.
-    Profile(&'a str, ProfileFault),
+    Profile(&'a str, ProfileFaultAt),
     /// The profile in this file is not compiled.
     Compile(&'a str, CompileFault),
     /// The manifest in this file is refused.
@@ -96,7 +96,7 @@ impl fmt::Display for Stop<'_> {
     fn fmt<W: fmt::Write>(&self, f: &mut fmt::Formatter<W>) -> fmt::Result {
         match self {
             Stop::Refused(_, refusal) => writeln!(f, "refused {refusal}"),
-            Stop::Profile(_, fault) => writeln!(f, "refused {fault}"),
+            Stop::Profile(_, found) => writeln!(f, "refused {}", found.fault),
             Stop::Compile(_, fault) => writeln!(f, "refused {fault}"),
             Stop::Manifest(_, fault) => writeln!(f, "refused {fault}"),
             Stop::Script(_, fault) => writeln!(f, "refused script {fault}"),
@@ -190,12 +190,12 @@ pub(crate) fn stack_stop(path: &str, fault: StackFault) -> Stop<'_>
 }
 
 /// Why a profile stops the program.
-pub(crate) fn profile_stop(path: &str, fault: ProfileFault) -> Stop<'_>
-    ensures { IsOfProfileFault path.now fault result }
+pub(crate) fn profile_stop(path: &str, found: ProfileFaultAt) -> Stop<'_>
+    ensures { IsOfProfileFault path.now found result }
 {
-    match fault {
+    match found.fault {
         ProfileFault::Memory => Stop::Memory,
-        _ => Stop::Profile(path, fault),
+        _ => Stop::Profile(path, found),
     }
 }
 
