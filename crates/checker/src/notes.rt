@@ -166,6 +166,9 @@ pub(crate) fn tell_note<R: rt::Files + AllocGlobal, E: Write>(
         Stop::Profile(path, found) if has_place(found) => {
             tell_place(rt, path, &found.place, Named::Profile(found.fault), err);
         }
+        Stop::Manifest(path, found) if found.fault != PodFault::NotJson => {
+            tell_place(rt, path, &found.place, Named::Manifest(found.fault), err);
+        }
         _ => {
             if let Some(note) = note_of(rt, stop) {
                 let _ = write!(err, "{note}");
@@ -189,9 +192,9 @@ fn note_of<'a, R: rt::Files + AllocGlobal>(rt: &R, stop: &Stop<'a>) -> Option<No
             Some(text_note(rt, path, Named::Profile(found.fault), is_text))
         }
         Stop::Compile(path, fault) => Some(text_note(rt, path, Named::Compile(*fault), false)),
-        Stop::Manifest(path, fault) => {
-            let is_text = *fault == PodFault::NotJson;
-            Some(text_note(rt, path, Named::Manifest(*fault), is_text))
+        Stop::Manifest(path, found) => {
+            let is_text = found.fault == PodFault::NotJson;
+            Some(text_note(rt, path, Named::Manifest(found.fault), is_text))
         }
         Stop::Script(path, fault) => {
             let is_text = *fault == ScriptFault::NotJson;

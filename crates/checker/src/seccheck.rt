@@ -178,7 +178,9 @@ fn pick_text<'a, R: rt::Files + AllocGlobal>(
     seccomp_default: bool,
 ) -> Result<String, Stop<'a>> {
     let bytes = bytes_at(rt, path)?;
-    let pod = manifest::read(rt.alloc(), &bytes).map_err(|fault| manifest_stop(path, fault))?;
+    let pod = manifest::read_placed(rt.alloc(), &bytes).map_err(|found| manifest_stop(
+        path, found,
+    ))?;
     Ok(picked_lines(rt.alloc(), &pod, seccomp_default)?)
 }
 
