@@ -18,6 +18,7 @@ mod playing;
 mod seccheck;
 mod show;
 mod stop;
+mod wanted;
 mod words;
 
 pub use judging::{Judged, judge};

@@ -1,6 +1,7 @@
 //! What helps a person who sees that a text is refused: where in it, and what stands there.
 
 use crate::notes::Named;
+use crate::wanted::wanted_at;
 use json_place::{Place, Shown, stands_at};
 use node_io::{MAX_FILE_BYTES, read_file};
 use serde_json::Value;
@@ -15,6 +16,7 @@ struct PlaceNote<'a, 'p, 't> {
     place: &'p Place,
     fault: Named,
     shown: Option<Shown<'t>>,
+    wanted: &'static str,
 }
 
 /// A place behind a path, unless it is the whole text's.
@@ -36,6 +38,25 @@ impl fmt::Display for Behind<'_> {
     }
 }
 
+/// What was wanted, if that is told, and what joins it to the words before it.
+#[derive(Clone, Copy)]
+struct Wanted(&'static str, &'static str);
+
+impl fmt::Display for Wanted {
+    ghost use Rattle.std.specs.Prelude.{Some};
+    ghost use Rattle.checker.specs.PlaceNoteText.{wanted_text};
+
+    ghost output = { λ wanted. Some (wanted_text wanted.0.now wanted.1.now) };
+
+    fn fmt<W: fmt::Write>(&self, f: &mut fmt::Formatter<W>) -> fmt::Result {
+        if self.1.is_empty() {
+            Ok(())
+        } else {
+            write!(f, "{}wanted {}", self.0, self.1)
+        }
+    }
+}
+
 impl fmt::Display for PlaceNote<'_, '_, '_> {
     ghost use Rattle.checker.specs.PlaceNoteText.{place_note_text};
 
@@ -44,8 +65,14 @@ impl fmt::Display for PlaceNote<'_, '_, '_> {
     fn fmt<W: fmt::Write>(&self, f: &mut fmt::Formatter<W>) -> fmt::Result {
         let (path, behind, fault) = (self.path, Behind(self.place), self.fault);
         match self.shown {
-            Some(shown) => writeln!(f, "seccheck: {path}{behind}: {fault}: {shown}"),
-            None => writeln!(f, "seccheck: {path}{behind}: {fault}"),
+            Some(shown) => {
+                let wanted = Wanted(", ", self.wanted);
+                writeln!(f, "seccheck: {path}{behind}: {fault}: {shown}{wanted}")
+            }
+            None => {
+                let wanted = Wanted(": ", self.wanted);
+                writeln!(f, "seccheck: {path}{behind}: {fault}{wanted}")
+            }
         }
     }
 }
@@ -72,6 +99,7 @@ pub(crate) fn tell_place<R: rt::Files + AllocGlobal, E: Write>(
             place,
             fault,
             shown,
+            wanted: wanted_at(fault, place),
         }
     );
 }
