@@ -1,4 +1,5 @@
 use json_tree::{FieldFault, TextFault};
+use std::alloc::{AllocError, AllocFailed};
 use std::fmt;
 use thiserror::Error;
 
@@ -71,5 +72,27 @@ impl From<TextFault> for PodFault {
             TextFault::NotJson => PodFault::NotJson,
             TextFault::Memory => PodFault::Memory,
         }
+    }
+}
+
+impl From<AllocError> for PodFault {
+    ghost use Rattle.std.specs.Prelude.{◌≡◌};
+    ghost use Rattle.manifest.specs.declared.faults.PodFault.TheVariants.{Memory};
+
+    ghost from_gives = { λ _ fault. fault ≡ Memory };
+
+    fn from(_: AllocError) -> PodFault {
+        PodFault::Memory
+    }
+}
+
+impl<T: Drop> From<AllocFailed<T>> for PodFault {
+    ghost use Rattle.std.specs.Prelude.{◌≡◌};
+    ghost use Rattle.manifest.specs.declared.faults.PodFault.TheVariants.{Memory};
+
+    ghost from_gives = { λ _ fault. fault ≡ Memory };
+
+    fn from(_: AllocFailed<T>) -> PodFault {
+        PodFault::Memory
     }
 }

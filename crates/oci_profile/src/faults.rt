@@ -1,4 +1,5 @@
 use json_tree::{FieldFault, TextFault};
+use std::alloc::{AllocError, AllocFailed};
 use std::fmt;
 use thiserror::Error;
 
@@ -91,5 +92,27 @@ impl From<TextFault> for ProfileFault {
             TextFault::NotJson => ProfileFault::NotJson,
             TextFault::Memory => ProfileFault::Memory,
         }
+    }
+}
+
+impl From<AllocError> for ProfileFault {
+    ghost use Rattle.std.specs.Prelude.{◌≡◌};
+    ghost use Rattle.oci_profile.specs.declared.faults.ProfileFault.TheVariants.{Memory};
+
+    ghost from_gives = { λ _ fault. fault ≡ Memory };
+
+    fn from(_: AllocError) -> ProfileFault {
+        ProfileFault::Memory
+    }
+}
+
+impl<T: Drop> From<AllocFailed<T>> for ProfileFault {
+    ghost use Rattle.std.specs.Prelude.{◌≡◌};
+    ghost use Rattle.oci_profile.specs.declared.faults.ProfileFault.TheVariants.{Memory};
+
+    ghost from_gives = { λ _ fault. fault ≡ Memory };
+
+    fn from(_: AllocFailed<T>) -> ProfileFault {
+        ProfileFault::Memory
     }
 }
