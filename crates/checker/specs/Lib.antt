@@ -3,6 +3,7 @@ pub mod CallWords
 pub mod Compared
 pub mod LineText
 pub mod NoteText
+pub mod PlaceNoteText
 pub mod PickText
 pub mod PickedText
 pub mod StopText

@@ -15,9 +15,9 @@ use Rattle.checker.specs.declared.stop.Stop.TheVariants.{Refused, Profile, Compi
 
 abbrev pub stop_text : Stop → Option (List ℕ)
 stop_text (Refused path refusal) = Some (codes "refused " ++ refusal_text refusal ++ codes "\n")
-stop_text (Profile path fault) = Some (codes "refused " ++ profile_fault_text fault ++ codes "\n")
+stop_text (Profile path found) = Some (codes "refused " ++ profile_fault_text found.fault ++ codes "\n")
 stop_text (Compile path fault) = Some (codes "refused " ++ compile_fault_text fault ++ codes "\n")
-stop_text (Manifest path fault) = Some (codes "refused " ++ pod_fault_text fault ++ codes "\n")
+stop_text (Manifest path found) = Some (codes "refused " ++ pod_fault_text found.fault ++ codes "\n")
 stop_text (Script path fault) = Some (codes "refused script " ++ script_fault_text fault ++ codes "\n")
 stop_text (StackFilter path refusal) = Some (codes "refused filter " ++ refusal_text refusal ++ codes "\n")
 stop_text (Stack path fault) = Some (codes "refused filter " ++ stack_fault_text fault ++ codes "\n")

@@ -16,8 +16,10 @@ use Rattle.compile.specs.declared.fault.CompileFault.{CompileFault}
 use Rattle.compile.specs.declared.fault.CompileFault.TheVariants as compile
 use Rattle.manifest.specs.declared.faults.PodFault.{PodFault}
 use Rattle.manifest.specs.declared.faults.PodFault.TheVariants as pod
+use Rattle.manifest.specs.declared.placed.PodFaultAt.{PodFaultAt}
 use Rattle.oci_profile.specs.declared.faults.ProfileFault.{ProfileFault}
 use Rattle.oci_profile.specs.declared.faults.ProfileFault.TheVariants as profile
+use Rattle.oci_profile.specs.declared.placed.ProfileFaultAt.{ProfileFaultAt}
 use Rattle.script.specs.declared.faults.ScriptFault.{ScriptFault}
 use Rattle.script.specs.declared.faults.ScriptFault.TheVariants as script
 use Rattle.verdict.specs.declared.stack.StackFault.{StackFault}
@@ -35,11 +37,14 @@ IsOfStackRefusal path (Code code.Memory) stop = stop ≡ why.Memory
 IsOfStackRefusal path fault (why.StackFilter word told) = (word.now ≡ path) × (told ≡ fault)
 IsOfStackRefusal path fault stop = ⊥
 
--- the profile is refused
-abbrev pub IsOfProfileFault : List ℕ → ProfileFault → Stop → Type 0
-IsOfProfileFault path profile.Memory stop = stop ≡ why.Memory
-IsOfProfileFault path fault (why.Profile word told) = (word.now ≡ path) × (told ≡ fault)
-IsOfProfileFault path fault stop = ⊥
+-- the profile is refused, for this somewhere in it
+abbrev pub IsOfProfileFaultHere : List ℕ → ProfileFaultAt → ProfileFault → Stop → Type 0
+IsOfProfileFaultHere path found profile.Memory stop = stop ≡ why.Memory
+IsOfProfileFaultHere path found fault (why.Profile word told) = (word.now ≡ path) × (told ≡ found)
+IsOfProfileFaultHere path found fault stop = ⊥
+
+abbrev pub IsOfProfileFault : List ℕ → ProfileFaultAt → Stop → Type 0
+IsOfProfileFault path found stop = IsOfProfileFaultHere path found found.fault stop
 
 -- the profile is not compiled
 abbrev pub IsOfCompileFault : List ℕ → CompileFault → Stop → Type 0
@@ -47,11 +52,14 @@ IsOfCompileFault path compile.Memory stop = stop ≡ why.Memory
 IsOfCompileFault path fault (why.Compile word told) = (word.now ≡ path) × (told ≡ fault)
 IsOfCompileFault path fault stop = ⊥
 
--- the manifest is refused
-abbrev pub IsOfPodFault : List ℕ → PodFault → Stop → Type 0
-IsOfPodFault path pod.Memory stop = stop ≡ why.Memory
-IsOfPodFault path fault (why.Manifest word told) = (word.now ≡ path) × (told ≡ fault)
-IsOfPodFault path fault stop = ⊥
+-- the manifest is refused, for this somewhere in it
+abbrev pub IsOfPodFaultHere : List ℕ → PodFaultAt → PodFault → Stop → Type 0
+IsOfPodFaultHere path found pod.Memory stop = stop ≡ why.Memory
+IsOfPodFaultHere path found fault (why.Manifest word told) = (word.now ≡ path) × (told ≡ found)
+IsOfPodFaultHere path found fault stop = ⊥
+
+abbrev pub IsOfPodFault : List ℕ → PodFaultAt → Stop → Type 0
+IsOfPodFault path found stop = IsOfPodFaultHere path found found.fault stop
 
 -- the script is refused
 abbrev pub IsOfScriptFault : List ℕ → ScriptFault → Stop → Type 0

@@ -13,10 +13,12 @@ mod judging;
 mod line;
 mod notes;
 mod picked;
+mod place_notes;
 mod playing;
 mod seccheck;
 mod show;
 mod stop;
+mod wanted;
 mod words;
 
 pub use judging::{Judged, judge};

@@ -4,15 +4,17 @@ ghost use Rattle.checker.specs.Compared.{begins_yaml};
 ghost use Rattle.checker.specs.NoteText.{refusal_name, refusal_spot};
 
 use crate::compared::begins_yaml;
+use crate::place_notes::tell_place;
 use crate::stop::Stop;
 use bpf_code::{CodeFault, Insn};
 use bpf_verify::{Fault, Refusal};
 use manifest::PodFault;
 use node_io::{MAX_FILE_BYTES, read_file};
-use oci_profile::ProfileFault;
+use oci_profile::{ProfileFault, ProfileFaultAt};
 use script::ScriptFault;
 use serde_json::Value;
 use std::alloc::Global;
+use std::io::Write;
 use std::{fmt, rt};
 
 /// Where in a file something stands.
@@ -44,7 +46,7 @@ pub struct Hint {
 
 /// The fault that a file is refused for, by its name.
 #[derive(Clone, Copy)]
-enum Named {
+pub(crate) enum Named {
     Filter(Refusal),
     Profile(ProfileFault),
     Compile(compile::CompileFault),
@@ -153,21 +155,46 @@ fn refusal_spot(refusal: Refusal) -> Spot
     }
 }
 
-/// What is told of the file that a stop refuses. What stands where the fault is, is read off the file once
-/// more; where that is not to be had, it is left out.
-pub(crate) fn note_of<'a, R: rt::Files + AllocGlobal>(rt: &R, stop: &Stop<'a>) -> Option<Note<'a>> {
+/// Tells what is told of the file that a stop refuses. What stands where the fault is, is read off the file
+/// once more; where that is not to be had, it is left out.
+pub(crate) fn tell_note<R: rt::Files + AllocGlobal, E: Write>(
+    rt: &R,
+    stop: &Stop<'_>,
+    err: &mut E,
+) {
+    match stop {
+        Stop::Profile(path, found) if has_place(found) => {
+            tell_place(rt, path, &found.place, Named::Profile(found.fault), err);
+        }
+        Stop::Manifest(path, found) if found.fault != PodFault::NotJson => {
+            tell_place(rt, path, &found.place, Named::Manifest(found.fault), err);
+        }
+        _ => {
+            if let Some(note) = note_of(rt, stop) {
+                let _ = write!(err, "{note}");
+            }
+        }
+    }
+}
+
+// A text that is too large is not read for what stands in it.
+fn has_place(found: &ProfileFaultAt) -> bool {
+    found.fault != ProfileFault::NotJson && found.fault != ProfileFault::TooLarge
+}
+
+fn note_of<'a, R: rt::Files + AllocGlobal>(rt: &R, stop: &Stop<'a>) -> Option<Note<'a>> {
     match stop {
         Stop::Refused(path, refusal) | Stop::StackFilter(path, refusal) => {
             Some(filter_note(rt, path, *refusal))
         }
-        Stop::Profile(path, fault) => {
-            let is_text = *fault == ProfileFault::NotJson;
-            Some(text_note(rt, path, Named::Profile(*fault), is_text))
+        Stop::Profile(path, found) => {
+            let is_text = found.fault == ProfileFault::NotJson;
+            Some(text_note(rt, path, Named::Profile(found.fault), is_text))
         }
         Stop::Compile(path, fault) => Some(text_note(rt, path, Named::Compile(*fault), false)),
-        Stop::Manifest(path, fault) => {
-            let is_text = *fault == PodFault::NotJson;
-            Some(text_note(rt, path, Named::Manifest(*fault), is_text))
+        Stop::Manifest(path, found) => {
+            let is_text = found.fault == PodFault::NotJson;
+            Some(text_note(rt, path, Named::Manifest(found.fault), is_text))
         }
         Stop::Script(path, fault) => {
             let is_text = *fault == ScriptFault::NotJson;

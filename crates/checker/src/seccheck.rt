@@ -2,7 +2,7 @@ use crate::compared::{BUDGET, is_profile, same_line, same_or_stop};
 use crate::file::{is_same_file, write_file};
 use crate::judging::judge;
 use crate::line::{accepted, compiled, judged_line, longest, outcome_lines};
-use crate::notes::note_of;
+use crate::notes::tell_note;
 use crate::picked::picked_lines;
 use crate::playing::play;
 use crate::show::code_lines;
@@ -44,9 +44,7 @@ pub fn seccheck_run<R: rt::Files + AllocGlobal, O: Write, E: Write>(
     if let Err(error) = write!(out, "{stop}") {
         return tell(&Stop::Unwritten(Cause::of(&error)), err);
     }
-    if let Some(note) = note_of(rt, &stop) {
-        let _ = write!(err, "{note}");
-    }
+    tell_note(rt, &stop, err);
     stop.status()
 }
 
@@ -180,7 +178,9 @@ fn pick_text<'a, R: rt::Files + AllocGlobal>(
     seccomp_default: bool,
 ) -> Result<String, Stop<'a>> {
     let bytes = bytes_at(rt, path)?;
-    let pod = manifest::read(rt.alloc(), &bytes).map_err(|fault| manifest_stop(path, fault))?;
+    let pod = manifest::read_placed(rt.alloc(), &bytes).map_err(|found| manifest_stop(
+        path, found,
+    ))?;
     Ok(picked_lines(rt.alloc(), &pod, seccomp_default)?)
 }
 
@@ -226,7 +226,9 @@ fn profile_filter<'a, R: rt::Files + AllocGlobal>(
     bytes: &[u8],
 ) -> Result<Filter, Stop<'a>> {
     let alloc = rt.alloc();
-    let profile = oci_profile::read(alloc, bytes).map_err(|fault| profile_stop(path, fault))?;
+    let profile = oci_profile::read_placed(alloc, bytes).map_err(|found| profile_stop(
+        path, found,
+    ))?;
     compile(alloc, &profile).map_err(|fault| compile_stop(path, fault))
 }
 

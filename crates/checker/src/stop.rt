@@ -5,9 +5,9 @@ use bpf_code::CodeFault;
 use bpf_compare::Doubt;
 use bpf_verify::Refusal;
 use compile::CompileFault;
-use manifest::PodFault;
+use manifest::{PodFault, PodFaultAt};
 use node_io::{Cause, CausedFault, FileFault};
-use oci_profile::ProfileFault;
+use oci_profile::{ProfileFault, ProfileFaultAt};
 use script::ScriptFault;
 use std::alloc::{AllocError, AllocFailed};
 use std::fmt;
@@ -19,11 +19,11 @@ pub(crate) enum Stop<'a> {
     /// The one filter of a command, in this file, is refused.
     Refused(&'a str, Refusal),
     /// The profile in this file is refused.
-    Profile(&'a str, ProfileFault),
+    Profile(&'a str, ProfileFaultAt),
     /// The profile in this file is not compiled.
     Compile(&'a str, CompileFault),
     /// The manifest in this file is refused.
-    Manifest(&'a str, PodFault),
+    Manifest(&'a str, PodFaultAt),
     /// The script in this file is refused.
     Script(&'a str, ScriptFault),
     /// A filter of a stack, in this file, is refused.
@@ -96,9 +96,9 @@ impl fmt::Display for Stop<'_> {
     fn fmt<W: fmt::Write>(&self, f: &mut fmt::Formatter<W>) -> fmt::Result {
         match self {
             Stop::Refused(_, refusal) => writeln!(f, "refused {refusal}"),
-            Stop::Profile(_, fault) => writeln!(f, "refused {fault}"),
+            Stop::Profile(_, found) => writeln!(f, "refused {}", found.fault),
             Stop::Compile(_, fault) => writeln!(f, "refused {fault}"),
-            Stop::Manifest(_, fault) => writeln!(f, "refused {fault}"),
+            Stop::Manifest(_, found) => writeln!(f, "refused {}", found.fault),
             Stop::Script(_, fault) => writeln!(f, "refused script {fault}"),
             Stop::StackFilter(_, refusal) => writeln!(f, "refused filter {refusal}"),
             Stop::Stack(_, fault) => writeln!(f, "refused filter {fault}"),
@@ -190,12 +190,12 @@ pub(crate) fn stack_stop(path: &str, fault: StackFault) -> Stop<'_>
 }
 
 /// Why a profile stops the program.
-pub(crate) fn profile_stop(path: &str, fault: ProfileFault) -> Stop<'_>
-    ensures { IsOfProfileFault path.now fault result }
+pub(crate) fn profile_stop(path: &str, found: ProfileFaultAt) -> Stop<'_>
+    ensures { IsOfProfileFault path.now found result }
 {
-    match fault {
+    match found.fault {
         ProfileFault::Memory => Stop::Memory,
-        _ => Stop::Profile(path, fault),
+        _ => Stop::Profile(path, found),
     }
 }
 
@@ -210,12 +210,12 @@ pub(crate) fn compile_stop(path: &str, fault: CompileFault) -> Stop<'_>
 }
 
 /// Why a manifest stops the program.
-pub(crate) fn manifest_stop(path: &str, fault: PodFault) -> Stop<'_>
-    ensures { IsOfPodFault path.now fault result }
+pub(crate) fn manifest_stop(path: &str, found: PodFaultAt) -> Stop<'_>
+    ensures { IsOfPodFault path.now found result }
 {
-    match fault {
+    match found.fault {
         PodFault::Memory => Stop::Memory,
-        _ => Stop::Manifest(path, fault),
+        _ => Stop::Manifest(path, found),
     }
 }
 

@@ -5,14 +5,18 @@ use Rattle.std.specs.Str.{bytes_eq}
 use Rattle.std.proofs.lemmas.Slice.Eq.{bytes_eq-Decides}
 use Rattle.serde_json.specs.Data.{Data}
 use Rattle.json_tree.specs.Tree.{object, text, whole}
-use Rattle.json_tree.specs.Reading.{◌>>=◌, refuse_if, if_there, required, optional, HasField, MayHaveField}
+use Rattle.json_tree.specs.Reading.{◌>>=◌, refuse_if, if_there, HasField, MayHaveField}
+use Rattle.json_place.specs.Fields.{required, optional}
+use Rattle.json_place.specs.Parts.{Part, Member}
 use Rattle.json_tree.proofs.Loops.{bind_ok, then_ok}
-use Rattle.json_tree.proofs.Fields.{refuse_if_ok, as_fault_ok, required_found, optional_found}
+use Rattle.json_tree.proofs.Fields.{refuse_if_ok, as_fault_ok}
+use Rattle.json_place.proofs.PlacedFields.{required_found, optional_found}
 use Rattle.lifecycle.specs.declared.policy.RestartPolicy.{RestartPolicy}
 use Rattle.lifecycle.specs.declared.policy.RestartPolicy.TheVariants.{Always, OnFailure, Never}
-use Rattle.manifest.specs.declared.faults.PodFault.{PodFault}
 use Rattle.manifest.specs.declared.faults.PodFault.TheVariants.{WrongType, BadName, BadProfile}
+use Rattle.manifest.specs.declared.placed.PodFaultAt.{PodFaultAt}
 use Rattle.manifest.specs.declared.profiles.SeccompProfile.{SeccompProfile}
+use Rattle.manifest.specs.Faults.{fault_at, fault_within, under}
 use Rattle.manifest.specs.declared.profiles.SeccompProfile.TheVariants.{RuntimeDefault, Localhost, Unconfined}
 use Rattle.manifest.specs.Heads.{Identity, Terms, default_uid}
 use Rattle.manifest.specs.Pod.{HasIdentity, IsPolicyOf, HasPolicy, HasGrace, IsWritten, IsProfile, SameWhere, HasProfile, HasProfileWithin, HasPodProfile}
@@ -38,13 +42,17 @@ one_of : {A E : Type 0} (P : A → Type 0) (test : Bool) (one others : Result A 
 one_of P true one others here rest y h = here refl y h
 one_of P false one others here rest y h = rest y h
 
-abbrev pub Reads : {A : Type 0} → Result A PodFault → A → Type 0
-Reads r x = r ≡ Ok x
+abbrev pub IsRead : {A E : Type 0} → Result A E → A → Type 0
+IsRead r x = r ≡ Ok x
 
-none_of : {A : Type 0} (P : A → Type 0) (e : PodFault) (y : A) → Reads (Err e) y → P y
+-- what was read of what stands under a step
+pub under_ok : {A : Type 0} (part : Part) (r : Result A PodFaultAt) (x : A) → under part r ≡ Ok x → r ≡ Ok x
+under_ok part r x h = as_fault_ok (fault_within part) r x h
+
+none_of : {A E : Type 0} (P : A → Type 0) (e : E) (y : A) → IsRead (Err e) y → P y
 none_of P e y h = absurd cc
 
-pub is_this : {A : Type 0} (P : A → Type 0) (x y : A) → P x → Reads (Ok x) y → P y
+pub is_this : {A E : Type 0} (P : A → Type 0) (x y : A) → P x → IsRead {E = E} (Ok x) y → P y
 is_this P x y p h =
     let same : x ≡ y = cc in
     subst P same p
@@ -53,15 +61,15 @@ pub named_found : (test : List ℕ → Bool) (key : List ℕ) (tree : Data) (nam
 unfolding named_by
 named_found test key tree name h =
     let given = bind_ok (here (required text key tree)) _ _ h in
-    let fits = then_ok (refuse_if (not (test given.0)) BadName) _ _ given.2 in
+    let fits = then_ok (refuse_if (not (test given.0)) (fault_at key BadName)) _ _ given.2 in
     let is : given.0 ≡ name = cc in
-    subst (λ n. HasField text key tree n × (test n ≡ true)) is (needs text key tree given.0 given.1, passed (test given.0) (refuse_if_ok _ BadName fits.0 fits.1))
+    subst (λ n. HasField text key tree n × (test n ≡ true)) is (needs text key tree given.0 given.1, passed (test given.0) (refuse_if_ok _ _ fits.0 fits.1))
 
 pub says_found : (key want : List ℕ) (tree : Data) (u : ⊤) → says key want tree ≡ Ok u → HasField text key tree want
 unfolding says
 says_found key want tree u h =
     let given = bind_ok (here (required text key tree)) _ _ h in
-    subst (HasField text key tree) (same_bytes given.0 want (passed (bytes_eq given.0 want) (refuse_if_ok _ WrongType u given.2))) (needs text key tree given.0 given.1)
+    subst (HasField text key tree) (same_bytes given.0 want (passed (bytes_eq given.0 want) (refuse_if_ok _ _ u given.2))) (needs text key tree given.0 given.1)
 
 abbrev IsNamespace : Data → List ℕ → Type 0
 IsNamespace tree namespace = (given : Option (List ℕ)) × MayHaveField text (codes "namespace") tree given × (namespace ≡ unwrap_or given (codes "default")) × (is_label namespace ≡ true)
@@ -70,12 +78,12 @@ namespace_found : (tree : Data) (namespace : List ℕ) → namespace_of tree ≡
 unfolding namespace_of
 namespace_found tree namespace h =
     let given = bind_ok (here (optional text (codes "namespace") tree)) _ _ h in
-    let fits = then_ok (refuse_if (not (is_label (unwrap_or given.0 (codes "default")))) BadName) _ _ given.2 in
+    let fits = then_ok (refuse_if (not (is_label (unwrap_or given.0 (codes "default")))) (fault_at (codes "namespace") BadName)) _ _ given.2 in
     is_this (IsNamespace tree) (unwrap_or given.0 (codes "default")) namespace (
       given.0,
       may text (codes "namespace") tree given.0 given.1,
       refl,
-      passed _ (refuse_if_ok _ BadName fits.0 fits.1),
+      passed _ (refuse_if_ok _ _ fits.0 fits.1),
     ) fits.2
 
 abbrev FitsWhere : Option (List ℕ) → Type 0
@@ -87,9 +95,9 @@ unfolding checked_uid
 checked_found None uid h = (cc, tt)
 checked_found (Some word) uid h =
     let one = bind_ok (checked_uid word) _ _ h in
-    let fits = then_ok (refuse_if (not (is_uid word)) BadName) _ _ one.1 in
+    let fits = then_ok (refuse_if (not (is_uid word)) (fault_at (codes "uid") BadName)) _ _ one.1 in
     let same : word ≡ one.0 = cc in
-    (ap Some same ∙ cc, passed (is_uid word) (refuse_if_ok _ BadName fits.0 fits.1))
+    (ap Some same ∙ cc, passed (is_uid word) (refuse_if_ok _ _ fits.0 fits.1))
 
 uid_fits : (given : Option (List ℕ)) (namespace name : List ℕ) → FitsWhere given → is_label namespace ≡ true → is_pod_name name ≡ true → is_uid (unwrap_or given (default_uid namespace name)) ≡ true
 uid_fits None namespace name fits a b = default_fits namespace name a b
@@ -131,7 +139,7 @@ policy_named_found name policy h =
 
 policy_there_found : (given : Option (List ℕ)) (policy : RestartPolicy) → policy_there given ≡ Ok policy → IsPolicyOf policy given
 policy_there_found None policy h = is_this (λ (p : RestartPolicy). IsPolicyOf p None) Always policy refl h
-policy_there_found (Some name) policy h = policy_named_found name policy h
+policy_there_found (Some name) policy h = policy_named_found name policy (as_fault_ok (fault_at (codes "restartPolicy")) (policy_named name) policy h)
 
 policy_found : (spec : Data) (policy : RestartPolicy) → policy_of spec ≡ Ok policy → HasPolicy spec policy
 unfolding policy_of
@@ -153,7 +161,7 @@ with_found : (name : List ℕ) (path : Option (List ℕ)) → name ≡ codes "Lo
 with_found name None is y h = absurd cc
 with_found name (Some path) is y h =
     let P : SeccompProfile → Type 0 = λ p. IsWritten p name (Some path) in
-    one_of P (is_descending path) (Ok (Localhost path)) (Err BadProfile) (λ fits z. is_this P (Localhost path) z (is, refl, fits)) (none_of P BadProfile) y h
+    one_of P (is_descending path) (Ok (Localhost path)) (Err (fault_at (codes "localhostProfile") BadProfile)) (λ fits z. is_this P (Localhost path) z (is, refl, fits)) (none_of P (fault_at (codes "localhostProfile") BadProfile)) y h
 
 written_found : (name : List ℕ) (path : Option (List ℕ)) (profile : SeccompProfile) → profile_named name path ≡ Ok profile → IsWritten profile name path
 unfolding profile_named
@@ -161,7 +169,7 @@ written_found name path profile h =
     let P : SeccompProfile → Type 0 = λ p. IsWritten p name path in
     one_of P (bytes_eq name (codes "RuntimeDefault")) _ _ (λ e. without_found P RuntimeDefault path (λ none. (same_bytes _ _ e, none)))
     (one_of P (bytes_eq name (codes "Localhost")) _ _ (λ e. with_found name path (same_bytes _ _ e))
-    (one_of P (bytes_eq name (codes "Unconfined")) _ _ (λ e. without_found P Unconfined path (λ none. (same_bytes _ _ e, none))) (none_of P BadProfile))) profile h
+    (one_of P (bytes_eq name (codes "Unconfined")) _ _ (λ e. without_found P Unconfined path (λ none. (same_bytes _ _ e, none))) (none_of P (fault_at (codes "type") BadProfile)))) profile h
 
 profile_found : (tree : Data) (profile : SeccompProfile) → profile_of tree ≡ Ok profile → IsProfile tree profile
 unfolding profile_of
@@ -186,7 +194,7 @@ pub profile_in_found : (context : Data) (profile : Option SeccompProfile) → pr
 unfolding profile_in
 profile_in_found context profile h =
     let found = bind_ok (here (optional object (codes "seccompProfile") context)) _ _ h in
-    record { found = found.0; there = may object (codes "seccompProfile") context found.0 found.1; is = profile_where found.0 profile found.2 }
+    record { found = found.0; there = may object (codes "seccompProfile") context found.0 found.1; is = profile_where found.0 profile (under_ok (Member (codes "seccompProfile")) (if_there profile_of found.0) profile found.2) }
 
 within_found : (context : Option Data) (profile : Option SeccompProfile) → profile_within context ≡ Ok profile → HasProfileWithin context profile
 within_found None profile h = cc
@@ -196,7 +204,7 @@ pod_profile_found : (spec : Data) (profile : Option SeccompProfile) → pod_prof
 unfolding pod_profile_of
 pod_profile_found spec profile h =
     let context = bind_ok (here (optional object (codes "securityContext") spec)) _ _ h in
-    record { context = context.0; there = may object (codes "securityContext") spec context.0 context.1; is = within_found context.0 profile context.2 }
+    record { context = context.0; there = may object (codes "securityContext") spec context.0 context.1; is = within_found context.0 profile (under_ok (Member (codes "securityContext")) (profile_within context.0) profile context.2) }
 
 abbrev pub HasTerms : Data → Terms → Type 0
 HasTerms spec terms = HasPolicy spec terms.policy × HasGrace spec terms.grace × HasPodProfile spec terms.profile

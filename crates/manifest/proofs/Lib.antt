@@ -3,3 +3,4 @@ pub mod Distinct
 pub mod Found
 pub mod FoundPod
 pub mod Only
+pub mod Answered

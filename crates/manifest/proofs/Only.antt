@@ -5,7 +5,7 @@ use Rattle.std.proofs.lemmas.Bool.{le-ltb}
 use Rattle.serde_json.specs.Data.{Data}
 use Rattle.json_tree.specs.Tree.{flag, list, object, text, whole}
 use Rattle.json_tree.specs.Reading.{◌>>=◌, if_there, in_order_after, document, HasField, Both}
-use Rattle.json_tree.proofs.Fields.{required_only, optional_only}
+use Rattle.json_place.proofs.PlacedFields.{required_only, optional_only}
 use Rattle.json_tree.proofs.Loops.{bind_ok}
 use Rattle.json_tree.proofs.After.{after_only}
 use Rattle.lifecycle.specs.declared.policy.RestartPolicy.{RestartPolicy}
@@ -17,7 +17,7 @@ use Rattle.manifest.specs.declared.profiles.SeccompProfile.{SeccompProfile}
 use Rattle.manifest.specs.declared.profiles.SeccompProfile.TheVariants.{RuntimeDefault, Localhost, Unconfined}
 use Rattle.manifest.specs.Heads.{Lists, default_uid}
 use Rattle.manifest.specs.Pod.{HasIdentity, IsPolicyOf, HasPolicy, HasGrace, IsWritten, IsProfile, SameWhere, HasProfile, HasProfileWithin, HasPodProfile, HasSettingsWithin, IsContainer, HasContainers, IsPod, ReadsPod}
-use Rattle.manifest.specs.Reading.{named_by, says, namespace_of, checked_uid, uid_of, identity_of, policy_named, policy_there, policy_of, grace_of, profile_named, profile_of, profile_in, profile_within, pod_profile_of, terms_of, inits_of, others_of, lists_of, kind_of, named_of, head_of, new_name_of, settings_in, settings_within, context_of, container_of, containers_of, pod_of, reading_of}
+use Rattle.manifest.specs.Reading.{named_by, says, namespace_of, checked_uid, uid_of, identity_of, policy_named, policy_there, policy_of, grace_of, profile_named, profile_of, profile_in, profile_within, pod_profile_of, terms_of, inits_of, others_of, lists_of, kind_of, named_of, head_of, new_name_of, settings_in, settings_within, context_of, container_of, container_at, listed_of, containers_of, pod_of, reading_of}
 use Rattle.manifest.specs.Texts.{is_descending, is_label, is_pod_name, is_uid}
 use Rattle.manifest.proofs.Distinct.{AreApart, apart_at}
 use Rattle.manifest.proofs.FoundPod.{both_length}
@@ -84,7 +84,7 @@ profile_where (Some tree) (Some profile) h = rw (profile_only tree profile h) re
 
 profile_in_only : (context : Data) (profile : Option SeccompProfile) → HasProfile context profile → profile_in context ≡ Ok profile
 unfolding profile_in
-profile_in_only context profile h = rw (optional_only object (codes "seccompProfile") context h.found h.there) (profile_where h.found profile h.is)
+profile_in_only context profile h = rw (optional_only object (codes "seccompProfile") context h.found h.there, profile_where h.found profile h.is) refl
 
 within_only : (context : Option Data) (profile : Option SeccompProfile) → HasProfileWithin context profile → profile_within context ≡ Ok profile
 within_only None profile h = ap Ok (sym h)
@@ -92,7 +92,7 @@ within_only (Some context) profile h = profile_in_only context profile h
 
 pod_profile_only : (spec : Data) (profile : Option SeccompProfile) → HasPodProfile spec profile → pod_profile_of spec ≡ Ok profile
 unfolding pod_profile_of
-pod_profile_only spec profile h = rw (optional_only object (codes "securityContext") spec h.context h.there) (within_only h.context profile h.is)
+pod_profile_only spec profile h = rw (optional_only object (codes "securityContext") spec h.context h.there, within_only h.context profile h.is) refl
 
 settings_only : (context : Option Data) (privileged : Bool) (profile : Option SeccompProfile) → HasSettingsWithin context privileged profile → settings_within context ≡ Ok (record { privileged = privileged; profile = profile })
 unfolding settings_in
@@ -128,6 +128,18 @@ after_length f done (x ∷ xs) ys h =
     let grown : length (done ++ one.0 ∷ []) ≡ length done + 1 = simp length-append refl in
     omega (arith, rest, grown)
 
+-- where an item's place makes no difference, the lists are read alike
+same_read : {A B E : Type 0} (f g : List B → A → Result B E) → ((done : List B) (x : A) (y : B) → f done x ≡ Ok y → g done x ≡ Ok y)
+    → (done : List B) (xs : List A) (ys : List B) → in_order_after f done xs ≡ Ok ys → in_order_after g done xs ≡ Ok ys
+same_read f g same done [] ys h = h
+same_read f g same done (x ∷ xs) ys h =
+    let one = bind_ok (f done x) _ _ h in
+    rw (same done x one.0 one.1) (same_read f g same (done ++ one.0 ∷ []) xs ys one.2)
+
+listed_only : (key : List ℕ) (done : List Container) (items : List Data) (all : List Container) → in_order_after container_of done items ≡ Ok all → listed_of key done items ≡ Ok all
+listed_only key done items all h =
+    rw (same_read container_of (container_at (length done)) (λ so_far item c is. rw is refl) done items all h) refl
+
 containers_only : (lists : Lists) (all : List Container) (inits : ℕ) → Both IsContainer (lists.inits ++ lists.others) all → inits ≡ length lists.inits → AreApart all → containers_of lists ≡ Ok (record { all = all; inits = inits })
 unfolding containers_of
 containers_only lists all inits each count apart =
@@ -135,7 +147,7 @@ containers_only lists all inits each count apart =
     let front = bind_ok (in_order_after container_of [] lists.inits) (λ more. in_order_after container_of more lists.others) all (sym (after_append container_of [] lists.inits lists.others) ∙ whole) in
     let grown = after_length container_of [] lists.inits front.0 front.1 in
     let as_many : length front.0 ≡ inits = omega (arith, grown, count) in
-    rw (front.1, front.2) (ap (λ n. Ok (record { all = all; inits = n })) as_many)
+    rw (listed_only (codes "initContainers") [] lists.inits front.0 front.1, listed_only (codes "containers") front.0 lists.others all front.2) (ap (λ n. Ok (record { all = all; inits = n })) as_many)
 
 not_none : {A : Type 0} (xs : List A) → 0 < length xs → eqb (length xs) 0 ≡ false
 not_none [] some = absurd (omega arith)

@@ -5,23 +5,24 @@ ghost use Rattle.manifest.specs.Seen.{context_seen};
 ghost use Rattle.manifest.specs.Profiles.{HasFitPath};
 ghost use Rattle.manifest.specs.Reading.{context_of, settings_in, settings_within};
 
-use crate::faults::PodFault;
 use crate::fields::profile_in;
 use crate::lent::ContextText;
-use json_tree::{optional_flag, optional_object};
+use crate::placed::PodFaultAt;
+use json_place::{Step, optional_flag, optional_object};
 use serde_json::Value;
 
 // A container's `securityContext`. Nothing is allocated.
 
 #[tactic(auto, unfolding(crate::specs::Reading::context_of))]
-pub(crate) fn context(tree: &Value) -> Result<ContextText<'_>, PodFault>
+pub(crate) fn context(tree: &Value) -> Result<ContextText<'_>, PodFaultAt>
     ensures value { as_read context_seen result ≡ context_of (view tree.now) }
     ensures fit { IfOk result (λ context. HasFitPath context.profile) }
 {
-    settings_within(optional_object(tree, "securityContext")?)
+    let found = optional_object(tree, "securityContext")?;
+    settings_within(found).map_err(|found| found.within(Step::Member("securityContext")))
 }
 
-fn settings_within<'v>(context: Option<&'v Value>) -> Result<ContextText<'v>, PodFault>
+fn settings_within<'v>(context: Option<&'v Value>) -> Result<ContextText<'v>, PodFaultAt>
     ensures value { as_read context_seen result
         ≡ settings_within (option_map (λ v. view v.now) context.entry) }
     ensures fit { IfOk result (λ context. HasFitPath context.profile) }
@@ -36,7 +37,7 @@ fn settings_within<'v>(context: Option<&'v Value>) -> Result<ContextText<'v>, Po
 }
 
 #[tactic(auto, unfolding(crate::specs::Reading::settings_in))]
-fn settings(context: &Value) -> Result<ContextText<'_>, PodFault>
+fn settings(context: &Value) -> Result<ContextText<'_>, PodFaultAt>
     ensures value { as_read context_seen result ≡ settings_in (view context.now) }
     ensures fit { IfOk result (λ context. HasFitPath context.profile) }
 {

@@ -1,6 +1,3 @@
-ghost use Rattle.std.specs.Prelude.{◌≡◌};
-ghost use Rattle.manifest.specs.declared.faults.PodFault.TheVariants.{Memory};
-
 use json_tree::{FieldFault, TextFault};
 use std::alloc::{AllocError, AllocFailed};
 use std::fmt;
@@ -79,6 +76,9 @@ impl From<TextFault> for PodFault {
 }
 
 impl From<AllocError> for PodFault {
+    ghost use Rattle.std.specs.Prelude.{◌≡◌};
+    ghost use Rattle.manifest.specs.declared.faults.PodFault.TheVariants.{Memory};
+
     ghost from_gives = { λ _ fault. fault ≡ Memory };
 
     fn from(_: AllocError) -> PodFault {
@@ -87,6 +87,9 @@ impl From<AllocError> for PodFault {
 }
 
 impl<T: Drop> From<AllocFailed<T>> for PodFault {
+    ghost use Rattle.std.specs.Prelude.{◌≡◌};
+    ghost use Rattle.manifest.specs.declared.faults.PodFault.TheVariants.{Memory};
+
     ghost from_gives = { λ _ fault. fault ≡ Memory };
 
     fn from(_: AllocFailed<T>) -> PodFault {

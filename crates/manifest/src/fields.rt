@@ -6,56 +6,57 @@ ghost use Rattle.manifest.specs.Reading.{named_by, profile_in, profile_named, pr
 ghost use Rattle.manifest.specs.Texts as rule;
 
 use crate::faults::PodFault;
+use crate::placed::PodFaultAt;
 use crate::profiles::ProfileText;
 use crate::rules::{is_descending, is_label, is_pod_name};
-use json_tree::{optional_object, optional_text, required_text};
+use json_place::{Step, optional_object, optional_text, required_text};
 use serde_json::Value;
 
 // The fields that more than one part of a manifest has. Nothing is allocated.
 
 // The field is this text.
 #[tactic(auto, unfolding(crate::specs::Reading::says))]
-pub(crate) fn says(tree: &Value, key: &str, want: &str) -> Result<(), PodFault>
+pub(crate) fn says(tree: &Value, key: &'static str, want: &str) -> Result<(), PodFaultAt>
     ensures { result ≡ says key.now want.now (view tree.now) }
 {
     if required_text(tree, key)? != want {
-        return Err(PodFault::WrongType);
+        return Err(PodFaultAt::at(key, PodFault::WrongType));
     }
     Ok(())
 }
 
 #[tactic(auto, unfolding(crate::specs::Reading::named_by))]
-pub(crate) fn pod_name<'v>(tree: &'v Value, key: &str) -> Result<&'v str, PodFault>
+pub(crate) fn pod_name<'v>(tree: &'v Value, key: &'static str) -> Result<&'v str, PodFaultAt>
     ensures value { as_read (λ t. t.now) result ≡ named_by rule.is_pod_name key.now (view tree.now) }
     ensures fit { IfOk result (λ t. IsTrue (rule.is_pod_name t.now)) }
 {
     let name = required_text(tree, key)?;
     if !is_pod_name(name) {
-        return Err(PodFault::BadName);
+        return Err(PodFaultAt::at(key, PodFault::BadName));
     }
     Ok(name)
 }
 
 #[tactic(auto, unfolding(crate::specs::Reading::named_by))]
-pub(crate) fn label<'v>(tree: &'v Value, key: &str) -> Result<&'v str, PodFault>
+pub(crate) fn label<'v>(tree: &'v Value, key: &'static str) -> Result<&'v str, PodFaultAt>
     ensures value { as_read (λ t. t.now) result ≡ named_by rule.is_label key.now (view tree.now) }
     ensures fit { IfOk result (λ t. IsTrue (rule.is_label t.now)) }
 {
     let name = required_text(tree, key)?;
     if !is_label(name) {
-        return Err(PodFault::BadName);
+        return Err(PodFaultAt::at(key, PodFault::BadName));
     }
     Ok(name)
 }
 
 #[tactic(auto, unfolding(crate::specs::Reading::named_by))]
-pub(crate) fn path<'v>(tree: &'v Value, key: &str) -> Result<&'v str, PodFault>
+pub(crate) fn path<'v>(tree: &'v Value, key: &'static str) -> Result<&'v str, PodFaultAt>
     ensures value { as_read (λ t. t.now) result ≡ named_by rule.is_descending key.now (view tree.now) }
     ensures fit { IfOk result (λ t. IsTrue (rule.is_descending t.now)) }
 {
     let path = required_text(tree, key)?;
     if !is_descending(path) {
-        return Err(PodFault::BadName);
+        return Err(PodFaultAt::at(key, PodFault::BadName));
     }
     Ok(path)
 }
@@ -63,7 +64,7 @@ pub(crate) fn path<'v>(tree: &'v Value, key: &str) -> Result<&'v str, PodFault>
 // The `seccompProfile` of a `securityContext` that may be left out.
 pub(crate) fn profile_within<'v>(
     context: Option<&'v Value>,
-) -> Result<Option<ProfileText<'v>>, PodFault>
+) -> Result<Option<ProfileText<'v>>, PodFaultAt>
     ensures value { as_read (option_map profile_seen) result
         ≡ profile_within (option_map (λ v. view v.now) context.entry) }
     ensures fit { IfOk result HasFitPath }
@@ -75,14 +76,15 @@ pub(crate) fn profile_within<'v>(
 }
 
 #[tactic(auto, unfolding(crate::specs::Reading::profile_in))]
-pub(crate) fn profile_in(context: &Value) -> Result<Option<ProfileText<'_>>, PodFault>
+pub(crate) fn profile_in(context: &Value) -> Result<Option<ProfileText<'_>>, PodFaultAt>
     ensures value { as_read (option_map profile_seen) result ≡ profile_in (view context.now) }
     ensures fit { IfOk result HasFitPath }
 {
-    profile_there(optional_object(context, "seccompProfile")?)
+    let found = optional_object(context, "seccompProfile")?;
+    profile_there(found).map_err(|found| found.within(Step::Member("seccompProfile")))
 }
 
-fn profile_there<'v>(found: Option<&'v Value>) -> Result<Option<ProfileText<'v>>, PodFault>
+fn profile_there<'v>(found: Option<&'v Value>) -> Result<Option<ProfileText<'v>>, PodFaultAt>
     ensures value { as_read (option_map profile_seen) result
         ≡ if_there profile_of (option_map (λ v. view v.now) found.entry) }
     ensures fit { IfOk result HasFitPath }
@@ -94,7 +96,7 @@ fn profile_there<'v>(found: Option<&'v Value>) -> Result<Option<ProfileText<'v>>
 }
 
 #[tactic(auto, unfolding(crate::specs::Reading::profile_of))]
-fn profile(tree: &Value) -> Result<ProfileText<'_>, PodFault>
+fn profile(tree: &Value) -> Result<ProfileText<'_>, PodFaultAt>
     ensures value { as_read profile_seen result ≡ profile_of (view tree.now) }
     ensures fit { IfOk result (λ p. HasFitPath (Some p)) }
 {
@@ -104,7 +106,7 @@ fn profile(tree: &Value) -> Result<ProfileText<'_>, PodFault>
 }
 
 #[tactic(auto, unfolding(crate::specs::Reading::profile_named))]
-fn named_profile<'v>(name: &str, path: Option<&'v str>) -> Result<ProfileText<'v>, PodFault>
+fn named_profile<'v>(name: &str, path: Option<&'v str>) -> Result<ProfileText<'v>, PodFaultAt>
     ensures value { as_read profile_seen result ≡ profile_named name.now (option_map (λ t. t.now) path.entry) }
     ensures fit { IfOk result (λ p. HasFitPath (Some p)) }
 {
@@ -112,31 +114,31 @@ fn named_profile<'v>(name: &str, path: Option<&'v str>) -> Result<ProfileText<'v
         "RuntimeDefault" => without_path(ProfileText::RuntimeDefault, path),
         "Localhost" => with_path(path),
         "Unconfined" => without_path(ProfileText::Unconfined, path),
-        _ => Err(PodFault::BadProfile),
+        _ => Err(PodFaultAt::at("type", PodFault::BadProfile)),
     }
 }
 
 fn without_path<'v>(
     profile: ProfileText<'v>,
     path: Option<&str>,
-) -> Result<ProfileText<'v>, PodFault>
+) -> Result<ProfileText<'v>, PodFaultAt>
     requires { HasFitPath (Some profile) }
     ensures value { as_read profile_seen result
         ≡ without_path (profile_seen profile.entry) (option_map (λ t. t.now) path.entry) }
     ensures fit { IfOk result (λ p. HasFitPath (Some p)) }
 {
     match path {
-        Some(_) => Err(PodFault::BadProfile),
+        Some(_) => Err(PodFaultAt::at("localhostProfile", PodFault::BadProfile)),
         None => Ok(profile),
     }
 }
 
-fn with_path(path: Option<&str>) -> Result<ProfileText<'_>, PodFault>
+fn with_path(path: Option<&str>) -> Result<ProfileText<'_>, PodFaultAt>
     ensures value { as_read profile_seen result ≡ with_path (option_map (λ t. t.now) path.entry) }
     ensures fit { IfOk result (λ p. HasFitPath (Some p)) }
 {
     match path {
         Some(path) if is_descending(path) => Ok(ProfileText::Localhost(path)),
-        _ => Err(PodFault::BadProfile),
+        _ => Err(PodFaultAt::at("localhostProfile", PodFault::BadProfile)),
     }
 }

@@ -12,12 +12,14 @@ use crate::containers::MAX_CONTAINERS;
 use crate::faults::PodFault;
 use crate::fields::{pod_name, profile_within, says};
 use crate::lent::{HeadText, IdentityText, ListsText, TermsText};
+use crate::placed::{PodFaultAt, at};
 use crate::profiles::ProfileText;
 use crate::rules::{is_label, is_uid};
-use json_tree::{
-    object, optional_list, optional_object, optional_text, optional_whole, required_list,
+use json_place::{
+    Step, optional_list, optional_object, optional_text, optional_whole, required_list,
     required_object,
 };
+use json_tree::object;
 use lifecycle::RestartPolicy;
 use serde_json::Value;
 
@@ -25,16 +27,16 @@ use serde_json::Value;
 // there is memory or not.
 
 #[tactic(auto, unfolding(crate::specs::Reading::head_of))]
-pub(crate) fn head(tree: &Value) -> Result<HeadText<'_>, PodFault>
+pub(crate) fn head(tree: &Value) -> Result<HeadText<'_>, PodFaultAt>
     ensures value { as_read head_seen result ≡ head_of (view tree.now) }
     ensures fit { IfOk result (λ head. HasFitPath head.terms.profile) }
 {
-    let tree = object(tree).ok_or(PodFault::WrongType)?;
+    let tree = object(tree).ok_or(PodFaultAt::here(PodFault::WrongType))?;
     kind(tree)?;
     let identity = named(tree)?;
     let spec = required_object(tree, "spec")?;
-    let terms = terms(spec)?;
-    let lists = lists(spec)?;
+    let terms = terms(spec).map_err(|found| found.within(Step::Member("spec")))?;
+    let lists = lists(spec).map_err(|found| found.within(Step::Member("spec")))?;
     Ok(HeadText {
         identity,
         terms,
@@ -43,7 +45,7 @@ pub(crate) fn head(tree: &Value) -> Result<HeadText<'_>, PodFault>
 }
 
 #[tactic(auto, unfolding(crate::specs::Reading::kind_of))]
-fn kind(tree: &Value) -> Result<(), PodFault>
+fn kind(tree: &Value) -> Result<(), PodFaultAt>
     ensures { result ≡ kind_of (view tree.now) }
 {
     says(tree, "apiVersion", "v1")?;
@@ -51,15 +53,15 @@ fn kind(tree: &Value) -> Result<(), PodFault>
 }
 
 #[tactic(auto, unfolding(crate::specs::Reading::named_of))]
-fn named(tree: &Value) -> Result<IdentityText<'_>, PodFault>
+fn named(tree: &Value) -> Result<IdentityText<'_>, PodFaultAt>
     ensures { as_read identity_seen result ≡ named_of (view tree.now) }
 {
     let metadata = required_object(tree, "metadata")?;
-    identity(metadata)
+    identity(metadata).map_err(|found| found.within(Step::Member("metadata")))
 }
 
 #[tactic(auto, unfolding(crate::specs::Reading::identity_of))]
-fn identity(tree: &Value) -> Result<IdentityText<'_>, PodFault>
+fn identity(tree: &Value) -> Result<IdentityText<'_>, PodFaultAt>
     ensures { as_read identity_seen result ≡ identity_of (view tree.now) }
 {
     let name = pod_name(tree, "name")?;
@@ -73,19 +75,19 @@ fn identity(tree: &Value) -> Result<IdentityText<'_>, PodFault>
 }
 
 #[tactic(auto, unfolding(crate::specs::Reading::namespace_of))]
-fn namespace(tree: &Value) -> Result<&str, PodFault>
+fn namespace(tree: &Value) -> Result<&str, PodFaultAt>
     ensures value { as_read (λ t. t.now) result ≡ namespace_of (view tree.now) }
     ensures fit { IfOk result (λ t. IsTrue (rule.is_label t.now)) }
 {
     let namespace = optional_text(tree, "namespace")?.unwrap_or("default");
     if !is_label(namespace) {
-        return Err(PodFault::BadName);
+        return Err(PodFaultAt::at("namespace", PodFault::BadName));
     }
     Ok(namespace)
 }
 
 #[tactic(auto, unfolding(crate::specs::Reading::uid_of))]
-fn uid(tree: &Value) -> Result<Option<&str>, PodFault>
+fn uid(tree: &Value) -> Result<Option<&str>, PodFaultAt>
     ensures value { as_read (option_map (λ t. t.now)) result ≡ uid_of (view tree.now) }
     ensures fit { IfOk result (λ o. ForSome o (λ t. IsTrue (rule.is_uid t.now))) }
 {
@@ -93,19 +95,19 @@ fn uid(tree: &Value) -> Result<Option<&str>, PodFault>
 }
 
 #[tactic(auto, unfolding(crate::specs::Reading::checked_uid))]
-fn checked_uid<'v>(given: Option<&'v str>) -> Result<Option<&'v str>, PodFault>
+fn checked_uid<'v>(given: Option<&'v str>) -> Result<Option<&'v str>, PodFaultAt>
     ensures value { as_read (option_map (λ t. t.now)) result
         ≡ if_there checked_uid (option_map (λ t. t.now) given.entry) }
     ensures fit { IfOk result (λ o. ForSome o (λ t. IsTrue (rule.is_uid t.now))) }
 {
     match given {
-        Some(uid) if !is_uid(uid) => Err(PodFault::BadName),
+        Some(uid) if !is_uid(uid) => Err(PodFaultAt::at("uid", PodFault::BadName)),
         _ => Ok(given),
     }
 }
 
 #[tactic(auto, unfolding(crate::specs::Reading::terms_of))]
-fn terms(spec: &Value) -> Result<TermsText<'_>, PodFault>
+fn terms(spec: &Value) -> Result<TermsText<'_>, PodFaultAt>
     ensures value { as_read terms_seen result ≡ terms_of (view spec.now) }
     ensures fit { IfOk result (λ terms. HasFitPath terms.profile) }
 {
@@ -120,17 +122,17 @@ fn terms(spec: &Value) -> Result<TermsText<'_>, PodFault>
 }
 
 #[tactic(auto, unfolding(crate::specs::Reading::policy_of))]
-fn policy(spec: &Value) -> Result<RestartPolicy, PodFault>
+fn policy(spec: &Value) -> Result<RestartPolicy, PodFaultAt>
     ensures { result ≡ policy_of (view spec.now) }
 {
     policy_there(optional_text(spec, "restartPolicy")?)
 }
 
-fn policy_there(given: Option<&str>) -> Result<RestartPolicy, PodFault>
+fn policy_there(given: Option<&str>) -> Result<RestartPolicy, PodFaultAt>
     ensures { result ≡ policy_there (option_map (λ t. t.now) given.entry) }
 {
     match given {
-        Some(name) => named_policy(name),
+        Some(name) => at("restartPolicy", named_policy(name)),
         None => Ok(RestartPolicy::Always),
     }
 }
@@ -148,28 +150,29 @@ fn named_policy(name: &str) -> Result<RestartPolicy, PodFault>
 }
 
 #[tactic(auto, unfolding(crate::specs::Reading::grace_of))]
-fn grace(spec: &Value) -> Result<u64, PodFault>
+fn grace(spec: &Value) -> Result<u64, PodFaultAt>
     ensures { result ≡ grace_of (view spec.now) }
 {
     Ok(optional_whole(spec, "terminationGracePeriodSeconds")?.unwrap_or(30))
 }
 
 #[tactic(auto, unfolding(crate::specs::Reading::pod_profile_of))]
-fn pod_profile(spec: &Value) -> Result<Option<ProfileText<'_>>, PodFault>
+fn pod_profile(spec: &Value) -> Result<Option<ProfileText<'_>>, PodFaultAt>
     ensures value { as_read (option_map profile_seen) result ≡ pod_profile_of (view spec.now) }
     ensures fit { IfOk result HasFitPath }
 {
-    profile_within(optional_object(spec, "securityContext")?)
+    let context = optional_object(spec, "securityContext")?;
+    profile_within(context).map_err(|found| found.within(Step::Member("securityContext")))
 }
 
 #[tactic(auto, unfolding(crate::specs::Reading::lists_of))]
-fn lists(spec: &Value) -> Result<ListsText<'_>, PodFault>
+fn lists(spec: &Value) -> Result<ListsText<'_>, PodFaultAt>
     ensures { as_read lists_seen result ≡ lists_of (view spec.now) }
 {
     let inits = inits(spec)?;
     let others = others(spec)?;
     if too_many(inits.len(), others.len()) {
-        return Err(PodFault::TooMany);
+        return Err(PodFaultAt::here(PodFault::TooMany));
     }
     Ok(ListsText { inits, others })
 }
@@ -182,20 +185,20 @@ fn too_many(inits: usize, others: usize) -> bool
 }
 
 #[tactic(auto, unfolding(crate::specs::Reading::inits_of))]
-fn inits(spec: &Value) -> Result<&[Value], PodFault>
+fn inits(spec: &Value) -> Result<&[Value], PodFaultAt>
     ensures { as_read (λ items. map view items.now) result ≡ inits_of (view spec.now) }
 {
     Ok(optional_list(spec, "initContainers")?.unwrap_or(&[]))
 }
 
 #[tactic(auto, unfolding(crate::specs::Reading::others_of))]
-fn others(spec: &Value) -> Result<&[Value], PodFault>
+fn others(spec: &Value) -> Result<&[Value], PodFaultAt>
     ensures value { as_read (λ items. map view items.now) result ≡ others_of (view spec.now) }
     ensures some { IfOk result (λ items. 0 < length items.now) }
 {
     let others = required_list(spec, "containers")?;
     if others.is_empty() {
-        return Err(PodFault::Missing);
+        return Err(PodFaultAt::at("containers", PodFault::Missing));
     }
     Ok(others)
 }

@@ -1,13 +1,14 @@
-ghost use Rattle.std.specs.Prelude.{◌≡◌, ◌≢◌, IfOk, IfErr, IsTrue, Ok, Err, None, Some, map};
+ghost use Rattle.std.specs.Prelude.{◌≡◌, ◌≢◌, IfOk, IfErr, IsTrue, Ok, Err, None, Some, length, map};
 ghost use Rattle.serde_json.specs.View.{view};
 ghost use Rattle.json_tree.specs.Reading.{Gives, as_read, in_order_after};
 ghost use Rattle.manifest.specs.declared.containers.Container.{Container};
 ghost use Rattle.manifest.specs.declared.faults.PodFault.{PodFault};
+ghost use Rattle.manifest.specs.declared.placed.PodFaultAt.{PodFaultAt};
 ghost use Rattle.manifest.specs.declared.pods.Pod.{Pod};
 ghost use Rattle.manifest.specs.Heads.{default_uid};
 ghost use Rattle.manifest.specs.Pod.{ReadsPod};
 ghost use Rattle.manifest.specs.Profiles.{HasFitPath};
-ghost use Rattle.manifest.specs.Reading.{container_of, containers_of, first_fault, head_of, is_taken, new_name_of, pod_from, pod_of, reading_of};
+ghost use Rattle.manifest.specs.Reading.{Reads, container_at, container_of, containers_of, first_fault, first_fault_at, head_of, is_taken, listed_of, new_name_of, pod_from, pod_of, reading_of};
 ghost use Rattle.manifest.specs.Seen.{head_seen, identity_seen, lists_seen};
 ghost use Rattle.manifest.specs.Texts as rule;
 
@@ -19,10 +20,12 @@ use crate::heads::head;
 use crate::labels::Label;
 use crate::lent::{HeadText, IdentityText, ListsText};
 use crate::paths::DescendingPath;
+use crate::placed::{PodFaultAt, under};
 use crate::pod_names::PodName;
 use crate::pods::Pod;
 use crate::profiles::kept;
 use crate::uids::Uid;
+use json_place::Step;
 use json_tree::object;
 use serde_json::Value;
 use std::alloc::{AllocError, Global};
@@ -42,23 +45,34 @@ pub fn read(alloc: Global, bytes: &[u8]) -> Result<Pod, PodFault>
     ensures first { IfErr result (λ fault. fault ≢ PodFault.Memory
         → first_fault bytes.now ≡ Some fault) }
 {
+    Ok(read_placed(alloc, bytes)?)
+}
+
+/// The same, with the place of the first fault in the text.
+pub fn read_placed(alloc: Global, bytes: &[u8]) -> Result<Pod, PodFaultAt>
+    ensures found { IfOk result (ReadsPod bytes.now) }
+    ensures only { (pod : Pod) → ReadsPod bytes.now pod → Reads (λ p. p) result (Ok pod) }
+    ensures no_fault { IfOk result (λ _. first_fault_at bytes.now ≡ None) }
+    ensures first { IfErr result (λ found. found.fault ≢ PodFault.Memory
+        → first_fault_at bytes.now ≡ Some found) }
+{
     reading(alloc, bytes)
 }
 
 #[tactic(auto, unfolding(crate::specs::Reading::reading_of))]
-fn reading(alloc: Global, bytes: &[u8]) -> Result<Pod, PodFault>
-    ensures { Gives PodFault.Memory (λ p. p) result (reading_of bytes.now) }
+fn reading(alloc: Global, bytes: &[u8]) -> Result<Pod, PodFaultAt>
+    ensures { Reads (λ p. p) result (reading_of bytes.now) }
 {
     let tree = json_tree::read(alloc, bytes)?;
     pod(alloc, &tree)
 }
 
 #[tactic(auto, unfolding(crate::specs::Reading::pod_of))]
-fn pod(alloc: Global, tree: &Value) -> Result<Pod, PodFault>
-    ensures value { Gives PodFault.Memory (λ p. p) result (pod_of (view tree.now)) }
+fn pod(alloc: Global, tree: &Value) -> Result<Pod, PodFaultAt>
+    ensures value { Reads (λ p. p) result (pod_of (view tree.now)) }
 
     // What is found before a container is looked at is told, whether there is memory or not.
-    ensures told { (fault : PodFault) → head_of (view tree.now) ≡ Err fault → result ≡ Err fault }
+    ensures told { (fault : PodFaultAt) → head_of (view tree.now) ≡ Err fault → result ≡ Err fault }
 {
     let head = head(tree)?;
     let containers = containers(alloc, head.lists)?;
@@ -66,13 +80,26 @@ fn pod(alloc: Global, tree: &Value) -> Result<Pod, PodFault>
 }
 
 #[tactic(auto, unfolding(crate::specs::Reading::containers_of))]
-fn containers(alloc: Global, lists: ListsText<'_>) -> Result<Containers, PodFault>
-    ensures { Gives PodFault.Memory (λ c. c) result (containers_of (lists_seen lists.entry)) }
+fn containers(alloc: Global, lists: ListsText<'_>) -> Result<Containers, PodFaultAt>
+    ensures { Reads (λ c. c) result (containers_of (lists_seen lists.entry)) }
 {
-    let inits = each_container(alloc, Vec::new(alloc), lists.inits)?;
+    let inits = listed(alloc, "initContainers", Vec::new(alloc), lists.inits)?;
     let count = inits.len();
-    let all = each_container(alloc, inits, lists.others)?;
+    let all = listed(alloc, "containers", inits, lists.others)?;
     Ok(Containers::new(all, count))
+}
+
+// The containers of one list, behind those of another.
+fn listed(
+    alloc: Global,
+    key: &'static str,
+    done: Vec<Container>,
+    items: &[Value],
+) -> Result<Vec<Container>, PodFaultAt>
+    ensures { Reads (λ v. v.items) result (listed_of key.now done.items (map view items.now)) }
+{
+    let read = under(Step::Member(key), each_container(alloc, done, items));
+    under(Step::Member("spec"), read)
 }
 
 #[tactic(auto, using(json_tree::proofs::After::after_more, json_tree::proofs::After::after_stops))]
@@ -80,12 +107,14 @@ fn each_container(
     alloc: Global,
     mut done: Vec<Container>,
     items: &[Value],
-) -> Result<Vec<Container>, PodFault>
-    ensures { Gives PodFault.Memory (λ v. v.items) result
-        (in_order_after container_of done.items (map view items.now)) }
+) -> Result<Vec<Container>, PodFaultAt>
+    ensures { Reads (λ v. v.items) result
+        (in_order_after (container_at (length done.items)) done.items (map view items.now)) }
 {
+    let others = done.len();
     for item in items {
-        let container = container(alloc, done.as_slice(), item)?;
+        let index = done.len().saturating_sub(others);
+        let container = under(Step::Item(index), container(alloc, done.as_slice(), item))?;
         done.push(container)?;
     }
     Ok(done)
@@ -93,12 +122,12 @@ fn each_container(
 
 // The copies come last, so each fault is told, whether there is memory or not.
 #[tactic(auto, unfolding(crate::specs::Reading::container_of))]
-fn container(alloc: Global, done: &[Container], item: &Value) -> Result<Container, PodFault>
-    ensures value { Gives PodFault.Memory (λ c. c) result (container_of done.now (view item.now)) }
-    ensures told { (fault : PodFault) → container_of done.now (view item.now) ≡ Err fault
+fn container(alloc: Global, done: &[Container], item: &Value) -> Result<Container, PodFaultAt>
+    ensures value { Reads (λ c. c) result (container_of done.now (view item.now)) }
+    ensures told { (fault : PodFaultAt) → container_of done.now (view item.now) ≡ Err fault
         → result ≡ Err fault }
 {
-    let tree = object(item).ok_or(PodFault::WrongType)?;
+    let tree = object(item).ok_or(PodFaultAt::here(PodFault::WrongType))?;
     let name = new_name(done, tree)?;
     let image = path(tree, "image")?;
     let context = context(tree)?;
@@ -114,13 +143,13 @@ fn container(alloc: Global, done: &[Container], item: &Value) -> Result<Containe
 }
 
 #[tactic(auto, unfolding(crate::specs::Reading::new_name_of))]
-fn new_name<'v>(done: &[Container], tree: &'v Value) -> Result<&'v str, PodFault>
+fn new_name<'v>(done: &[Container], tree: &'v Value) -> Result<&'v str, PodFaultAt>
     ensures value { as_read (λ t. t.now) result ≡ new_name_of done.now (view tree.now) }
     ensures fit { IfOk result (λ t. IsTrue (rule.is_label t.now)) }
 {
     let name = label(tree, "name")?;
     if is_taken(done, name) {
-        return Err(PodFault::RepeatedName);
+        return Err(PodFaultAt::at("name", PodFault::RepeatedName));
     }
     Ok(name)
 }

@@ -3,15 +3,15 @@ use Rattle.std.proofs.Common.{◌≡◌, ◌≢◌, ℕ, ◌<◌, ◌≤◌, Lis
 use Rattle.std.specs.Prelude.{IfOk, IfErr}
 use Rattle.std.specs.Result.{result_err}
 use Rattle.std.proofs.lemmas.Bool.{lt-ltb, le-ltb}
-use Rattle.json_tree.specs.Reading.{Gives}
-use Rattle.oci_profile.specs.declared.faults.ProfileFault.{ProfileFault}
 use Rattle.oci_profile.specs.declared.faults.ProfileFault.TheVariants.{TooLarge, Memory}
 use Rattle.oci_profile.specs.declared.profile.Profile.{Profile}
 use Rattle.oci_profile.specs.declared.reader.TheConstants.{MAX_PROFILE_BYTES}
-use Rattle.oci_profile.specs.Reading.{first_fault, reading_of, short_of}
+use Rattle.oci_profile.specs.declared.placed.ProfileFaultAt.{ProfileFaultAt}
+use Rattle.oci_profile.specs.Faults.{fault_here}
+use Rattle.oci_profile.specs.Reading.{Reads, IsRefusedFor, first_fault_at, reading_of, short_of}
 use Rattle.oci_profile.proofs.Avoids.{Avoids, short_avoids}
 
-pub long_fault : (bytes : List ℕ) → MAX_PROFILE_BYTES < length bytes → first_fault bytes ≡ Some TooLarge
+pub long_fault : (bytes : List ℕ) → MAX_PROFILE_BYTES < length bytes → first_fault_at bytes ≡ Some (fault_here TooLarge)
 unfolding reading_of
 long_fault bytes long = rw (lt-ltb MAX_PROFILE_BYTES (length bytes) long) refl
 
@@ -19,19 +19,31 @@ short_reading : (bytes : List ℕ) → length bytes ≤ MAX_PROFILE_BYTES → re
 unfolding reading_of
 short_reading bytes short = rw (le-ltb MAX_PROFILE_BYTES (length bytes) short) refl
 
-pub no_fault : (bytes : List ℕ) (result : Result Profile ProfileFault) → length bytes ≤ MAX_PROFILE_BYTES → Gives Memory (λ profile. profile) result (short_of bytes)
-    → IfOk result (λ profile. first_fault bytes ≡ None)
+pub no_fault : (bytes : List ℕ) (result : Result Profile ProfileFaultAt) → length bytes ≤ MAX_PROFILE_BYTES → Reads (λ profile. profile) result (short_of bytes)
+    → IfOk result (λ profile. first_fault_at bytes ≡ None)
 no_fault bytes (Ok profile) short h = ap result_err (short_reading bytes short ∙ h)
 no_fault bytes (Err fault) short h = tt
 
-pub first : (bytes : List ℕ) (result : Result Profile ProfileFault) → length bytes ≤ MAX_PROFILE_BYTES → Gives Memory (λ profile. profile) result (short_of bytes)
-    → IfErr result (λ fault. fault ≢ Memory → first_fault bytes ≡ Some fault)
+pub first : (bytes : List ℕ) (result : Result Profile ProfileFaultAt) → length bytes ≤ MAX_PROFILE_BYTES → Reads (λ profile. profile) result (short_of bytes)
+    → IfErr result (λ found. found.fault ≢ Memory → first_fault_at bytes ≡ Some found)
 first bytes (Ok profile) short h = tt
 first bytes (Err fault) short h = λ not_memory. ap result_err (short_reading bytes short ∙ h not_memory)
 
-pub not_large : (bytes : List ℕ) (result : Result Profile ProfileFault) → Gives Memory (λ profile. profile) result (short_of bytes) → result ≡ Err TooLarge → ⊥
-not_large bytes (Ok profile) h is = cc
-not_large bytes (Err fault) h is =
-    let same : fault ≡ TooLarge = cc in
-    let not_memory : fault ≢ Memory = λ memory. cc in
-    subst Avoids (h not_memory) (short_avoids bytes) same
+pub not_large : (bytes : List ℕ) (result : Result Profile ProfileFaultAt) → Reads (λ profile. profile) result (short_of bytes) → IsRefusedFor TooLarge result → ⊥
+not_large bytes (Ok profile) h large = large
+not_large bytes (Err found) h large =
+    let not_memory : found.fault ≢ Memory = λ memory. cc in
+    subst Avoids (h not_memory) (short_avoids bytes) large
+
+abbrev IsRead : {A E : Type 0} → A → Result A E → Type 0
+IsRead x r = r ≡ Ok x
+
+-- what is read is the same, whether its faults have places or not
+pub same_value : {A E F : Type 0} (x y : A) → IsRead {A = A} {E = E} y (Ok x) → IsRead {A = A} {E = F} y (Ok x)
+same_value x y h =
+    let same : x ≡ y = cc in
+    ap Ok same
+
+-- what is read is not refused
+pub not_refused : {A E F : Type 0} (x : A) (e : E) (f : F) → IsRead {A = A} {E = E} x (Err e) → IsRead {A = A} {E = F} x (Err f)
+not_refused x e f h = absurd cc

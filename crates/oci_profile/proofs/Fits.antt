@@ -5,8 +5,7 @@ use Rattle.std.specs.List.{cons_option}
 use Rattle.std.proofs.lemmas.List.Elements.{All-nil, All-cons}
 use Rattle.serde_json.specs.Data.{Data}
 use Rattle.json_tree.specs.Tree.{text}
-use Rattle.json_tree.specs.Reading.{in_order, Both}
-use Rattle.json_tree.proofs.Fields.{in_order_found}
+use Rattle.json_tree.specs.Reading.{in_order_after, Both}
 use Rattle.json_tree.proofs.Items.{and_then_some}
 use Rattle.sys_table.specs.SysTable.{number_of}
 use Rattle.sys_table.specs.declared.table.TheConstants.{NUMBER_LIMIT}
@@ -14,9 +13,9 @@ use Rattle.oci_profile.specs.declared.decision.Decision.{Decision}
 use Rattle.oci_profile.specs.declared.profile.Entry.{Entry}
 use Rattle.oci_profile.specs.Conditions.{AreNumbers}
 use Rattle.oci_profile.specs.Entries.{IsFit, AreEntries}
-use Rattle.oci_profile.specs.Profile.{number_named}
-use Rattle.oci_profile.specs.Reading.{entry_of}
-use Rattle.oci_profile.proofs.Found.{entry_found}
+use Rattle.oci_profile.specs.Profile.{number_named, IsEntry}
+use Rattle.oci_profile.specs.Reading.{entry_at}
+use Rattle.oci_profile.proofs.Found.{each_entry_found}
 
 -- the numbers of the table are below its limit
 abbrev pub AreSmall : Type 0
@@ -39,16 +38,14 @@ pub numbers_fit : AreSmall → (names : List Data) → AreNumbers (filter_map nu
 numbers_fit small [] = All-nil (λ nr. nr < NUMBER_LIMIT)
 numbers_fit small (name ∷ names) = cons_fits (number_named name) (filter_map number_named names) (number_fits small name) (numbers_fit small names)
 
-entry_fits : AreSmall → (default : Decision) (item : Data) (entry : Entry) → entry_of default item ≡ Ok entry → IsFit entry
-entry_fits small default item entry h =
-    let is = entry_found default item entry h in
-    record { numbers_fit = subst AreNumbers (sym is.numbers_are) (numbers_fit small is.names); conds_fit = is.conds_fit }
+entry_fits : AreSmall → (default : Decision) (item : Data) (entry : Entry) → IsEntry default item entry → IsFit entry
+entry_fits small default item entry is = record { numbers_fit = subst AreNumbers (sym is.numbers_are) (numbers_fit small is.names); conds_fit = is.conds_fit }
 
-each_fits : (items : List Data) (entries : List Entry) → Both (λ item entry. IsFit entry) items entries → AreEntries entries
-each_fits [] [] h = All-nil IsFit
-each_fits [] (entry ∷ entries) h = absurd h
-each_fits (item ∷ items) [] h = absurd h
-each_fits (item ∷ items) (entry ∷ entries) h = All-cons IsFit entry entries h.0 (each_fits items entries h.1)
+each_fits : AreSmall → (default : Decision) (items : List Data) (entries : List Entry) → Both (IsEntry default) items entries → AreEntries entries
+each_fits small default [] [] h = All-nil IsFit
+each_fits small default [] (entry ∷ entries) h = absurd h
+each_fits small default (item ∷ items) [] h = absurd h
+each_fits small default (item ∷ items) (entry ∷ entries) h = All-cons IsFit entry entries (entry_fits small default item entry h.0) (each_fits small default items entries h.1)
 
-pub entries_fit : AreSmall → (default : Decision) (items : List Data) (entries : List Entry) → in_order (entry_of default) items ≡ Ok entries → AreEntries entries
-entries_fit small default items entries h = each_fits items entries (in_order_found (entry_of default) (λ item entry. IsFit entry) (entry_fits small default) items entries h)
+pub entries_fit : AreSmall → (default : Decision) (items : List Data) (entries : List Entry) → in_order_after (entry_at default) [] items ≡ Ok entries → AreEntries entries
+entries_fit small default items entries h = each_fits small default items entries (each_entry_found default items entries h)

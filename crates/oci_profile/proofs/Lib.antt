@@ -1,4 +1,5 @@
 pub mod CondLists
+pub mod Names
 pub mod Found
 pub mod Fits
 pub mod Only

@@ -1,11 +1,12 @@
 -- What is so is read: where the tree has it, each reading goes on and gives it.
-use Rattle.std.proofs.Common.{◌≡◌, inl, inr, ℕ, ◌<◌, List, [], ◌∷◌, ◌++◌, ◌&&◌, not, length, codes, cond, ltb, Bool, true, false, Option, Some, None, unwrap_or, Ok, refl, sym, ap, arith}
+use Rattle.std.proofs.Common.{◌≡◌, inl, inr, ℕ, ◌<◌, List, [], ◌∷◌, ◌++◌, length, codes, cond, ltb, false, Option, Some, None, unwrap_or, Ok, refl, sym, ap, arith}
 use Rattle.std.proofs.Math.Dec.{eqb-suc-zero}
 use Rattle.std.proofs.lemmas.Bool.{le-leb, lt-leb, lt-ltb, ltb-true}
+use Rattle.std.specs.Bool.{⊤}
 use Rattle.serde_json.specs.Data.{Data}
 use Rattle.json_tree.specs.Tree.{list, text, text_list, whole}
 use Rattle.json_tree.specs.Reading.{document, HasField, MayHaveField, Both}
-use Rattle.json_tree.proofs.Fields.{required_only, optional_only, in_order_only}
+use Rattle.json_place.proofs.PlacedFields.{required_only, required_each_only, optional_only, optional_each_only}
 use Rattle.json_tree.proofs.After.{after_only}
 use Rattle.action.specs.declared.verdict.TheConstants.{MAX_ERRNO}
 use Rattle.oci_profile.specs.declared.conditions.Cond.{Cond}
@@ -15,9 +16,10 @@ use Rattle.oci_profile.specs.declared.decision.Decision.{Decision}
 use Rattle.oci_profile.specs.declared.decision.Decision.TheVariants.{KillProcess, KillThread, Trap, Errno, Trace, Allow, Log}
 use Rattle.oci_profile.specs.declared.profile.Entry.{Entry}
 use Rattle.oci_profile.specs.declared.profile.Profile.{Profile}
-use Rattle.oci_profile.specs.Profile.{IsNameOf, IsErrnoOf, HasDecision, IsOpName, IsCond, are_known, rank, IsEntry, HasIgnored, IsProfile, ReadsProfile}
-use Rattle.oci_profile.specs.Reading.{action_of, with_given, decision_of, op_named, op_of, is_tested, index_of, cond_of, conds_of, names_of, entry_of, ignored_of, head_of, items_of, default_of, profile_of, short_of}
+use Rattle.oci_profile.specs.Profile.{IsNameOf, IsErrnoOf, HasDecision, IsOpName, IsCond, rank, IsEntry, HasIgnored, IsProfile, ReadsProfile}
+use Rattle.oci_profile.specs.Reading.{action_of, with_given, decision_of, op_named, op_of, is_tested, index_of, cond_of, cond_at, conds_of, names_of, entry_of, entry_at, ignored_of, head_of, items_of, default_of, profile_of, short_of}
 use Rattle.oci_profile.proofs.CondLists.{AreApart, apart_at}
+use Rattle.oci_profile.proofs.Names.{goes_on_where_known}
 
 -- the decision where no errno is given
 abbrev base : Decision → Decision
@@ -54,7 +56,7 @@ given_only Log given h = rw h refl
 decision_only : (action_key errno_key : List ℕ) (tree : Data) (decision : Decision) → HasDecision action_key errno_key tree decision → decision_of action_key errno_key tree ≡ Ok decision
 unfolding decision_of
 decision_only action_key errno_key tree decision h =
-    rw (required_only text action_key tree h.name h.there, action_only decision h.name h.named, optional_only whole errno_key tree h.given h.errno) (given_only decision h.given h.errno_is)
+    rw (required_only text action_key tree h.name h.there, action_only decision h.name h.named, optional_only whole errno_key tree h.given h.errno, given_only decision h.given h.errno_is) refl
 
 op_named_only : (op : Op) (name : List ℕ) → IsOpName op name → op_named name ≡ Ok op
 unfolding op_named
@@ -68,13 +70,13 @@ op_named_only MaskedEqual name h = rw h refl
 
 op_only : (tree : Data) (op : Op) (name : List ℕ) → HasField text (codes "op") tree name → IsOpName op name → op_of tree ≡ Ok op
 unfolding op_of
-op_only tree op name there named = rw (required_only text (codes "op") tree name there) (op_named_only op name named)
+op_only tree op name there named = rw (required_only text (codes "op") tree name there, op_named_only op name named) refl
 
 index_only : (done : List Cond) (tree : Data) (index : ℕ) → HasField whole (codes "index") tree index → index < 6 → is_tested done index ≡ false → index_of done tree ≡ Ok index
 unfolding index_of
 index_only done tree index there small new = rw (required_only whole (codes "index") tree index there, lt-leb 6 index small, new) refl
 
-cond_only : (done : List Cond) (item : Data) (cond : Cond) (rest : List Cond) → AreApart (done ++ cond ∷ rest) → IsCond item cond → cond_of done item ≡ Ok cond
+cond_only : (done : List Cond) (item : Data) (cond : Cond) (rest : List Cond) → AreApart (done ++ cond ∷ rest) → IsCond item cond → cond_at done item ≡ Ok cond
 unfolding cond_of
 cond_only done item cond rest apart h =
     let fit = apart_at done cond rest apart in
@@ -89,16 +91,12 @@ cond_only done item cond rest apart h =
 conds_only : (tree : Data) (args : Option (List Data)) (conds : List Cond) → MayHaveField list (codes "args") tree args → Both IsCond (unwrap_or args []) conds → AreApart conds → conds_of tree ≡ Ok conds
 unfolding conds_of
 conds_only tree args conds there each apart =
-    rw (optional_only list (codes "args") tree args there) (after_only cond_of AreApart IsCond cond_only [] (unwrap_or args []) conds apart each)
+    rw (optional_only list (codes "args") tree args there) (rw (after_only cond_at AreApart IsCond cond_only [] (unwrap_or args []) conds apart each) refl)
 
 names_only : (tree : Data) (names : List Data) → HasField text_list (codes "names") tree names → 0 < length names → names_of tree ≡ Ok names
 unfolding names_of
 names_only tree [] there some = absurd (omega arith)
-names_only tree (name ∷ names) there some = rw (required_only text_list (codes "names") tree (name ∷ names) there, eqb-suc-zero (length names)) refl
-
-allowed : (stricter known : Bool) → (stricter ≡ true → known ≡ true) → (stricter && not known) ≡ false
-allowed true known h = rw (h refl) refl
-allowed false known h = refl
+names_only tree (name ∷ names) there some = rw (required_each_only text text_list (codes "names") tree (name ∷ names) there, eqb-suc-zero (length names)) refl
 
 entry_only : (default : Decision) (item : Data) (entry : Entry) → IsEntry default item entry → entry_of default item ≡ Ok entry
 unfolding entry_of
@@ -108,15 +106,18 @@ entry_only default item entry h =
       names_only item h.names h.there h.some,
       decision_only (codes "action") (codes "errnoRet") item entry.decision h.decides,
       conds_only item h.args entry.conds h.args_there h.conds_are (h.conds_fit.in_range, h.conds_fit.apart),
-      allowed (ltb (rank entry.decision) (rank default)) (are_known h.names) (λ stricter. h.known (ltb-true (rank entry.decision) (rank default) stricter)),
+      goes_on_where_known (ltb (rank entry.decision) (rank default)) h.names (λ stricter. h.known (ltb-true (rank entry.decision) (rank default) stricter)),
     ) (ap (λ numbers. Ok (record { numbers = numbers; decision = entry.decision; conds = entry.conds })) (sym h.numbers_are))
+
+entry_at_only : (default : Decision) (done : List Entry) (item : Data) (entry : Entry) (rest : List Entry) → ⊤ → IsEntry default item entry → entry_at default done item ≡ Ok entry
+entry_at_only default done item entry rest kept h = rw (entry_only default item entry h) refl
 
 ignored_only : (tree : Data) → HasIgnored tree → ignored_of tree ≡ Ok tt
 unfolding ignored_of
 ignored_only tree h =
     rw (
-      optional_only text_list (codes "architectures") tree h.architectures h.architectures_there,
-      optional_only text_list (codes "flags") tree h.flags h.flags_there,
+      optional_each_only text text_list (codes "architectures") tree h.architectures h.architectures_there,
+      optional_each_only text text_list (codes "flags") tree h.flags h.flags_there,
       optional_only text (codes "listenerPath") tree h.path h.path_there,
       optional_only text (codes "listenerMetadata") tree h.metadata h.metadata_there,
     ) refl
@@ -129,7 +130,7 @@ profile_only tree profile h =
       decision_only (codes "defaultAction") (codes "defaultErrnoRet") tree profile.default h.decides,
       ignored_only tree h.ignored,
       optional_only list (codes "syscalls") tree h.syscalls h.there,
-      in_order_only (entry_of profile.default) (IsEntry profile.default) (entry_only profile.default) (unwrap_or h.syscalls []) profile.entries h.each,
+      after_only (entry_at profile.default) (λ done. ⊤) (IsEntry profile.default) (entry_at_only profile.default) [] (unwrap_or h.syscalls []) profile.entries tt h.each,
     ) refl
 
 -- a text's profile is read

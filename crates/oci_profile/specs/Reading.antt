@@ -1,13 +1,15 @@
 -- Which fault of a text is found first: docs/SEMANTICS.md, "Profiles", has the order. Each definition
--- says what is read of a tree, its faults in that order.
-use Rattle.std.specs.Prelude.{ℕ, ◌==◌, ◌^◌, List, [], filter_map, length, codes, Bool, not, ◌&&◌, nat_lt, nat_le, if◌then◌else◌, Option, Some, None, unwrap_or, Result, Ok, Err, ⊤}
+-- says what is read of a tree, its faults in that order, each with the place that it has in the tree.
+use Rattle.std.specs.Prelude.{◌≡◌, ℕ, ◌==◌, ◌^◌, List, [], ◌∷◌, filter_map, length, position, codes, Bool, true, false, not, is_some, nat_lt, nat_le, if◌then◌else◌, Option, Some, None, option_map, unwrap_or, Result, Ok, Err, ⊤}
 use Rattle.std.specs.List.{list_any}
 use Rattle.std.specs.Result.{result_err}
 use Rattle.std.specs.Str.{bytes_eq}
 use Rattle.serde_json.specs.Data.{Data}
-use Rattle.json_tree.specs.declared.faults.FieldFault.{FieldFault}
 use Rattle.json_tree.specs.Tree.{list, object, text, text_list, whole}
-use Rattle.json_tree.specs.Reading.{◌>>=◌, ◌>>◌, refuse_if, or_else, in_order, in_order_after, as_fault, document as document_of, required, optional}
+use Rattle.json_tree.specs.Reading.{◌>>=◌, ◌>>◌, refuse_if, or_else, in_order_after, as_fault, document as document_of}
+use Rattle.json_place.specs.declared.fields.FieldFaultAt.{FieldFaultAt}
+use Rattle.json_place.specs.Parts.{Member, Item}
+use Rattle.json_place.specs.Fields.{GivesAt, required, required_each, optional, optional_each}
 use Rattle.action.specs.declared.verdict.TheConstants.{MAX_ERRNO}
 use Rattle.oci_profile.specs.declared.conditions.Cond.{Cond}
 use Rattle.oci_profile.specs.declared.conditions.Op.{Op}
@@ -15,15 +17,25 @@ use Rattle.oci_profile.specs.declared.conditions.Op.TheVariants.{NotEqual, Less,
 use Rattle.oci_profile.specs.declared.decision.Decision.{Decision}
 use Rattle.oci_profile.specs.declared.decision.Decision.TheVariants.{KillProcess, KillThread, Trap, Errno, Trace, Allow, Log}
 use Rattle.oci_profile.specs.declared.faults.ProfileFault.{ProfileFault}
-use Rattle.oci_profile.specs.declared.faults.ProfileFault.TheVariants.{TooLarge, NotObject, WrongType, Notify, UnknownAction, ErrnoNotAllowed, ErrnoTooLarge, EmptyNames, BadIndex, RepeatedIndex, UnknownOp, UnknownCall}
+use Rattle.oci_profile.specs.declared.faults.ProfileFault.TheVariants.{Memory, TooLarge, NotObject, WrongType, Notify, UnknownAction, ErrnoNotAllowed, ErrnoTooLarge, EmptyNames, BadIndex, RepeatedIndex, UnknownOp, UnknownCall}
+use Rattle.oci_profile.specs.declared.placed.ProfileFaultAt.{ProfileFaultAt}
 use Rattle.oci_profile.specs.declared.profile.Entry.{Entry}
 use Rattle.oci_profile.specs.declared.profile.Profile.{Profile}
 use Rattle.oci_profile.specs.declared.reader.TheConstants.{MAX_PROFILE_BYTES}
-use Rattle.oci_profile.specs.Faults.{fault_of_field, fault_of_text}
-use Rattle.oci_profile.specs.Profile.{number_named, are_known, rank}
+use Rattle.oci_profile.specs.Faults.{at, fault_at, fault_here, fault_of_field_at, fault_of_text, under}
+use Rattle.oci_profile.specs.Profile.{number_named, rank}
 
-abbrev pub here : {A : Type 0} → Result A FieldFault → Result A ProfileFault
-here r = as_fault fault_of_field r
+abbrev pub here : {A : Type 0} → Result A FieldFaultAt → Result A ProfileFaultAt
+here r = as_fault fault_of_field_at r
+
+-- a call gives this reading, or memory ran out
+abbrev pub Reads : {X Y : Type 0} → (X → Y) → Result X ProfileFaultAt → Result Y ProfileFaultAt → Type 0
+Reads view result reading = GivesAt (λ found. found.fault) Memory view result reading
+
+-- it is refused for this, wherever
+abbrev pub IsRefusedFor : {X : Type 0} → ProfileFault → Result X ProfileFaultAt → Type 0
+IsRefusedFor fault (Ok x) = ⊥
+IsRefusedFor fault (Err found) = found.fault ≡ fault
 
 -- the decision of the action with this name, where no errno is given
 unfoldable pub action_of : List ℕ → Result Decision ProfileFault
@@ -49,12 +61,12 @@ abbrev pub with_given : Decision → Option ℕ → Result Decision ProfileFault
 with_given decision None = Ok decision
 with_given decision (Some given) = with_errno decision given
 
-unfoldable pub decision_of : List ℕ → List ℕ → Data → Result Decision ProfileFault
+unfoldable pub decision_of : List ℕ → List ℕ → Data → Result Decision ProfileFaultAt
 decision_of action_key errno_key tree = do
   name ← here (required text action_key tree)
-  decision ← action_of name
+  decision ← at action_key (action_of name)
   given ← here (optional whole errno_key tree)
-  with_given decision given
+  at errno_key (with_given decision given)
 
 unfoldable pub op_named : List ℕ → Result Op ProfileFault
 op_named name =
@@ -67,107 +79,131 @@ op_named name =
     else if bytes_eq name (codes "SCMP_CMP_MASKED_EQ") then Ok MaskedEqual
     else Err UnknownOp
 
-unfoldable pub op_of : Data → Result Op ProfileFault
+unfoldable pub op_of : Data → Result Op ProfileFaultAt
 op_of tree = do
   name ← here (required text (codes "op") tree)
-  op_named name
+  at (codes "op") (op_named name)
 
 -- whether one of the conditions is on this argument
 unfoldable pub is_tested : List Cond → ℕ → Bool
 is_tested conds index = list_any (λ cond. cond.index == index) conds
 
-unfoldable pub index_of : List Cond → Data → Result ℕ ProfileFault
+unfoldable pub index_of : List Cond → Data → Result ℕ ProfileFaultAt
 index_of done tree = do
   index ← here (required whole (codes "index") tree)
-  refuse_if (nat_le 6 index) BadIndex
-  refuse_if (is_tested done index) RepeatedIndex
+  refuse_if (nat_le 6 index) (fault_at (codes "index") BadIndex)
+  refuse_if (is_tested done index) (fault_at (codes "index") RepeatedIndex)
   Ok index
 
-unfoldable pub cond_of : List Cond → Data → Result Cond ProfileFault
+unfoldable pub cond_of : List Cond → Data → Result Cond ProfileFaultAt
 cond_of done item = do
-  tree ← or_else WrongType (object item)
+  tree ← or_else (fault_here WrongType) (object item)
   index ← index_of done tree
   value ← here (required whole (codes "value") tree)
   two ← here (optional whole (codes "valueTwo") tree)
   op ← op_of tree
   Ok (record { index = index; op = op; value = value; value_two = unwrap_or two 0 })
 
-unfoldable pub conds_of : Data → Result (List Cond) ProfileFault
+-- as the item behind those that were read
+abbrev pub cond_at : List Cond → Data → Result Cond ProfileFaultAt
+cond_at done item = under (Item (length done)) (cond_of done item)
+
+unfoldable pub conds_of : Data → Result (List Cond) ProfileFaultAt
 conds_of tree = do
   items ← here (optional list (codes "args") tree)
-  in_order_after cond_of [] (unwrap_or items [])
+  under (Member (codes "args")) (in_order_after cond_at [] (unwrap_or items []))
 
-unfoldable pub names_of : Data → Result (List Data) ProfileFault
+unfoldable pub names_of : Data → Result (List Data) ProfileFaultAt
 names_of tree = do
-  names ← here (required text_list (codes "names") tree)
-  refuse_if (length names == 0) EmptyNames
+  names ← here (required_each text text_list (codes "names") tree)
+  refuse_if (length names == 0) (fault_at (codes "names") EmptyNames)
   Ok names
 
+abbrev pub refuse_at : Option ℕ → Result ⊤ ProfileFaultAt
+refuse_at None = Ok tt
+refuse_at (Some index) = Err (record { fault = UnknownCall; place = Member (codes "names") ∷ Item index ∷ [] })
+
+-- where the table has to have each name, the first that it lacks is refused
+abbrev pub known_if : Bool → List Data → Result ⊤ ProfileFaultAt
+known_if false names = Ok tt
+known_if true names = refuse_at (position (λ name. not (is_some (number_named name))) names)
+
 -- what is judged of an entry before its arguments
-unfoldable pub all_but_args_of : Data → Result Decision ProfileFault
+unfoldable pub all_but_args_of : Data → Result Decision ProfileFaultAt
 all_but_args_of item = do
-  tree ← or_else WrongType (object item)
+  tree ← or_else (fault_here WrongType) (object item)
   names ← names_of tree
   decision_of (codes "action") (codes "errnoRet") tree
 
-unfoldable pub entry_of : Decision → Data → Result Entry ProfileFault
+unfoldable pub entry_of : Decision → Data → Result Entry ProfileFaultAt
 entry_of default item = do
-  tree ← or_else WrongType (object item)
+  tree ← or_else (fault_here WrongType) (object item)
   names ← names_of tree
   decision ← decision_of (codes "action") (codes "errnoRet") tree
   conds ← conds_of tree
-  refuse_if (nat_lt (rank decision) (rank default) && not (are_known names)) UnknownCall
+  known_if (nat_lt (rank decision) (rank default)) names
   Ok (record { numbers = filter_map number_named names; decision = decision; conds = conds })
 
+-- as the item behind those that were read
+abbrev pub entry_at : Decision → List Entry → Data → Result Entry ProfileFaultAt
+entry_at default done item = under (Item (length done)) (entry_of default item)
+
+abbrev pub entries_of : Decision → List Data → Result (List Entry) ProfileFaultAt
+entries_of default items = under (Member (codes "syscalls")) (in_order_after (entry_at default) [] items)
+
 -- what has no effect has to be of its kind
-unfoldable pub ignored_of : Data → Result ⊤ ProfileFault
+unfoldable pub ignored_of : Data → Result ⊤ ProfileFaultAt
 ignored_of tree = do
-  here (optional text_list (codes "architectures") tree)
-  here (optional text_list (codes "flags") tree)
+  here (optional_each text text_list (codes "architectures") tree)
+  here (optional_each text text_list (codes "flags") tree)
   here (optional text (codes "listenerPath") tree)
   here (optional text (codes "listenerMetadata") tree)
   Ok tt
 
-unfoldable pub default_of : Data → Result Decision ProfileFault
+unfoldable pub default_of : Data → Result Decision ProfileFaultAt
 default_of tree = decision_of (codes "defaultAction") (codes "defaultErrnoRet") tree
 
 -- the default, once all fields but the entries are judged
-unfoldable pub head_of : Data → Result Decision ProfileFault
+unfoldable pub head_of : Data → Result Decision ProfileFaultAt
 head_of whole_tree = do
-  tree ← or_else NotObject (object whole_tree)
+  tree ← or_else (fault_here NotObject) (object whole_tree)
   default ← default_of tree
   ignored_of tree
   Ok default
 
 -- the entries as they stand there
-unfoldable pub items_of : Data → Result (List Data) ProfileFault
+unfoldable pub items_of : Data → Result (List Data) ProfileFaultAt
 items_of tree = do
   items ← here (optional list (codes "syscalls") tree)
   Ok (unwrap_or items [])
 
 -- what is judged before an entry is looked at
-unfoldable pub all_but_entries_of : Data → Result (List Data) ProfileFault
+unfoldable pub all_but_entries_of : Data → Result (List Data) ProfileFaultAt
 all_but_entries_of tree = do
   head_of tree
   items_of tree
 
-unfoldable pub profile_of : Data → Result Profile ProfileFault
+unfoldable pub profile_of : Data → Result Profile ProfileFaultAt
 profile_of tree = do
   default ← head_of tree
   items ← items_of tree
-  entries ← in_order (entry_of default) items
+  entries ← entries_of default items
   Ok (record { default = default; entries = entries })
 
-unfoldable pub short_of : List ℕ → Result Profile ProfileFault
+unfoldable pub short_of : List ℕ → Result Profile ProfileFaultAt
 short_of bytes = do
-  tree ← as_fault fault_of_text (document_of bytes)
+  tree ← as_fault (λ fault. fault_here (fault_of_text fault)) (document_of bytes)
   profile_of tree
 
-unfoldable pub reading_of : List ℕ → Result Profile ProfileFault
+unfoldable pub reading_of : List ℕ → Result Profile ProfileFaultAt
 reading_of bytes = do
-  refuse_if (nat_lt MAX_PROFILE_BYTES (length bytes)) TooLarge
+  refuse_if (nat_lt MAX_PROFILE_BYTES (length bytes)) (fault_here TooLarge)
   short_of bytes
 
--- the fault of a text that is found first, if it has one
+-- the fault of a text that is found first, and its place, if it has one
+abbrev pub first_fault_at : List ℕ → Option ProfileFaultAt
+first_fault_at bytes = result_err (reading_of bytes)
+
+-- the same without the place
 abbrev pub first_fault : List ℕ → Option ProfileFault
-first_fault bytes = result_err (reading_of bytes)
+first_fault bytes = option_map (λ found. found.fault) (first_fault_at bytes)

@@ -6,21 +6,23 @@ ghost use Rattle.oci_profile.specs.Reading.{action_of, decision_of, with_errno};
 
 use crate::decision::{Decision, Errno};
 use crate::faults::ProfileFault;
-use json_tree::{optional_whole, required_text};
+use crate::placed::{ProfileFaultAt, at};
+use json_place::{optional_whole, required_text};
 use serde_json::Value;
 
 /// The decision of the fields with these keys.
 #[tactic(auto, unfolding(crate::specs::Reading::decision_of))]
 pub(crate) fn decision(
     tree: &Value,
-    action_key: &str,
-    errno_key: &str,
-) -> Result<Decision, ProfileFault>
+    action_key: &'static str,
+    errno_key: &'static str,
+) -> Result<Decision, ProfileFaultAt>
     ensures { result ≡ decision_of action_key.now errno_key.now (view tree.now) }
 {
-    let decision = named_action(required_text(tree, action_key)?)?;
+    let name = required_text(tree, action_key)?;
+    let decision = at(action_key, named_action(name))?;
     match optional_whole(tree, errno_key)? {
-        Some(given) => given_errno(decision, given),
+        Some(given) => at(errno_key, given_errno(decision, given)),
         None => Ok(decision),
     }
 }

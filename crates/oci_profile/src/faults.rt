@@ -1,6 +1,3 @@
-ghost use Rattle.std.specs.Prelude.{◌≡◌};
-ghost use Rattle.oci_profile.specs.declared.faults.ProfileFault.TheVariants.{Memory};
-
 use json_tree::{FieldFault, TextFault};
 use std::alloc::{AllocError, AllocFailed};
 use std::fmt;
@@ -99,6 +96,9 @@ impl From<TextFault> for ProfileFault {
 }
 
 impl From<AllocError> for ProfileFault {
+    ghost use Rattle.std.specs.Prelude.{◌≡◌};
+    ghost use Rattle.oci_profile.specs.declared.faults.ProfileFault.TheVariants.{Memory};
+
     ghost from_gives = { λ _ fault. fault ≡ Memory };
 
     fn from(_: AllocError) -> ProfileFault {
@@ -107,6 +107,9 @@ impl From<AllocError> for ProfileFault {
 }
 
 impl<T: Drop> From<AllocFailed<T>> for ProfileFault {
+    ghost use Rattle.std.specs.Prelude.{◌≡◌};
+    ghost use Rattle.oci_profile.specs.declared.faults.ProfileFault.TheVariants.{Memory};
+
     ghost from_gives = { λ _ fault. fault ≡ Memory };
 
     fn from(_: AllocFailed<T>) -> ProfileFault {

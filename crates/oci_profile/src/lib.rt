@@ -13,6 +13,7 @@ mod default_profile;
 mod faults;
 mod laws;
 mod meaning;
+mod placed;
 mod profile;
 mod reader;
 
@@ -22,5 +23,6 @@ pub use default_profile::runtime_default;
 pub use faults::ProfileFault;
 pub use laws::{constants_are_as_stated, runtime_default_is_light};
 pub use meaning::X32_BIT;
+pub use placed::ProfileFaultAt;
 pub use profile::{Entries, Entry, Numbers, Profile};
-pub use reader::{MAX_PROFILE_BYTES, read};
+pub use reader::{MAX_PROFILE_BYTES, read, read_placed};

@@ -1,19 +1,20 @@
-ghost use Rattle.std.specs.Prelude.{◌≡◌, ◌≢◌, ◌↔◌, ◌<◌, IfOk, IfErr, filter_map, length, map, nat_lt, Some, None, Ok, Err};
+ghost use Rattle.std.specs.Prelude.{◌≡◌, ◌≢◌, ◌↔◌, ◌<◌, [], IfOk, IfErr, filter_map, is_some, length, map, nat_lt, not, position, Some, None, Ok, Err};
 ghost use Rattle.serde_json.specs.View.{view};
-ghost use Rattle.json_tree.specs.Reading.{Gives, as_read, in_order};
+ghost use Rattle.json_tree.specs.Reading.{Gives, as_read, in_order_after};
 ghost use Rattle.oci_profile.specs.declared.faults.ProfileFault.{ProfileFault};
+ghost use Rattle.oci_profile.specs.declared.placed.ProfileFaultAt.{ProfileFaultAt};
 ghost use Rattle.oci_profile.specs.declared.profile.Profile.{Profile};
-ghost use Rattle.oci_profile.specs.Profile.{ReadsProfile, are_known, number_named, rank};
-ghost use Rattle.oci_profile.specs.Reading.{all_but_args_of, all_but_entries_of, default_of, entry_of, first_fault, head_of, ignored_of, items_of, names_of, profile_of, reading_of, short_of};
+ghost use Rattle.oci_profile.specs.Profile.{ReadsProfile, number_named, rank};
+ghost use Rattle.oci_profile.specs.Reading.{IsRefusedFor, Reads, all_but_args_of, all_but_entries_of, default_of, entry_at, entry_of, first_fault, first_fault_at, head_of, ignored_of, items_of, known_if, names_of, profile_of, reading_of, refuse_at, short_of};
 
 use crate::actions::decision;
 use crate::args::conds;
 use crate::decision::Decision;
 use crate::faults::ProfileFault;
+use crate::placed::{ProfileFaultAt, under};
 use crate::profile::{Entries, Entry, Numbers, Profile};
-use json_tree::{
-    object, optional_list, optional_text, optional_text_list, required_text_list, text,
-};
+use json_place::{Step, optional_list, optional_text, optional_text_list, required_text_list};
+use json_tree::{object, text};
 use serde_json::Value;
 use std::alloc::{AllocError, Global};
 use sys_table::names_and_numbers_agree;
@@ -40,47 +41,59 @@ pub fn read(alloc: Global, bytes: &[u8]) -> Result<Profile, ProfileFault>
     // How long a text is, is told before anything is allocated.
     ensures large { (result ≡ Err ProfileFault.TooLarge) ↔ (MAX_PROFILE_BYTES < length bytes.now) }
 {
+    Ok(read_placed(alloc, bytes)?)
+}
+
+/// The same, with the place of the first fault in the text.
+pub fn read_placed(alloc: Global, bytes: &[u8]) -> Result<Profile, ProfileFaultAt>
+    ensures found { IfOk result (ReadsProfile bytes.now) }
+    ensures only { (profile : Profile) → ReadsProfile bytes.now profile → Reads (λ p. p) result (Ok profile) }
+    ensures no_fault { IfOk result (λ _. first_fault_at bytes.now ≡ None) }
+    ensures first { IfErr result (λ found. found.fault ≢ ProfileFault.Memory
+        → first_fault_at bytes.now ≡ Some found) }
+    ensures large { IsRefusedFor ProfileFault.TooLarge result ↔ (MAX_PROFILE_BYTES < length bytes.now) }
+{
     if bytes.len() > MAX_PROFILE_BYTES {
-        return Err(ProfileFault::TooLarge);
+        return Err(ProfileFaultAt::here(ProfileFault::TooLarge));
     }
     short(alloc, bytes)
 }
 
 #[tactic(auto, unfolding(crate::specs::Reading::short_of))]
-fn short(alloc: Global, bytes: &[u8]) -> Result<Profile, ProfileFault>
-    ensures { Gives ProfileFault.Memory (λ p. p) result (short_of bytes.now) }
+fn short(alloc: Global, bytes: &[u8]) -> Result<Profile, ProfileFaultAt>
+    ensures { Reads (λ p. p) result (short_of bytes.now) }
 {
     let tree = json_tree::read(alloc, bytes)?;
     profile(alloc, &tree)
 }
 
 #[tactic(auto, unfolding(crate::specs::Reading::profile_of, crate::specs::Reading::all_but_entries_of))]
-fn profile(alloc: Global, tree: &Value) -> Result<Profile, ProfileFault>
-    ensures value { Gives ProfileFault.Memory (λ p. p) result (profile_of (view tree.now)) }
+fn profile(alloc: Global, tree: &Value) -> Result<Profile, ProfileFaultAt>
+    ensures value { Reads (λ p. p) result (profile_of (view tree.now)) }
 
     // What is found before an entry is looked at is told, whether there is memory or not.
-    ensures told { (fault : ProfileFault) → all_but_entries_of (view tree.now) ≡ Err fault
+    ensures told { (fault : ProfileFaultAt) → all_but_entries_of (view tree.now) ≡ Err fault
         → result ≡ Err fault }
 {
     let default = head(tree)?;
     let items = items(tree)?;
-    let entries = each_entry(alloc, &default, items)?;
+    let entries = under(Step::Member("syscalls"), each_entry(alloc, &default, items))?;
     Ok(Profile::new(default, entries))
 }
 
 // The default, once all fields but the entries are judged.
 #[tactic(auto, unfolding(crate::specs::Reading::head_of))]
-fn head(tree: &Value) -> Result<Decision, ProfileFault>
+fn head(tree: &Value) -> Result<Decision, ProfileFaultAt>
     ensures { result ≡ head_of (view tree.now) }
 {
-    let tree = object(tree).ok_or(ProfileFault::NotObject)?;
+    let tree = object(tree).ok_or(ProfileFaultAt::here(ProfileFault::NotObject))?;
     let default = default(tree)?;
     ignored(tree)?;
     Ok(default)
 }
 
 #[tactic(auto, unfolding(crate::specs::Reading::default_of))]
-fn default(tree: &Value) -> Result<Decision, ProfileFault>
+fn default(tree: &Value) -> Result<Decision, ProfileFaultAt>
     ensures { result ≡ default_of (view tree.now) }
 {
     decision(tree, "defaultAction", "defaultErrnoRet")
@@ -88,14 +101,14 @@ fn default(tree: &Value) -> Result<Decision, ProfileFault>
 
 // The entries as they stand there.
 #[tactic(auto, unfolding(crate::specs::Reading::items_of))]
-fn items(tree: &Value) -> Result<&[Value], ProfileFault>
+fn items(tree: &Value) -> Result<&[Value], ProfileFaultAt>
     ensures { as_read (λ items. map view items.now) result ≡ items_of (view tree.now) }
 {
     Ok(optional_list(tree, "syscalls")?.unwrap_or(&[]))
 }
 
 #[tactic(auto, unfolding(crate::specs::Reading::ignored_of))]
-fn ignored(tree: &Value) -> Result<(), ProfileFault>
+fn ignored(tree: &Value) -> Result<(), ProfileFaultAt>
     ensures { result ≡ ignored_of (view tree.now) }
 {
     optional_text_list(tree, "architectures")?;
@@ -105,46 +118,45 @@ fn ignored(tree: &Value) -> Result<(), ProfileFault>
     Ok(())
 }
 
-#[tactic(auto, using(json_tree::proofs::Loops::in_order_more, json_tree::proofs::Loops::in_order_stops))]
-fn each_entry(alloc: Global, default: &Decision, items: &[Value]) -> Result<Entries, ProfileFault>
-    ensures { Gives ProfileFault.Memory (λ e. e) result
-        (in_order (entry_of default.now) (map view items.now)) }
+#[tactic(auto, using(json_tree::proofs::After::after_more, json_tree::proofs::After::after_stops))]
+fn each_entry(alloc: Global, default: &Decision, items: &[Value]) -> Result<Entries, ProfileFaultAt>
+    ensures { Reads (λ e. e) result
+        (in_order_after (entry_at default.now) [] (map view items.now)) }
 {
     names_and_numbers_agree();
     let mut entries = Vec::new(alloc);
     for item in items {
-        let entry = entry(alloc, default, item)?;
+        let index = entries.len();
+        let entry = under(Step::Item(index), entry(alloc, default, item))?;
         entries.push(entry)?;
     }
     Ok(Entries::new(entries))
 }
 
 #[tactic(auto, unfolding(crate::specs::Reading::entry_of, crate::specs::Reading::all_but_args_of))]
-fn entry(alloc: Global, default: &Decision, item: &Value) -> Result<Entry, ProfileFault>
-    ensures value { Gives ProfileFault.Memory (λ e. e) result (entry_of default.now (view item.now)) }
+fn entry(alloc: Global, default: &Decision, item: &Value) -> Result<Entry, ProfileFaultAt>
+    ensures value { Reads (λ e. e) result (entry_of default.now (view item.now)) }
 
     // What is found before the arguments is told, whether there is memory or not.
-    ensures told { (fault : ProfileFault) → all_but_args_of (view item.now) ≡ Err fault
+    ensures told { (fault : ProfileFaultAt) → all_but_args_of (view item.now) ≡ Err fault
         → result ≡ Err fault }
 {
-    let tree = object(item).ok_or(ProfileFault::WrongType)?;
+    let tree = object(item).ok_or(ProfileFaultAt::here(ProfileFault::WrongType))?;
     let names = names(tree)?;
     let decision = decision(tree, "action", "errnoRet")?;
     let conds = conds(alloc, tree)?;
-    if is_stricter(&decision, default) && !are_known(names) {
-        return Err(ProfileFault::UnknownCall);
-    }
+    known_if(is_stricter(&decision, default), names)?;
     let numbers = numbers(alloc, names)?;
     Ok(Entry::new(numbers, decision, conds))
 }
 
 #[tactic(auto, unfolding(crate::specs::Reading::names_of))]
-fn names(tree: &Value) -> Result<&[Value], ProfileFault>
+fn names(tree: &Value) -> Result<&[Value], ProfileFaultAt>
     ensures { as_read (λ names. map view names.now) result ≡ names_of (view tree.now) }
 {
     let names = required_text_list(tree, "names")?;
     if names.is_empty() {
-        return Err(ProfileFault::EmptyNames);
+        return Err(ProfileFaultAt::at("names", ProfileFault::EmptyNames));
     }
     Ok(names)
 }
@@ -155,16 +167,37 @@ fn is_stricter(decision: &Decision, default: &Decision) -> bool
     decision.rank() < default.rank()
 }
 
-// Whether the table has all the names.
-fn are_known(names: &[Value]) -> bool
-    ensures { result ≡ are_known (map view names.now) }
+// Where the table has to have each name, the first that it lacks is refused.
+fn known_if(is_needed: bool, names: &[Value]) -> Result<(), ProfileFaultAt>
+    ensures { result ≡ known_if is_needed (map view names.now) }
 {
-    for name in names {
-        if number_named(name).is_none() {
-            return false;
+    if is_needed {
+        if let Some(index) = first_unknown(names) {
+            return Err(unknown_at(index));
         }
     }
-    true
+    Ok(())
+}
+
+#[tactic(auto, using(json_place::proofs::Odd::position_of_views))]
+fn first_unknown(names: &[Value]) -> Option<usize>
+    ensures { result ≡ position (λ name. not (is_some (number_named name))) (map view names.now) }
+{
+    first_without_number(names)
+}
+
+fn first_without_number(names: &[Value]) -> Option<usize>
+    ensures { result ≡ position (λ name. not (is_some (number_named (view name)))) names.now }
+{
+    names.iter().position(|name| number_named(name).is_none())
+}
+
+fn unknown_at(index: usize) -> ProfileFaultAt
+    ensures { Err result ≡ refuse_at (Some index) }
+{
+    ProfileFaultAt::here(ProfileFault::UnknownCall)
+        .within(Step::Item(index))
+        .within(Step::Member("names"))
 }
 
 // The numbers of those names that the table has.

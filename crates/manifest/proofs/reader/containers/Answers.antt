@@ -1,11 +1,10 @@
 -- What was read of both lists is a list of containers that a pod may have.
-use Rattle.std.proofs.Common.{◌≡◌, ◌≤◌, ◌+◌, ◌<◌, length, [], map, Ok, subst, arith}
+use Rattle.std.proofs.Common.{◌≡◌, ◌≤◌, ◌+◌, ◌<◌, codes, length, [], map, Ok, subst, arith}
 use Rattle.std.proofs.lemmas.List.{length-map}
 use Rattle.serde_json.specs.View.{view}
-use Rattle.json_tree.specs.Reading.{in_order_after}
 use Rattle.manifest.specs.declared.containers.TheConstants.{MAX_CONTAINERS}
 use Rattle.manifest.specs.Containers.{AreContainers}
-use Rattle.manifest.specs.Reading.{container_of}
+use Rattle.manifest.specs.Reading.{listed_of}
 use Rattle.manifest.proofs.FoundPod.{lists_read}
 use Rattle.manifest.proofs.reader.containers.Goals as goal
 
@@ -15,8 +14,8 @@ new-requires-2 c =
     let others = map view c.args.lists.others.now in
     let init_count : length inits ≡ length c.args.lists.inits.now = length-map c.args.lists.inits.now view in
     let other_count : length others ≡ length c.args.lists.others.now = length-map c.args.lists.others.now view in
-    let one : in_order_after container_of [] inits ≡ Ok c.in_ok-inits.inits.items = rw c.new.ensures.items at c.in_ok-inits.ensures in
-    let two : in_order_after container_of c.in_ok-inits.inits.items others ≡ Ok c.in_ok-all.all.items = c.in_ok-all.ensures in
+    let one : listed_of (codes "initContainers") [] inits ≡ Ok c.in_ok-inits.inits.items = rw c.new.ensures.items at c.in_ok-inits.ensures in
+    let two : listed_of (codes "containers") c.in_ok-inits.inits.items others ≡ Ok c.in_ok-all.all.items = c.in_ok-all.ensures in
     let some : 0 < length others = omega (arith, other_count, c.args.lists.some) in
     let few : length inits + length others ≤ MAX_CONTAINERS = omega (arith, init_count, other_count, c.args.lists.few) in
     let read = lists_read (record { inits = inits; others = others }) c.in_ok-inits.inits.items c.in_ok-all.all.items some few one two in

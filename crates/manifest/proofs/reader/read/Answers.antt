@@ -1,12 +1,12 @@
-use Rattle.std.proofs.Common.{subst}
-use Rattle.json_tree.specs.Reading.{Gives}
-use Rattle.manifest.specs.declared.faults.PodFault.TheVariants.{Memory}
-use Rattle.manifest.proofs.FoundPod.{found}
-use Rattle.manifest.proofs.Only.{only}
+use Rattle.std.proofs.Common.{sym}
+use Rattle.std.proofs.lemmas.Result.{err_from_is_err_and}
+use Rattle.manifest.proofs.Answered.{same_value, not_refused}
 use Rattle.manifest.proofs.reader.read.Goals as goal
 
-pub returns-clause-found : goal.returns-clause-found
-returns-clause-found c = found c.args.bytes.now c.reading.result c.reading.ensures
+pub returns-in_err-read_placed-clause-only : goal.returns-in_err-read_placed-clause-only
+returns-in_err-read_placed-clause-only c = λ pod is.
+    let p = err_from_is_err_and c.from_residual.result c.from_residual.ensures.1 in
+    rw (p.1, p.2) (λ not_memory. sym (not_refused pod c.in_err-read_placed.field-0.0 _ (sym (c.in_err-read_placed.ensures.only pod is not_memory))))
 
 pub returns-clause-only : goal.returns-clause-only
-returns-clause-only c = λ pod is. subst (Gives Memory (λ pod. pod) c.reading.result) (only c.args.bytes.now pod is) c.reading.ensures
+returns-clause-only c = λ pod is. same_value _ _ (c.in_ok-read_placed.ensures.only pod is)

@@ -1,9 +1,9 @@
--- The items so far are read, and are these entries.
-use Rattle.std.proofs.Common.{◌≡◌, Ok, map, take}
+-- What the items from this one on give after the entries so far is what all of them give.
+use Rattle.std.proofs.Common.{◌≡◌, [], map, drop}
 use Rattle.serde_json.specs.View.{view}
-use Rattle.json_tree.specs.Reading.{in_order}
-use Rattle.oci_profile.specs.Reading.{entry_of}
+use Rattle.json_tree.specs.Reading.{in_order_after}
+use Rattle.oci_profile.specs.Reading.{entry_at}
 use Rattle.oci_profile.proofs.reader.each_entry.Given as goal
 
 abbrev pub invariant-loop-item : goal.invariant-loop-item
-invariant-loop-item l = in_order (entry_of l.default) (map view (take l.item-index l.items)) ≡ Ok l.entries.items
+invariant-loop-item l = in_order_after (entry_at l.default) l.entries.items (map view (drop l.item-index l.items)) ≡ in_order_after (entry_at l.default) [] (map view l.items)

@@ -1,25 +1,12 @@
-use Rattle.std.proofs.Common.{subst, arith}
-use Rattle.json_tree.specs.Reading.{Gives}
-use Rattle.oci_profile.specs.declared.faults.ProfileFault.TheVariants.{Memory}
-use Rattle.oci_profile.proofs.Answered.{long_fault, no_fault, first, not_large}
-use Rattle.oci_profile.proofs.Found.{found}
-use Rattle.oci_profile.proofs.Only.{only}
+use Rattle.std.proofs.Common.{sym}
+use Rattle.std.proofs.lemmas.Result.{err_from_is_err_and}
+use Rattle.oci_profile.proofs.Answered.{same_value, not_refused}
 use Rattle.oci_profile.proofs.reader.read.Goals as goal
 
-pub returns-then-bytes-gt-MAX_PROFILE_BYTES-clause-first : goal.returns-then-bytes-gt-MAX_PROFILE_BYTES-clause-first
-returns-then-bytes-gt-MAX_PROFILE_BYTES-clause-first c = λ not_memory. long_fault c.args.bytes.now (omega arith)
-
-pub returns-clause-found : goal.returns-clause-found
-returns-clause-found c = found c.args.bytes.now c.short.result (omega arith) c.short.ensures
+pub returns-in_err-read_placed-clause-only : goal.returns-in_err-read_placed-clause-only
+returns-in_err-read_placed-clause-only c = λ profile is.
+    let p = err_from_is_err_and c.from_residual.result c.from_residual.ensures.1 in
+    rw (p.1, p.2) (λ not_memory. sym (not_refused profile c.in_err-read_placed.field-0.0 _ (sym (c.in_err-read_placed.ensures.only profile is not_memory))))
 
 pub returns-clause-only : goal.returns-clause-only
-returns-clause-only c = λ profile is. subst (Gives Memory (λ profile. profile) c.short.result) (only c.args.bytes.now profile is) c.short.ensures
-
-pub returns-clause-no_fault : goal.returns-clause-no_fault
-returns-clause-no_fault c = no_fault c.args.bytes.now c.short.result (omega arith) c.short.ensures
-
-pub returns-clause-first : goal.returns-clause-first
-returns-clause-first c = first c.args.bytes.now c.short.result (omega arith) c.short.ensures
-
-pub returns-clause-large : goal.returns-clause-large
-returns-clause-large c = (λ large. absurd (not_large c.args.bytes.now c.short.result c.short.ensures large), λ long. absurd (omega arith))
+returns-clause-only c = λ profile is. same_value _ _ (c.in_ok-read_placed.ensures.only profile is)

@@ -1,0 +1,3 @@
+pub mod Fitting
+pub mod Odd
+pub mod PlacedFields

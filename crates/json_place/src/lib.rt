@@ -1,0 +1,19 @@
+//! Where in a JSON text (RFC 8259) something stands, and how what stands there is shown.
+//!
+//! A place is the way to it from the outside in, as `syscalls[1].names[2]`. It takes no memory.
+#![tactic(auto)]
+
+mod fields;
+mod lists;
+mod place;
+mod quoted;
+mod shown;
+
+pub use fields::{
+    FieldFaultAt, optional_flag, optional_list, optional_object, optional_text, optional_whole,
+    optional_word, required_list, required_object, required_text, required_value, required_whole,
+};
+pub use lists::{optional_text_list, required_text_list, required_wholes};
+pub use place::{MAX_STEPS, Place, Step};
+pub use quoted::{MAX_SHOWN, Quoted};
+pub use shown::{Shown, stands_at};

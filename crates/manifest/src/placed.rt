@@ -1,0 +1,129 @@
+ghost use Rattle.std.specs.Prelude.{◌≡◌};
+ghost use Rattle.json_place.specs.Places.{part_of};
+ghost use Rattle.manifest.specs.Faults.{at, under};
+
+use crate::faults::PodFault;
+use json_place::{FieldFaultAt, Place, Step};
+use json_tree::TextFault;
+use std::alloc::{AllocError, AllocFailed};
+
+/// Why a text is no manifest of a pod, and where in it.
+#[derive(Debug, Drop)]
+pub struct PodFaultAt {
+    pub fault: PodFault,
+    /// The place at which the fault is: the whole text's where it has no narrower one.
+    pub place: Place,
+}
+
+impl PodFaultAt {
+    ghost use Rattle.std.specs.Prelude.{◌≡◌};
+    ghost use Rattle.json_place.specs.Places.{part_of};
+    ghost use Rattle.manifest.specs.Faults.{fault_at, fault_here, fault_within};
+
+    /// A fault of the tree that is read.
+    pub(crate) fn here(fault: PodFault) -> PodFaultAt
+        ensures { result ≡ fault_here fault }
+    {
+        PodFaultAt {
+            fault,
+            place: Place::root(),
+        }
+    }
+
+    /// A fault of its member with this key.
+    pub(crate) fn at(key: &'static str, fault: PodFault) -> PodFaultAt
+        ensures { result ≡ fault_at key.now fault }
+    {
+        PodFaultAt::here(fault).within(Step::Member(key))
+    }
+
+    /// The fault of a tree, as one of the tree in which that one stands.
+    pub(crate) fn within(self, step: Step) -> PodFaultAt
+        ensures { result ≡ fault_within (part_of step) self }
+    {
+        PodFaultAt {
+            fault: self.fault,
+            place: self.place.within(step),
+        }
+    }
+}
+
+/// What was made of the member with this key.
+pub(crate) fn at<T>(key: &'static str, made: Result<T, PodFault>) -> Result<T, PodFaultAt>
+    ensures { result ≡ at key.now made }
+{
+    match made {
+        Ok(value) => Ok(value),
+        Err(fault) => Err(PodFaultAt::at(key, fault)),
+    }
+}
+
+/// What was read of what stands under a step.
+pub(crate) fn under<T>(step: Step, read: Result<T, PodFaultAt>) -> Result<T, PodFaultAt>
+    ensures { result ≡ under (part_of step) read }
+{
+    match read {
+        Ok(value) => Ok(value),
+        Err(fault) => Err(fault.within(step)),
+    }
+}
+
+impl From<FieldFaultAt> for PodFaultAt {
+    ghost use Rattle.std.specs.Prelude.{◌≡◌};
+    ghost use Rattle.manifest.specs.Faults.{fault_of_field_at};
+
+    ghost from_gives = { λ field fault. fault ≡ fault_of_field_at field };
+
+    fn from(found: FieldFaultAt) -> PodFaultAt {
+        PodFaultAt {
+            fault: PodFault::from(found.fault),
+            place: found.place,
+        }
+    }
+}
+
+/// What it is, wherever.
+impl From<PodFaultAt> for PodFault {
+    ghost use Rattle.std.specs.Prelude.{◌≡◌};
+
+    ghost from_gives = { λ found fault. fault ≡ found.fault };
+
+    fn from(found: PodFaultAt) -> PodFault {
+        found.fault
+    }
+}
+
+impl From<TextFault> for PodFaultAt {
+    ghost use Rattle.std.specs.Prelude.{◌≡◌};
+    ghost use Rattle.manifest.specs.Faults.{fault_here, fault_of_text};
+
+    ghost from_gives = { λ text fault. fault ≡ fault_here (fault_of_text text) };
+
+    fn from(fault: TextFault) -> PodFaultAt {
+        PodFaultAt::here(PodFault::from(fault))
+    }
+}
+
+impl From<AllocError> for PodFaultAt {
+    ghost use Rattle.std.specs.Prelude.{◌≡◌};
+    ghost use Rattle.manifest.specs.declared.faults.PodFault.TheVariants.{Memory};
+    ghost use Rattle.manifest.specs.Faults.{fault_here};
+
+    ghost from_gives = { λ _ fault. fault ≡ fault_here Memory };
+
+    fn from(_: AllocError) -> PodFaultAt {
+        PodFaultAt::here(PodFault::Memory)
+    }
+}
+
+impl<T: Drop> From<AllocFailed<T>> for PodFaultAt {
+    ghost use Rattle.std.specs.Prelude.{◌≡◌};
+    ghost use Rattle.manifest.specs.declared.faults.PodFault.TheVariants.{Memory};
+    ghost use Rattle.manifest.specs.Faults.{fault_here};
+
+    ghost from_gives = { λ _ fault. fault ≡ fault_here Memory };
+
+    fn from(_: AllocFailed<T>) -> PodFaultAt {
+        PodFaultAt::here(PodFault::Memory)
+    }
+}
