@@ -5,6 +5,7 @@ use crate::line::{accepted, compiled, judged_line, longest, outcome_lines};
 use crate::notes::note_of;
 use crate::picked::picked_lines;
 use crate::playing::play;
+use crate::profiles::explain_text;
 use crate::show::code_lines;
 use crate::stop::{
     Stop, compile_stop, filter_stop, manifest_stop, profile_stop, script_stop, stack_filter_stop,
@@ -21,7 +22,7 @@ use std::io::Write;
 use std::rt;
 use verdict::Stack;
 
-/// The program `seccheck`: compiles profiles, looks at filters, runs and compares them, plays scripts under
+/// The program `seccheck`: compiles and explains profiles, looks at filters, runs and compares them, plays scripts under
 /// them, and picks the profiles of pods. `words` are the command line's, the program's name first. The answer
 /// is the program's status: 0 done, 1 input refused, 2 command line refused, 3 file fault, 4 out of memory.
 /// What can't be written counts as a file fault.
@@ -67,6 +68,10 @@ fn text_of<'a, R: rt::Files + AllocGlobal>(
         Some(("run", matches)) => {
             let call = call_at(matches).map_err(Stop::BadNumber)?;
             run_text(rt, word_at(matches, "FILTER"), call)
+        }
+        Some(("explain", matches)) => {
+            let call = call_at(matches).map_err(Stop::BadNumber)?;
+            explain_text(rt, word_at(matches, "PROFILE"), call)
         }
         Some(("compile", matches)) => {
             compile_text(rt, word_at(matches, "PROFILE"), word_at(matches, "OUT"))
@@ -231,6 +236,9 @@ fn profile_filter<'a, R: rt::Files + AllocGlobal>(
 }
 
 /// The bytes of a file.
-fn bytes_at<'a, R: rt::Files + AllocGlobal>(rt: &R, path: &'a str) -> Result<Vec<u8>, Stop<'a>> {
+pub(crate) fn bytes_at<'a, R: rt::Files + AllocGlobal>(
+    rt: &R,
+    path: &'a str,
+) -> Result<Vec<u8>, Stop<'a>> {
     read_file(rt, path, MAX_FILE_BYTES).map_err(|fault| stop_at(path, fault))
 }

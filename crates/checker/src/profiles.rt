@@ -1,0 +1,18 @@
+//! What is said of a profile itself.
+use crate::seccheck::bytes_at;
+use crate::stop::{Stop, profile_stop};
+use call_data::SysCall;
+use explain::{explain, explanation_lines};
+use std::rt;
+
+/// Which entry of the profile decides the call, and what is passed over before.
+pub(crate) fn explain_text<'a, R: rt::Files + AllocGlobal>(
+    rt: &R,
+    path: &'a str,
+    call: SysCall,
+) -> Result<String, Stop<'a>> {
+    let bytes = bytes_at(rt, path)?;
+    let profile = oci_profile::read(rt.alloc(), &bytes).map_err(|fault| profile_stop(path, fault))?;
+    let explanation = explain(rt.alloc(), &profile, &call)?;
+    Ok(explanation_lines(rt.alloc(), &explanation)?)
+}
