@@ -15,6 +15,7 @@ use crate::words::{attempt_at, call_at, command, word_at};
 use bpf_compare::{Scope, compare};
 use bpf_verify::{Filter, Refusal, filter_of};
 use call_data::SysCall;
+use call_names::{Naming, number_tests};
 use clap::error::ErrorKind;
 use compile::compile;
 use node_io::{Cause, MAX_FILE_BYTES, read_file};
@@ -90,7 +91,12 @@ fn text_of<'a, R: rt::Files + AllocGlobal>(
         Some(("play", matches)) => {
             let attempt = attempt_at(matches).map_err(Stop::BadNumber)?;
             let filters = matches.get_strs("FILTER").unwrap_or(&[]);
-            play_text(rt, word_at(matches, "SCRIPT"), filters, attempt)
+            let naming = if matches.get_flag("names") {
+                Naming::Name
+            } else {
+                Naming::Number
+            };
+            play_text(rt, word_at(matches, "SCRIPT"), filters, attempt, naming)
         }
         Some(("pick", matches)) => {
             let seccomp_default = matches.get_flag("seccomp-default");
@@ -138,7 +144,8 @@ fn show_text<'a, R: rt::Files + AllocGlobal>(rt: &R, path: &'a str) -> Result<St
         path,
         Refusal::Code(fault),
     ))?;
-    Ok(code_lines(rt.alloc(), &code)?)
+    let number_tests = number_tests(rt.alloc(), &code)?;
+    Ok(code_lines(rt.alloc(), &code, number_tests.as_slice())?)
 }
 
 /// What the filter says of the call.
@@ -170,12 +177,13 @@ fn play_text<'a, R: rt::Files + AllocGlobal>(
     path: &'a str,
     filters: &[&'a str],
     attempt: u32,
+    naming: Naming,
 ) -> Result<String, Stop<'a>> {
     let bytes = bytes_at(rt, path)?;
     let script = script::read(rt.alloc(), &bytes).map_err(|fault| script_stop(path, fault))?;
     let stack = stack_at(rt, filters)?;
     let outcome = play(rt.alloc(), script, stack, attempt)?;
-    Ok(outcome_lines(rt.alloc(), &outcome)?)
+    Ok(outcome_lines(rt.alloc(), &outcome, naming)?)
 }
 
 /// The profile of each container of a pod.

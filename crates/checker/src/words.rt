@@ -112,7 +112,13 @@ fn play<'a>(alloc: Global) -> Result<Command<'a>, AllocError> {
                 .num_args(0..)
                 .help("filter files, the oldest one first"),
         )?
-        .arg(option(alloc, "attempt", "K", "which attempt it is, from 0"))
+        .arg(option(alloc, "attempt", "K", "which attempt it is, from 0"))?
+        .arg(
+            Arg::new(alloc, "names")
+                .long("names")
+                .action(ArgAction::SetTrue)
+                .help("tells calls by their names"),
+        )
 }
 
 fn pick<'a>(alloc: Global) -> Result<Command<'a>, AllocError> {

@@ -1,6 +1,7 @@
 -- What the first entry that applies decides is what all of them together decide.
 use Rattle.std.proofs.Common.{◌≡◌, ℕ, zero, suc, ◌<◌, ◌≤◌, List, [], ◌∷◌, ◌&&◌, length, Bool, true, false, Some, refl, ◌∙◌, arith}
 use Rattle.std.specs.Prelude.{slice_get}
+use Rattle.std.proofs.lemmas.Option.{slice_get_within}
 use Rattle.call_data.specs.declared.sys_call.SysCall.{SysCall}
 use Rattle.oci_profile.specs.declared.decision.Decision.{Decision}
 use Rattle.oci_profile.specs.declared.profile.Entry.{Entry}
@@ -36,11 +37,6 @@ first_means (here ∷ entries) default call (suc place) decision first =
       before = λ k other below there. first.before (suc k) other (omega arith) there;
     })
 
--- what stands at a place is one of the list
-pub inside : {X : Type 0} (xs : List X) (place : ℕ) (x : X) → slice_get xs place ≡ Some x → place < length xs
-inside [] place x there = absurd cc
-inside (y ∷ ys) zero x there = omega arith
-inside (y ∷ ys) (suc place) x there = let h : place < length ys = inside ys place x there in omega arith
-
+-- what decides is one of the list
 pub within : (entries : List Entry) (call : SysCall) (place : ℕ) (decision : Decision) → AppliesFirst entries call place decision → place ≤ length entries
-within entries call place decision first = let h : place < length entries = inside entries place first.entry first.there in omega arith
+within entries call place decision first = let h : place < length entries = slice_get_within entries place first.entry first.there in omega arith
