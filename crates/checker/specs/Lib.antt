@@ -5,6 +5,7 @@ pub mod LineText
 pub mod NoteText
 pub mod PickText
 pub mod PickedText
+pub mod ProfileLines
 pub mod StopText
 pub mod ShownText
 pub mod Stops

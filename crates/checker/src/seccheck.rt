@@ -5,7 +5,7 @@ use crate::line::{accepted, compiled, judged_line, longest, outcome_lines};
 use crate::notes::note_of;
 use crate::picked::picked_lines;
 use crate::playing::play;
-use crate::profiles::explain_text;
+use crate::profiles::{default_line, explain_text};
 use crate::show::code_lines;
 use crate::stop::{
     Stop, compile_stop, filter_stop, manifest_stop, profile_stop, script_stop, stack_filter_stop,
@@ -74,6 +74,7 @@ fn text_of<'a, R: rt::Files + AllocGlobal>(
             let call = call_at(matches).map_err(Stop::BadNumber)?;
             explain_text(rt, word_at(matches, "PROFILE"), call)
         }
+        Some(("default", _)) => Ok(default_line(rt.alloc())?),
         Some(("compile", matches)) => {
             compile_text(rt, word_at(matches, "PROFILE"), word_at(matches, "OUT"))
         }

@@ -19,6 +19,9 @@ pub(crate) fn command<'a>(alloc: Global) -> Result<Command<'a>, AllocError> {
         .about("Compiles and explains seccomp profiles, looks at filters, and runs them")
         .subcommand_required(true)
         .subcommand(compile(alloc)?)?
+        .subcommand(Command::new(alloc, "default").about(
+            "Prints the profile that RuntimeDefault is, as JSON",
+        ))?
         .subcommand(of_filter(alloc, "verify", "Says whether a filter is sound")?)?
         .subcommand(of_filter(
             alloc,
