@@ -79,6 +79,6 @@ impl Excluded {
     pub(crate) fn covers(&self, range: Range) -> bool
         ensures { IsTrue result → (n : ℕ) → IsIn range n → bit_and n self.now.mask ≡ self.now.bits }
     {
-        self.mask & range.mask == self.mask && range.bits & self.mask == self.bits
+        range.has_bits(self.mask, self.bits)
     }
 }

@@ -105,11 +105,20 @@ impl Range {
         range.settled()
     }
 
+    /// Whether all its numbers have these bits under the mask.
+    pub(crate) fn has_bits(self, mask: u32, bits: u32) -> bool
+        ensures { IsTrue result → (n : ℕ) → IsIn self n → bit_and n mask ≡ bits }
+    {
+        mask & self.mask == mask && self.bits & mask == bits
+    }
+
     /// Those of its numbers that do not have these bits under the mask, and maybe others.
     pub(crate) fn without_bits(self, mask: u32, bits: u32) -> Option<Range>
         ensures { (n : ℕ) → IsIn self n → bit_and n mask ≢ bits → IsSomeAnd result (λ range. IsIn range n) }
     {
-        if mask == u32::MAX {
+        if self.has_bits(mask, bits) {
+            None
+        } else if mask == u32::MAX {
             self.without(bits)
         } else if bits == 0 && is_one_bit(mask) {
             self.with_bits(mask, mask)
@@ -139,7 +148,7 @@ impl Range {
     pub(crate) fn above(self, mask: u32, number: u32) -> Option<Range>
         ensures { (n : ℕ) → IsIn self n → number < bit_and n mask → IsSomeAnd result (λ range. IsIn range n) }
     {
-        if number >= mask {
+        if number >= mask || (number == 0 && self.has_bits(mask, 0)) {
             None
         } else if is_one_bit(mask) {
             self.with_bits(mask, mask)

@@ -1,9 +1,19 @@
 -- Which call the words of a command line write: docs/SEMANTICS.md, "Programs". Its numbers are looked at in
 -- the order of the usage line, and the first word that writes no number of its range is the answer else.
-use Rattle.std.specs.Prelude.{ℕ, ◌^◌, List, [], ◌∷◌, slice_get, Option, Result, Ok}
+use Rattle.std.specs.Prelude.{ℕ, ◌^◌, List, [], ◌∷◌, slice_get, Option, Some, None, Result, Ok}
 use Rattle.json_tree.specs.Reading.{◌>>=◌}
 use Rattle.call_data.specs.declared.sys_call.SysCall.{SysCall}
-use Rattle.command_line.specs.Words.{written, written_or}
+use Rattle.command_line.specs.Numbers.{number_in}
+use Rattle.command_line.specs.Words.{number_or_word, written_or}
+use Rattle.sys_table.specs.SysTable.{number_of}
+
+-- the number that a word writes, else that of the call which it names
+abbrev pub number_or_name : Option ℕ → Option ℕ → Option ℕ
+number_or_name (Some number) named = Some number
+number_or_name None named = named
+
+abbrev pub call_number_of : List ℕ → Result ℕ (List ℕ)
+call_number_of word = number_or_word word (number_or_name (number_in (2 ^ 32) word) (number_of word))
 
 -- an argument that is left out is 0
 abbrev pub argument_of : List (List ℕ) → ℕ → Result ℕ (List ℕ)
@@ -22,7 +32,7 @@ arguments_of words = do
 -- 0xc000003e is AUDIT_ARCH_X86_64 of linux/audit.h
 unfoldable pub call_of : List ℕ → List (List ℕ) → Option (List ℕ) → Option (List ℕ) → Result SysCall (List ℕ)
 call_of nr args arch ip = do
-  number ← written (2 ^ 32) nr
+  number ← call_number_of nr
   arguments ← arguments_of args
   architecture ← written_or (2 ^ 32) 0xc000003e arch
   pointer ← written_or (2 ^ 64) 0 ip

@@ -6,6 +6,7 @@ pub mod NoteText
 pub mod PlaceNoteText
 pub mod PickText
 pub mod PickedText
+pub mod ProfileLines
 pub mod StopText
 pub mod ShownText
 pub mod Stops

@@ -5,6 +5,8 @@ use Rattle.std.specs.Fmt.{decimal}
 use Rattle.bpf_code.specs.Text.{text_of}
 use Rattle.checker.specs.declared.show.Shown.{Shown}
 use Rattle.checker.specs.ArrowText.{arrow_text}
+use Rattle.checker.specs.Texts.{comment_text}
 
 abbrev pub shown_text : Shown → List ℕ
-shown_text shown = decimal shown.place ++ codes ": " ++ text_of shown.insn ++ arrow_text shown.arrow
+shown_text shown =
+    decimal shown.place ++ codes ": " ++ text_of shown.insn ++ arrow_text shown.arrow ++ comment_text shown.comment.is_number_test shown.comment.nr

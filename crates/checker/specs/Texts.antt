@@ -1,5 +1,5 @@
 -- What is printed of a filter, this project's own: docs/SEMANTICS.md, "Programs".
-use Rattle.std.specs.Prelude.{ℕ, ◌+◌, ◌-◌, List, [], ◌∷◌, ◌++◌, length, replicate, codes, false}
+use Rattle.std.specs.Prelude.{ℕ, ◌+◌, ◌-◌, List, [], ◌∷◌, ◌++◌, length, replicate, slice_index_or, codes, Bool, true, false, Option, Some, None}
 use Rattle.std.specs.Fmt.{decimal, digits}
 use Rattle.action.specs.Verdict.{name_of}
 use Rattle.bpf_code.specs.declared.insn.Insn.{Insn}
@@ -7,6 +7,7 @@ use Rattle.bpf_code.specs.declared.flow.Flow.{Flow}
 use Rattle.bpf_code.specs.declared.flow.Flow.TheVariants.{Returns, Jumps, Branches, Continues}
 use Rattle.bpf_code.specs.Flow.{flow_of}
 use Rattle.bpf_code.specs.Text.{text_of}
+use Rattle.sys_table.specs.SysTable.{name_of as name_of_call}
 use Rattle.checker.specs.declared.judging.Judged.{Judged}
 
 -- eight hexadecimal digits, for a number below 2^32
@@ -47,6 +48,23 @@ abbrev pub lines_text : {A : Type 0} → (ℕ → A → List ℕ) → ℕ → Li
 lines_text line place [] = []
 lines_text line place (x ∷ xs) = line place x ++ codes "\n" ++ lines_text line (place + 1) xs
 
+-- the name of a call
+abbrev pub comment_of : Option (List ℕ) → List ℕ
+comment_of None = []
+comment_of (Some name) = codes " ; " ++ name
+
+-- behind a comparison of the call's number the name that it has, if it has one
+abbrev pub comment_text : Bool → ℕ → List ℕ
+comment_text true nr = comment_of (name_of_call nr)
+comment_text false nr = []
+
+abbrev pub commented_text : Bool → ℕ → Insn → List ℕ
+commented_text is_number_test place insn = insn_text place insn ++ comment_text is_number_test insn.k
+
+-- an instruction, of which it is said whether it compares the call's number
+abbrev pub line_text : List Bool → ℕ → Insn → List ℕ
+line_text number_tests place insn = commented_text (slice_index_or number_tests place false) place insn
+
 -- the instructions of a file
-abbrev pub code_text : List Insn → List ℕ
-code_text code = lines_text insn_text 0 code
+abbrev pub code_text : List Bool → List Insn → List ℕ
+code_text number_tests code = lines_text (line_text number_tests) 0 code

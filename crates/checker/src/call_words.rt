@@ -1,13 +1,13 @@
-ghost use Rattle.std.specs.Prelude.{◌≡◌, ◌^◌, map, option_map};
-ghost use Rattle.checker.specs.CallWords.{argument_of, arguments_of, call_of};
-ghost use Rattle.command_line.specs.Words.{told, written};
+ghost use Rattle.std.specs.Prelude.{◌≡◌, map, option_map};
+ghost use Rattle.checker.specs.CallWords.{argument_of, arguments_of, call_number_of, call_of};
+ghost use Rattle.command_line.specs.Words.{told};
 
 use call_data::{NATIVE_ARCH, SysCall};
 use command_line::{number_or, word_of, word_or};
 
-// Each answers, where a word writes no number of its range, that word.
+// Each answers, where a word writes no number of its range, nor names a call where one may be named, that word.
 
-/// The call that these words write: its number, its arguments, of which there may be fewer than six, and
+/// The call that these words write: its number or name, its arguments, of which there may be fewer than six, and
 /// its architecture and address, which may be left out.
 #[tactic(auto, unfolding(crate::specs::CallWords::call_of))]
 pub(crate) fn call<'w>(
@@ -19,7 +19,7 @@ pub(crate) fn call<'w>(
     ensures { told result
         ≡ call_of nr.now (map (λ w. w.now) args.now) (option_map (λ w. w.now) arch.entry) (option_map (λ w. w.now) ip.entry) }
 {
-    let nr = word(nr)?;
+    let nr = call_number(nr)?;
     let args = arguments(args)?;
     let arch = word_or(NATIVE_ARCH, arch)?;
     let ip = number_or(0, ip)?;
@@ -46,8 +46,12 @@ fn argument<'w>(words: &[&'w str], place: usize) -> Result<u64, &'w str>
     number_or(0, words.get(place).copied())
 }
 
-fn word(word: &str) -> Result<u32, &str>
-    ensures { told result ≡ written (2 ^ 32) word.now }
+// No call's name begins with a digit, so no word is both.
+fn call_number(word: &str) -> Result<u32, &str>
+    ensures { told result ≡ call_number_of word.now }
 {
-    word_of(word).ok_or(word)
+    match word_of(word) {
+        Some(number) => Ok(number),
+        None => sys_table::number(word).ok_or(word),
+    }
 }

@@ -1,5 +1,5 @@
-//! What `seccheck` does: compiles profiles, judges calls by filters, shows and compares filters, plays
-//! scripts under them, and picks the profiles of pods.
+//! What `seccheck` does: compiles and explains profiles, judges calls by filters, shows and compares filters,
+//! plays scripts under them, and picks the profiles of pods.
 //!
 //! The functions are generic over the runtime and over the writers for standard output and standard
 //! error. What is printed is made by functions of `line`, `show`, `compared` and `stop`, whose texts stand in
@@ -15,6 +15,7 @@ mod notes;
 mod picked;
 mod place_notes;
 mod playing;
+mod profiles;
 mod seccheck;
 mod show;
 mod stop;

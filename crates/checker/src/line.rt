@@ -4,6 +4,7 @@ ghost use Rattle.checker.specs.Texts.{accepted_text, compiled_text, judged_text,
 
 use crate::judging::Judged;
 use crate::playing::Outcome;
+use call_names::{CallWord, Naming};
 use runtime_cell::JudgedCall;
 use std::alloc::{AllocError, Global};
 use std::fmt;
@@ -36,25 +37,28 @@ pub(crate) fn judged_line(alloc: Global, judged: &Judged) -> Result<String, Allo
     format!(in alloc; "{judged}\n")
 }
 
-/// A judged call as it is printed: `PLACE NR ACTION DATA performed`, or `denied`.
+/// A judged call as it is printed: `PLACE NR ACTION DATA performed`, or `denied`, by its name where that is
+/// wanted.
 #[derive(Clone, Copy)]
 pub(crate) struct Line {
     /// The step that makes the call, from 0.
     pub(crate) place: usize,
     pub(crate) entry: JudgedCall,
+    pub(crate) naming: Naming,
 }
 
 impl fmt::Display for Line {
     ghost use Rattle.std.specs.Prelude.{Some};
     ghost use Rattle.checker.specs.LineText.{entry_text};
 
-    ghost output = { λ line. Some (entry_text line.place line.entry) };
+    ghost output = { λ line. Some (entry_text line.naming line.place line.entry) };
 
     fn fmt<W: fmt::Write>(&self, f: &mut fmt::Formatter<W>) -> fmt::Result {
-        let (place, nr) = (self.place, self.entry.call.nr);
+        let (place, nr, naming) = (self.place, self.entry.call.nr, self.naming);
+        let call = CallWord { nr, naming };
         let (action, ret_data) = (self.entry.verdict.action, self.entry.verdict.ret_data);
         let outcome = outcome(self.entry.performed);
-        write!(f, "{place} {nr} {action} {ret_data} {outcome}")
+        write!(f, "{place} {call} {action} {ret_data} {outcome}")
     }
 }
 
@@ -66,14 +70,19 @@ fn outcome(performed: bool) -> &'static str
 
 /// A line for each judged call, and one for the end. Each step but the last makes a call, so a call's
 /// place in the record is its step's place in the script.
-pub(crate) fn outcome_lines(alloc: Global, outcome: &Outcome) -> Result<String, AllocError>
-    ensures { IfOk result (λ text. string_bytes text ≡ record_text outcome.now) }
+pub(crate) fn outcome_lines(
+    alloc: Global,
+    outcome: &Outcome,
+    naming: Naming,
+) -> Result<String, AllocError>
+    ensures { IfOk result (λ text. string_bytes text ≡ record_text naming outcome.now) }
 {
     let mut text = String::new(alloc);
     for (place, entry) in outcome.entries().iter().enumerate() {
         let line = Line {
             place,
             entry: *entry,
+            naming,
         };
         writeln!(text, "{line}")?;
     }

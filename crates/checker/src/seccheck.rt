@@ -5,6 +5,7 @@ use crate::line::{accepted, compiled, judged_line, longest, outcome_lines};
 use crate::notes::tell_note;
 use crate::picked::picked_lines;
 use crate::playing::play;
+use crate::profiles::{default_line, explain_text};
 use crate::show::code_lines;
 use crate::stop::{
     Stop, compile_stop, filter_stop, manifest_stop, profile_stop, script_stop, stack_filter_stop,
@@ -14,6 +15,7 @@ use crate::words::{attempt_at, call_at, command, word_at};
 use bpf_compare::{Scope, compare};
 use bpf_verify::{Filter, Refusal, filter_of};
 use call_data::SysCall;
+use call_names::{Naming, number_tests};
 use clap::error::ErrorKind;
 use compile::compile;
 use node_io::{Cause, MAX_FILE_BYTES, read_file};
@@ -21,7 +23,7 @@ use std::io::Write;
 use std::rt;
 use verdict::Stack;
 
-/// The program `seccheck`: compiles profiles, looks at filters, runs and compares them, plays scripts under
+/// The program `seccheck`: compiles and explains profiles, looks at filters, runs and compares them, plays scripts under
 /// them, and picks the profiles of pods. `words` are the command line's, the program's name first. The answer
 /// is the program's status: 0 done, 1 input refused, 2 command line refused, 3 file fault, 4 out of memory.
 /// What can't be written counts as a file fault.
@@ -66,6 +68,11 @@ fn text_of<'a, R: rt::Files + AllocGlobal>(
             let call = call_at(matches).map_err(Stop::BadNumber)?;
             run_text(rt, word_at(matches, "FILTER"), call)
         }
+        Some(("explain", matches)) => {
+            let call = call_at(matches).map_err(Stop::BadNumber)?;
+            explain_text(rt, word_at(matches, "PROFILE"), call)
+        }
+        Some(("default", _)) => Ok(default_line(rt.alloc())?),
         Some(("compile", matches)) => {
             compile_text(rt, word_at(matches, "PROFILE"), word_at(matches, "OUT"))
         }
@@ -83,7 +90,12 @@ fn text_of<'a, R: rt::Files + AllocGlobal>(
         Some(("play", matches)) => {
             let attempt = attempt_at(matches).map_err(Stop::BadNumber)?;
             let filters = matches.get_strs("FILTER").unwrap_or(&[]);
-            play_text(rt, word_at(matches, "SCRIPT"), filters, attempt)
+            let naming = if matches.get_flag("names") {
+                Naming::Name
+            } else {
+                Naming::Number
+            };
+            play_text(rt, word_at(matches, "SCRIPT"), filters, attempt, naming)
         }
         Some(("pick", matches)) => {
             let seccomp_default = matches.get_flag("seccomp-default");
@@ -131,7 +143,8 @@ fn show_text<'a, R: rt::Files + AllocGlobal>(rt: &R, path: &'a str) -> Result<St
         path,
         Refusal::Code(fault),
     ))?;
-    Ok(code_lines(rt.alloc(), &code)?)
+    let number_tests = number_tests(rt.alloc(), &code)?;
+    Ok(code_lines(rt.alloc(), &code, number_tests.as_slice())?)
 }
 
 /// What the filter says of the call.
@@ -163,12 +176,13 @@ fn play_text<'a, R: rt::Files + AllocGlobal>(
     path: &'a str,
     filters: &[&'a str],
     attempt: u32,
+    naming: Naming,
 ) -> Result<String, Stop<'a>> {
     let bytes = bytes_at(rt, path)?;
     let script = script::read(rt.alloc(), &bytes).map_err(|fault| script_stop(path, fault))?;
     let stack = stack_at(rt, filters)?;
     let outcome = play(rt.alloc(), script, stack, attempt)?;
-    Ok(outcome_lines(rt.alloc(), &outcome)?)
+    Ok(outcome_lines(rt.alloc(), &outcome, naming)?)
 }
 
 /// The profile of each container of a pod.
@@ -233,6 +247,9 @@ fn profile_filter<'a, R: rt::Files + AllocGlobal>(
 }
 
 /// The bytes of a file.
-fn bytes_at<'a, R: rt::Files + AllocGlobal>(rt: &R, path: &'a str) -> Result<Vec<u8>, Stop<'a>> {
+pub(crate) fn bytes_at<'a, R: rt::Files + AllocGlobal>(
+    rt: &R,
+    path: &'a str,
+) -> Result<Vec<u8>, Stop<'a>> {
     read_file(rt, path, MAX_FILE_BYTES).map_err(|fault| stop_at(path, fault))
 }

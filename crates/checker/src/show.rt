@@ -3,7 +3,7 @@ ghost use Rattle.bpf_code.specs.declared.limits.TheConstants.{MAX_INSNS};
 ghost use Rattle.bpf_code.specs.Flow.{flow_of};
 ghost use Rattle.checker.specs.ArrowText.{arrow_of};
 ghost use Rattle.checker.specs.ShownText.{shown_text};
-ghost use Rattle.checker.specs.Texts.{code_text, insn_text};
+ghost use Rattle.checker.specs.Texts.{code_text, commented_text};
 
 use bpf_code::{Flow, Insn};
 use std::alloc::{AllocError, Global};
@@ -35,12 +35,37 @@ impl fmt::Display for Arrow {
     }
 }
 
-/// An instruction as it is shown, with its place in front and where it may go behind it.
+/// The name of a call that an instruction asks about, behind it.
+#[derive(Clone, Copy)]
+struct Comment {
+    is_number_test: bool,
+    nr: u32,
+}
+
+impl fmt::Display for Comment {
+    ghost use Rattle.std.specs.Prelude.{Some};
+    ghost use Rattle.checker.specs.Texts.{comment_text};
+
+    ghost output = { λ comment. Some (comment_text comment.is_number_test comment.nr) };
+
+    fn fmt<W: fmt::Write>(&self, f: &mut fmt::Formatter<W>) -> fmt::Result {
+        if !self.is_number_test {
+            return Ok(());
+        }
+        match sys_table::name(self.nr) {
+            Some(name) => write!(f, " ; {name}"),
+            None => Ok(()),
+        }
+    }
+}
+
+/// An instruction as it is shown, with its place in front, and where it may go and a call's name behind it.
 #[derive(Clone, Copy)]
 struct Shown {
     place: usize,
     insn: Insn,
     arrow: Arrow,
+    comment: Comment,
 }
 
 impl fmt::Display for Shown {
@@ -50,30 +75,44 @@ impl fmt::Display for Shown {
     ghost output = { λ shown. Some (shown_text shown) };
 
     fn fmt<W: fmt::Write>(&self, f: &mut fmt::Formatter<W>) -> fmt::Result {
-        let (place, insn, arrow) = (self.place, self.insn, self.arrow);
-        write!(f, "{place}: {insn}{arrow}")
+        let (place, insn) = (self.place, self.insn);
+        let (arrow, comment) = (self.arrow, self.comment);
+        write!(f, "{place}: {insn}{arrow}{comment}")
     }
 }
 
-/// One line an instruction: its place, its text, and behind a jump the places that it may go to.
-pub(crate) fn code_lines(alloc: Global, code: &[Insn]) -> Result<String, AllocError>
-    requires { length code.now ≤ MAX_INSNS }
-    ensures { IfOk result (λ text. string_bytes text ≡ code_text code.now) }
+/// One line an instruction: its place, its text, behind a jump the places that it may go to, and behind a
+/// comparison of the call's number, which these tell, the name that it has.
+pub(crate) fn code_lines(
+    alloc: Global,
+    code: &[Insn],
+    number_tests: &[bool],
+) -> Result<String, AllocError>
+    requires short { length code.now ≤ MAX_INSNS }
+    requires as_many { length number_tests.now ≡ length code.now }
+    ensures { IfOk result (λ text. string_bytes text ≡ code_text number_tests.now code.now) }
 {
     let mut text = String::new(alloc);
     for (place, insn) in code.iter().enumerate() {
-        let line = shown_at(place, *insn);
+        let line = shown_at(place, *insn, number_tests[place]);
         writeln!(text, "{line}")?;
     }
     Ok(text)
 }
 
-fn shown_at(place: usize, insn: Insn) -> Shown
+fn shown_at(place: usize, insn: Insn, is_number_test: bool) -> Shown
     requires { place < MAX_INSNS }
-    ensures { shown_text result ≡ insn_text place insn }
+    ensures { shown_text result ≡ commented_text is_number_test place insn }
 {
-    let arrow = ways_on(place, &insn);
-    Shown { place, insn, arrow }
+    Shown {
+        place,
+        insn,
+        arrow: ways_on(place, &insn),
+        comment: Comment {
+            is_number_test,
+            nr: insn.k,
+        },
+    }
 }
 
 /// Where the instruction at this place may go.

@@ -16,9 +16,12 @@ pub(crate) const PROGRAM: &str = "seccheck";
 pub(crate) fn command<'a>(alloc: Global) -> Result<Command<'a>, AllocError> {
     Command::new(alloc, PROGRAM)
         .version(VERSION)
-        .about("Compiles seccomp profiles, looks at filters, and runs them")
+        .about("Compiles and explains seccomp profiles, looks at filters, and runs them")
         .subcommand_required(true)
         .subcommand(compile(alloc)?)?
+        .subcommand(Command::new(alloc, "default").about(
+            "Prints the profile that RuntimeDefault is, as JSON",
+        ))?
         .subcommand(of_filter(alloc, "verify", "Says whether a filter is sound")?)?
         .subcommand(of_filter(
             alloc,
@@ -31,6 +34,7 @@ pub(crate) fn command<'a>(alloc: Global) -> Result<Command<'a>, AllocError> {
             "Prints the instructions of a filter, sound or not",
         )?)?
         .subcommand(run(alloc)?)?
+        .subcommand(explain(alloc)?)?
         .subcommand(compare(alloc)?)?
         .subcommand(play(alloc)?)?
         .subcommand(pick(alloc)?)
@@ -59,10 +63,27 @@ fn of_filter<'a>(
 }
 
 fn run<'a>(alloc: Global) -> Result<Command<'a>, AllocError> {
-    Command::new(alloc, "run")
-        .about("Runs a filter on a call")
-        .arg(given(alloc, "FILTER", "a filter file"))?
-        .arg(given(alloc, "NR", "the call's number"))?
+    of_call(
+        alloc,
+        Command::new(alloc, "run")
+            .about("Runs a filter on a call")
+            .arg(given(alloc, "FILTER", "a filter file"))?,
+    )
+}
+
+fn explain<'a>(alloc: Global) -> Result<Command<'a>, AllocError> {
+    of_call(
+        alloc,
+        Command::new(alloc, "explain")
+            .about("Says which entry of a profile decides a call, and why none before does")
+            .arg(given(alloc, "PROFILE", "a profile"))?,
+    )
+}
+
+/// The words of a call.
+fn of_call<'a>(alloc: Global, command: Command<'a>) -> Result<Command<'a>, AllocError> {
+    command
+        .arg(given(alloc, "CALL", "the call's number or name"))?
         .arg(
             Arg::new(alloc, "ARG")
                 .num_args(0..=6)
@@ -94,7 +115,13 @@ fn play<'a>(alloc: Global) -> Result<Command<'a>, AllocError> {
                 .num_args(0..)
                 .help("filter files, the oldest one first"),
         )?
-        .arg(option(alloc, "attempt", "K", "which attempt it is, from 0"))
+        .arg(option(alloc, "attempt", "K", "which attempt it is, from 0"))?
+        .arg(
+            Arg::new(alloc, "names")
+                .long("names")
+                .action(ArgAction::SetTrue)
+                .help("tells calls by their names"),
+        )
 }
 
 fn pick<'a>(alloc: Global) -> Result<Command<'a>, AllocError> {
@@ -119,12 +146,12 @@ fn option<'a>(alloc: Global, id: &'static str, value: &'static str, help: &'stat
     Arg::new(alloc, id).long(id).value_name(value).help(help)
 }
 
-/// The call that the command line of `run` writes.
+/// The call that the command line of `run` or `explain` writes.
 pub(crate) fn call_at<'a>(matches: &ArgMatches<'a>) -> Result<SysCall, &'a str>
     ensures { told result ≡ call_in (found_of matches.now) }
 {
     call(
-        word_at(matches, "NR"),
+        word_at(matches, "CALL"),
         matches.get_strs("ARG").unwrap_or(&[]),
         matches.get_str("arch"),
         matches.get_str("ip"),

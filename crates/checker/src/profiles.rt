@@ -1,0 +1,32 @@
+//! What is said of a profile itself.
+ghost use Rattle.std.specs.Prelude.{IfOk, string_bytes};
+ghost use Rattle.checker.specs.ProfileLines.{IsDefaultLine};
+
+use crate::seccheck::bytes_at;
+use crate::stop::{Stop, profile_stop};
+use call_data::SysCall;
+use explain::{explain, explanation_lines};
+use profile_text::default_text;
+use std::alloc::{AllocError, Global};
+use std::rt;
+
+/// Which entry of the profile decides the call, and what is passed over before.
+pub(crate) fn explain_text<'a, R: rt::Files + AllocGlobal>(
+    rt: &R,
+    path: &'a str,
+    call: SysCall,
+) -> Result<String, Stop<'a>> {
+    let bytes = bytes_at(rt, path)?;
+    let profile = oci_profile::read(rt.alloc(), &bytes).map_err(|fault| profile_stop(path, fault))?;
+    let explanation = explain(rt.alloc(), &profile, &call)?;
+    Ok(explanation_lines(rt.alloc(), &explanation)?)
+}
+
+/// RuntimeDefault as a profile's text, in one line.
+pub(crate) fn default_line(alloc: Global) -> Result<String, AllocError>
+    ensures { IfOk result (λ line. IsDefaultLine (string_bytes line)) }
+{
+    let mut line = default_text(alloc)?;
+    line.push_str("\n")?;
+    Ok(line)
+}

@@ -1,0 +1,5 @@
+pub mod Entries
+pub mod Loops
+pub mod Parts
+pub mod Readable
+pub mod Whole

@@ -1,0 +1,4 @@
+pub mod FaultText
+pub mod Fits
+pub mod Writable
+pub mod Written

@@ -1,0 +1,18 @@
+//! Profiles as text: the `linux.seccomp` object of the OCI runtime specification 1.1, written as compact JSON
+//! whose text `oci_profile::read` reads as the same profile.
+//!
+//! How a profile is written stands in `specs/Written.antt`, and which can be in `specs/Writable.antt`.
+#![tactic(auto)]
+
+mod default_profile;
+mod faults;
+mod laws;
+mod object;
+mod trees;
+mod writable;
+mod writer;
+
+pub use default_profile::default_text;
+pub use faults::WriteFault;
+pub use laws::{runtime_default_can_be_written, what_is_read_can_be_written};
+pub use writer::write;

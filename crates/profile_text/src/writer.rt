@@ -1,0 +1,41 @@
+ghost use Rattle.std.specs.Prelude.{◌≡◌, ◌≢◌, ◌↔◌, ◌<◌, IfErr, IfOk, Err, false, length, nat_lt, string_bytes};
+ghost use Rattle.oci_profile.specs.declared.reader.TheConstants.{MAX_PROFILE_BYTES};
+ghost use Rattle.oci_profile.specs.Profile.{ReadsProfile};
+ghost use Rattle.profile_text.specs.Writable.{is_writable};
+ghost use Rattle.profile_text.specs.Written.{profile_text};
+ghost use Rattle.profile_text.specs.declared.faults.WriteFault.{WriteFault};
+
+use crate::faults::WriteFault;
+use crate::trees::profile_tree;
+use crate::writable::is_writable;
+use oci_profile::{MAX_PROFILE_BYTES, Profile};
+use std::alloc::Global;
+use sys_table::names_and_numbers_agree;
+
+/// The text of a profile: compact JSON, keys in the order of their bytes, each errno written out.
+pub fn write(alloc: Global, profile: &Profile) -> Result<String, WriteFault>
+    // It reads as the profile.
+    ensures reads { IfOk result (λ text. ReadsProfile (string_bytes text) profile.now) }
+    ensures text { IfOk result (λ text. string_bytes text ≡ profile_text profile.now) }
+
+    // A profile that can't be written is told so before memory is taken, and no other is.
+    ensures no_name { (result ≡ Err WriteFault.NoName) ↔ (is_writable profile.now ≡ false) }
+    ensures large { result ≡ Err WriteFault.TooLarge → MAX_PROFILE_BYTES < length (profile_text profile.now) }
+{
+    if !is_writable(profile) {
+        return Err(WriteFault::NoName);
+    }
+    names_and_numbers_agree();
+    let tree = profile_tree(alloc, profile)?;
+    let text = tree.to_string(alloc)?;
+    if is_too_large(text.as_str()) {
+        return Err(WriteFault::TooLarge);
+    }
+    Ok(text)
+}
+
+fn is_too_large(text: &str) -> bool
+    ensures { result ≡ nat_lt MAX_PROFILE_BYTES (length text.now) }
+{
+    text.len() > MAX_PROFILE_BYTES
+}
