@@ -132,7 +132,7 @@ def check_page(prefix, program):
     names = re.findall(r"^  ([a-z]+) ", part.group(1), re.M) if part else []
     for name in names:
         if name != "help":
-            check(f"{program}.1 has {name}", bool(re.search(rf"^\.BI {name} ", plain, re.M)))
+            check(f"{program}.1 has {name}", bool(re.search(rf"^\.(BI {name} |B {name}$)", plain, re.M)))
             said += help_of(prefix, program, name)
     check_numbers(program, said, plain, prefix)
     options = sorted(set(re.findall(r"--[a-z][a-z-]*", said)))
@@ -200,7 +200,7 @@ def runs(command, how):
     """Whether a command ends as one that was not refused, or goes on, if it is scriptd's."""
     try:
         seconds = 2 if command.startswith("scriptd") else 60
-        ran = subprocess.run(command.split(), capture_output=True, timeout=seconds, **how)
+        ran = subprocess.run(["sh", "-c", f"exec {command}"], capture_output=True, timeout=seconds, **how)
         return ran.returncode in (0, 5)
     except subprocess.TimeoutExpired:
         return command.startswith("scriptd")

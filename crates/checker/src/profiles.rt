@@ -17,7 +17,9 @@ pub(crate) fn explain_text<'a, R: rt::Files + AllocGlobal>(
     call: SysCall,
 ) -> Result<String, Stop<'a>> {
     let bytes = bytes_at(rt, path)?;
-    let profile = oci_profile::read(rt.alloc(), &bytes).map_err(|fault| profile_stop(path, fault))?;
+    let profile = oci_profile::read_placed(rt.alloc(), &bytes).map_err(|found| profile_stop(
+        path, found,
+    ))?;
     let explanation = explain(rt.alloc(), &profile, &call)?;
     Ok(explanation_lines(rt.alloc(), &explanation)?)
 }
