@@ -7,11 +7,14 @@ same, a case of tests/ tries both ends of the range, and the program takes these
 them. tests/run calls it. With programs of another folder (BIN) there is no library, and the session in C is
 left out.
 """
+import json
 import os
 import re
 import shutil
+import signal
 import subprocess
 import tempfile
+import time
 
 ROOT = os.path.dirname(os.path.dirname(os.path.abspath(__file__)))
 MAX_LINES = 100  # two screens
@@ -47,8 +50,12 @@ def installed(folder, programs):
 
 
 def environment(prefix):
-    paths = {"PATH": f"{prefix}/bin:{os.environ['PATH']}", "LD_LIBRARY_PATH": f"{prefix}/lib"}
-    return {**os.environ, **paths, "PKG_CONFIG_PATH": f"{prefix}/lib/pkgconfig"}
+    """What a new shell has, and what README's lines of `export` set, where make install's PREFIX is this one."""
+    new = {"HOME": os.path.dirname(prefix), "PATH": "/usr/local/bin:/usr/bin:/bin", "LC_ALL": "C.UTF-8"}
+    lines = "\n".join(line for line in text_of("README.md").splitlines() if line.startswith("export "))
+    set_by = ["sh", "-c", f"{lines}\nexec env -0"]
+    ran = subprocess.run(set_by, env=new, stdout=subprocess.PIPE, text=True, check=True)
+    return dict(it.split("=", 1) for it in ran.stdout.split("\0") if it)
 
 
 def blocks(text, kind):
@@ -61,15 +68,71 @@ def commands(block):
     return list(zip(parts[1::2], parts[2::2]))
 
 
+def without_moments(printed):
+    """What is printed, less the seconds in front of what --watch tells: a slow machine takes more of them."""
+    return re.sub(r"^\d+ (?=default\.)", "", printed, flags=re.M)
+
+
+def check_command(command, below, how):
+    ran = subprocess.run(command, stderr=subprocess.STDOUT, timeout=300, **how)
+    check(f"README: {command}", without_moments(ran.stdout), without_moments(below))
+
+
+def runtimes_of(session):
+    """The processes of a session that run scriptd."""
+    found = []
+    for pid in filter(str.isdigit, os.listdir("/proc")):
+        try:
+            with open(f"/proc/{pid}/stat", encoding="utf-8", errors="replace") as it:
+                name, _, rest = it.read().partition("(")[2].rpartition(")")
+        except OSError:
+            continue
+        if name == "scriptd" and rest.split()[3] == str(session):
+            found.append(int(pid))
+    return found
+
+
+class Terminal:
+    """Another terminal, in which a runtime stays until what comes next has ended."""
+
+    def __init__(self, command, below, how):
+        self.command, self.below, self.how = command, below, how
+        self.ran = subprocess.Popen(command, stderr=subprocess.STDOUT, start_new_session=True, **how)
+        self.room = how["cwd"]
+        while not os.path.exists(f"{self.room}/node.sock") and self.ran.poll() is None:
+            time.sleep(0.05)
+
+    def end(self):
+        # The runtime alone is ended: what reads its output comes to its end behind it.
+        for pid in runtimes_of(self.ran.pid):
+            os.kill(pid, signal.SIGINT)
+        check(f"README: {self.command}", self.ran.communicate(timeout=60)[0], self.below)
+
+
 def check_sessions(readme, prefix, room):
     shutil.copytree(f"{ROOT}/examples", f"{room}/examples")
+    how = {"shell": True, "cwd": f"{room}/examples", "env": environment(prefix)}
+    how |= {"stdout": subprocess.PIPE, "text": True}
+    other = None
     for block in blocks(readme, "console"):
         if "pkg-config" in block and not os.path.isdir(f"{prefix}/lib"):
             continue
+        if block.startswith("$ scriptd "):
+            other = Terminal(*commands(block)[0], how)
+            continue
         for command, below in commands(block):
-            how = {"shell": True, "cwd": f"{room}/examples", "env": environment(prefix), "timeout": 300}
-            ran = subprocess.run(command, stdout=subprocess.PIPE, stderr=subprocess.STDOUT, text=True, **how)
-            check(f"README: {command}", ran.stdout, below)
+            check_command(command, below, how)
+        if other:
+            other.end()
+            other = None
+
+
+def check_files(readme):
+    """The files that README shows are those that it names in front of them."""
+    shown = re.findall(r"`(examples/[a-z_]+\.json)`(?:(?!```).)*?\n```json\n(.*?)^```$", readme, re.M | re.S)
+    check("README shows a profile, a script and a manifest", len(shown), 3)
+    for path, text in shown:
+        check(f"README shows {path}", json.loads(text), json.loads(text_of(path)))
 
 
 def check_readme(readme):
@@ -218,12 +281,13 @@ def check_examples(prefix, program, room):
 def checked(programs):
     """How many things are as they should be, and how many not, by the programs of this folder."""
     with tempfile.TemporaryDirectory(prefix="motchidu-pages-") as room:
-        prefix = f"{room}/installed"
+        prefix = f"{room}/motchidu"  # README's PREFIX, in a home of its own
         installed(prefix, programs)
         readme = text_of("README.md")
         check_readme(readme)
         check_paths()
         check_quotes()
+        check_files(readme)
         check_sessions(readme, prefix, room)
         for program in STATUSES:
             check_page(prefix, program)
