@@ -35,12 +35,13 @@ fn line_of(alloc: Global, stop: &AgentStop<'_>) -> Result<String, AllocError> {
 }
 
 impl<L: Ledger, R: Wait> PodReader for FileTeller<'_, L, R> {
-    fn pod(&self, path: &str, bytes: &[u8]) -> Option<Pod> {
+    fn pod(&self, path: &str, bytes: &[u8]) -> Result<Option<Pod>, AllocError> {
         match pod_of(self.alloc, path, bytes) {
-            Ok(pod) => Some(pod),
+            Ok(pod) => Ok(Some(pod)),
+            Err(AgentStop::Server(ServerStop::Memory)) => Err(AllocError),
             Err(stop) => {
                 self.tell(&stop);
-                None
+                Ok(None)
             }
         }
     }

@@ -30,7 +30,7 @@ pub(crate) fn pod_at<'a, R: rt::Files + AllocGlobal>(
 ) -> Result<(Pod, bool), AgentStop<'a>> {
     let bytes = bytes_at(rt, path)?;
     let mut pod = pod_of(rt.alloc(), path, bytes.as_slice())?;
-    let gives_uid = gives_uid(rt.alloc(), bytes.as_slice());
+    let gives_uid = gives_uid(rt.alloc(), bytes.as_slice())?;
     if !gives_uid {
         match uid_for(rt.alloc(), &pod, 1, run)? {
             Some(uid) => pod.uid = uid,

@@ -12,8 +12,8 @@ use worker_core::{AgentEvent, NodeRefusal};
 
 /// Reads manifests, hears what is wrong with them, and knows which pods are on the node.
 pub trait PodReader {
-    /// The pod of a manifest. What is wrong with a refused one is told by this.
-    fn pod(&self, path: &str, bytes: &[u8]) -> Option<Pod>;
+    /// The pod of a manifest. What is wrong with a refused one is told by this, but for want of memory.
+    fn pod(&self, path: &str, bytes: &[u8]) -> Result<Option<Pod>, AllocError>;
 
     /// The file can't be read.
     fn unread(&self, path: &str, fault: CausedFault);
@@ -142,8 +142,8 @@ impl<'a> Folder<'a> {
         Ok(None)
     }
 
-    // The pod that the file at this place asks for, with its uid. A pod that can't have one is told of, and no
-    // longer wanted.
+    // The pod that the file at this place asks for, with its uid. A pod that can't have one is told of, and
+    // no longer wanted.
     fn named<T: PodReader>(&mut self, place: usize, reader: &T) -> Result<Option<Pod>, AllocError> {
         let Some(file) = self.files.get_mut(place) else {
             return Ok(None);
@@ -166,7 +166,8 @@ impl<'a> Folder<'a> {
         Ok(Some(pod))
     }
 
-    /// The next event that the folder asks of the node, if there is one. It is asked for again until it was recorded.
+    /// The next event that the folder asks of the node, if there is one. It is asked for again until it was
+    /// recorded.
     pub fn next<T: PodReader>(&mut self, reader: &T) -> Result<Option<AgentEvent>, AllocError>
         ensures { IfOk result (λ event. IfSome event (λ event. worker_of event ≡ 0)) }
     {
@@ -260,9 +261,9 @@ fn judge<T: PodReader>(
             if file.judged == Some(digest) {
                 return Ok(());
             }
+            let pod = reader.pod(file.path.as_str(), bytes.as_slice())?;
+            file.wanted = wanted_of(alloc, file, pod, bytes.as_slice(), reader)?;
             file.judged = Some(digest);
-            let pod = reader.pod(file.path.as_str(), bytes.as_slice());
-            file.wanted = wanted_of(alloc, file, pod, bytes.as_slice(), reader);
         }
         Err(fault) => {
             let text = format!(in alloc; "{fault}")?;
@@ -285,20 +286,22 @@ fn wanted_of<T: PodReader>(
     pod: Option<Pod>,
     bytes: &[u8],
     reader: &T,
-) -> Option<Wanted> {
-    let pod = pod?;
+) -> Result<Option<Wanted>, AllocError> {
+    let Some(pod) = pod else {
+        return Ok(None);
+    };
     if file.is_admitted_as(&pod) {
-        return None;
+        return Ok(None);
     }
-    let gives_uid = gives_uid(alloc, bytes);
+    let gives_uid = gives_uid(alloc, bytes)?;
     if gives_uid && reader.is_on_node(&pod.uid) {
         reader.refused(file.path.as_str(), NodeRefusal::KnownUid);
-        return None;
+        return Ok(None);
     }
-    Some(Wanted {
+    Ok(Some(Wanted {
         manifest: pod,
         gives_uid,
         waits: false,
         told: false,
-    })
+    }))
 }

@@ -1,5 +1,5 @@
-//! What manifests ask of a node that come and go: which uid a pod gets whose manifest gives none, and which pods of
-//! a folder's files are to be admitted and deleted. All of it is this project's own.
+//! What manifests ask of a node that come and go: which uid a pod gets whose manifest gives none, and which
+//! pods of a folder's files are to be admitted and deleted. All of it is this project's own.
 #![tactic(auto)]
 
 mod files;

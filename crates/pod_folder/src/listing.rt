@@ -58,8 +58,8 @@ fn bytes_of<R: rt::Files + AllocGlobal>(
     read_file(rt, real.as_str(), MAX_FILE_BYTES)
 }
 
-/// Reads the manifests of a folder, its files `*.json`, in the order of their names. Names that begin with a dot are
-/// passed over.
+/// Reads the manifests of a folder, its files `*.json`, in the order of their names. Names that begin with a
+/// dot are passed over.
 pub fn look_into<R: rt::Files + AllocGlobal + Clone + Drop>(
     rt: &R,
     folder: &str,

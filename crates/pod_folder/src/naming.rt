@@ -1,15 +1,17 @@
 use crate::uids::uid_for;
+use json_tree::TextFault;
 use manifest::{Pod, Uid};
 use std::alloc::{AllocError, Global};
 
 /// Whether a manifest's text gives the uid of its pod.
-pub fn gives_uid(alloc: Global, manifest: &[u8]) -> bool {
+pub fn gives_uid(alloc: Global, manifest: &[u8]) -> Result<bool, AllocError> {
     match json_tree::read(alloc, manifest) {
-        Ok(tree) => match json_tree::member(&tree, "metadata") {
+        Ok(tree) => Ok(match json_tree::member(&tree, "metadata") {
             Some(metadata) => json_tree::has(metadata, "uid"),
             None => false,
-        },
-        Err(_) => false,
+        }),
+        Err(TextFault::Memory) => Err(AllocError),
+        Err(TextFault::NotJson) => Ok(false),
     }
 }
 
@@ -19,8 +21,8 @@ struct Count {
     pods: u32,
 }
 
-/// How the pods are named whose manifests give no uid: by namespace, name, how many there were of that name in this
-/// run of the program, and the run's own name.
+/// How the pods are named whose manifests give no uid: by namespace, name, how many there were of that name
+/// in this run of the program, and the run's own name.
 #[derive(Drop)]
 pub struct Naming<'a> {
     alloc: Global,

@@ -1,19 +1,22 @@
-ghost use Rattle.std.specs.Prelude.{◌≡◌, ◌++◌, IfOk, OnOk, None, Some, if◌then◌else◌, option_map, string_bytes};
+ghost use Rattle.std.specs.Prelude.{◌≡◌, ◌++◌, IfOk, OnOk, None, Some, if◌then◌else◌, option_map};
+ghost use Rattle.std.specs.Prelude.{string_bytes};
 ghost use Rattle.manifest.specs.Texts.{is_uid};
 ghost use Rattle.pod_folder.specs.Uids.{base_of, numbered, uid_text, with_run};
 
 use manifest::{Pod, Uid};
 use std::alloc::{AllocError, Global};
 
-/// The uid of the pod that is the so-manieth of its name, from 1, in a run of this name, where its manifest gives
-/// none. None where the text is too long for a uid, or the run's name has other bytes than a uid may have.
+/// The uid of the pod that is the so-manieth of its name, from 1, in a run of this name, where its manifest
+/// gives none. None where the text is too long for a uid, or the run's name has other bytes than a uid may
+/// have.
 pub fn uid_for(
     alloc: Global,
     pod: &Pod,
     place: u32,
     run: Option<&str>,
 ) -> Result<Option<Uid>, AllocError>
-    ensures { IfOk result (λ uid. uid ≡ (if is_uid (uid_text pod.now place (option_map (λ r. r.now) run.entry))
+    ensures { IfOk result (λ uid. uid ≡ (if is_uid
+        (uid_text pod.now place (option_map (λ r. r.now) run.entry))
         then Some (uid_text pod.now place (option_map (λ r. r.now) run.entry)) else None)) }
 {
     let text = text_of(alloc, pod, place, run)?;
@@ -21,7 +24,8 @@ pub fn uid_for(
 }
 
 fn text_of(alloc: Global, pod: &Pod, place: u32, run: Option<&str>) -> Result<String, AllocError>
-    ensures { IfOk result (λ text. string_bytes text ≡ uid_text pod.now place (option_map (λ r. r.now) run.entry)) }
+    ensures { IfOk result (λ text. string_bytes text
+        ≡ uid_text pod.now place (option_map (λ r. r.now) run.entry)) }
 {
     let base = base(alloc, pod)?;
     let text = numbered(alloc, base, place)?;
@@ -29,7 +33,8 @@ fn text_of(alloc: Global, pod: &Pod, place: u32, run: Option<&str>) -> Result<St
 }
 
 fn with_run(alloc: Global, text: String, run: Option<&str>) -> Result<String, AllocError>
-    ensures { IfOk result (λ t. string_bytes t ≡ with_run (string_bytes text) (option_map (λ r. r.now) run.entry)) }
+    ensures { IfOk result (λ t. string_bytes t
+        ≡ with_run (string_bytes text) (option_map (λ r. r.now) run.entry)) }
 {
     match run {
         Some(run) => format!(in alloc; "{}.{run}", text.as_str()),
