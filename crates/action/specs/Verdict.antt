@@ -1,8 +1,10 @@
 -- What the value that a filter returns stands for: seccomp(2), return values. An action that the
 -- manual does not list is SECCOMP_RET_KILL_PROCESS, as there, and here also where actions are ranked.
-use Rattle.std.specs.Prelude.{ℕ, ◌+◌, ◌*◌, ◌/◌, ◌%◌, ◌^◌, ◌==◌, min, Bool, true, false, List, [], ◌∷◌, find, codes, Option, Some, None, unwrap_or}
+use Rattle.std.specs.Prelude.{ℕ, ◌+◌, ◌*◌, ◌/◌, ◌%◌, ◌^◌, ◌==◌, min, Bool, true, false, List, [], ◌∷◌, find}
+use Rattle.std.specs.Prelude.{codes, Option, Some, None, unwrap_or}
 use Rattle.action.specs.declared.action.Action.{Action}
-use Rattle.action.specs.declared.action.Action.TheVariants.{KillProcess, KillThread, Trap, Errno, UserNotif, Trace, Log, Allow}
+use Rattle.action.specs.declared.action.Action.TheVariants.{KillProcess, KillThread, Trap, Errno, UserNotif}
+use Rattle.action.specs.declared.action.Action.TheVariants.{Trace, Log, Allow}
 use Rattle.action.specs.declared.verdict.Verdict.{Verdict}
 use Rattle.action.specs.declared.verdict.TheConstants.{ENOSYS, MAX_ERRNO}
 

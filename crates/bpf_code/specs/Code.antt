@@ -4,7 +4,16 @@
 use Rattle.std.specs.Prelude.{◌≡◌, ℕ, ◌<◌, ◌^◌, List, [], ◌∷◌, ◌++◌}
 use Rattle.std.specs.Int.{w16, w32, to_le_bytes}
 use Rattle.bpf_code.specs.declared.operation.Operation.{Operation}
-use Rattle.bpf_code.specs.declared.operation.Operation.TheVariants.{LoadImmediate, LoadData, LoadWord, LoadLength, LoadXImmediate, LoadXWord, LoadXLength, Store, StoreX, AddK, AddX, SubK, SubX, MulK, MulX, DivK, DivX, OrK, OrX, AndK, AndX, XorK, XorX, ShiftLeft, ShiftRight, Negate, JumpEqualK, JumpEqualX, JumpGreaterK, JumpGreaterX, JumpGreaterOrEqualK, JumpGreaterOrEqualX, JumpAnyBitK, JumpAnyBitX, Jump, ReturnK, ReturnA, MoveToX, MoveToA}
+use Rattle.bpf_code.specs.declared.operation.Operation.TheVariants.{LoadImmediate, LoadData, LoadWord}
+use Rattle.bpf_code.specs.declared.operation.Operation.TheVariants.{LoadLength, LoadXImmediate, LoadXWord}
+use Rattle.bpf_code.specs.declared.operation.Operation.TheVariants.{LoadXLength, Store, StoreX, AddK, AddX}
+use Rattle.bpf_code.specs.declared.operation.Operation.TheVariants.{SubK, SubX, MulK, MulX, DivK, DivX, OrK}
+use Rattle.bpf_code.specs.declared.operation.Operation.TheVariants.{OrX, AndK, AndX, XorK, XorX, ShiftLeft}
+use Rattle.bpf_code.specs.declared.operation.Operation.TheVariants.{ShiftRight, Negate, JumpEqualK}
+use Rattle.bpf_code.specs.declared.operation.Operation.TheVariants.{JumpEqualX, JumpGreaterK, JumpGreaterX}
+use Rattle.bpf_code.specs.declared.operation.Operation.TheVariants.{JumpGreaterOrEqualK, JumpGreaterOrEqualX}
+use Rattle.bpf_code.specs.declared.operation.Operation.TheVariants.{JumpAnyBitK, JumpAnyBitX, Jump, ReturnK}
+use Rattle.bpf_code.specs.declared.operation.Operation.TheVariants.{ReturnA, MoveToX, MoveToA}
 use Rattle.bpf_code.specs.declared.insn.Insn.{Insn}
 
 -- the code of an operation

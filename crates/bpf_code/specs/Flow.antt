@@ -1,6 +1,10 @@
 -- Where a filter goes after an instruction, and which scratch words it touches: linux/filter.h.
 use Rattle.bpf_code.specs.declared.operation.Operation.{Operation}
-use Rattle.bpf_code.specs.declared.operation.Operation.TheVariants.{LoadWord, LoadXWord, Store, StoreX, JumpEqualK, JumpEqualX, JumpGreaterK, JumpGreaterX, JumpGreaterOrEqualK, JumpGreaterOrEqualX, JumpAnyBitK, JumpAnyBitX, Jump, ReturnK, ReturnA}
+use Rattle.bpf_code.specs.declared.operation.Operation.TheVariants.{LoadWord, LoadXWord, Store, StoreX}
+use Rattle.bpf_code.specs.declared.operation.Operation.TheVariants.{JumpEqualK, JumpEqualX, JumpGreaterK}
+use Rattle.bpf_code.specs.declared.operation.Operation.TheVariants.{JumpGreaterX, JumpGreaterOrEqualK}
+use Rattle.bpf_code.specs.declared.operation.Operation.TheVariants.{JumpGreaterOrEqualX, JumpAnyBitK}
+use Rattle.bpf_code.specs.declared.operation.Operation.TheVariants.{JumpAnyBitX, Jump, ReturnK, ReturnA}
 use Rattle.bpf_code.specs.declared.flow.Flow.{Flow}
 use Rattle.bpf_code.specs.declared.flow.Flow.TheVariants.{Returns, Jumps, Branches, Continues}
 use Rattle.bpf_code.specs.declared.flow.Scratch.{Scratch}

@@ -2,7 +2,8 @@
 use Rattle.std.specs.Prelude.{ℕ, List, [], ◌++◌, codes, false}
 use Rattle.std.specs.Fmt.{decimal, digits}
 use Rattle.bpf_code.specs.declared.display.Operand.{Operand}
-use Rattle.bpf_code.specs.declared.display.Operand.TheVariants.{Constant, Data, Word, Length, X, A, Skip, Nothing}
+use Rattle.bpf_code.specs.declared.display.Operand.TheVariants.{Constant, Data, Word, Length, X, A, Skip}
+use Rattle.bpf_code.specs.declared.display.Operand.TheVariants.{Nothing}
 use Rattle.bpf_code.specs.declared.display.Targets.{Targets}
 use Rattle.bpf_code.specs.declared.display.Targets.TheVariants as targets
 use Rattle.bpf_code.specs.declared.display.Targets.TheVariants.{Two}

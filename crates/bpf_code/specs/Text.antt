@@ -2,12 +2,22 @@
 -- with the numbers of skipped instructions in the place of labels.
 use Rattle.std.specs.Prelude.{ℕ, List, ◌++◌, codes}
 use Rattle.bpf_code.specs.declared.operation.Operation.{Operation}
-use Rattle.bpf_code.specs.declared.operation.Operation.TheVariants.{LoadImmediate, LoadData, LoadWord, LoadLength, LoadXImmediate, LoadXWord, LoadXLength, Store, StoreX, AddK, AddX, SubK, SubX, MulK, MulX, DivK, DivX, OrK, OrX, AndK, AndX, XorK, XorX, ShiftLeft, ShiftRight, Negate, JumpEqualK, JumpEqualX, JumpGreaterK, JumpGreaterX, JumpGreaterOrEqualK, JumpGreaterOrEqualX, JumpAnyBitK, JumpAnyBitX, Jump, ReturnK, ReturnA, MoveToX, MoveToA}
+use Rattle.bpf_code.specs.declared.operation.Operation.TheVariants.{LoadImmediate, LoadData, LoadWord}
+use Rattle.bpf_code.specs.declared.operation.Operation.TheVariants.{LoadLength, LoadXImmediate, LoadXWord}
+use Rattle.bpf_code.specs.declared.operation.Operation.TheVariants.{LoadXLength, Store, StoreX, AddK, AddX}
+use Rattle.bpf_code.specs.declared.operation.Operation.TheVariants.{SubK, SubX, MulK, MulX, DivK, DivX, OrK}
+use Rattle.bpf_code.specs.declared.operation.Operation.TheVariants.{OrX, AndK, AndX, XorK, XorX, ShiftLeft}
+use Rattle.bpf_code.specs.declared.operation.Operation.TheVariants.{ShiftRight, Negate, JumpEqualK}
+use Rattle.bpf_code.specs.declared.operation.Operation.TheVariants.{JumpEqualX, JumpGreaterK, JumpGreaterX}
+use Rattle.bpf_code.specs.declared.operation.Operation.TheVariants.{JumpGreaterOrEqualK, JumpGreaterOrEqualX}
+use Rattle.bpf_code.specs.declared.operation.Operation.TheVariants.{JumpAnyBitK, JumpAnyBitX, Jump, ReturnK}
+use Rattle.bpf_code.specs.declared.operation.Operation.TheVariants.{ReturnA, MoveToX, MoveToA}
 use Rattle.bpf_code.specs.declared.insn.Insn.{Insn}
 use Rattle.bpf_code.specs.declared.flow.Flow.{Flow}
 use Rattle.bpf_code.specs.declared.flow.Flow.TheVariants.{Branches}
 use Rattle.bpf_code.specs.declared.display.Operand.{Operand}
-use Rattle.bpf_code.specs.declared.display.Operand.TheVariants.{Constant, Data, Word, Length, X, A, Skip, Nothing}
+use Rattle.bpf_code.specs.declared.display.Operand.TheVariants.{Constant, Data, Word, Length, X, A, Skip}
+use Rattle.bpf_code.specs.declared.display.Operand.TheVariants.{Nothing}
 use Rattle.bpf_code.specs.declared.display.Targets.{Targets}
 use Rattle.bpf_code.specs.declared.display.Targets.TheVariants as targets
 use Rattle.bpf_code.specs.declared.display.Targets.TheVariants.{Two}
@@ -91,4 +101,5 @@ abbrev pub targets_of : Insn → Targets
 targets_of insn = targets_in (flow_of insn.op) insn
 
 abbrev pub text_of : Insn → List ℕ
-text_of insn = mnemonic_of insn.op ++ operand_text (operand_of insn.op insn.k) ++ targets_text (targets_of insn)
+text_of insn = mnemonic_of insn.op ++ operand_text (operand_of insn.op insn.k)
+    ++ targets_text (targets_of insn)

@@ -12,7 +12,8 @@ use crate::insn::Insn;
 /// What was written is read again: a text of instructions has no fault, and no other instructions
 /// have it.
 pub fn written_is_read()
-    ensures fine { (code : List Insn) (fault : CodeFault) → 8 * length code ≤ MAX_BYTES → HasFault (bytes_of_code code) fault → ⊥ }
+    ensures fine { (code : List Insn) (fault : CodeFault) → 8 * length code ≤ MAX_BYTES
+        → HasFault (bytes_of_code code) fault → ⊥ }
     ensures alone { (code other : List Insn) → AllByRecursion Fits code → AllByRecursion Fits other
         → bytes_of_code code ≡ bytes_of_code other → code ≡ other }
 {}

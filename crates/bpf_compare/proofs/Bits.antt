@@ -1,5 +1,6 @@
 -- Numbers of which some bits are known.
-use Rattle.std.proofs.Common.{◌≡◌, ◌≢◌, ℕ, zero, suc, ◌-◌, ◌*◌, ◌^◌, ◌<◌, ◌≤◌, min, max, bit_and, bit_or, sym, ap, ◌∙◌, arith}
+use Rattle.std.proofs.Common.{◌≡◌, ◌≢◌, ℕ, zero, suc, ◌-◌, ◌*◌, ◌^◌, ◌<◌, ◌≤◌, min, max, bit_and, bit_or, sym}
+use Rattle.std.proofs.Common.{ap, ◌∙◌, arith}
 use Rattle.std.specs.Int.{bit_at}
 use Rattle.std.proofs.lemmas.Nat.{and_le_l, and_comm, and_assoc, and-not}
 use Rattle.std.proofs.lemmas.Nat.Bits.{bit_at_and, bit_at_or, bit_at-lt, same_from_bits, and_pow}
@@ -7,7 +8,8 @@ use Rattle.std.proofs.lemmas.Nat.Bits.{bit_at_and, bit_at_or, bit_at-lt, same_fr
 -- what is known under one mask and under another agrees where they meet
 pub bits_meet : (n m k a b : ℕ) → bit_and n m ≡ a → bit_and n k ≡ b → bit_and a k ≡ bit_and b m
 bits_meet n m k a b one two =
-    ap (λ v. bit_and v k) (sym one) ∙ and_assoc k n m ∙ ap (λ v. bit_and n v) (and_comm m k) ∙ sym (and_assoc m n k) ∙ ap (λ v. bit_and v m) two
+    ap (λ v. bit_and v k) (sym one) ∙ and_assoc k n m ∙ ap (λ v. bit_and n v) (and_comm m k)
+    ∙ sym (and_assoc m n k) ∙ ap (λ v. bit_and v m) two
 
 -- what is known stands under its mask
 pub bits_stand : (n m a : ℕ) → bit_and n m ≡ a → bit_and a m ≡ a
@@ -15,13 +17,15 @@ bits_stand n m a known =
     let own : bit_and m m ≡ m = same_from_bits _ _ (λ i. omega (arith, bit_at_and m m i)) in
     ap (λ v. bit_and v m) (sym known) ∙ and_assoc m n m ∙ ap (λ v. bit_and n v) own ∙ known
 
-either : (i n m k : ℕ) → min (bit_at n i) (max (bit_at m i) (bit_at k i)) ≡ max (min (bit_at n i) (bit_at m i)) (min (bit_at n i) (bit_at k i))
+either : (i n m k : ℕ) → min (bit_at n i) (max (bit_at m i) (bit_at k i))
+    ≡ max (min (bit_at n i) (bit_at m i)) (min (bit_at n i) (bit_at k i))
 either i n m k = omega arith
 
 and_or : (n m k : ℕ) → bit_and n (bit_or m k) ≡ bit_or (bit_and n m) (bit_and n k)
 and_or n m k = same_from_bits _ _ (λ i.
     bit_at_and n (bit_or m k) i ∙ ap (λ v. min (bit_at n i) v) (bit_at_or m k i) ∙ either i n m k
-    ∙ sym (bit_at_or (bit_and n m) (bit_and n k) i ∙ ap (λ v. max v (bit_at (bit_and n k) i)) (bit_at_and n m i)
+    ∙ sym (bit_at_or (bit_and n m) (bit_and n k) i
+    ∙ ap (λ v. max v (bit_at (bit_and n k) i)) (bit_at_and n m i)
     ∙ ap (λ v. max (min (bit_at n i) (bit_at m i)) v) (bit_at_and n k i)))
 
 -- what is known under two masks is known under both at once
@@ -39,7 +43,8 @@ bits_above n m a small narrow known =
 -- what is known of more bits tells what is known of fewer
 pub fewer_bits : (n m k a b : ℕ) → bit_and k m ≡ k → bit_and n m ≡ a → bit_and a k ≡ b → bit_and n k ≡ b
 fewer_bits n m k a b within known is =
-    ap (λ v. bit_and n v) (sym within ∙ and_comm k m) ∙ sym (and_assoc k n m) ∙ ap (λ v. bit_and v k) known ∙ is
+    ap (λ v. bit_and n v) (sym within ∙ and_comm k m) ∙ sym (and_assoc k n m) ∙ ap (λ v. bit_and v k) known
+    ∙ is
 
 -- under a mask of one bit a number is 0 or the mask
 two_ways : (bit power : ℕ) → bit < 2 → bit * power ≢ 0 → bit * power ≡ power
@@ -48,4 +53,5 @@ two_ways (suc bit) power below some = let one : bit ≡ 0 = omega arith in rw on
 
 pub one_bit : (n k m : ℕ) → m ≡ 2 ^ k → bit_and n m ≢ 0 → bit_and n m ≡ m
 one_bit n k m power =
-    rw power (λ some. and_pow n k ∙ two_ways (bit_at n k) (2 ^ k) (bit_at-lt n k) (λ none. some (and_pow n k ∙ none)))
+    rw power (λ some. and_pow n k ∙ two_ways (bit_at n k) (2 ^ k) (bit_at-lt n k) (λ none.
+    some (and_pow n k ∙ none)))

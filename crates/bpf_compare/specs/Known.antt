@@ -1,5 +1,6 @@
 -- What is known of the calls of a set. Only private functions cite this.
-use Rattle.std.specs.Prelude.{◌≡◌, ◌≢◌, ℕ, ◌*◌, ◌<◌, ◌≤◌, ◌==◌, nat_lt, Bool, true, false, bit_and, slice_index_or}
+use Rattle.std.specs.Prelude.{◌≡◌, ◌≢◌, ℕ, ◌*◌, ◌<◌, ◌≤◌, ◌==◌, nat_lt, Bool, true, false, bit_and}
+use Rattle.std.specs.Prelude.{slice_index_or}
 use Rattle.std.specs.List.{All}
 use Rattle.call_data.specs.declared.sys_call.SysCall.{SysCall}
 use Rattle.call_data.specs.CallData.{word_at}
@@ -45,7 +46,8 @@ Avoids call it = Lacks it (number_at call it.word.place)
 
 -- the call is in the set
 pub record IsAmong (known : Known) (call : SysCall) : Type 0 where
-  pub ranges : (place : ℕ) (range : Range) → place < 16 → IsIn (slice_index_or known.ranges place range) (number_at call place)
+  pub ranges : (place : ℕ) (range : Range) → place < 16
+      → IsIn (slice_index_or known.ranges place range) (number_at call place)
   pub excluded : All (Avoids call) known.excluded.items
 
 -- what becomes of a call of a set that a test splits
@@ -53,4 +55,5 @@ abbrev pub FallsIn : Split → SysCall → Question → Known → Type 0
 FallsIn Holds call question left = (answer_on call question ≡ true) × IsAmong left call
 FallsIn Fails call question left = (answer_on call question ≡ false) × IsAmong left call
 FallsIn (Both other) call question left =
-    (answer_on call question ≡ true → IsAmong left call) × (answer_on call question ≡ false → IsAmong other call)
+    (answer_on call question ≡ true → IsAmong left call)
+    × (answer_on call question ≡ false → IsAmong other call)

@@ -40,7 +40,8 @@ Takes first second call path = IsAt first second call path.first path.walk
 -- what becomes of a call that took a path
 abbrev pub Becomes : Progress → List Insn → List Insn → SysCall → Path → Type 0
 Becomes progress.Goes first second call path = Takes first second call path
-Becomes (progress.Splits other) first second call path = Takes first second call path ⊎ Takes first second call other
+Becomes (progress.Splits other) first second call path =
+    Takes first second call path ⊎ Takes first second call other
 Becomes progress.Agrees first second call path = Agree first second call
 Becomes progress.Differs first second call path = Unit {0}
 Becomes progress.Unclear first second call path = Unit {0}
@@ -52,4 +53,5 @@ TakesOne first second call (path ∷ paths) = Takes first second call path ⊎ T
 
 -- the filters agree on the call, or it takes the path or one of those that wait
 abbrev pub IsHeld : List Insn → List Insn → SysCall → Path → List Path → Type 0
-IsHeld first second call path waiting = Agree first second call ⊎ (Takes first second call path ⊎ TakesOne first second call waiting)
+IsHeld first second call path waiting =
+    Agree first second call ⊎ (Takes first second call path ⊎ TakesOne first second call waiting)

@@ -16,7 +16,8 @@ pub record StandsFor (call : SysCall) (registers : Registers) (words : List Valu
   pub place_is : registers.place ≡ s.place
   pub a_is : Denotes call registers.a s.a
   pub x_is : Denotes call registers.x s.x
-  pub words_are : (word value : ℕ) (given : Value) → s.words word ≡ Some value → Denotes call (slice_index_or words word given) value
+  pub words_are : (word value : ℕ) (given : Value) → s.words word ≡ Some value
+      → Denotes call (slice_index_or words word given) value
 
 -- what a path goes on with is what the step leads to
 abbrev pub GoesOn : SysCall → Registers → List Value → Next → Type 0
@@ -42,7 +43,8 @@ Answers call (after.Ends value) holds = ⊥
 
 -- what was made of a step is what the step leads to
 abbrev pub LeadsTo : SysCall → Registers → Insn → After → List Value → Next → Type 0
-LeadsTo call r insn (after.Goes a x) words next = GoesOn call (record { place = r.place + 1; a = a; x = x }) words next
+LeadsTo call r insn (after.Goes a x) words next =
+    GoesOn call (record { place = r.place + 1; a = a; x = x }) words next
 LeadsTo call r insn after.Holds words next = GoesOn call (skipped r insn.jt) words next
 LeadsTo call r insn after.Fails words next = GoesOn call (skipped r insn.jf) words next
 LeadsTo call r insn (after.Asks question) words next =

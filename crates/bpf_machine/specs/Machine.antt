@@ -2,10 +2,20 @@
 -- no step leads is stuck: outside the code, at a load from outside the data or across two of its words,
 -- at a word that does not exist or was not stored, at a division by the constant 0, at too wide a shift.
 -- Registers and words are 32 bits, and begin as docs/SEMANTICS.md, "The machine", says.
-use Rattle.std.specs.Prelude.{◌≡◌, ℕ, ◌+◌, ◌-◌, ◌*◌, ◌/◌, ◌%◌, ◌^◌, ◌<◌, ◌==◌, nat_lt, nat_le, Bool, not, if◌then◌else◌, List, Option, Some, None, slice_get, bit_and, bit_or, bit_xor}
+use Rattle.std.specs.Prelude.{◌≡◌, ℕ, ◌+◌, ◌-◌, ◌*◌, ◌/◌, ◌%◌, ◌^◌, ◌<◌, ◌==◌, nat_lt, nat_le, Bool, not}
+use Rattle.std.specs.Prelude.{if◌then◌else◌, List, Option, Some, None, slice_get, bit_and, bit_or, bit_xor}
 use Rattle.bpf_code.specs.declared.insn.Insn.{Insn}
 use Rattle.bpf_code.specs.declared.operation.Operation.{Operation}
-use Rattle.bpf_code.specs.declared.operation.Operation.TheVariants.{LoadImmediate, LoadData, LoadWord, LoadLength, LoadXImmediate, LoadXWord, LoadXLength, Store, StoreX, AddK, AddX, SubK, SubX, MulK, MulX, DivK, DivX, OrK, OrX, AndK, AndX, XorK, XorX, ShiftLeft, ShiftRight, Negate, JumpEqualK, JumpEqualX, JumpGreaterK, JumpGreaterX, JumpGreaterOrEqualK, JumpGreaterOrEqualX, JumpAnyBitK, JumpAnyBitX, Jump, ReturnK, ReturnA, MoveToX, MoveToA}
+use Rattle.bpf_code.specs.declared.operation.Operation.TheVariants.{LoadImmediate, LoadData, LoadWord}
+use Rattle.bpf_code.specs.declared.operation.Operation.TheVariants.{LoadLength, LoadXImmediate, LoadXWord}
+use Rattle.bpf_code.specs.declared.operation.Operation.TheVariants.{LoadXLength, Store, StoreX, AddK, AddX}
+use Rattle.bpf_code.specs.declared.operation.Operation.TheVariants.{SubK, SubX, MulK, MulX, DivK, DivX, OrK}
+use Rattle.bpf_code.specs.declared.operation.Operation.TheVariants.{OrX, AndK, AndX, XorK, XorX, ShiftLeft}
+use Rattle.bpf_code.specs.declared.operation.Operation.TheVariants.{ShiftRight, Negate, JumpEqualK}
+use Rattle.bpf_code.specs.declared.operation.Operation.TheVariants.{JumpEqualX, JumpGreaterK, JumpGreaterX}
+use Rattle.bpf_code.specs.declared.operation.Operation.TheVariants.{JumpGreaterOrEqualK, JumpGreaterOrEqualX}
+use Rattle.bpf_code.specs.declared.operation.Operation.TheVariants.{JumpAnyBitK, JumpAnyBitX, Jump, ReturnK}
+use Rattle.bpf_code.specs.declared.operation.Operation.TheVariants.{ReturnA, MoveToX, MoveToA}
 use Rattle.bpf_code.specs.declared.limits.TheConstants.{DATA_LEN, SCRATCH_WORDS}
 use Rattle.call_data.specs.declared.sys_call.SysCall.{SysCall}
 use Rattle.call_data.specs.CallData.{word_at}
@@ -34,7 +44,13 @@ sets_x s value = Goes (record { place = s.place + 1; a = s.a; x = value; words =
 
 abbrev pub sets_word : State → ℕ → ℕ → Next
 sets_word s word value =
-    Goes (record { place = s.place + 1; a = s.a; x = s.x; words = λ w. if w == word then Some value else s.words w })
+    Goes (record {
+      place = s.place + 1;
+      a = s.a;
+      x = s.x;
+      words = λ w. if w == word then Some value
+          else s.words w;
+    })
 
 -- on past so many instructions
 abbrev pub skips : State → ℕ → Next
@@ -61,7 +77,8 @@ pub record Holds (s : State) (word value : ℕ) : Type 0 where
 -- what each operation does
 abbrev pub Executes : Operation → SysCall → Insn → State → Next → Type 0
 Executes LoadImmediate call insn s next = next ≡ sets_a s insn.k
-Executes LoadData call insn s next = (insn.k < DATA_LEN) × (insn.k % 4 ≡ 0) × (next ≡ sets_a s (word_at call insn.k))
+Executes LoadData call insn s next = (insn.k < DATA_LEN) × (insn.k % 4 ≡ 0)
+    × (next ≡ sets_a s (word_at call insn.k))
 Executes LoadWord call insn s next = (value : ℕ) × Holds s insn.k value × (next ≡ sets_a s value)
 Executes LoadLength call insn s next = next ≡ sets_a s DATA_LEN
 Executes LoadXImmediate call insn s next = next ≡ sets_x s insn.k

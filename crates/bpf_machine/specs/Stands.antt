@@ -26,7 +26,10 @@ EndsWith value (Ends given) = value ≡ given
 -- what the code made of a step is what the step leads to
 abbrev pub LeadsTo : Registers → Insn → After → List ℕ → Next → Type 0
 LeadsTo r insn (after.Goes a x) words next = GoesOn (record { place = r.place + 1; a = a; x = x }) words next
-LeadsTo r insn after.Holds words next = GoesOn (record { place = r.place + 1 + insn.jt; a = r.a; x = r.x }) words next
-LeadsTo r insn after.Fails words next = GoesOn (record { place = r.place + 1 + insn.jf; a = r.a; x = r.x }) words next
-LeadsTo r insn after.Skips words next = GoesOn (record { place = r.place + 1 + insn.k; a = r.a; x = r.x }) words next
+LeadsTo r insn after.Holds words next =
+    GoesOn (record { place = r.place + 1 + insn.jt; a = r.a; x = r.x }) words next
+LeadsTo r insn after.Fails words next =
+    GoesOn (record { place = r.place + 1 + insn.jf; a = r.a; x = r.x }) words next
+LeadsTo r insn after.Skips words next =
+    GoesOn (record { place = r.place + 1 + insn.k; a = r.a; x = r.x }) words next
 LeadsTo r insn (after.Ends value) words next = EndsWith value next

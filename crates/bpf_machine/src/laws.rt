@@ -21,8 +21,10 @@ pub fn runs_are_determined()
 
 /// Sound code has a run on every call, of no more steps than it has instructions, and is never stuck.
 pub fn sound_code_runs()
-    ensures run { (code : List Insn) (call : SysCall) → IsSound code → (value : ℕ) × (steps : ℕ) × Runs code call value steps }
-    ensures bounded { (code : List Insn) (call : SysCall) (value steps : ℕ) → IsSound code → Runs code call value steps → steps ≤ length code }
+    ensures run { (code : List Insn) (call : SysCall) → IsSound code → (value : ℕ) × (steps : ℕ)
+        × Runs code call value steps }
+    ensures bounded { (code : List Insn) (call : SysCall) (value steps : ℕ) → IsSound code
+        → Runs code call value steps → steps ≤ length code }
     ensures never_stuck { (code : List Insn) (call : SysCall) → IsSound code → NeverStuck code call }
 {
     walks_stay_inside();

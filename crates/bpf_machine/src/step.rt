@@ -81,7 +81,8 @@ pub(crate) fn step(
 ) -> After
     requires { KeepsNumber insn.now.op insn.now.k }
     ensures follows { (call : SysCall) (s : State) (next : Next) → bytes.now ≡ bytes_of_call call
-        → StandsFor registers words.old s → Executes insn.now.op call insn.now s next → LeadsTo registers insn.now result words.new next }
+        → StandsFor registers words.old s → Executes insn.now.op call insn.now s next
+        → LeadsTo registers insn.now result words.new next }
 {
     let (a, x) = (registers.a, registers.x);
     match insn.op {

@@ -1,5 +1,6 @@
 -- What holds at each place below another, and at each place of the code.
-use Rattle.std.proofs.Common.{◌≡◌, ◌<◌, ◌≤◌, ◌+◌, ℕ, List, Some, length, get_or, slice_get, sym, subst, ◌∙◌, arith}
+use Rattle.std.proofs.Common.{◌≡◌, ◌<◌, ◌≤◌, ◌+◌, ℕ, List, Some, length, get_or, slice_get, sym, subst, ◌∙◌}
+use Rattle.std.proofs.Common.{arith}
 use Rattle.std.proofs.lemmas.Option.{same_Some, slice_get_within, slice_get-get_or}
 use borrow.Author.Count.{below_more}
 use Rattle.bpf_code.specs.declared.insn.Insn.{Insn}
@@ -17,14 +18,16 @@ pub places_more : (P : ℕ → Insn → Type 0) (code : List Insn) (at : ℕ) (i
 places_more P code at insn so_far stands here earlier other below found =
     below_more (λ e. (o : Insn) → slice_get code e ≡ Some o → P e o) at
     (λ e under o is. so_far e o under is)
-    (λ o is. let Q : Insn → Type 0 = λ x. P at x in subst Q (same_Some insn o (sym stands ∙ is)) here) earlier below other found
+    (λ o is. let Q : Insn → Type 0 = λ x. P at x in subst Q (same_Some insn o (sym stands ∙ is)) here) earlier
+    below other found
 
 -- the same where the instruction was read
 pub places_read : (P : ℕ → Insn → Type 0) (code : List Insn) (at : ℕ) (d : Insn)
     → ((earlier : ℕ) (other : Insn) → earlier < at → slice_get code earlier ≡ Some other → P earlier other)
     → at < length code → P at (get_or code at d)
     → (earlier : ℕ) (other : Insn) → earlier < at + 1 → slice_get code earlier ≡ Some other → P earlier other
-places_read P code at d so_far within here = places_more P code at (get_or code at d) so_far (slice_get-get_or code at d within) here
+places_read P code at d so_far within here =
+    places_more P code at (get_or code at d) so_far (slice_get-get_or code at d within) here
 
 -- all places
 pub places_all : (P : ℕ → Insn → Type 0) (code : List Insn) (at : ℕ)

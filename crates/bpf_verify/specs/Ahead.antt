@@ -9,5 +9,6 @@ use Rattle.bpf_code.specs.declared.flow.Flow.TheVariants.{Returns, Jumps, Branch
 abbrev pub most_ahead : Flow → Insn → ℕ → List ℕ → ℕ
 most_ahead Returns insn at ahead = 0
 most_ahead Jumps insn at ahead = slice_index ahead (at + 1 + insn.k)
-most_ahead Branches insn at ahead = max (slice_index ahead (at + 1 + insn.jt)) (slice_index ahead (at + 1 + insn.jf))
+most_ahead Branches insn at ahead = max (slice_index ahead (at + 1 + insn.jt))
+    (slice_index ahead (at + 1 + insn.jf))
 most_ahead Continues insn at ahead = slice_index ahead (at + 1)

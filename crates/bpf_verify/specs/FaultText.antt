@@ -2,7 +2,8 @@
 use Rattle.std.specs.Prelude.{ℕ, List, ◌++◌, codes}
 use Rattle.std.specs.Fmt.{decimal}
 use Rattle.bpf_verify.specs.declared.fault.Fault.{Fault}
-use Rattle.bpf_verify.specs.declared.fault.Fault.TheVariants.{Empty, TooLong, BadOffset, BadJump, BadWord, BadShift, ZeroDivisor, NoFinalReturn, Unstored}
+use Rattle.bpf_verify.specs.declared.fault.Fault.TheVariants.{Empty, TooLong, BadOffset, BadJump, BadWord}
+use Rattle.bpf_verify.specs.declared.fault.Fault.TheVariants.{BadShift, ZeroDivisor, NoFinalReturn, Unstored}
 
 abbrev pub fault_text : Fault → List ℕ
 fault_text Empty = codes "Empty"

@@ -3,14 +3,16 @@
 use Rattle.std.specs.Prelude.{◌≡◌, ℕ, ◌<◌, ◌≤◌, List, Some, slice_get, length}
 use Rattle.bpf_code.specs.declared.insn.Insn.{Insn}
 use Rattle.bpf_code.specs.declared.operation.Operation.{Operation}
-use Rattle.bpf_code.specs.declared.operation.Operation.TheVariants.{LoadData, LoadWord, LoadXWord, Store, StoreX, DivK, ShiftLeft, ShiftRight}
+use Rattle.bpf_code.specs.declared.operation.Operation.TheVariants.{LoadData, LoadWord, LoadXWord, Store}
+use Rattle.bpf_code.specs.declared.operation.Operation.TheVariants.{StoreX, DivK, ShiftLeft, ShiftRight}
 use Rattle.bpf_code.specs.declared.flow.Scratch.TheVariants.{Loads}
 use Rattle.bpf_code.specs.declared.limits.TheConstants.{MAX_INSNS}
 use Rattle.bpf_code.specs.Flow.{scratch_of}
 use Rattle.bpf_verify.specs.Walks.{IsWalk, IsStoredOn}
 use Rattle.bpf_verify.specs.Sound.{KeepsRules, AllKeepRules, EndsWithReturn, FindsWord}
 use Rattle.bpf_verify.specs.declared.fault.Fault.{Fault}
-use Rattle.bpf_verify.specs.declared.fault.Fault.TheVariants.{Empty, TooLong, BadOffset, BadJump, BadWord, BadShift, ZeroDivisor, NoFinalReturn, Unstored}
+use Rattle.bpf_verify.specs.declared.fault.Fault.TheVariants.{Empty, TooLong, BadOffset, BadJump, BadWord}
+use Rattle.bpf_verify.specs.declared.fault.Fault.TheVariants.{BadShift, ZeroDivisor, NoFinalReturn, Unstored}
 
 -- the fault of an instruction that breaks a rule: an operation has one rule at most
 abbrev pub broken_by : Operation → ℕ → Fault
@@ -30,7 +32,8 @@ pub record IsFirstBroken (code : List Insn) (at : ℕ) (fault : Fault) : Type 0 
   pub stands : slice_get code at ≡ Some insn
   pub breaks : ¬ KeepsRules (length code) at insn
   pub told : fault ≡ broken_by insn.op at
-  pub earlier_keep : (earlier : ℕ) (other : Insn) → earlier < at → slice_get code earlier ≡ Some other → KeepsRules (length code) earlier other
+  pub earlier_keep : (earlier : ℕ) (other : Insn) → earlier < at → slice_get code earlier ≡ Some other
+      → KeepsRules (length code) earlier other
 
 -- this place is the lowest at which a word is loaded that a walk to it did not store
 pub record IsFirstUnstored (code : List Insn) (at : ℕ) : Type 0 where
@@ -40,7 +43,8 @@ pub record IsFirstUnstored (code : List Insn) (at : ℕ) : Type 0 where
   pub before : List ℕ
   pub walk : IsWalk code before at
   pub unstored : ¬ IsStoredOn code insn.k before
-  pub earlier_find : (earlier : ℕ) (other : Insn) → earlier < at → slice_get code earlier ≡ Some other → FindsWord code earlier other
+  pub earlier_find : (earlier : ℕ) (other : Insn) → earlier < at → slice_get code earlier ≡ Some other
+      → FindsWord code earlier other
 
 -- the length is in its limits
 pub record HasLength (code : List Insn) : Type 0 where
@@ -52,5 +56,7 @@ pub data IsFirstFault (code : List Insn) (fault : Fault) : Type 0 where
   is_empty : length code ≡ 0 → fault ≡ Empty → IsFirstFault code fault
   is_too_long : MAX_INSNS < length code → fault ≡ TooLong → IsFirstFault code fault
   breaks_rule : HasLength code → (at : ℕ) → IsFirstBroken code at fault → IsFirstFault code fault
-  has_no_return : HasLength code → AllKeepRules code → ¬ EndsWithReturn code → fault ≡ NoFinalReturn → IsFirstFault code fault
-  loads_unstored : HasLength code → AllKeepRules code → EndsWithReturn code → (at : ℕ) → IsFirstUnstored code at → fault ≡ Unstored at → IsFirstFault code fault
+  has_no_return : HasLength code → AllKeepRules code → ¬ EndsWithReturn code → fault ≡ NoFinalReturn
+      → IsFirstFault code fault
+  loads_unstored : HasLength code → AllKeepRules code → EndsWithReturn code → (at : ℕ)
+      → IsFirstUnstored code at → fault ≡ Unstored at → IsFirstFault code fault

@@ -21,7 +21,8 @@ narrowed at stored masks = slice_set masks at (bit_and (slice_index masks at) st
 abbrev pub passed_on : Flow → Insn → ℕ → ℕ → List ℕ → List ℕ
 passed_on Returns insn at stored masks = masks
 passed_on Jumps insn at stored masks = narrowed (at + 1 + insn.k) stored masks
-passed_on Branches insn at stored masks = narrowed (at + 1 + insn.jf) stored (narrowed (at + 1 + insn.jt) stored masks)
+passed_on Branches insn at stored masks =
+    narrowed (at + 1 + insn.jf) stored (narrowed (at + 1 + insn.jt) stored masks)
 passed_on Continues insn at stored masks = narrowed (at + 1) stored masks
 
 -- all places to which the filter may go are below this one

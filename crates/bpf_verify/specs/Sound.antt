@@ -3,7 +3,8 @@
 use Rattle.std.specs.Prelude.{◌≡◌, ℕ, ◌+◌, ◌-◌, ◌%◌, ◌<◌, ◌≤◌, List, Some, slice_get, length}
 use Rattle.bpf_code.specs.declared.insn.Insn.{Insn}
 use Rattle.bpf_code.specs.declared.operation.Operation.{Operation}
-use Rattle.bpf_code.specs.declared.operation.Operation.TheVariants.{LoadData, LoadWord, LoadXWord, Store, StoreX, DivK, ShiftLeft, ShiftRight}
+use Rattle.bpf_code.specs.declared.operation.Operation.TheVariants.{LoadData, LoadWord, LoadXWord, Store}
+use Rattle.bpf_code.specs.declared.operation.Operation.TheVariants.{StoreX, DivK, ShiftLeft, ShiftRight}
 use Rattle.bpf_code.specs.declared.flow.Flow.{Flow}
 use Rattle.bpf_code.specs.declared.flow.Flow.TheVariants.{Returns, Jumps, Branches, Continues}
 use Rattle.bpf_code.specs.declared.flow.Scratch.TheVariants.{Loads}

@@ -54,7 +54,8 @@ pub fn filter_of(alloc: Global, bytes: &[u8]) -> Result<Filter, Refusal>
     // Sound code is accepted, and of other code the first fault is told, where there is memory.
     ensures accepts { (code : List Insn) → IsTextOf bytes.now code → IsSound code
         → result ≢ Err (Refusal.Code CodeFault.Memory) → IsOk result }
-    ensures first { (code : List Insn) (fault : Fault) → IsTextOf bytes.now code → length code ≤ MAX_INSNS → IsFirstFault code fault
+    ensures first { (code : List Insn) (fault : Fault) → IsTextOf bytes.now code → length code ≤ MAX_INSNS
+        → IsFirstFault code fault
         → result ≢ Err (Refusal.Code CodeFault.Memory) → result ≡ Err (Refusal.Filter fault) }
 {
     written_is_read();

@@ -1,4 +1,5 @@
-ghost use Rattle.std.specs.Prelude.{◌≡◌, ◌<◌, ◌≤◌, ◌↔◌, IsOk, IfOk, IfErr, IfSome, IfNone, IsTrue, IsErrAnd, length};
+ghost use Rattle.std.specs.Prelude.{◌≡◌, ◌<◌, ◌≤◌, ◌↔◌, IsOk, IfOk, IfErr, IfSome, IfNone, IsTrue, IsErrAnd};
+ghost use Rattle.std.specs.Prelude.{length};
 ghost use Rattle.bpf_verify.specs.declared.fault.Fault.{Fault};
 ghost use Rattle.bpf_verify.specs.Sound.{EndsWithReturn, IsSound};
 ghost use Rattle.bpf_verify.specs.Faults.{IsFirstFault};
@@ -19,7 +20,8 @@ pub fn verify(insns: Vec<Insn>) -> Result<Filter, (Vec<Insn>, Fault)>
     ensures first { IfErr result (λ refused. IsFirstFault insns.items refused.1) }
 
     // Where there is a first fault, it is told.
-    ensures told { (fault : Fault) → IsFirstFault insns.items fault → IsErrAnd result (λ refused. refused.1 ≡ fault) }
+    ensures told { (fault : Fault) → IsFirstFault insns.items fault
+        → IsErrAnd result (λ refused. refused.1 ≡ fault) }
 {
     match first_fault(&insns) {
         Some(fault) => Err((insns, fault)),

@@ -1,4 +1,5 @@
-ghost use Rattle.std.specs.Prelude.{◌≡◌, ◌≤◌, ◌<◌, ◌-◌, ◌^◌, ℕ, IsTrue, IfSome, IfNone, Some, slice_get, slice_index, length};
+ghost use Rattle.std.specs.Prelude.{◌≡◌, ◌≤◌, ◌<◌, ◌-◌, ◌^◌, ℕ, IsTrue, IfSome, IfNone, Some, slice_get};
+ghost use Rattle.std.specs.Prelude.{slice_index, length};
 ghost use Rattle.std.specs.Bool.{OnFalse};
 ghost use Rattle.std.specs.Int.{bit_at};
 ghost use Rattle.bpf_code.specs.declared.insn.Insn.{Insn};
@@ -17,7 +18,8 @@ pub(crate) fn first_unstored(code: &[Insn]) -> Option<usize>
     requires rules { AllKeepRules code.now }
     requires last { EndsWithReturn code.now }
     ensures unstored { IfSome result (IsFirstUnstored code.now) }
-    ensures fine { IfNone result ((at : ℕ) (insn : Insn) → slice_get code.now at ≡ Some insn → FindsWord code.now at insn) }
+    ensures fine { IfNone result ((at : ℕ) (insn : Insn) → slice_get code.now at ≡ Some insn
+        → FindsWord code.now at insn) }
 {
     let mut masks = [u16::MAX; MAX_INSNS];
     first_unstored_by(code, &mut masks)
@@ -35,7 +37,8 @@ fn first_unstored_by(code: &[Insn], masks: &mut [u16]) -> Option<usize>
     requires room { length masks.old ≡ MAX_INSNS }
     requires set { (at : ℕ) → at < length masks.old → slice_index masks.old at ≡ 2 ^ 16 - 1 }
     ensures unstored { IfSome result (IsFirstUnstored code.now) }
-    ensures fine { IfNone result ((at : ℕ) (insn : Insn) → slice_get code.now at ≡ Some insn → FindsWord code.now at insn) }
+    ensures fine { IfNone result ((at : ℕ) (insn : Insn) → slice_get code.now at ≡ Some insn
+        → FindsWord code.now at insn) }
 {
     masks[0] = 0;
     for (at, insn) in code.iter().enumerate() {

@@ -1,6 +1,7 @@
 -- How it is found out: a mark for each place at which A may hold something else. Only private functions cite
 -- this.
-use Rattle.std.specs.Prelude.{◌≡◌, ℕ, ◌+◌, ◌<◌, ◌||◌, ◌==◌, not, ◌&&◌, if◌then◌else◌, Bool, true, false, List, [], ◌∷◌, slice_index_or, slice_set}
+use Rattle.std.specs.Prelude.{◌≡◌, ℕ, ◌+◌, ◌<◌, ◌||◌, ◌==◌, not, ◌&&◌, if◌then◌else◌, Bool, true, false, List}
+use Rattle.std.specs.Prelude.{[], ◌∷◌, slice_index_or, slice_set}
 use Rattle.bpf_code.specs.declared.flow.Flow.{Flow}
 use Rattle.bpf_code.specs.declared.flow.Flow.TheVariants.{Returns, Jumps, Branches, Continues}
 use Rattle.bpf_code.specs.declared.insn.Insn.{Insn}
@@ -22,12 +23,14 @@ other_after insn other = other_by insn.op insn.k other
 abbrev pub marked_on : Flow → Insn → ℕ → List Bool → List Bool
 marked_on Returns insn at others = others
 marked_on Jumps insn at others = slice_set others (at + 1 + insn.k) true
-marked_on Branches insn at others = slice_set (slice_set others (at + 1 + insn.jt) true) (at + 1 + insn.jf) true
+marked_on Branches insn at others = slice_set (slice_set others (at + 1 + insn.jt) true)
+    (at + 1 + insn.jf) true
 marked_on Continues insn at others = slice_set others (at + 1) true
 
 -- the marks behind the instruction at this place
 abbrev pub passed : Insn → ℕ → List Bool → List Bool
-passed insn at others = if other_after insn (slice_index_or others at true) then marked_on (flow_of insn.op) insn at others else others
+passed insn at others = if other_after insn (slice_index_or others at true)
+    then marked_on (flow_of insn.op) insn at others else others
 
 -- whether an instruction is said to compare the number
 abbrev pub is_test : Insn → Bool → Bool → Bool
@@ -41,7 +44,8 @@ IsBelow limit (last ∷ earlier) = last < limit
 -- a place without a mark is come to with the number alone, by ways that end below the limit
 abbrev pub Knows : List Insn → List Bool → ℕ → Type 0
 Knows code others limit =
-    (to : ℕ) (before : List ℕ) → IsBelow limit before → IsWalk code before to → slice_index_or others to true ≡ false → HoldsNumber code before
+    (to : ℕ) (before : List ℕ) → IsBelow limit before → IsWalk code before to
+    → slice_index_or others to true ≡ false → HoldsNumber code before
 
 -- a walk comes to each place that has a mark
 abbrev pub Reaches : List Insn → List Bool → Type 0

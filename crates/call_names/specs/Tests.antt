@@ -1,9 +1,15 @@
 -- Which instructions compare the number of a call: the word at offset 0 of struct seccomp_data, seccomp(2),
 -- that A holds on every walk to them. Walks are those of bpf_verify, whatever the data.
-use Rattle.std.specs.Prelude.{◌≡◌, ◌⊎◌, ℕ, Bool, true, false, List, [], ◌∷◌, Some, length, slice_get, slice_index_or}
+use Rattle.std.specs.Prelude.{◌≡◌, ◌⊎◌, ℕ, Bool, true, false, List, [], ◌∷◌, Some, length, slice_get}
+use Rattle.std.specs.Prelude.{slice_index_or}
 use Rattle.bpf_code.specs.declared.insn.Insn.{Insn}
 use Rattle.bpf_code.specs.declared.operation.Operation.{Operation}
-use Rattle.bpf_code.specs.declared.operation.Operation.TheVariants.{LoadData, LoadXImmediate, LoadXWord, LoadXLength, Store, StoreX, JumpEqualK, JumpEqualX, JumpGreaterK, JumpGreaterX, JumpGreaterOrEqualK, JumpGreaterOrEqualX, JumpAnyBitK, JumpAnyBitX, Jump, ReturnK, ReturnA, MoveToX}
+use Rattle.bpf_code.specs.declared.operation.Operation.TheVariants.{LoadData, LoadXImmediate, LoadXWord}
+use Rattle.bpf_code.specs.declared.operation.Operation.TheVariants.{LoadXLength, Store, StoreX, JumpEqualK}
+use Rattle.bpf_code.specs.declared.operation.Operation.TheVariants.{JumpEqualX, JumpGreaterK, JumpGreaterX}
+use Rattle.bpf_code.specs.declared.operation.Operation.TheVariants.{JumpGreaterOrEqualK, JumpGreaterOrEqualX}
+use Rattle.bpf_code.specs.declared.operation.Operation.TheVariants.{JumpAnyBitK, JumpAnyBitX, Jump, ReturnK}
+use Rattle.bpf_code.specs.declared.operation.Operation.TheVariants.{ReturnA, MoveToX}
 use Rattle.bpf_verify.specs.Walks.{IsWalk}
 
 -- A may be another behind it

@@ -1,5 +1,5 @@
--- What a command line's arguments are to clap: options with a value, flags, words that stand by themselves. What a
--- line says of them is read off the matches that clap's definition of a simple command gives.
+-- What a command line's arguments are to clap: options with a value, flags, words that stand by themselves.
+-- What a line says of them is read off the matches that clap's definition of a simple command gives.
 use Rattle.std.specs.Prelude.{ℕ, [], List, true, Bool, codes, Some, is_some, unwrap_or}
 use Rattle.std.specs.Str.{bytes_eq}
 use Rattle.clap.specs.Lexer.{usize_max}
@@ -25,7 +25,10 @@ flag_rule id = record (new_rule id) { long = Some id; action = Some SetTrue }
 
 -- words that stand by themselves
 abbrev pub words_rule : List ℕ → Rule
-words_rule id = record (new_rule id) { range = Some (record { start_inclusive = 1; end_inclusive = usize_max }) }
+words_rule id = record (new_rule id) {
+  range =
+      Some (record { start_inclusive = 1; end_inclusive = usize_max });
+}
 
 -- the word behind an option that has to be there
 abbrev pub word_of : List ℕ → List Row → List ℕ

@@ -5,9 +5,11 @@ use Rattle.clap.specs.Values.{kind_of}
 use Rattle.clap.specs.declared.error.Error.{Error}
 use Rattle.clap.specs.declared.error.kind.ErrorKind.TheVariants as kind
 use Rattle.command_line.specs.declared.fault.LineFault.{LineFault}
-use Rattle.command_line.specs.declared.fault.LineFault.TheVariants.{Refused, BadNumber, Misfit as Unfit, Memory}
+use Rattle.command_line.specs.declared.fault.LineFault.TheVariants.{Refused, BadNumber, Misfit as Unfit}
+use Rattle.command_line.specs.declared.fault.LineFault.TheVariants.{Memory}
 use Rattle.command_line.specs.declared.fault.Misfit.{Misfit}
-use Rattle.command_line.specs.declared.fault.Misfit.TheVariants.{WithoutRuntime, WithoutSettle, WithSettle, NothingToTell, Missing}
+use Rattle.command_line.specs.declared.fault.Misfit.TheVariants.{WithoutRuntime, WithoutSettle, WithSettle}
+use Rattle.command_line.specs.declared.fault.Misfit.TheVariants.{NothingToTell, Missing}
 
 abbrev pub misfit_text : Misfit → List ℕ
 misfit_text WithoutRuntime = codes "WithoutRuntime"
@@ -18,7 +20,8 @@ misfit_text Missing = codes "Missing"
 
 -- want of memory is told as that, wherever it comes
 abbrev pub IsOfClap : Error → LineFault → Type 0
-IsOfClap error fault = (kind_of error ≡ kind.OutOfMemory → fault ≡ Memory) × (kind_of error ≢ kind.OutOfMemory → fault ≡ Refused error)
+IsOfClap error fault = (kind_of error ≡ kind.OutOfMemory → fault ≡ Memory)
+    × (kind_of error ≢ kind.OutOfMemory → fault ≡ Refused error)
 
 -- a refusal of clap's is of one of these kinds, which are none where clap takes the words; or memory is
 -- wanted
@@ -28,9 +31,10 @@ IsRefusal kinds (Unfit word why) = ⊥
 IsRefusal kinds (Refused error) = (kind_of error ≢ kind.OutOfMemory) × IsAmong (kind_of error) kinds
 IsRefusal kinds Memory = Unit {0}
 
--- where clap takes the words, one that does not go with the others is told first, and then the first word that
--- writes no number of its range
-abbrev pub TellsFault : {Said : Type 0} → Kinds → Option (List ℕ × Misfit) → Result Said (List ℕ) → LineFault → Type 0
+-- where clap takes the words, one that does not go with the others is told first, and then the first word
+-- that writes no number of its range
+abbrev pub TellsFault : {Said : Type 0} → Kinds → Option (List ℕ × Misfit) → Result Said (List ℕ) → LineFault
+    → Type 0
 TellsFault kinds misfit said (Unfit word why) = (kinds ≡ []) × (misfit ≡ Some (word.now, why))
 TellsFault kinds misfit said (BadNumber word) = (kinds ≡ []) × (misfit ≡ None) × (said ≡ Err word.now)
 TellsFault kinds misfit said fault = IsRefusal kinds fault

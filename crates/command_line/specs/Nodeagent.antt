@@ -1,23 +1,29 @@
 -- The line `nodeagent --socket PATH [--with-runtime] [--scripts DIR] [--profiles DIR] [--baseline FILTER]
--- [--seccomp-default] [--workers N] [--settle] [--until S] [--cri N] [--history N] [--pods DIR] [--run NAME] [--remove]
--- [--reasons] [--watch] [--json] [--verbose] [MANIFEST]..`, this project's own: docs/SEMANTICS.md, "Programs".
-use Rattle.std.specs.Prelude.{ℕ, ◌^◌, ◌&&◌, List, Bool, not, if◌then◌else◌, codes, map, Option, Some, None, Result, Ok, Err, option_map}
+-- [--seccomp-default] [--workers N] [--settle] [--until S] [--cri N] [--history N] [--pods DIR] [--run NAME]
+-- [--remove] [--reasons] [--watch] [--json] [--verbose] [MANIFEST]..`, this project's own: docs/SEMANTICS.md,
+-- "Programs".
+use Rattle.std.specs.Prelude.{ℕ, ◌^◌, ◌&&◌, List, Bool, not, if◌then◌else◌, codes, map, Option, Some, None}
+use Rattle.std.specs.Prelude.{Result, Ok, Err, option_map}
 use Rattle.clap.specs.Simple.{App, new_app, with_rule}
 use Rattle.clap.specs.Walk.{Row, first_of}
-use Rattle.command_line.specs.Arguments.{flag_rule, folder_of, has_words, is_set, is_there, option_rule, versioned, word_of, words_of, words_rule}
+use Rattle.command_line.specs.Arguments.{flag_rule, folder_of, has_words, is_set, is_there, option_rule}
+use Rattle.command_line.specs.Arguments.{versioned, word_of, words_of, words_rule}
 use Rattle.command_line.specs.Scriptd.{serving}
 use Rattle.command_line.specs.Words.{written_if_there, written_within}
 use Rattle.command_line.specs.declared.fault.Misfit.{Misfit}
-use Rattle.command_line.specs.declared.fault.Misfit.TheVariants.{WithoutRuntime, WithoutSettle, WithSettle, NothingToTell, Missing}
+use Rattle.command_line.specs.declared.fault.Misfit.TheVariants.{WithoutRuntime, WithoutSettle, WithSettle}
+use Rattle.command_line.specs.declared.fault.Misfit.TheVariants.{NothingToTell, Missing}
 use Rattle.command_line.specs.declared.nodeagent.NodeagentLine.{NodeagentLine}
 use Rattle.command_line.specs.declared.nodeagent.Numbers.{Numbers}
 
 -- the command line, to clap
 abbrev pub choosing : App → App
-choosing app = with_rule (with_rule app (flag_rule (codes "with-runtime"))) (flag_rule (codes "seccomp-default"))
+choosing app = with_rule (with_rule app (flag_rule (codes "with-runtime")))
+    (flag_rule (codes "seccomp-default"))
 
 abbrev pub settling : App → App
-settling app = with_rule (with_rule (with_rule app (option_rule (codes "workers"))) (flag_rule (codes "settle"))) (option_rule (codes "until"))
+settling app = with_rule (with_rule (with_rule app (option_rule (codes "workers")))
+    (flag_rule (codes "settle"))) (option_rule (codes "until"))
 
 abbrev pub speaking : App → App
 speaking app = with_rule (with_rule app (option_rule (codes "cri"))) (option_rule (codes "history"))
@@ -44,19 +50,23 @@ unfoldable pub nodeagent : App
 nodeagent = running (versioned (new_app (codes "nodeagent")))
 
 -- its numbers, looked at in the order of the line
-abbrev pub numbers_of : Result ℕ (List ℕ) → Result (Option ℕ) (List ℕ) → Result ℕ (List ℕ) → Result ℕ (List ℕ) → Result Numbers (List ℕ)
+abbrev pub numbers_of : Result ℕ (List ℕ) → Result (Option ℕ) (List ℕ) → Result ℕ (List ℕ) → Result ℕ (List ℕ)
+    → Result Numbers (List ℕ)
 numbers_of (Err word) until cri history = Err word
 numbers_of (Ok workers) (Err word) cri history = Err word
 numbers_of (Ok workers) (Ok until) (Err word) history = Err word
 numbers_of (Ok workers) (Ok until) (Ok cri) (Err word) = Err word
-numbers_of (Ok workers) (Ok until) (Ok cri) (Ok history) = Ok (record { workers = workers; until = until; cri = cri; history = history })
+numbers_of (Ok workers) (Ok until) (Ok cri) (Ok history) =
+    Ok (record { workers = workers; until = until; cri = cri; history = history })
 
--- workers from 1 to 64, 4 where none is named; the version 1 or 2, 2 where none is named; from 1,024 to 1,048,576
--- entries, 65,536 where none is named
+-- workers from 1 to 64, 4 where none is named; the version 1 or 2, 2 where none is named; from 1,024 to
+-- 1,048,576 entries, 65,536 where none is named
 abbrev pub numbers_in : List Row → Result Numbers (List ℕ)
 numbers_in rows =
-    numbers_of (written_within 1 64 4 (first_of (codes "workers") rows)) (written_if_there (2 ^ 64) (first_of (codes "until") rows))
-    (written_within 1 2 2 (first_of (codes "cri") rows)) (written_within 1024 1048576 65536 (first_of (codes "history") rows))
+    numbers_of (written_within 1 64 4 (first_of (codes "workers") rows))
+    (written_if_there (2 ^ 64) (first_of (codes "until") rows))
+    (written_within 1 2 2 (first_of (codes "cri") rows))
+    (written_within 1024 1048576 65536 (first_of (codes "history") rows))
 
 -- what the line says
 pub record Nodeagent : Type 0 where
@@ -105,21 +115,23 @@ settles rows = is_set (codes "settle") rows
 abbrev pub reads_nothing : List ℕ → List Row → Bool
 reads_nothing folder rows = not (is_set (codes "with-runtime") rows) && is_there folder rows
 
--- a run that ends once its pods are over has no use for pods that come later, nor for changes that are told meanwhile; one
--- that goes on prints no table
+-- a run that ends once its pods are over has no use for pods that come later, nor for changes that are told
+-- meanwhile; one that goes on prints no table
 abbrev pub misfit_of_end : List Row → Option (List ℕ × Misfit)
 misfit_of_end rows =
     if settles rows && is_there (codes "pods") rows then Some (codes "--pods", WithSettle)
     else if not (settles rows) && is_set (codes "remove") rows then Some (codes "--remove", WithoutSettle)
     else if not (settles rows) && is_set (codes "reasons") rows then Some (codes "--reasons", WithoutSettle)
     else if settles rows && is_set (codes "watch") rows then Some (codes "--watch", WithSettle)
-    else if not (settles rows) && (not (is_set (codes "watch") rows) && is_set (codes "json") rows) then Some (codes "--json", NothingToTell)
+    else if not (settles rows) && (not (is_set (codes "watch") rows) && is_set (codes "json") rows)
+    then Some (codes "--json", NothingToTell)
     else None
 
 -- the pods are those of manifests, of a folder, or of both
 abbrev pub misfit_of_pods : List Row → Option (List ℕ × Misfit)
 misfit_of_pods rows =
-    if not (is_there (codes "pods") rows) && not (has_words (codes "MANIFEST") rows) then Some (codes "MANIFEST", Missing)
+    if not (is_there (codes "pods") rows) && not (has_words (codes "MANIFEST") rows)
+    then Some (codes "MANIFEST", Missing)
     else None
 
 abbrev pub or_else : Option (List ℕ × Misfit) → Option (List ℕ × Misfit) → Option (List ℕ × Misfit)

@@ -1,9 +1,10 @@
--- The line `scriptd --socket PATH [--scripts DIR] [--profiles DIR] [--baseline FILTER] [--runners N] [--verbose]`,
--- this project's own: docs/SEMANTICS.md, "Programs".
+-- The line `scriptd --socket PATH [--scripts DIR] [--profiles DIR] [--baseline FILTER] [--runners N]
+-- [--verbose]`, this project's own: docs/SEMANTICS.md, "Programs".
 use Rattle.std.specs.Prelude.{ℕ, List, Bool, codes, Option, Result, Ok, Err, option_map}
 use Rattle.clap.specs.Simple.{App, new_app, with_rule}
 use Rattle.clap.specs.Walk.{Row, first_of}
-use Rattle.command_line.specs.Arguments.{flag_rule, folder_of, is_set, option_rule, required_rule, versioned, word_of}
+use Rattle.command_line.specs.Arguments.{flag_rule, folder_of, is_set, option_rule, required_rule, versioned}
+use Rattle.command_line.specs.Arguments.{word_of}
 use Rattle.command_line.specs.Words.{written_within}
 use Rattle.command_line.specs.declared.scriptd.ScriptdLine.{ScriptdLine}
 
@@ -12,7 +13,8 @@ abbrev pub folders : App → App
 folders app = with_rule (with_rule app (option_rule (codes "scripts"))) (option_rule (codes "profiles"))
 
 abbrev pub serving : App → App
-serving app = with_rule (folders (with_rule app (required_rule (codes "socket")))) (option_rule (codes "baseline"))
+serving app = with_rule (folders (with_rule app (required_rule (codes "socket"))))
+    (option_rule (codes "baseline"))
 
 abbrev pub stepping : App → App
 stepping app = with_rule (with_rule app (option_rule (codes "runners"))) (flag_rule (codes "verbose"))

@@ -30,7 +30,8 @@ between least most (Some number) = if nat_le least number && nat_le number most 
 
 abbrev pub written_within : ℕ → ℕ → ℕ → Option (List ℕ) → Result ℕ (List ℕ)
 written_within least most default None = Ok default
-written_within least most default (Some word) = number_or_word word (between least most (number_in (2 ^ 32) word))
+written_within least most default (Some word) =
+    number_or_word word (between least most (number_in (2 ^ 32) word))
 
 -- a number that nothing stands for where its word is left out
 abbrev pub some_number : Result ℕ (List ℕ) → Result (Option ℕ) (List ℕ)

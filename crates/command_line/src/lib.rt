@@ -1,6 +1,6 @@
 //! Command lines of the programs: the numbers that their words write, and what the lines of `scriptd` and
-//! `nodeagent` say. Which words a line takes is clap's; what it says of them stands in `specs/`, over the matches
-//! that clap's definition of a simple command gives.
+//! `nodeagent` say. Which words a line takes is clap's; what it says of them stands in `specs/`, over the
+//! matches that clap's definition of a simple command gives.
 #![tactic(auto)]
 
 mod arguments;

@@ -52,7 +52,8 @@ pub(crate) fn has_words(matches: &ArgMatches, id: &str) -> bool
 /// The words that stand by themselves.
 #[tactic(auto, using(crate::proofs::Rows::all))]
 pub(crate) fn words_at<'m, 'a>(matches: &'m ArgMatches<'a>, id: &str) -> Option<&'m [&'a str]>
-    ensures { option_map (λ s. map (λ w. w.now) s.now) result ≡ all_of id.now (rows_of (found_of matches.now)) }
+    ensures { option_map (λ s. map (λ w. w.now) s.now) result
+        ≡ all_of id.now (rows_of (found_of matches.now)) }
 {
     matches.get_strs(id)
 }

@@ -6,7 +6,10 @@ ghost use Rattle.clap.specs.Simple.{app_of, matches_of};
 ghost use Rattle.clap.specs.Walk.{rows_of};
 ghost use Rattle.command_line.specs.Faults.{TellsFault};
 ghost use Rattle.command_line.specs.Words.{told};
-ghost use Rattle.command_line.specs.Nodeagent.{choosing, coming, ending, misfit_in, misfit_of_end, misfit_of_pods, naming, nodeagent, nodeagent_in, nodeagent_of, nodeagent_with, numbers_in, reads_nothing, running, settling, speaking, telling, working};
+ghost use Rattle.command_line.specs.Nodeagent.{choosing, coming, ending, misfit_in, misfit_of_end};
+ghost use Rattle.command_line.specs.Nodeagent.{misfit_of_pods, naming, nodeagent, nodeagent_in, nodeagent_of};
+ghost use Rattle.command_line.specs.Nodeagent.{nodeagent_with, numbers_in, reads_nothing, running, settling};
+ghost use Rattle.command_line.specs.Nodeagent.{speaking, telling, working};
 
 use crate::arguments::{versioned, with_flag, with_option, with_words};
 use crate::fault::{LineFault, Misfit};
@@ -74,8 +77,11 @@ pub fn nodeagent_line<'a>(
     // A line is said exactly where clap takes the words and all of their numbers are in range, but for want
     // of memory.
     ensures taken { IfOk result (λ _. fault_of nodeagent (map string_bytes words.now) ≡ []) }
-    ensures line { IfOk result (λ line. nodeagent_in (matches_of nodeagent (map string_bytes words.now)) ≡ Ok (nodeagent_of line)) }
-    ensures fault { IfErr result (TellsFault (fault_of nodeagent (map string_bytes words.now)) (misfit_in (matches_of nodeagent (map string_bytes words.now))) (nodeagent_in (matches_of nodeagent (map string_bytes words.now)))) }
+    ensures line { IfOk result (λ line. nodeagent_in (matches_of nodeagent (map string_bytes words.now))
+        ≡ Ok (nodeagent_of line)) }
+    ensures fault { IfErr result (TellsFault (fault_of nodeagent (map string_bytes words.now))
+        (misfit_in (matches_of nodeagent (map string_bytes words.now)))
+        (nodeagent_in (matches_of nodeagent (map string_bytes words.now)))) }
 
     // A word that does not go with the others is refused.
     ensures used { IfOk result (λ _. misfit_in (matches_of nodeagent (map string_bytes words.now)) ≡ None) }
@@ -313,7 +319,8 @@ fn said<'a>(
     matches: &ArgMatches<'a>,
     numbers: Numbers,
 ) -> Result<NodeagentLine<'a>, AllocError>
-    ensures { IfOk result (λ line. nodeagent_with (rows_of (found_of matches.now)) (Ok numbers) ≡ Ok (nodeagent_of line)) }
+    ensures { IfOk result (λ line. nodeagent_with (rows_of (found_of matches.now)) (Ok numbers)
+        ≡ Ok (nodeagent_of line)) }
 {
     Ok(NodeagentLine {
         socket: required_at(matches, "socket"),
@@ -337,7 +344,8 @@ fn said<'a>(
 
 /// A list of the words that were lent.
 fn listed<'a>(alloc: Global, words: Option<&[&'a str]>) -> Result<Vec<&'a str>, AllocError>
-    ensures { IfOk result (λ list. map (λ w. w.now) list.items ≡ unwrap_or (option_map (λ s. map (λ w. w.now) s.now) words.entry) []) }
+    ensures { IfOk result (λ list. map (λ w. w.now) list.items
+        ≡ unwrap_or (option_map (λ s. map (λ w. w.now) s.now) words.entry) []) }
 {
     let mut list = Vec::new(alloc);
     if let Some(words) = words {

@@ -41,8 +41,10 @@ pub fn scriptd_line<'a>(
     // A line is said exactly where clap takes the words and all of their numbers are in range, but for want
     // of memory.
     ensures taken { IfOk result (λ _. fault_of scriptd (map string_bytes words.now) ≡ []) }
-    ensures line { IfOk result (λ line. scriptd_in (matches_of scriptd (map string_bytes words.now)) ≡ Ok (scriptd_of line)) }
-    ensures fault { IfErr result (TellsFault (fault_of scriptd (map string_bytes words.now)) None (scriptd_in (matches_of scriptd (map string_bytes words.now)))) }
+    ensures line { IfOk result (λ line. scriptd_in (matches_of scriptd (map string_bytes words.now))
+        ≡ Ok (scriptd_of line)) }
+    ensures fault { IfErr result (TellsFault (fault_of scriptd (map string_bytes words.now)) None
+        (scriptd_in (matches_of scriptd (map string_bytes words.now)))) }
 {
     let matches = matches_in(scriptd(alloc)?, words)?;
     match said(&matches) {
@@ -121,7 +123,8 @@ pub(crate) fn matches_in<'a>(
     requires simple { is_simple (app_of command) ≡ true }
     requires free { is_simple_and_free (app_of command) ≡ true }
     ensures taken { IfOk result (λ _. fault_of (app_of command.entry) (map string_bytes words.now) ≡ []) }
-    ensures rows { IfOk result (λ m. rows_of (found_of m) ≡ matches_of (app_of command.entry) (map string_bytes words.now)) }
+    ensures rows { IfOk result (λ m. rows_of (found_of m)
+        ≡ matches_of (app_of command.entry) (map string_bytes words.now)) }
     ensures fault { IfErr result (IsRefusal (fault_of (app_of command.entry) (map string_bytes words.now))) }
 {
     Ok(command.try_get_matches_from_mut(words)?)

@@ -1,5 +1,7 @@
 -- Putting an instruction in front of code that is built from its end.
-use Rattle.std.proofs.Common.{◌≡◌, ℕ, zero, suc, ◌+◌, ◌-◌, ◌<◌, ◌≤◌, List, [], ◌∷◌, ◌++◌, ◌⊎◌, Some, length, slice_get, refl, sym, ap, ◌∙◌, arith, inl, inr, subst, Result, Ok, Err, IfOk, OnOk, Bool, true, false, cond}
+use Rattle.std.proofs.Common.{◌≡◌, ℕ, zero, suc, ◌+◌, ◌-◌, ◌<◌, ◌≤◌, List, [], ◌∷◌, ◌++◌, ◌⊎◌, Some, length}
+use Rattle.std.proofs.Common.{slice_get, refl, sym, ap, ◌∙◌, arith, inl, inr, subst, Result, Ok, Err, IfOk}
+use Rattle.std.proofs.Common.{OnOk, Bool, true, false, cond}
 use Rattle.std.proofs.lemmas.Option.{same_Some}
 use Rattle.bpf_code.specs.declared.insn.Insn.{Insn}
 use Rattle.bpf_code.specs.declared.operation.Operation.TheVariants.{ReturnK}
@@ -17,11 +19,14 @@ pub record StandsStill (old new : List Insn) : Type 0 where
   pub still : (at : ℕ) (insn : Insn) → slice_get old at ≡ Some insn → slice_get new at ≡ Some insn
 
 pub gives_still : (old new : List Insn) → StandsStill old new → Keeps old new
-gives_still old new same call at a value most (ends insn stands op is some) = ends insn (same.still at insn stands) op is some
+gives_still old new same call at a value most (ends insn stands op is some) =
+    ends insn (same.still at insn stands) op is some
 gives_still old new same call at a value most (leads insn stands to b left to_is less on) =
-    leads insn (same.still at insn stands) to b left to_is less (gives_still old new same call to b value left on)
+    leads insn (same.still at insn stands) to b left to_is less
+    (gives_still old new same call to b value left on)
 
-slice_get_front : (xs : List Insn) (y : Insn) (at : ℕ) (x : Insn) → slice_get xs at ≡ Some x → slice_get (xs ++ y ∷ []) at ≡ Some x
+slice_get_front : (xs : List Insn) (y : Insn) (at : ℕ) (x : Insn) → slice_get xs at ≡ Some x
+    → slice_get (xs ++ y ∷ []) at ≡ Some x
 slice_get_front [] y at x e = absurd (cc)
 slice_get_front (z ∷ xs) y zero x e = e
 slice_get_front (z ∷ xs) y (suc at) x e = slice_get_front xs y at x e
@@ -38,11 +43,14 @@ pub puts_pushed : (old : List Insn) (insn : Insn) → Puts insn old (old ++ insn
 puts_pushed old insn = record {
   stands = slice_get_seam old insn;
   longer = length_seam old insn;
-  keeps = gives_still old (old ++ insn ∷ []) (record { still = λ at other stands. slice_get_front old insn at other stands });
+  keeps = gives_still old (old ++ insn ∷ [])
+      (record { still = λ at other stands. slice_get_front old insn at other stands });
 }
 
 -- what stands in code with one instruction in front
-stands_pushed : (old : List Insn) (insn : Insn) (at : ℕ) (other : Insn) → slice_get (old ++ insn ∷ []) at ≡ Some other → (slice_get old at ≡ Some other) ⊎ ((at ≡ length old) × (insn ≡ other))
+stands_pushed : (old : List Insn) (insn : Insn) (at : ℕ) (other : Insn)
+    → slice_get (old ++ insn ∷ []) at ≡ Some other
+    → (slice_get old at ≡ Some other) ⊎ ((at ≡ length old) × (insn ≡ other))
 stands_pushed [] insn zero other e = inr (refl, same_Some insn other e)
 stands_pushed [] insn (suc at) other e = absurd (cc)
 stands_pushed (z ∷ old) insn zero other e = inl e
@@ -51,72 +59,97 @@ stands_pushed (z ∷ old) insn (suc at) other e = elim (stands_pushed old insn a
   | inr here ↦ inr (omega (arith, here.0), here.1)
 ]
 
-pub backward_pushed : (old : List Insn) (insn : Insn) → IsBackward old → PointsInside insn.op insn (length old) → IsBackward (old ++ insn ∷ [])
+pub backward_pushed : (old : List Insn) (insn : Insn) → IsBackward old
+    → PointsInside insn.op insn (length old) → IsBackward (old ++ insn ∷ [])
 backward_pushed old insn backward inside at other stands = elim (stands_pushed old insn at other stands) [
   | inl before ↦ backward at other before
   | inr here ↦ rw (here.0, ← here.1) inside
 ]
 
-pub put_gives : (insn : Insn) (old new : List Insn) (call : SysCall) (a to b value most : ℕ) → Puts insn old new
-    → LeadsTo insn.op call insn (length old) a to b → Gives old call to b value most → Gives new call (length old) a value (most + 1)
+pub put_gives : (insn : Insn) (old new : List Insn) (call : SysCall) (a to b value most : ℕ)
+    → Puts insn old new
+    → LeadsTo insn.op call insn (length old) a to b → Gives old call to b value most
+    → Gives new call (length old) a value (most + 1)
 put_gives insn old new call a to b value most puts to_is on =
     leads insn puts.stands to b most to_is (omega arith) (puts.keeps call to b value most on)
 
-pub front_gives : (insn : Insn) (old new : List Insn) (call : SysCall) (a to b value most : ℕ) → Puts insn old new
-    → LeadsTo insn.op call insn (length old) a to b → Gives old call to b value most → Gives new call (length new - 1) a value (most + 1)
+pub front_gives : (insn : Insn) (old new : List Insn) (call : SysCall) (a to b value most : ℕ)
+    → Puts insn old new
+    → LeadsTo insn.op call insn (length old) a to b → Gives old call to b value most
+    → Gives new call (length new - 1) a value (most + 1)
 front_gives insn old new call a to b value most puts to_is on =
     let same : length new - 1 ≡ length old = omega (arith, puts.longer) in
     rw same (put_gives insn old new call a to b value most puts to_is on)
 
-pub put_return : (insn : Insn) (old new : List Insn) (call : SysCall) (a value most : ℕ) → Puts insn old new → insn.op ≡ ReturnK → value ≡ insn.k → 0 < most → Gives new call (length old) a value most
+pub put_return : (insn : Insn) (old new : List Insn) (call : SysCall) (a value most : ℕ) → Puts insn old new
+    → insn.op ≡ ReturnK → value ≡ insn.k → 0 < most → Gives new call (length old) a value most
 put_return insn old new call a value most puts op is some = ends insn puts.stands op is some
 
-pub return_gives : (code : List Insn) (call : SysCall) (at a value most : ℕ) → Returns code at value → 0 < most → Gives code call at a value most
+pub return_gives : (code : List Insn) (call : SysCall) (at a value most : ℕ) → Returns code at value
+    → 0 < most → Gives code call at a value most
 return_gives code call at a value most is some = ends is.insn is.stands is.returns is.value_is some
 
-pub gives_more : (code : List Insn) (call : SysCall) (at a value most more : ℕ) → Gives code call at a value most → most ≤ more → Gives code call at a value more
-gives_more code call at a value most more (ends insn stands op is some) larger = ends insn stands op is (omega arith)
-gives_more code call at a value most more (leads insn stands to b left to_is less on) larger = leads insn stands to b left to_is (omega arith) on
+pub gives_more : (code : List Insn) (call : SysCall) (at a value most more : ℕ)
+    → Gives code call at a value most → most ≤ more → Gives code call at a value more
+gives_more code call at a value most more (ends insn stands op is some) larger =
+    ends insn stands op is (omega arith)
+gives_more code call at a value most more (leads insn stands to b left to_is less on) larger =
+    leads insn stands to b left to_is (omega arith) on
 
 -- at a return nothing but its value is given
-return_value : (code : List Insn) (call : SysCall) (at a value most : ℕ) (insn : Insn) → slice_get code at ≡ Some insn → insn.op ≡ ReturnK → Gives code call at a value most → value ≡ insn.k
+return_value : (code : List Insn) (call : SysCall) (at a value most : ℕ) (insn : Insn)
+    → slice_get code at ≡ Some insn → insn.op ≡ ReturnK → Gives code call at a value most → value ≡ insn.k
 return_value code call at a value most insn stands op (ends other other_stands other_op is some) =
     is ∙ ap (λ (i : Insn). i.k) (same_Some other insn (sym other_stands ∙ stands))
 return_value code call at a value most insn stands op (leads other other_stands to b left to_is less on) =
-    let returns : other.op ≡ ReturnK = ap (λ (i : Insn). i.op) (same_Some other insn (sym other_stands ∙ stands)) ∙ op in
+    let returns : other.op ≡ ReturnK = ap (λ (i : Insn). i.op)
+    (same_Some other insn (sym other_stands ∙ stands)) ∙ op in
     let P : Operation → Type 0 = λ o. LeadsTo o call other at a to b in
     absurd (subst P returns to_is)
 
 -- a copy of a return that stands further behind
-pub copy_gives : (insn : Insn) (old new : List Insn) (call : SysCall) (at a value most : ℕ) → Puts insn old new → slice_get old at ≡ Some insn → insn.op ≡ ReturnK
+pub copy_gives : (insn : Insn) (old new : List Insn) (call : SysCall) (at a value most : ℕ)
+    → Puts insn old new → slice_get old at ≡ Some insn → insn.op ≡ ReturnK
     → Gives old call at a value most → Gives new call (length old) a value (most + 1)
 copy_gives insn old new call at a value most puts stands op gives =
-    put_return insn old new call a value (most + 1) puts op (return_value old call at a value most insn stands op gives) (omega arith)
+    put_return insn old new call a value (most + 1) puts op
+    (return_value old call at a value most insn stands op gives) (omega arith)
 
 -- a fact of the place that was put is a fact of the place that is answered
-pub at_is : (P : ℕ → Type 0) (n : ℕ) (r : Result ℕ AllocError) → IfOk r (λ at. at ≡ n) → OnOk r (P n) → IfOk r P
+pub at_is : (P : ℕ → Type 0) (n : ℕ) (r : Result ℕ AllocError) → IfOk r (λ at. at ≡ n) → OnOk r (P n)
+    → IfOk r P
 at_is P n (Ok at) is p = subst P (sym is) p
 at_is P n (Err e) is p = tt
 
 -- where a branch leads
-branch_to : (holds : Bool) (insn : Insn) (at hit miss : ℕ) → hit < at → miss < at → insn.jt ≡ at - 1 - hit → insn.jf ≡ at - 1 - miss → BranchesTo holds insn at (cond holds hit miss)
+branch_to : (holds : Bool) (insn : Insn) (at hit miss : ℕ) → hit < at → miss < at → insn.jt ≡ at - 1 - hit
+    → insn.jf ≡ at - 1 - miss → BranchesTo holds insn at (cond holds hit miss)
 branch_to true insn at hit miss hit_in miss_in jt jf = omega arith
 branch_to false insn at hit miss hit_in miss_in jt jf = omega arith
 
-branch_leads : (test : Test) (call : SysCall) (insn : Insn) (at a hit miss : ℕ) → hit < at → miss < at → insn.jt ≡ at - 1 - hit → insn.jf ≡ at - 1 - miss
+branch_leads : (test : Test) (call : SysCall) (insn : Insn) (at a hit miss : ℕ) → hit < at → miss < at
+    → insn.jt ≡ at - 1 - hit → insn.jf ≡ at - 1 - miss
     → LeadsTo (operation_of test) call insn at a (cond (holds_of test insn.k a) hit miss) a
-branch_leads Equal call insn at a hit miss hit_in miss_in jt jf = (branch_to _ insn at hit miss hit_in miss_in jt jf, refl)
-branch_leads Greater call insn at a hit miss hit_in miss_in jt jf = (branch_to _ insn at hit miss hit_in miss_in jt jf, refl)
-branch_leads GreaterOrEqual call insn at a hit miss hit_in miss_in jt jf = (branch_to _ insn at hit miss hit_in miss_in jt jf, refl)
+branch_leads Equal call insn at a hit miss hit_in miss_in jt jf =
+    (branch_to _ insn at hit miss hit_in miss_in jt jf, refl)
+branch_leads Greater call insn at a hit miss hit_in miss_in jt jf =
+    (branch_to _ insn at hit miss hit_in miss_in jt jf, refl)
+branch_leads GreaterOrEqual call insn at a hit miss hit_in miss_in jt jf =
+    (branch_to _ insn at hit miss hit_in miss_in jt jf, refl)
 
-pub jump_gives : (test : Test) (insn : Insn) (old new : List Insn) (call : SysCall) (a hit miss value most : ℕ) → Puts insn old new → insn.op ≡ operation_of test
+pub jump_gives : (test : Test) (insn : Insn) (old new : List Insn) (call : SysCall)
+    (a hit miss value most : ℕ) → Puts insn old new → insn.op ≡ operation_of test
     → hit < length old → miss < length old → insn.jt ≡ length old - 1 - hit → insn.jf ≡ length old - 1 - miss
-    → Gives old call (cond (holds_of test insn.k a) hit miss) a value most → Gives new call (length new - 1) a value (most + 1)
+    → Gives old call (cond (holds_of test insn.k a) hit miss) a value most
+    → Gives new call (length new - 1) a value (most + 1)
 jump_gives test insn old new call a hit miss value most puts op hit_in miss_in jt jf on =
-    let P : Operation → Type 0 = λ o. LeadsTo o call insn (length old) a (cond (holds_of test insn.k a) hit miss) a in
-    front_gives insn old new call a (cond (holds_of test insn.k a) hit miss) a value most puts (subst P (sym op) (branch_leads test call insn (length old) a hit miss hit_in miss_in jt jf)) on
+    let P : Operation → Type 0 = λ o. LeadsTo o call insn (length old) a
+    (cond (holds_of test insn.k a) hit miss) a in
+    front_gives insn old new call a (cond (holds_of test insn.k a) hit miss) a value most puts
+    (subst P (sym op) (branch_leads test call insn (length old) a hit miss hit_in miss_in jt jf)) on
 
 -- the same of the place in front
-pub front_is : (P : ℕ → Type 0) (new : List Insn) (r : Result ℕ AllocError) → IfOk r (λ at. at + 1 ≡ length new) → OnOk r (P (length new - 1)) → IfOk r P
+pub front_is : (P : ℕ → Type 0) (new : List Insn) (r : Result ℕ AllocError)
+    → IfOk r (λ at. at + 1 ≡ length new) → OnOk r (P (length new - 1)) → IfOk r P
 front_is P new (Ok at) is p = let same : length new - 1 ≡ at = omega arith in subst P same p
 front_is P new (Err e) is p = tt

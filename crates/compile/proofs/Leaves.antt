@@ -1,5 +1,7 @@
 -- What the entries of a profile decide of one number, as chains.
-use Rattle.std.proofs.Common.{◌≡◌, ℕ, zero, suc, ◌+◌, ◌*◌, ◌<◌, ◌≤◌, ◌&&◌, Bool, true, false, cond, List, [], ◌∷◌, ◌++◌, Option, Some, None, length, refl, sym, ap, ◌∙◌, subst, arith, take, get_or}
+use Rattle.std.proofs.Common.{◌≡◌, ℕ, zero, suc, ◌+◌, ◌*◌, ◌<◌, ◌≤◌, ◌&&◌, Bool, true, false, cond, List, []}
+use Rattle.std.proofs.Common.{◌∷◌, ◌++◌, Option, Some, None, length, refl, sym, ap, ◌∙◌, subst, arith, take}
+use Rattle.std.proofs.Common.{get_or}
 use Rattle.std.proofs.lemmas.List.{take_more}
 use Rattle.std.proofs.lemmas.List.Elements.{All-get_or}
 use Rattle.bpf_code.specs.declared.insn.Insn.{Insn}
@@ -28,41 +30,58 @@ unfolding all_hold
 bare_holds entry call bare = none_hold entry.conds call bare
 
 -- from an entry on that decides of the number without a condition nothing is asked
-pub decided_at : (entries : List Entry) (default : Decision) (nr at : ℕ) (call : SysCall) (entry : Entry) → at < length entries → entry ≡ get_or entries at entry
-    → names entry nr ≡ true → IsBare entry → decision_of entries default nr call ≡ decision_of (take at entries) entry.decision nr call
+pub decided_at : (entries : List Entry) (default : Decision) (nr at : ℕ) (call : SysCall) (entry : Entry)
+    → at < length entries → entry ≡ get_or entries at entry
+    → names entry nr ≡ true → IsBare entry
+    → decision_of entries default nr call ≡ decision_of (take at entries) entry.decision nr call
 decided_at [] default nr at call entry inside is named bare = absurd (omega arith)
 decided_at (first ∷ entries) default nr zero call entry inside is named bare =
-    let decides : (names entry nr && all_hold entry call) ≡ true = ap (λ b. b && all_hold entry call) named ∙ bare_holds entry call bare in
-    ap (λ (e : Entry). cond (names e nr && all_hold e call) e.decision (decision_of entries default nr call)) (sym is)
+    let decides : (names entry nr && all_hold entry call) ≡ true = ap (λ b. b && all_hold entry call) named
+    ∙ bare_holds entry call bare in
+    ap (λ (e : Entry). cond (names e nr && all_hold e call) e.decision (decision_of entries default nr call))
+    (sym is)
     ∙ ap (λ b. cond b entry.decision (decision_of entries default nr call)) decides
 decided_at (first ∷ entries) default nr (suc at) call entry inside is named bare =
-    ap (λ d. cond (names first nr && all_hold first call) first.decision d) (decided_at entries default nr at call entry (omega arith) is named bare)
+    ap (λ d. cond (names first nr && all_hold first call) first.decision d)
+    (decided_at entries default nr at call entry (omega arith) is named bare)
 
-added_of-append : (one other : List Entry) (nr : ℕ) → added_of (one ++ other) nr ≡ added_of one nr + added_of other nr
+added_of-append : (one other : List Entry) (nr : ℕ) → added_of (one ++ other) nr ≡ added_of one nr
+    + added_of other nr
 added_of-append [] other nr = omega arith
 added_of-append (entry ∷ one) other nr = omega (arith, added_of-append one other nr)
 
 added_one : (entry : Entry) (nr : ℕ) → names entry nr ≡ false → added_of (entry ∷ []) nr ≡ 0
 added_one entry nr unnamed = ap (λ b. cond b (1 + 6 * length entry.conds) 0 + 0) unnamed
 
-pub bare_more : (entries : List Entry) (nr at : ℕ) (entry : Entry) → at < length entries → entry ≡ get_or entries at entry → (IsBare entry → names entry nr ≡ false)
-    → (AreBare entries → added_of (take at entries) nr ≡ 0) → AreBare entries → added_of (take (at + 1) entries) nr ≡ 0
+pub bare_more : (entries : List Entry) (nr at : ℕ) (entry : Entry) → at < length entries
+    → entry ≡ get_or entries at entry → (IsBare entry → names entry nr ≡ false)
+    → (AreBare entries → added_of (take at entries) nr ≡ 0) → AreBare entries
+    → added_of (take (at + 1) entries) nr ≡ 0
 bare_more entries nr at entry inside is unnamed before bare =
     let here : IsBare (get_or entries at entry) = All-get_or IsBare entries at entry inside bare in
     let now : IsBare entry = subst IsBare (sym is) here in
-    let last : added_of (get_or entries at entry ∷ []) nr ≡ 0 = ap (λ (e : Entry). added_of (e ∷ []) nr) (sym is) ∙ added_one entry nr (unnamed now) in
-    ap (λ es. added_of es nr) (take_more entries at entry inside) ∙ added_of-append (take at entries) (get_or entries at entry ∷ []) nr ∙ omega (arith, before bare, last)
+    let last : added_of (get_or entries at entry ∷ []) nr ≡ 0 =
+    ap (λ (e : Entry). added_of (e ∷ []) nr) (sym is) ∙ added_one entry nr (unnamed now) in
+    ap (λ es. added_of es nr) (take_more entries at entry inside)
+    ∙ added_of-append (take at entries) (get_or entries at entry ∷ []) nr
+    ∙ omega (arith, before bare, last)
 
 -- an entry that does not name the number changes nothing
-pub unnamed_link : (code : List Insn) (call : SysCall) (link : Option Known) (place value other most more : ℕ) (named holds : Bool) → named ≡ false → most ≤ more
-    → LinkGives code call link place other most → LinkGives code call link place (cond (named && holds) value other) more
+pub unnamed_link : (code : List Insn) (call : SysCall) (link : Option Known) (place value other most more : ℕ)
+    (named holds : Bool) → named ≡ false → most ≤ more
+    → LinkGives code call link place other most
+    → LinkGives code call link place (cond (named && holds) value other) more
 unnamed_link code call None place value other most more true holds unnamed larger gives = absurd (cc)
-unnamed_link code call None place value other most more false holds unnamed larger gives = GivesAlways-more code call place other most more gives larger
+unnamed_link code call None place value other most more false holds unnamed larger gives =
+    GivesAlways-more code call place other most more gives larger
 unnamed_link code call (Some known) place value other most more true holds unnamed larger gives = absurd (cc)
-unnamed_link code call (Some known) place value other most more false holds unnamed larger gives =
-    ((gives.0.0, omega (arith, gives.0.1), gives.0.2), GivesAlways-more code call known.check _ most more gives.1 larger)
+unnamed_link code call (Some known) place value other most more false holds unnamed larger gives = (
+  (gives.0.0, omega (arith, gives.0.1), gives.0.2),
+  GivesAlways-more code call known.check _ most more gives.1 larger,
+)
 
-pub value_of-cond : (b : Bool) (one other : Decision) → value_of (cond b one other) ≡ cond b (value_of one) (value_of other)
+pub value_of-cond : (b : Bool) (one other : Decision)
+    → value_of (cond b one other) ≡ cond b (value_of one) (value_of other)
 value_of-cond true one other = refl
 value_of-cond false one other = refl
 
@@ -76,7 +95,8 @@ pub counted_most : (b : Bool) (n : ℕ) → cond b n 0 ≤ n
 counted_most true n = omega arith
 counted_most false n = omega arith
 
-pub conditions_take : (entries : List Entry) (n nr : ℕ) → conditions_at (take n entries) nr ≤ conditions_at entries nr
+pub conditions_take : (entries : List Entry) (n nr : ℕ)
+    → conditions_at (take n entries) nr ≤ conditions_at entries nr
 conditions_take [] zero nr = omega arith
 conditions_take [] (suc n) nr = omega arith
 conditions_take (entry ∷ entries) zero nr = omega arith
@@ -88,10 +108,16 @@ below n limit less = grind (arith, nat_tests)
 from : (n limit : ℕ) → limit ≤ n → nat_le limit n ≡ true
 from n limit large = grind (arith, nat_tests)
 
-pub x32_chosen : (profile : Profile) (nr : ℕ) (call : SysCall) → 0x40000000 ≤ nr → chosen profile nr call ≡ value_of KillProcess
+pub x32_chosen : (profile : Profile) (nr : ℕ) (call : SysCall) → 0x40000000 ≤ nr
+    → chosen profile nr call ≡ value_of KillProcess
 unfolding chosen
-x32_chosen profile nr call large = ap (λ b. cond b (value_of KillProcess) (value_of (decision_of profile.entries profile.default nr call))) (from nr 0x40000000 large)
+x32_chosen profile nr call large = ap (λ b.
+    cond b (value_of KillProcess) (value_of (decision_of profile.entries profile.default nr call)))
+    (from nr 0x40000000 large)
 
-pub native_chosen : (profile : Profile) (nr : ℕ) (call : SysCall) → nr < 0x40000000 → chosen profile nr call ≡ value_of (decision_of profile.entries profile.default nr call)
+pub native_chosen : (profile : Profile) (nr : ℕ) (call : SysCall) → nr < 0x40000000
+    → chosen profile nr call ≡ value_of (decision_of profile.entries profile.default nr call)
 unfolding chosen
-native_chosen profile nr call small = ap (λ b. cond b (value_of KillProcess) (value_of (decision_of profile.entries profile.default nr call))) (below nr 0x40000000 small)
+native_chosen profile nr call small = ap
+    (λ b. cond b (value_of KillProcess) (value_of (decision_of profile.entries profile.default nr call)))
+    (below nr 0x40000000 small)

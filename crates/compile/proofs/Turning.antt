@@ -1,10 +1,13 @@
 -- Code that was built from its end, turned round, is a sound filter that gives what was built.
-use Rattle.std.proofs.Common.{◌≡◌, ℕ, suc, ◌+◌, ◌-◌, ◌<◌, ◌≤◌, List, Some, length, slice_get, get_or, reverse, refl, sym, ap, subst, ◌∙◌, arith}
+use Rattle.std.proofs.Common.{◌≡◌, ℕ, suc, ◌+◌, ◌-◌, ◌<◌, ◌≤◌, List, Some, length, slice_get, get_or, reverse}
+use Rattle.std.proofs.Common.{refl, sym, ap, subst, ◌∙◌, arith}
 use Rattle.std.proofs.lemmas.Option.{slice_get_within, slice_get-get_or, get_or_from_slice_get}
 use Rattle.std.proofs.lemmas.List.{get_or-reverse, length-reverse}
 use Rattle.bpf_code.specs.declared.insn.Insn.{Insn}
 use Rattle.bpf_code.specs.declared.operation.Operation.{Operation}
-use Rattle.bpf_code.specs.declared.operation.Operation.TheVariants.{LoadImmediate, LoadData, AndK, JumpEqualK, JumpGreaterK, JumpGreaterOrEqualK, Jump, ReturnK}
+use Rattle.bpf_code.specs.declared.operation.Operation.TheVariants.{LoadImmediate, LoadData, AndK, JumpEqualK}
+use Rattle.bpf_code.specs.declared.operation.Operation.TheVariants.{JumpGreaterK, JumpGreaterOrEqualK, Jump}
+use Rattle.bpf_code.specs.declared.operation.Operation.TheVariants.{ReturnK}
 use Rattle.bpf_code.specs.declared.flow.Flow.TheVariants.{Returns}
 use Rattle.bpf_code.specs.declared.flow.Scratch.TheVariants.{Loads}
 use Rattle.bpf_code.specs.declared.limits.TheConstants.{MAX_INSNS}
@@ -17,20 +20,32 @@ use Rattle.bpf_machine.specs.Runs.{Reaches, Runs}
 use Rattle.compile.specs.Backward.{PointsInside, IsBackward, LeadsTo, Gives, data_word}
 use Rattle.compile.specs.Backward.Gives.{ends, leads}
 
-stands_turned : (code : List Insn) (at place : ℕ) (insn : Insn) → place + 1 + at ≡ length code → slice_get code at ≡ Some insn → slice_get (reverse code) place ≡ Some insn
+stands_turned : (code : List Insn) (at place : ℕ) (insn : Insn) → place + 1 + at ≡ length code
+    → slice_get code at ≡ Some insn → slice_get (reverse code) place ≡ Some insn
 stands_turned code at place insn sum stands =
-    let inside : place < length (reverse code) = omega (arith, length-reverse code, slice_get_within code at insn stands) in
+    let inside : place < length (reverse code) =
+    omega (arith, length-reverse code, slice_get_within code at insn stands) in
     let same : length code - 1 - place ≡ at = omega arith in
     let read : get_or (reverse code) place insn ≡ insn =
-    get_or-reverse code place insn (omega arith) ∙ ap (λ i. get_or code i insn) same ∙ get_or_from_slice_get code at insn insn stands in
+    get_or-reverse code place insn (omega arith) ∙ ap (λ i. get_or code i insn) same
+    ∙ get_or_from_slice_get code at insn insn stands in
     slice_get-get_or (reverse code) place insn inside ∙ ap (λ (i : Insn). Some i) read
 
-stood_before : (code : List Insn) (place : ℕ) (insn : Insn) → slice_get (reverse code) place ≡ Some insn → (place < length code) × (slice_get code (length code - 1 - place) ≡ Some insn)
+stood_before : (code : List Insn) (place : ℕ) (insn : Insn) → slice_get (reverse code) place ≡ Some insn
+    → (place < length code) × (slice_get code (length code - 1 - place) ≡ Some insn)
 stood_before code place insn stands =
-    let inside : place < length code = omega (arith, length-reverse code, slice_get_within (reverse code) place insn stands) in
+    let inside : place < length code = omega (
+      arith,
+      length-reverse code,
+      slice_get_within (reverse code) place insn stands,
+    ) in
     let read : get_or code (length code - 1 - place) insn ≡ insn =
-    sym (get_or-reverse code place insn inside) ∙ get_or_from_slice_get (reverse code) place insn insn stands in
-    (inside, slice_get-get_or code (length code - 1 - place) insn (omega arith) ∙ ap (λ (i : Insn). Some i) read)
+    sym (get_or-reverse code place insn inside)
+    ∙ get_or_from_slice_get (reverse code) place insn insn stands in (
+      inside,
+      slice_get-get_or code (length code - 1 - place) insn (omega arith)
+          ∙ ap (λ (i : Insn). Some i) read,
+    )
 
 -- what points inside keeps the rules of a sound filter
 keeps_number : (op : Operation) (insn : Insn) (at : ℕ) → PointsInside op insn at → KeepsNumber op insn.k
@@ -43,12 +58,14 @@ keeps_number Jump insn at inside = tt
 keeps_number ReturnK insn at inside = tt
 keeps_number _ insn at inside = absurd inside
 
-keeps_targets : (op : Operation) (insn : Insn) (at place len : ℕ) → place + 1 + at ≡ len → PointsInside op insn at → KeepsTargets (flow_of op) insn place len
+keeps_targets : (op : Operation) (insn : Insn) (at place len : ℕ) → place + 1 + at ≡ len
+    → PointsInside op insn at → KeepsTargets (flow_of op) insn place len
 keeps_targets LoadData insn at place len sum inside = tt
 keeps_targets AndK insn at place len sum inside = tt
 keeps_targets JumpEqualK insn at place len sum inside = (omega (arith, inside.0), omega (arith, inside.1))
 keeps_targets JumpGreaterK insn at place len sum inside = (omega (arith, inside.0), omega (arith, inside.1))
-keeps_targets JumpGreaterOrEqualK insn at place len sum inside = (omega (arith, inside.0), omega (arith, inside.1))
+keeps_targets JumpGreaterOrEqualK insn at place len sum inside =
+    (omega (arith, inside.0), omega (arith, inside.1))
 keeps_targets Jump insn at place len sum inside = omega (arith, inside)
 keeps_targets ReturnK insn at place len sum inside = tt
 keeps_targets _ insn at place len sum inside = absurd inside
@@ -76,7 +93,8 @@ ends_it _ insn at last inside = absurd inside
 nothing : Insn
 nothing = record { op = LoadImmediate; jt = 0; jf = 0; k = 0 }
 
-pub turned_sound : (code : List Insn) → IsBackward code → 0 < length code → length code ≤ MAX_INSNS → IsSound (reverse code)
+pub turned_sound : (code : List Insn) → IsBackward code → 0 < length code → length code ≤ MAX_INSNS
+    → IsSound (reverse code)
 turned_sound code backward some short =
     let same : length (reverse code) ≡ length code = length-reverse code in
     let last : Insn = get_or code 0 nothing in
@@ -86,8 +104,14 @@ turned_sound code backward some short =
       short = omega arith;
       places = λ place insn there.
           let before = stood_before code place insn there in
-          let inside : PointsInside insn.op insn (length code - 1 - place) = backward (length code - 1 - place) insn before.1 in
-          record { number = keeps_number insn.op insn _ inside; targets = keeps_targets insn.op insn (length code - 1 - place) place (length (reverse code)) (omega (arith, before.0)) inside };
+          let inside : PointsInside insn.op insn (length code - 1 - place) =
+          backward (length code - 1 - place) insn before.1 in
+          record {
+            number = keeps_number insn.op insn _ inside;
+            targets =
+                keeps_targets insn.op insn (length code - 1 - place) place (length (reverse code))
+                (omega (arith, before.0)) inside;
+          };
       last = record {
         insn = last;
         stands = stands_turned code 0 (length (reverse code) - 1) last (omega arith) stands;
@@ -105,24 +129,64 @@ record Steps (op : Operation) (call : SysCall) (insn : Insn) (s : State) (to b l
   there : next.place + 1 + to ≡ len
   holds : next.a ≡ b
 
-steps_of : (op : Operation) (call : SysCall) (insn : Insn) (s : State) (at to b len : ℕ) → s.place + 1 + at ≡ len → PointsInside op insn at → LeadsTo op call insn at s.a to b → Steps op call insn s to b len
+steps_of : (op : Operation) (call : SysCall) (insn : Insn) (s : State) (at to b len : ℕ)
+    → s.place + 1 + at ≡ len → PointsInside op insn at → LeadsTo op call insn at s.a to b
+    → Steps op call insn s to b len
 unfolding data_word
 steps_of LoadData call insn s at to b len sum inside to_is =
-    record { next = record { place = s.place + 1; a = _; x = s.x; words = s.words }; executes = (inside.0, inside.1, refl); there = omega (arith, to_is.0); holds = sym to_is.1 }
+    record {
+      next = record { place = s.place + 1; a = _; x = s.x; words = s.words };
+      executes =
+          (inside.0, inside.1, refl);
+      there = omega (arith, to_is.0);
+      holds = sym to_is.1;
+    }
 steps_of AndK call insn s at to b len sum inside to_is =
-    record { next = record { place = s.place + 1; a = _; x = s.x; words = s.words }; executes = refl; there = omega (arith, to_is.0); holds = sym to_is.1 }
+    record {
+      next = record { place = s.place + 1; a = _; x = s.x; words = s.words };
+      executes = refl;
+      there =
+          omega (arith, to_is.0);
+      holds = sym to_is.1;
+    }
 steps_of JumpEqualK call insn s at to b len sum inside to_is =
-    record { next = record { place = _; a = s.a; x = s.x; words = s.words }; executes = refl; there = omega (arith, to_is.0); holds = sym to_is.1 }
+    record {
+      next = record { place = _; a = s.a; x = s.x; words = s.words };
+      executes = refl;
+      there =
+          omega (arith, to_is.0);
+      holds = sym to_is.1;
+    }
 steps_of JumpGreaterK call insn s at to b len sum inside to_is =
-    record { next = record { place = _; a = s.a; x = s.x; words = s.words }; executes = refl; there = omega (arith, to_is.0); holds = sym to_is.1 }
+    record {
+      next = record { place = _; a = s.a; x = s.x; words = s.words };
+      executes = refl;
+      there =
+          omega (arith, to_is.0);
+      holds = sym to_is.1;
+    }
 steps_of JumpGreaterOrEqualK call insn s at to b len sum inside to_is =
-    record { next = record { place = _; a = s.a; x = s.x; words = s.words }; executes = refl; there = omega (arith, to_is.0); holds = sym to_is.1 }
+    record {
+      next = record { place = _; a = s.a; x = s.x; words = s.words };
+      executes = refl;
+      there =
+          omega (arith, to_is.0);
+      holds = sym to_is.1;
+    }
 steps_of Jump call insn s at to b len sum inside to_is =
-    record { next = record { place = _; a = s.a; x = s.x; words = s.words }; executes = refl; there = omega (arith, to_is.0); holds = sym to_is.1 }
+    record {
+      next = record { place = _; a = s.a; x = s.x; words = s.words };
+      executes = refl;
+      there =
+          omega (arith, to_is.0);
+      holds = sym to_is.1;
+    }
 steps_of _ call insn s at to b len sum inside to_is = absurd to_is
 
-runs_from : (code : List Insn) (call : SysCall) (at a value most : ℕ) → IsBackward code → Gives code call at a value most
-    → (n : ℕ) (s : State) → s.place + 1 + at ≡ length code → s.a ≡ a → Reaches (reverse code) call n s → (steps : ℕ) × (steps ≤ n + most) × Runs (reverse code) call value steps
+runs_from : (code : List Insn) (call : SysCall) (at a value most : ℕ) → IsBackward code
+    → Gives code call at a value most
+    → (n : ℕ) (s : State) → s.place + 1 + at ≡ length code → s.a ≡ a → Reaches (reverse code) call n s
+    → (steps : ℕ) × (steps ≤ n + most) × Runs (reverse code) call value steps
 runs_from code call at a value most backward (ends insn stands op is some) n s sum holds reached =
     let P : Operation → Type 0 = λ o. Executes o call insn s (Ends value) in (
       n + 1,
@@ -131,20 +195,36 @@ runs_from code call at a value most backward (ends insn stands op is some) n s s
         last = s;
         before = n;
         reached = reached;
-        ends = record { insn = insn; stands = stands_turned code at s.place insn sum stands; executes = subst P (sym op) (ap (λ v. Ends v) is) };
+        ends = record {
+          insn = insn;
+          stands = stands_turned code at s.place insn sum stands;
+          executes =
+              subst P (sym op) (ap (λ v. Ends v) is);
+        };
         counted = refl;
       },
     )
-runs_from code call at a value most backward (leads insn stands to b left to_is less on) n s sum holds reached =
+runs_from code call at a value most backward (leads insn stands to b left to_is less on) n s sum holds reached
+    =
     let P : ℕ → Type 0 = λ x. LeadsTo insn.op call insn at x to b in
     let step : Steps insn.op call insn s to b (length code) =
-    steps_of insn.op call insn s at to b (length code) sum (backward at insn stands) (subst P (sym holds) to_is) in
-    let made : Step call (reverse code) s (Goes step.next) = record { insn = insn; stands = stands_turned code at s.place insn sum stands; executes = step.executes } in
-    let rest = runs_from code call to b value left backward on (suc n) step.next step.there step.holds (s, reached, made) in
+    steps_of insn.op call insn s at to b (length code) sum (backward at insn stands)
+    (subst P (sym holds) to_is) in
+    let made : Step call (reverse code) s (Goes step.next) =
+    record {
+      insn = insn;
+      stands = stands_turned code at s.place insn sum stands;
+      executes =
+          step.executes;
+    } in
+    let rest = runs_from code call to b value left backward on (suc n) step.next step.there step.holds
+    (s, reached, made) in
     (rest.0, omega (arith, rest.1), rest.2)
 
-pub gives_runs : (code : List Insn) (call : SysCall) (value most : ℕ) → IsBackward code → 0 < length code → Gives code call (length code - 1) 0 value most
+pub gives_runs : (code : List Insn) (call : SysCall) (value most : ℕ) → IsBackward code → 0 < length code
+    → Gives code call (length code - 1) 0 value most
     → (steps : ℕ) × (steps ≤ most) × Runs (reverse code) call value steps
 gives_runs code call value most backward some gives =
-    let all = runs_from code call (length code - 1) 0 value most backward gives 0 start (omega arith) refl refl in
+    let all = runs_from code call (length code - 1) 0 value most backward gives 0 start
+    (omega arith) refl refl in
     (all.0, omega (arith, all.1), all.2)

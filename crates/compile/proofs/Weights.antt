@@ -1,5 +1,6 @@
 -- A profile that is light enough has a filter that is short enough.
-use Rattle.std.proofs.Common.{◌≡◌, ℕ, zero, suc, ◌+◌, ◌*◌, ◌^◌, ◌≤◌, ◌==◌, inl, inr, Bool, true, false, cond, List, [], ◌∷◌, length, refl, ap, ◌∙◌, arith}
+use Rattle.std.proofs.Common.{◌≡◌, ℕ, zero, suc, ◌+◌, ◌*◌, ◌^◌, ◌≤◌, ◌==◌, inl, inr, Bool, true, false, cond}
+use Rattle.std.proofs.Common.{List, [], ◌∷◌, length, refl, ap, ◌∙◌, arith}
 use Rattle.std.specs.Prelude.{◌||◌, sum_by}
 use Rattle.std.specs.List.{list_any}
 use Rattle.std.proofs.Math.Nat.{pow-suc}
@@ -49,10 +50,15 @@ either_most : (one other : Bool) → cond (one || other) 1 0 ≤ cond one 1 0 + 
 either_most true other = omega arith
 either_most false other = omega arith
 
-once_in-cons : (x : ℕ) (numbers : List ℕ) (n : ℕ) → once_in (x ∷ numbers) n ≤ equal_below x n + once_in numbers n
+once_in-cons : (x : ℕ) (numbers : List ℕ) (n : ℕ) → once_in (x ∷ numbers) n ≤ equal_below x n
+    + once_in numbers n
 unfolding once_in equal_below
 once_in-cons x numbers zero = omega arith
-once_in-cons x numbers (suc n) = omega (arith, either_most (x == n) (list_any (λ number. number == n) numbers), once_in-cons x numbers n)
+once_in-cons x numbers (suc n) = omega (
+  arith,
+  either_most (x == n) (list_any (λ number. number == n) numbers),
+  once_in-cons x numbers n,
+)
 
 once_none : (n : ℕ) → once_in [] n ≡ 0
 unfolding once_in
@@ -61,7 +67,12 @@ once_none (suc n) = omega (arith, once_none n)
 
 once_in-length : (numbers : List ℕ) (n : ℕ) → once_in numbers n ≤ length numbers
 once_in-length [] n = omega (arith, once_none n)
-once_in-length (x ∷ numbers) n = omega (arith, once_in-cons x numbers n, once_equal x n, once_in-length numbers n)
+once_in-length (x ∷ numbers) n = omega (
+  arith,
+  once_in-cons x numbers n,
+  once_equal x n,
+  once_in-length numbers n,
+)
 
 -- the pairs of an entry and a number of it, and what their conditions add
 abbrev pairs : List Entry → ℕ
@@ -72,15 +83,20 @@ abbrev added : List Entry → ℕ
 added [] = 0
 added (entry ∷ entries) = length entry.numbers * (1 + 6 * length entry.conds) + added entries
 
-part_of : (b : Bool) (once each rest below : ℕ) → cond b each 0 + rest + (once * each + below) ≡ (cond b 1 0 + once) * each + (rest + below)
+part_of : (b : Bool) (once each rest below : ℕ) → cond b each 0 + rest + (once * each + below)
+    ≡ (cond b 1 0 + once) * each + (rest + below)
 part_of true once each rest below = omega arith
 part_of false once each rest below = omega arith
 
-added-cons : (entry : Entry) (entries : List Entry) (n : ℕ) → added_below (entry ∷ entries) n ≡ once_in entry.numbers n * (1 + 6 * length entry.conds) + added_below entries n
+added-cons : (entry : Entry) (entries : List Entry) (n : ℕ)
+    → added_below (entry ∷ entries) n ≡ once_in entry.numbers n * (1 + 6 * length entry.conds)
+    + added_below entries n
 unfolding once_in names added_below
 added-cons entry entries zero = omega arith
 added-cons entry entries (suc n) =
-    ap (λ m. added_of (entry ∷ entries) n + m) (added-cons entry entries n) ∙ part_of (names entry n) (once_in entry.numbers n) (1 + 6 * length entry.conds) (added_of entries n) (added_below entries n)
+    ap (λ m. added_of (entry ∷ entries) n + m) (added-cons entry entries n)
+    ∙ part_of (names entry n) (once_in entry.numbers n) (1 + 6 * length entry.conds) (added_of entries n)
+    (added_below entries n)
 
 added_none : (n : ℕ) → added_below [] n ≡ 0
 unfolding added_below
@@ -93,12 +109,23 @@ product_most once len each less = grind arith
 added_most : (entries : List Entry) (n : ℕ) → added_below entries n ≤ added entries
 added_most [] n = omega (arith, added_none n)
 added_most (entry ∷ entries) n =
-    omega (arith, added-cons entry entries n, product_most (once_in entry.numbers n) (length entry.numbers) (1 + 6 * length entry.conds) (once_in-length entry.numbers n), added_most entries n)
+    omega (
+      arith,
+      added-cons entry entries n,
+      product_most (once_in entry.numbers n) (length entry.numbers) (1 + 6 * length entry.conds)
+          (once_in-length entry.numbers n),
+      added_most entries n,
+    )
 
-named-cons : (entry : Entry) (entries : List Entry) (n : ℕ) → named_below (entry ∷ entries) n ≤ once_in entry.numbers n + named_below entries n
+named-cons : (entry : Entry) (entries : List Entry) (n : ℕ)
+    → named_below (entry ∷ entries) n ≤ once_in entry.numbers n + named_below entries n
 unfolding once_in names named_below named
 named-cons entry entries zero = omega arith
-named-cons entry entries (suc n) = omega (arith, either_most (names entry n) (named entries n), named-cons entry entries n)
+named-cons entry entries (suc n) = omega (
+  arith,
+  either_most (names entry n) (named entries n),
+  named-cons entry entries n,
+)
 
 named_none : (n : ℕ) → named_below [] n ≡ 0
 unfolding named_below named
@@ -107,7 +134,12 @@ named_none (suc n) = omega (arith, named_none n)
 
 named_most : (entries : List Entry) (n : ℕ) → named_below entries n ≤ pairs entries
 named_most [] n = omega (arith, named_none n)
-named_most (entry ∷ entries) n = omega (arith, named-cons entry entries n, once_in-length entry.numbers n, named_most entries n)
+named_most (entry ∷ entries) n = omega (
+  arith,
+  named-cons entry entries n,
+  once_in-length entry.numbers n,
+  named_most entries n,
+)
 
 weight-parts : (entries : List Entry) → sum_by entry_weight entries ≡ 7 * pairs entries + added entries
 weight-parts [] = refl
@@ -119,10 +151,16 @@ few_added len conds few = grind arith
 small_added : (entries : List Entry) → AreEntries entries → added entries ≤ 37 * pairs entries
 small_added [] fit = omega arith
 small_added (entry ∷ entries) fit =
-    omega (arith, few_added (length entry.numbers) (length entry.conds) (All-head IsFit entry entries fit).conds_fit.few, small_added entries (All-tail IsFit entry entries fit))
+    omega (
+      arith,
+      few_added (length entry.numbers) (length entry.conds)
+          (All-head IsFit entry entries fit).conds_fit.few,
+      small_added entries (All-tail IsFit entry entries fit),
+    )
 
 -- ranges that are few and not longer than their parts fit a filter, with the tests around them
-pub light_fits : (profile : Profile) (n big limit end : ℕ) → AreEntries profile.entries → n ≤ 2 + 2 * named_below profile.entries limit → big ≤ 3 * n + added_below profile.entries end
+pub light_fits : (profile : Profile) (n big limit end : ℕ) → AreEntries profile.entries
+    → n ≤ 2 + 2 * named_below profile.entries limit → big ≤ 3 * n + added_below profile.entries end
     → weight profile ≤ 4096 → big + 4 ≤ 4096
 unfolding weight
 light_fits profile n big limit end fit few short light =
@@ -135,7 +173,8 @@ light_fits profile n big limit end fit few short light =
     ]
 
 -- a filter that is no longer than these ranges ask for is no longer than the weight
-pub no_heavier : (profile : Profile) (n big limit end long : ℕ) → AreEntries profile.entries → n ≤ 2 + 2 * named_below profile.entries limit
+pub no_heavier : (profile : Profile) (n big limit end long : ℕ) → AreEntries profile.entries
+    → n ≤ 2 + 2 * named_below profile.entries limit
     → big ≤ 3 * n + added_below profile.entries end → IsAsLong big long → long ≤ weight profile
 unfolding weight
 no_heavier profile n big limit end long fit few short is =
@@ -162,7 +201,11 @@ all_steps (entry ∷ entries) = 6 * length entry.conds + all_steps entries
 
 pub steps_all : (entries : List Entry) (nr : ℕ) → steps_at entries nr ≤ all_steps entries
 steps_all [] nr = omega arith
-steps_all (entry ∷ entries) nr = omega (arith, counted_most (names entry nr) (length entry.conds), steps_all entries nr)
+steps_all (entry ∷ entries) nr = omega (
+  arith,
+  counted_most (names entry nr) (length entry.conds),
+  steps_all entries nr,
+)
 
 pub four_times : (d : ℕ) → 2 ^ (d + 2) ≡ 4 * 2 ^ d
 four_times d =

@@ -1,6 +1,7 @@
 -- This project's own: entries of a number that ask one argument for where it lies. Only private functions
 -- cite this.
-use Rattle.std.specs.Prelude.{◌≡◌, ◌≢◌, ℕ, zero, suc, ◌+◌, ◌*◌, ◌/◌, ◌%◌, ◌^◌, ◌<◌, ◌≤◌, ◌==◌, Bool, if◌then◌else◌, List, [], ◌∷◌, length, slice_index, take}
+use Rattle.std.specs.Prelude.{◌≡◌, ◌≢◌, ℕ, zero, suc, ◌+◌, ◌*◌, ◌/◌, ◌%◌, ◌^◌, ◌<◌, ◌≤◌, ◌==◌, Bool}
+use Rattle.std.specs.Prelude.{if◌then◌else◌, List, [], ◌∷◌, length, slice_index, take}
 use Rattle.std.specs.List.{list_any}
 use Rattle.call_data.specs.declared.sys_call.SysCall.{SysCall}
 use Rattle.oci_profile.specs.Meaning.{compares}
@@ -33,12 +34,14 @@ pub record AreLows (arms : List Arm) (other high : ℕ) (starts values : List �
 pub record Plans (plan : Plan) (call : SysCall) (value : ℕ) : Type 0 where
   pub off : slice_index call.args plan.index / 2 ^ 32 ≢ plan.high → value ≡ plan.beyond
   pub on : (at : ℕ) → at < length plan.starts.items → slice_index call.args plan.index / 2 ^ 32 ≡ plan.high
-      → IsBetween plan.starts.items at (at + 1) (slice_index call.args plan.index % 2 ^ 32) → value ≡ slice_index plan.values.items at
+      → IsBetween plan.starts.items at (at + 1) (slice_index call.args plan.index % 2 ^ 32)
+      → value ≡ slice_index plan.values.items at
 
 -- the instructions of what is returned in one range: none where a range before returns the same
 abbrev pub leaf_size : List ℕ → ℕ → ℕ → ℕ
 leaf_size values beyond at =
-    if list_any (λ value. value == slice_index values at) (take at values) then 0 else if slice_index values at == beyond then 1 else 4
+    if list_any (λ value. value == slice_index values at) (take at values) then 0
+    else if slice_index values at == beyond then 1 else 4
 
 -- and in the ranges before this one
 unfoldable pub leaf_sizes : List ℕ → ℕ → ℕ → ℕ

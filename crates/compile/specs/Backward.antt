@@ -1,9 +1,11 @@
 -- This project's own: code that is built from its end. A place counts the instructions behind it, so what
 -- is put in front moves no place. Only private functions cite this.
-use Rattle.std.specs.Prelude.{◌≡◌, ℕ, ◌+◌, ◌%◌, ◌<◌, ◌==◌, nat_lt, nat_le, Bool, if◌then◌else◌, List, Some, slice_get, length, bit_and}
+use Rattle.std.specs.Prelude.{◌≡◌, ℕ, ◌+◌, ◌%◌, ◌<◌, ◌==◌, nat_lt, nat_le, Bool, if◌then◌else◌, List, Some}
+use Rattle.std.specs.Prelude.{slice_get, length, bit_and}
 use Rattle.bpf_code.specs.declared.insn.Insn.{Insn}
 use Rattle.bpf_code.specs.declared.operation.Operation.{Operation}
-use Rattle.bpf_code.specs.declared.operation.Operation.TheVariants.{LoadData, AndK, JumpEqualK, JumpGreaterK, JumpGreaterOrEqualK, Jump, ReturnK}
+use Rattle.bpf_code.specs.declared.operation.Operation.TheVariants.{LoadData, AndK, JumpEqualK, JumpGreaterK}
+use Rattle.bpf_code.specs.declared.operation.Operation.TheVariants.{JumpGreaterOrEqualK, Jump, ReturnK}
 use Rattle.bpf_code.specs.declared.limits.TheConstants.{DATA_LEN}
 use Rattle.call_data.specs.declared.sys_call.SysCall.{SysCall}
 use Rattle.call_data.specs.CallData.{word_at}
@@ -43,8 +45,11 @@ LeadsTo _ call insn at a to b = ⊥
 
 -- from this place, with a in A, the code gives the value in so many steps at most
 pub data Gives (code : List Insn) (call : SysCall) : ℕ → ℕ → ℕ → ℕ → Type 0 where
-  ends : {at a value most : ℕ} → (insn : Insn) → slice_get code at ≡ Some insn → insn.op ≡ ReturnK → value ≡ insn.k → 0 < most → Gives code call at a value most
-  leads : {at a value most : ℕ} → (insn : Insn) → slice_get code at ≡ Some insn → (to b left : ℕ) → LeadsTo insn.op call insn at a to b → left < most → Gives code call to b value left → Gives code call at a value most
+  ends : {at a value most : ℕ} → (insn : Insn) → slice_get code at ≡ Some insn → insn.op ≡ ReturnK
+      → value ≡ insn.k → 0 < most → Gives code call at a value most
+  leads : {at a value most : ℕ} → (insn : Insn) → slice_get code at ≡ Some insn → (to b left : ℕ)
+      → LeadsTo insn.op call insn at a to b → left < most → Gives code call to b value left
+      → Gives code call at a value most
 
 -- the same whatever is in A
 abbrev pub GivesAlways : List Insn → SysCall → ℕ → ℕ → ℕ → Type 0
@@ -52,7 +57,8 @@ GivesAlways code call at value most = (a : ℕ) → Gives code call at a value m
 
 -- what the old code gave the new one gives
 abbrev pub Keeps : List Insn → List Insn → Type 0
-Keeps old new = (call : SysCall) (at a value most : ℕ) → Gives old call at a value most → Gives new call at a value most
+Keeps old new = (call : SysCall) (at a value most : ℕ) → Gives old call at a value most
+    → Gives new call at a value most
 
 -- one instruction was put in front
 pub record Puts (insn : Insn) (old new : List Insn) : Type 0 where

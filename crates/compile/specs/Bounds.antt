@@ -1,5 +1,6 @@
 -- This project's own: what a profile's shape says of its filter's steps.
-use Rattle.std.specs.Prelude.{◌≡◌, ℕ, zero, suc, ◌+◌, ◌-◌, ◌^◌, ◌<◌, ◌≤◌, Bool, if◌then◌else◌, List, [], ◌∷◌, length, All}
+use Rattle.std.specs.Prelude.{◌≡◌, ℕ, zero, suc, ◌+◌, ◌-◌, ◌^◌, ◌<◌, ◌≤◌, Bool, if◌then◌else◌, List, [], ◌∷◌}
+use Rattle.std.specs.Prelude.{length, All}
 use Rattle.std.specs.List.{list_any}
 use Rattle.oci_profile.specs.declared.profile.Entry.{Entry}
 use Rattle.oci_profile.specs.Meaning.{names}
@@ -23,7 +24,8 @@ named_below entries (suc n) = (if named entries n then 1 else 0) + named_below e
 -- how many conditions stand in the entries that name the number
 abbrev pub conditions_at : List Entry → ℕ → ℕ
 conditions_at [] nr = 0
-conditions_at (entry ∷ entries) nr = (if names entry nr then length entry.conds else 0) + conditions_at entries nr
+conditions_at (entry ∷ entries) nr = (if names entry nr then length entry.conds else 0)
+    + conditions_at entries nr
 
 -- so many binary digits are enough for the number, and fewer are not
 pub record HasDigits (n d : ℕ) : Type 0 where

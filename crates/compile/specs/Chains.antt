@@ -1,6 +1,7 @@
 -- This project's own: the entries that one number leads to, as code, from the last to the first. Only
 -- private functions cite this.
-use Rattle.std.specs.Prelude.{◌≡◌, ℕ, ◌+◌, ◌*◌, ◌<◌, ◌≤◌, ◌==◌, ◌&&◌, Bool, false, if◌then◌else◌, List, Option, Some, None, length, take, drop}
+use Rattle.std.specs.Prelude.{◌≡◌, ℕ, ◌+◌, ◌*◌, ◌<◌, ◌≤◌, ◌==◌, ◌&&◌, Bool, false, if◌then◌else◌, List}
+use Rattle.std.specs.Prelude.{Option, Some, None, length, take, drop}
 use Rattle.std.specs.List.{list_any}
 use Rattle.oci_profile.specs.declared.profile.Entry.{Entry}
 use Rattle.oci_profile.specs.Meaning.{all_hold, decision_of, names}
@@ -19,7 +20,8 @@ abbrev pub LinkGives : List Insn → SysCall → Option Known → ℕ → ℕ �
 LinkGives code call None place value most = GivesAlways code call place value most
 LinkGives code call (Some known) place value most =
     ((less : ℕ) × (less < most) × Gives code call place (data_word call (16 + 8 * known.index)) value less)
-    × GivesAlways code call known.check (if data_word call (20 + 8 * known.index) == known.high then known.value else value) most
+    × GivesAlways code call known.check (if data_word call (20 + 8 * known.index) == known.high
+    then known.value else value) most
 
 -- whether an entry applies to the call
 abbrev pub applies : Entry → ℕ → SysCall → Bool
@@ -27,14 +29,17 @@ applies entry nr call = names entry nr && all_hold entry call
 
 -- where none of the entries before it applies, this entry does not either
 abbrev pub IsHidden : List Entry → Entry → ℕ → SysCall → Type 0
-IsHidden before entry nr call = list_any (λ earlier. applies earlier nr call) before ≡ false → applies entry nr call ≡ false
+IsHidden before entry nr call = list_any (λ earlier. applies earlier nr call) before ≡ false
+    → applies entry nr call ≡ false
 
--- What a chain gives for the entries from one on: what they decide where no entry before them applies, and else
--- anything.
-pub record ChainGives (code : List Insn) (call : SysCall) (known : Option Known) (place : ℕ) (entries : List Entry) (last : Decision) (nr at : ℕ) : Type 0 where
+-- What a chain gives for the entries from one on: what they decide where no entry before them applies, and
+-- else anything.
+pub record ChainGives (code : List Insn) (call : SysCall) (known : Option Known) (place : ℕ)
+    (entries : List Entry) (last : Decision) (nr at : ℕ) : Type 0 where
   pub value : ℕ
   pub gives : LinkGives code call known place value (steps_at (drop at entries) nr)
-  pub right : list_any (λ earlier. applies earlier nr call) (take at entries) ≡ false → value ≡ value_of (decision_of (drop at entries) last nr call)
+  pub right : list_any (λ earlier. applies earlier nr call) (take at entries) ≡ false
+      → value ≡ value_of (decision_of (drop at entries) last nr call)
 
 -- where the place of a chain stands
 abbrev pub Stands : List Insn → Option Known → ℕ → Type 0

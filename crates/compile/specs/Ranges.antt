@@ -15,7 +15,8 @@ pub record AreSplit (profile : Profile) (starts singles : List ℕ) : Type 0 whe
   pub some : 0 < length starts
   pub first : slice_index starts 0 ≡ 0
   pub paired : length singles ≡ length starts
-  pub alike : (at nr : ℕ) (call : SysCall) → at < length starts → IsBetween starts at (at + 1) nr → nr ≢ slice_index singles at
+  pub alike : (at nr : ℕ) (call : SysCall) → at < length starts → IsBetween starts at (at + 1) nr
+      → nr ≢ slice_index singles at
       → chosen profile nr call ≡ chosen profile (slice_index starts at) call
 
 -- the same with no such number

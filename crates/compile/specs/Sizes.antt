@@ -1,6 +1,7 @@
 -- This project's own: bounds of the code and of the steps that a profile's numbers lead to. Only private
 -- functions cite this.
-use Rattle.std.specs.Prelude.{ℕ, zero, suc, ◌+◌, ◌*◌, ◌≤◌, ◌<◌, ◌==◌, ◌⊎◌, if◌then◌else◌, List, [], ◌∷◌, length, slice_index}
+use Rattle.std.specs.Prelude.{ℕ, zero, suc, ◌+◌, ◌*◌, ◌≤◌, ◌<◌, ◌==◌, ◌⊎◌, if◌then◌else◌, List, [], ◌∷◌}
+use Rattle.std.specs.Prelude.{length, slice_index}
 use Rattle.oci_profile.specs.declared.profile.Entry.{Entry}
 use Rattle.oci_profile.specs.declared.profile.Profile.{Profile}
 use Rattle.oci_profile.specs.Meaning.{names}
@@ -10,7 +11,8 @@ use Rattle.compile.specs.declared.code.TheConstants.{RECENT}
 -- the instructions of the entries that name the number
 abbrev pub added_of : List Entry → ℕ → ℕ
 added_of [] nr = 0
-added_of (entry ∷ entries) nr = (if names entry nr then 1 + 6 * length entry.conds else 0) + added_of entries nr
+added_of (entry ∷ entries) nr = (if names entry nr then 1 + 6 * length entry.conds else 0)
+    + added_of entries nr
 
 -- the same of all numbers below this one
 unfoldable pub added_below : List Entry → ℕ → ℕ
@@ -23,7 +25,8 @@ steps_at entries nr = 1 + 6 * conditions_at entries nr
 
 -- so many steps are enough in a range: one test finds its single number, and a jump may lead to the rest
 abbrev pub IsEnough : Profile → ℕ → Type 0
-IsEnough profile most = ((nr : ℕ) → steps_at profile.entries nr + 2 ≤ most) ⊎ (AreBare profile.entries × (2 ≤ most))
+IsEnough profile most = ((nr : ℕ) → steps_at profile.entries nr + 2 ≤ most) ⊎ (AreBare profile.entries
+    × (2 ≤ most))
 
 -- the instructions of one range, where the single number that is treated in another way is not its start
 unfoldable pub range_size : Profile → ℕ → ℕ → ℕ
@@ -34,7 +37,8 @@ range_size profile start single =
 unfoldable pub split_size : Profile → List ℕ → List ℕ → ℕ → ℕ → ℕ
 split_size profile starts singles at zero = 0
 split_size profile starts singles at (suc n) =
-    split_size profile starts singles at n + (range_size profile (slice_index starts (at + n)) (slice_index singles (at + n)) + 2)
+    split_size profile starts singles at n
+    + (range_size profile (slice_index starts (at + n)) (slice_index singles (at + n)) + 2)
 
 -- the length of the code whose ranges ask for so much: in little code no jump is too far
 abbrev pub IsAsLong : ℕ → ℕ → Type 0

@@ -1,7 +1,8 @@
 -- The tests that branches make of A: linux/bpf_common.h, BPF_JEQ, BPF_JGT and BPF_JGE.
 use Rattle.std.specs.Prelude.{ℕ, Bool, ◌==◌, nat_lt, nat_le}
 use Rattle.bpf_code.specs.declared.operation.Operation.{Operation}
-use Rattle.bpf_code.specs.declared.operation.Operation.TheVariants.{JumpEqualK, JumpGreaterK, JumpGreaterOrEqualK}
+use Rattle.bpf_code.specs.declared.operation.Operation.TheVariants.{JumpEqualK, JumpGreaterK}
+use Rattle.bpf_code.specs.declared.operation.Operation.TheVariants.{JumpGreaterOrEqualK}
 use Rattle.compile.specs.declared.code.Test.{Test}
 use Rattle.compile.specs.declared.code.Test.TheVariants.{Equal, Greater, GreaterOrEqual}
 

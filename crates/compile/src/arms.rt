@@ -1,5 +1,6 @@
 ghost use Rattle.std.specs.Bool.{OnFalse};
-ghost use Rattle.std.specs.Prelude.{◌≡◌, ◌≢◌, ◌≤◌, ◌<◌, ◌+◌, ◌*◌, ℕ, length, IfOk, IfSome, IsTrue, slice_index};
+ghost use Rattle.std.specs.Prelude.{◌≡◌, ◌≢◌, ◌≤◌, ◌<◌, ◌+◌, ◌*◌, ℕ, length, IfOk, IfSome, IsTrue};
+ghost use Rattle.std.specs.Prelude.{slice_index};
 ghost use Rattle.call_data.specs.declared.sys_call.SysCall.{SysCall};
 ghost use Rattle.oci_profile.specs.declared.decision.Decision.{Decision};
 ghost use Rattle.oci_profile.specs.Decision.{value_of};
@@ -38,7 +39,8 @@ impl Arm {
     /// A number up to which the arm holds as it does at this one, or does not hold as it does not here.
     fn reach(&self, from: u64) -> u64
         ensures from_in { from ≤ result }
-        ensures alike { (arg : ℕ) → from ≤ arg → arg ≤ result → arm_holds self.now arg ≡ arm_holds self.now from }
+        ensures alike { (arg : ℕ) → from ≤ arg → arg ≤ result
+            → arm_holds self.now arg ≡ arm_holds self.now from }
     {
         match self.op {
             Op::Equal | Op::NotEqual => {
@@ -85,7 +87,8 @@ pub(crate) fn value_at(arms: &[Arm], arg: u64, other: u32) -> u32
 pub(crate) fn alike_to(arms: &[Arm], from: u64, last: u64) -> u64
     requires { from ≤ last }
     ensures inside { (from ≤ result) × (result ≤ last) }
-    ensures alike { (arg other : ℕ) → from ≤ arg → arg ≤ result → arms_value arms.now arg other ≡ arms_value arms.now from other }
+    ensures alike { (arg other : ℕ) → from ≤ arg → arg ≤ result
+        → arms_value arms.now arg other ≡ arms_value arms.now from other }
 {
     let mut end = last;
     for arm in arms {
@@ -99,7 +102,8 @@ fn arm_of(entry: &Entry, index: u32) -> Option<Arm>
     ensures index_in { IfSome result (λ _. index < 6) }
     ensures one { IfSome result (λ _. length entry.now.conds ≡ 1) }
     ensures value { IfSome result (λ arm. arm.value ≡ value_of entry.now.decision) }
-    ensures same { IfSome result (λ arm. (call : SysCall) → all_hold entry.now call ≡ arm_holds arm (slice_index call.args index)) }
+    ensures same { IfSome result (λ arm. (call : SysCall)
+        → all_hold entry.now call ≡ arm_holds arm (slice_index call.args index)) }
 {
     let conds = entry.conds.as_slice();
     if !is_single(conds) || u32::from(conds[0].index) != index || is_masked(conds[0].op) {
@@ -138,10 +142,13 @@ pub(crate) fn asked_arms(
     nr: u32,
 ) -> Result<Option<Arms>, AllocError>
     ensures same { IfOk result (λ found. IfSome found (λ it. (last : Decision) (call : SysCall)
-        → value_of (decision_of entries.now last nr call) ≡ arms_value it.arms.items (slice_index call.args it.index) (value_of last))) }
+        → value_of (decision_of entries.now last nr call)
+        ≡ arms_value it.arms.items (slice_index call.args it.index) (value_of last))) }
     ensures index_in { IfOk result (λ found. IfSome found (λ it. 0 < length it.arms.items → it.index < 6)) }
-    ensures many { IfOk result (λ found. IfSome found (λ it. 7 * length it.arms.items ≤ added_of entries.now nr)) }
-    ensures steps { IfOk result (λ found. IfSome found (λ it. 6 * length it.arms.items + 1 ≤ steps_at entries.now nr)) }
+    ensures many { IfOk result (λ found. IfSome found
+        (λ it. 7 * length it.arms.items ≤ added_of entries.now nr)) }
+    ensures steps { IfOk result (λ found. IfSome found
+        (λ it. 6 * length it.arms.items + 1 ≤ steps_at entries.now nr)) }
 {
     let index = asked(entries, nr);
     let mut arms = Vec::new(alloc);

@@ -1,4 +1,5 @@
-ghost use Rattle.std.specs.Prelude.{◌≡◌, All, drop, ◌≤◌, ◌<◌, ◌+◌, ◌-◌, ◌*◌, ◌==◌, ℕ, None, Some, length, IfOk, IfSome, OnOk, IsTrue, if◌then◌else◌, slice_index};
+ghost use Rattle.std.specs.Prelude.{◌≡◌, All, drop, ◌≤◌, ◌<◌, ◌+◌, ◌-◌, ◌*◌, ◌==◌, ℕ, None, Some, length};
+ghost use Rattle.std.specs.Prelude.{IfOk, IfSome, OnOk, IsTrue, if◌then◌else◌, slice_index};
 ghost use Rattle.call_data.specs.declared.sys_call.SysCall.{SysCall};
 ghost use Rattle.call_data.specs.CallData.{IsCall};
 ghost use Rattle.oci_profile.specs.Conditions.{AreConds};
@@ -37,7 +38,8 @@ pub(crate) struct Chain {
 /// The place of a chain whatever is in A: the load that is still to come is put in front.
 pub(crate) fn settle(code: &mut Code, chain: Chain) -> Result<usize, AllocError>
     requires stands { Stands code.old chain.known chain.place }
-    ensures gives { IfOk result (λ at. (call : SysCall) (value most : ℕ) → LinkGives code.old call chain.known chain.place value most
+    ensures gives { IfOk result (λ at. (call : SysCall) (value most : ℕ)
+        → LinkGives code.old call chain.known chain.place value most
         → GivesAlways code.new call at value most) }
     ensures inside { IfOk result (λ at. at < length code.new) }
     ensures recent { IfOk result (λ at. length code.new ≤ at + RECENT) }
@@ -87,7 +89,8 @@ fn test_all(
 fn only_equal(entry: &Entry) -> Option<(u32, u64)>
     ensures index_in { IfSome result (λ asked. asked.0 < 6) }
     ensures one { IfSome result (λ _. length entry.now.conds ≡ 1) }
-    ensures same { IfSome result (λ asked. (call : SysCall) → all_hold entry.now call ≡ (slice_index call.args asked.0 == asked.1)) }
+    ensures same { IfSome result (λ asked. (call : SysCall)
+        → all_hold entry.now call ≡ (slice_index call.args asked.0 == asked.1)) }
 {
     let conds = entry.conds.as_slice();
     if conds.len() != 1 || !is_equal(conds[0].op) {
@@ -104,7 +107,8 @@ fn is_equal(op: Op) -> bool
 
 /// The place of the check that the chain makes already, if it is this one and is near.
 fn shared(known: Option<Known>, len: usize, index: u32, high: u32, value: u32) -> Option<usize>
-    ensures same { IfSome result (λ check. known ≡ Some (record { index = index; high = high; value = value; check = check })) }
+    ensures same { IfSome result (λ check.
+        known ≡ Some (record { index = index; high = high; value = value; check = check })) }
     ensures recent { IfSome result (λ check. len ≤ check + RECENT) }
 {
     let known = known?;
@@ -129,12 +133,14 @@ fn check_of(
     requires stands { Stands code.old chain.known chain.place }
     ensures check { IfOk result (λ places. (call : SysCall) (other most : ℕ) → 0 < most
         → LinkGives code.old call chain.known chain.place other most
-        → GivesAlways code.new call places.0 (if data_word call (20 + 8 * index) == high then value else other) (most + 2)) }
+        → GivesAlways code.new call places.0 (if data_word call (20 + 8 * index) == high then value
+        else other) (most + 2)) }
     ensures miss { IfOk result (λ places. (call : SysCall) (other most : ℕ)
         → LinkGives code.old call chain.known chain.place other most
         → Gives code.new call places.1 (data_word call (16 + 8 * index)) other most) }
     ensures inside { IfOk result (λ places. (places.0 < length code.new) × (places.1 < length code.new)) }
-    ensures near { IfOk result (λ places. (length code.new ≤ places.0 + 1 + REACH) × (length code.new ≤ places.1 + 1 + REACH)) }
+    ensures near { IfOk result (λ places. (length code.new ≤ places.0 + 1 + REACH)
+        × (length code.new ≤ places.1 + 1 + REACH)) }
     ensures longer { OnOk result (length code.new ≤ length code.old + owed chain.known + 3) }
     ensures keeps { Keeps code.old code.new }
     ensures grows { length code.old ≤ length code.new }
@@ -161,9 +167,11 @@ fn equal_link(
     requires stands { Stands code.old chain.known chain.place }
     ensures gives { IfOk result (λ next. (call : SysCall) (other most : ℕ) → IsCall call → 0 < most
         → LinkGives code.old call chain.known chain.place other most
-        → LinkGives code.new call next.known next.place (if slice_index call.args index == with then value else other) (most + 6)) }
+        → LinkGives code.new call next.known next.place (if slice_index call.args index == with then value
+        else other) (most + 6)) }
     ensures stands { IfOk result (λ next. Stands code.new next.known next.place) }
-    ensures longer { IfOk result (λ next. length code.new + owed next.known ≤ length code.old + owed chain.known + 7) }
+    ensures longer { IfOk result (λ next. length code.new + owed next.known ≤ length code.old
+        + owed chain.known + 7) }
     ensures keeps { Keeps code.old code.new }
     ensures grows { length code.old ≤ length code.new }
 {
@@ -186,9 +194,11 @@ pub(crate) fn add_link(code: &mut Code, entry: &Entry, chain: Chain) -> Result<C
     requires stands { Stands code.old chain.known chain.place }
     ensures gives { IfOk result (λ next. (call : SysCall) (other most : ℕ) → IsCall call → 0 < most
         → LinkGives code.old call chain.known chain.place other most
-        → LinkGives code.new call next.known next.place (if all_hold entry.now call then value_of entry.now.decision else other) (most + 6 * length entry.now.conds)) }
+        → LinkGives code.new call next.known next.place (if all_hold entry.now call
+        then value_of entry.now.decision else other) (most + 6 * length entry.now.conds)) }
     ensures stands { IfOk result (λ next. Stands code.new next.known next.place) }
-    ensures longer { IfOk result (λ next. length code.new + owed next.known ≤ length code.old + owed chain.known + (1 + 6 * length entry.now.conds)) }
+    ensures longer { IfOk result (λ next. length code.new + owed next.known ≤ length code.old
+        + owed chain.known + (1 + 6 * length entry.now.conds)) }
     ensures keeps { Keeps code.old code.new }
     ensures grows { length code.old ≤ length code.new }
 {

@@ -1,4 +1,5 @@
-ghost use Rattle.std.specs.Prelude.{◌≡◌, ◌≤◌, ◌<◌, ◌+◌, ◌-◌, ◌*◌, ◌^◌, ℕ, IsTrue, length, IfOk, OnOk, slice_index};
+ghost use Rattle.std.specs.Prelude.{◌≡◌, ◌≤◌, ◌<◌, ◌+◌, ◌-◌, ◌*◌, ◌^◌, ℕ, IsTrue, length, IfOk, OnOk};
+ghost use Rattle.std.specs.Prelude.{slice_index};
 ghost use Rattle.call_data.specs.declared.sys_call.SysCall.{SysCall};
 ghost use Rattle.compile.specs.Backward.{Gives, Keeps};
 ghost use Rattle.compile.specs.Ranges.{IsBetween};
@@ -43,8 +44,10 @@ pub(crate) fn choice(
     requires paired { length places.now ≡ length starts.now }
     requires inside { (at : ℕ) → at < length places.now → slice_index places.now at < length code.old }
     requires short { length code.old + 3 * (to - from) < 2 ^ 32 + 3 }
-    ensures gives { IfOk result (λ place. (call : SysCall) (a value most levels : ℕ) → IsBetween starts.now from to a → to - from ≤ 2 ^ levels
-        → ((at : ℕ) → from ≤ at → at < to → IsBetween starts.now at (at + 1) a → Gives code.old call (slice_index places.now at) a value most)
+    ensures gives { IfOk result (λ place. (call : SysCall) (a value most levels : ℕ)
+        → IsBetween starts.now from to a → to - from ≤ 2 ^ levels
+        → ((at : ℕ) → from ≤ at → at < to → IsBetween starts.now at (at + 1) a
+        → Gives code.old call (slice_index places.now at) a value most)
         → Gives code.new call place a value (most + 2 * levels)) }
     ensures inside { IfOk result (λ place. place < length code.new) }
     ensures front { IfOk result (λ place. 1 < to - from → place + 1 ≡ length code.new) }

@@ -1,4 +1,6 @@
-ghost use Rattle.std.specs.Prelude.{◌≡◌, ◌≤◌, ◌<◌, ◌+◌, ◌-◌, ◌*◌, ◌%◌, ◌^◌, ℕ, List, [], reverse, Some, slice_get, length, IfOk, IfSome, OnOk, IsTrue, bit_and, if◌then◌else◌, ◌==◌, nat_lt, nat_le};
+ghost use Rattle.std.specs.Prelude.{◌≡◌, ◌≤◌, ◌<◌, ◌+◌, ◌-◌, ◌*◌, ◌%◌, ◌^◌, ℕ, List, [], reverse, Some};
+ghost use Rattle.std.specs.Prelude.{slice_get, length, IfOk, IfSome, OnOk, IsTrue, bit_and, if◌then◌else◌};
+ghost use Rattle.std.specs.Prelude.{◌==◌, nat_lt, nat_le};
 ghost use Rattle.bpf_code.specs.declared.insn.Insn.{Insn};
 ghost use Rattle.bpf_code.specs.declared.limits.TheConstants.{DATA_LEN, MAX_INSNS};
 ghost use Rattle.bpf_code.specs.declared.operation.Operation.TheVariants.{ReturnK};
@@ -138,7 +140,8 @@ impl Code {
         requires some { 0 < length self.old }
         requires inside { offset < DATA_LEN }
         requires aligned { offset % 4 ≡ 0 }
-        ensures gives { OnOk result ((call : SysCall) (a value most : ℕ) → Gives self.old call (length self.old - 1) (data_word call offset) value most
+        ensures gives { OnOk result ((call : SysCall) (a value most : ℕ)
+            → Gives self.old call (length self.old - 1) (data_word call offset) value most
             → Gives self.new call (length self.new - 1) a value (most + 1)) }
         ensures at { IfOk result (λ at. at + 1 ≡ length self.new) }
         ensures longer { OnOk result (length self.new ≡ length self.old + 1) }
@@ -156,7 +159,8 @@ impl Code {
     /// Keeps these bits of A alone, and goes on with the code.
     pub(crate) fn mask(&mut self, bits: u32) -> Result<usize, AllocError>
         requires some { 0 < length self.old }
-        ensures gives { OnOk result ((call : SysCall) (a value most : ℕ) → Gives self.old call (length self.old - 1) (bit_and a bits) value most
+        ensures gives { OnOk result ((call : SysCall) (a value most : ℕ)
+            → Gives self.old call (length self.old - 1) (bit_and a bits) value most
             → Gives self.new call (length self.new - 1) a value (most + 1)) }
         ensures at { IfOk result (λ at. at + 1 ≡ length self.new) }
         ensures longer { OnOk result (length self.new ≡ length self.old + 1) }
@@ -183,7 +187,8 @@ impl Code {
         requires miss_inside { miss < length self.old }
         requires hit_near { length self.old ≤ hit + 1 + REACH }
         requires miss_near { length self.old ≤ miss + 1 + REACH }
-        ensures gives { OnOk result ((call : SysCall) (a value most : ℕ) → Gives self.old call (if holds_of test k a then hit else miss) a value most
+        ensures gives { OnOk result ((call : SysCall) (a value most : ℕ)
+            → Gives self.old call (if holds_of test k a then hit else miss) a value most
             → Gives self.new call (length self.new - 1) a value (most + 1)) }
         ensures at { IfOk result (λ at. at + 1 ≡ length self.new) }
         ensures longer { OnOk result (length self.new ≡ length self.old + 1) }
@@ -207,8 +212,10 @@ impl Code {
         requires short { length self.old < 2 ^ 32 }
         ensures near { IfOk result (λ at. length self.new ≤ at + 1 + reach) }
         ensures inside { IfOk result (λ at. at < length self.new) }
-        ensures same { IfOk result (λ at. length self.old ≤ place + 1 + reach → (at ≡ place) × (self.new ≡ self.old)) }
-        ensures gives { IfOk result (λ at. (call : SysCall) (a value most : ℕ) → Gives self.old call place a value most
+        ensures same { IfOk result (λ at. length self.old ≤ place + 1 + reach → (at ≡ place)
+            × (self.new ≡ self.old)) }
+        ensures gives { IfOk result (λ at. (call : SysCall) (a value most : ℕ)
+            → Gives self.old call place a value most
             → Gives self.new call at a value (most + 1)) }
         ensures longer { length self.new ≤ length self.old + 1 }
         ensures keeps { Keeps self.old self.new }

@@ -38,8 +38,10 @@ fn assemble(
     requires many { 2 ≤ length starts.now }
     requires short { split_size profile.now starts.now singles.now 0 (length starts.now) + 4 ≤ MAX_INSNS }
     ensures sound { IfOk result (λ filter. IsSound filter) }
-    ensures long { IfOk result (λ filter. IsAsLong (split_size profile.now starts.now singles.now 0 (length starts.now)) (length filter)) }
-    ensures runs { IfOk result (λ filter. (call : SysCall) (levels most : ℕ) → IsCall call → IsEnough profile.now most → room ≤ 2 ^ levels
+    ensures long { IfOk result (λ filter. IsAsLong
+        (split_size profile.now starts.now singles.now 0 (length starts.now)) (length filter)) }
+    ensures runs { IfOk result (λ filter. (call : SysCall) (levels most : ℕ) → IsCall call
+        → IsEnough profile.now most → room ≤ 2 ^ levels
         → (steps : ℕ) × (steps ≤ most + 2 * levels + 3) × Runs filter call (meaning profile.now call) steps) }
 {
     words();
@@ -90,11 +92,14 @@ fn light_filter(alloc: Global, profile: &Profile) -> Result<Filter, AllocError>
     requires { weight profile.now ≤ MAX_INSNS }
     ensures sound { IfOk result (λ filter. IsSound filter) }
     ensures long { IfOk result (λ filter. length filter ≤ weight profile.now) }
-    ensures means { IfOk result (λ filter. (call : SysCall) → IsCall call → (steps : ℕ) × Runs filter call (meaning profile.now call) steps) }
+    ensures means { IfOk result (λ filter. (call : SysCall) → IsCall call → (steps : ℕ)
+        × Runs filter call (meaning profile.now call) steps) }
     ensures few { IfOk result (λ filter. AreBare profile.now.entries → (call : SysCall) (d : ℕ) → IsCall call
-        → HasDigits (2 * named_below profile.now.entries NUMBER_LIMIT + 1) d → (steps : ℕ) × (steps ≤ 5 + 2 * d) × Runs filter call (meaning profile.now call) steps) }
+        → HasDigits (2 * named_below profile.now.entries NUMBER_LIMIT + 1) d → (steps : ℕ)
+        × (steps ≤ 5 + 2 * d) × Runs filter call (meaning profile.now call) steps) }
     ensures bounded { IfOk result (λ filter. (call : SysCall) (d m : ℕ) → IsCall call
-        → HasDigits (2 * named_below profile.now.entries NUMBER_LIMIT + 1) d → ((nr : ℕ) → conditions_at profile.now.entries nr ≤ m)
+        → HasDigits (2 * named_below profile.now.entries NUMBER_LIMIT + 1) d
+        → ((nr : ℕ) → conditions_at profile.now.entries nr ≤ m)
         → (steps : ℕ) × (steps ≤ 10 + 2 * d + 6 * m) × Runs filter call (meaning profile.now call) steps) }
 {
     let plain = ranges(alloc, profile)?;
@@ -123,17 +128,20 @@ pub fn compile(alloc: Global, profile: &Profile) -> Result<Filter, CompileFault>
     ensures weighed { IfOk result (λ filter. length filter ≤ weight profile.now) }
 
     // At every call the filter's value is what the profile says.
-    ensures means { IfOk result (λ filter. (call : SysCall) → IsCall call → (steps : ℕ) × Runs filter call (meaning profile.now call) steps) }
+    ensures means { IfOk result (λ filter. (call : SysCall) → IsCall call → (steps : ℕ)
+        × Runs filter call (meaning profile.now call) steps) }
 
     // Where no entry has conditions, two steps for each binary digit of 2 w + 1 are enough, and five more;
     // w counts the numbers that are named, each once.
     ensures few { IfOk result (λ filter. AreBare profile.now.entries → (call : SysCall) (d : ℕ) → IsCall call
-        → HasDigits (2 * named_below profile.now.entries NUMBER_LIMIT + 1) d → (steps : ℕ) × (steps ≤ 5 + 2 * d) × Runs filter call (meaning profile.now call) steps) }
+        → HasDigits (2 * named_below profile.now.entries NUMBER_LIMIT + 1) d → (steps : ℕ)
+        × (steps ≤ 5 + 2 * d) × Runs filter call (meaning profile.now call) steps) }
 
     // Where the entries that name a number have at most m conditions, whatever the number is, it is six steps
     // more for each of these, and five more in all.
     ensures bounded { IfOk result (λ filter. (call : SysCall) (d m : ℕ) → IsCall call
-        → HasDigits (2 * named_below profile.now.entries NUMBER_LIMIT + 1) d → ((nr : ℕ) → conditions_at profile.now.entries nr ≤ m)
+        → HasDigits (2 * named_below profile.now.entries NUMBER_LIMIT + 1) d
+        → ((nr : ℕ) → conditions_at profile.now.entries nr ≤ m)
         → (steps : ℕ) × (steps ≤ 10 + 2 * d + 6 * m) × Runs filter call (meaning profile.now call) steps) }
 {
     if is_heavy(profile) {

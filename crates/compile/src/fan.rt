@@ -1,4 +1,5 @@
-ghost use Rattle.std.specs.Prelude.{◌≡◌, ◌≤◌, ◌<◌, ◌+◌, ◌*◌, ◌^◌, ◌==◌, ℕ, None, false, length, IfOk, IfSome, OnOk, slice_index, if◌then◌else◌};
+ghost use Rattle.std.specs.Prelude.{◌≡◌, ◌≤◌, ◌<◌, ◌+◌, ◌*◌, ◌^◌, ◌==◌, ℕ, None, false, length, IfOk, IfSome};
+ghost use Rattle.std.specs.Prelude.{OnOk, slice_index, if◌then◌else◌};
 ghost use Rattle.std.specs.List.{list_any};
 ghost use Rattle.call_data.specs.declared.sys_call.SysCall.{SysCall};
 ghost use Rattle.call_data.specs.CallData.{IsCall};
@@ -16,9 +17,11 @@ use std::alloc::{AllocError, Global};
 fn checked(code: &mut Code, plan: &Plan, value: u32) -> Result<usize, AllocError>
     requires index_in { plan.now.index < 6 }
     ensures gives { IfOk result (λ at. (call : SysCall)
-        → GivesAlways code.new call at (if data_word call (20 + 8 * plan.now.index) == plan.now.high then value else plan.now.beyond) 3) }
+        → GivesAlways code.new call at (if data_word call (20 + 8 * plan.now.index) == plan.now.high
+        then value else plan.now.beyond) 3) }
     ensures inside { IfOk result (λ at. at < length code.new) }
-    ensures longer { OnOk result (length code.new ≤ length code.old + (if value == plan.now.beyond then 1 else 4)) }
+    ensures longer { OnOk result (length code.new ≤ length code.old
+        + (if value == plan.now.beyond then 1 else 4)) }
     ensures keeps { Keeps code.old code.new }
     ensures grows { length code.old ≤ length code.new }
 {
@@ -49,12 +52,16 @@ fn leaf_at(code: &mut Code, plan: &Plan, places: &[usize], at: usize) -> Result<
     requires at_in { at < length plan.now.values.items }
     requires before { length places.now ≡ at }
     requires given { (call : SysCall) (k : ℕ) → k < at
-        → GivesAlways code.old call (slice_index places.now k) (if data_word call (20 + 8 * plan.now.index) == plan.now.high then slice_index plan.now.values.items k else plan.now.beyond) 3 }
+        → GivesAlways code.old call (slice_index places.now k)
+        (if data_word call (20 + 8 * plan.now.index) == plan.now.high
+        then slice_index plan.now.values.items k else plan.now.beyond) 3 }
     requires inside { (k : ℕ) → k < at → slice_index places.now k < length code.old }
     ensures gives { IfOk result (λ place. (call : SysCall)
-        → GivesAlways code.new call place (if data_word call (20 + 8 * plan.now.index) == plan.now.high then slice_index plan.now.values.items at else plan.now.beyond) 3) }
+        → GivesAlways code.new call place (if data_word call (20 + 8 * plan.now.index) == plan.now.high
+        then slice_index plan.now.values.items at else plan.now.beyond) 3) }
     ensures inside { IfOk result (λ place. place < length code.new) }
-    ensures longer { OnOk result (length code.new ≤ length code.old + leaf_size plan.now.values.items plan.now.beyond at) }
+    ensures longer { OnOk result (length code.new ≤ length code.old
+        + leaf_size plan.now.values.items plan.now.beyond at) }
     ensures keeps { Keeps code.old code.new }
     ensures grows { length code.old ≤ length code.new }
 {
@@ -69,10 +76,14 @@ fn leaf_at(code: &mut Code, plan: &Plan, places: &[usize], at: usize) -> Result<
 fn leaves(code: &mut Code, alloc: Global, plan: &Plan) -> Result<Vec<usize>, AllocError>
     requires index_in { plan.now.index < 6 }
     ensures gives { IfOk result (λ places. (call : SysCall) (k : ℕ) → k < length plan.now.values.items
-        → GivesAlways code.new call (slice_index places.items k) (if data_word call (20 + 8 * plan.now.index) == plan.now.high then slice_index plan.now.values.items k else plan.now.beyond) 3) }
+        → GivesAlways code.new call (slice_index places.items k)
+        (if data_word call (20 + 8 * plan.now.index) == plan.now.high
+        then slice_index plan.now.values.items k else plan.now.beyond) 3) }
     ensures many { IfOk result (λ places. length places.items ≡ length plan.now.values.items) }
-    ensures inside { IfOk result (λ places. (k : ℕ) → k < length plan.now.values.items → slice_index places.items k < length code.new) }
-    ensures longer { OnOk result (length code.new ≤ length code.old + leaf_sizes plan.now.values.items plan.now.beyond (length plan.now.values.items)) }
+    ensures inside { IfOk result (λ places. (k : ℕ) → k < length plan.now.values.items
+        → slice_index places.items k < length code.new) }
+    ensures longer { OnOk result (length code.new ≤ length code.old
+        + leaf_sizes plan.now.values.items plan.now.beyond (length plan.now.values.items)) }
     ensures keeps { Keeps code.old code.new }
     ensures grows { length code.old ≤ length code.new }
 {
@@ -89,12 +100,16 @@ fn leaves(code: &mut Code, alloc: Global, plan: &Plan) -> Result<Vec<usize>, All
 pub(crate) fn fan(code: &mut Code, alloc: Global, plan: &Plan) -> Result<usize, AllocError>
     requires index_in { plan.now.index < 6 }
     requires whole { AreWhole plan.now.starts.items plan.now.values.items }
-    requires short { length code.old + leaf_sizes plan.now.values.items plan.now.beyond (length plan.now.values.items) + 3 * length plan.now.starts.items < 2 ^ 32 + 3 }
-    ensures gives { IfOk result (λ place. (call : SysCall) (value levels : ℕ) → IsCall call → Plans plan.now call value → length plan.now.starts.items ≤ 2 ^ levels
+    requires short { length code.old + leaf_sizes plan.now.values.items plan.now.beyond
+        (length plan.now.values.items) + 3 * length plan.now.starts.items < 2 ^ 32 + 3 }
+    ensures gives { IfOk result (λ place. (call : SysCall) (value levels : ℕ) → IsCall call
+        → Plans plan.now call value → length plan.now.starts.items ≤ 2 ^ levels
         → GivesAlways code.new call place value (4 + 2 * levels)) }
     ensures inside { IfOk result (λ place. place < length code.new) }
     ensures recent { IfOk result (λ place. length code.new ≤ place + RECENT) }
-    ensures longer { OnOk result (length code.new + 2 ≤ length code.old + leaf_sizes plan.now.values.items plan.now.beyond (length plan.now.values.items) + 3 * length plan.now.starts.items) }
+    ensures longer { OnOk result (length code.new + 2 ≤ length code.old
+        + leaf_sizes plan.now.values.items plan.now.beyond (length plan.now.values.items)
+        + 3 * length plan.now.starts.items) }
     ensures keeps { Keeps code.old code.new }
     ensures grows { length code.old ≤ length code.new }
 {

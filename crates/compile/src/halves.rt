@@ -1,4 +1,5 @@
-ghost use Rattle.std.specs.Prelude.{◌≡◌, ◌≢◌, ◌≤◌, ◌<◌, ◌+◌, ◌-◌, ◌*◌, ◌/◌, ◌%◌, ◌^◌, ◌==◌, ℕ, length, IfOk, IsTrue, OnOk, bit_and, if◌then◌else◌, nat_lt, slice_index};
+ghost use Rattle.std.specs.Prelude.{◌≡◌, ◌≢◌, ◌≤◌, ◌<◌, ◌+◌, ◌-◌, ◌*◌, ◌/◌, ◌%◌, ◌^◌, ◌==◌, ℕ, length, IfOk};
+ghost use Rattle.std.specs.Prelude.{IsTrue, OnOk, bit_and, if◌then◌else◌, nat_lt, slice_index};
 ghost use Rattle.bpf_code.specs.declared.limits.TheConstants.{DATA_LEN};
 ghost use Rattle.call_data.specs.declared.sys_call.SysCall.{SysCall};
 ghost use Rattle.call_data.specs.CallData.{IsCall};
@@ -30,8 +31,10 @@ pub(crate) fn low(number: u64) -> u32
 pub(crate) fn words()
     ensures nr { (call : SysCall) → IsCall call → data_word call 0 ≡ call.nr }
     ensures arch { (call : SysCall) → IsCall call → data_word call 4 ≡ call.arch }
-    ensures low { (call : SysCall) (i : ℕ) → IsCall call → i < 6 → data_word call (16 + 8 * i) ≡ slice_index call.args i % 2 ^ 32 }
-    ensures high { (call : SysCall) (i : ℕ) → IsCall call → i < 6 → data_word call (20 + 8 * i) ≡ slice_index call.args i / 2 ^ 32 }
+    ensures low { (call : SysCall) (i : ℕ) → IsCall call → i < 6
+        → data_word call (16 + 8 * i) ≡ slice_index call.args i % 2 ^ 32 }
+    ensures high { (call : SysCall) (i : ℕ) → IsCall call → i < 6
+        → data_word call (20 + 8 * i) ≡ slice_index call.args i / 2 ^ 32 }
 {
     words_of_fields();
 }
@@ -79,7 +82,8 @@ fn test_bits(
     requires hit_near { length code.old ≤ hit + 1 + REACH }
     requires miss_near { length code.old ≤ miss + 1 + REACH }
     ensures gives { OnOk result ((call : SysCall) (value most : ℕ)
-        → GivesAlways code.old call (if bit_and (data_word call offset) mask == with then hit else miss) value most
+        → GivesAlways code.old call (if bit_and (data_word call offset) mask == with then hit
+        else miss) value most
         → GivesAlways code.new call (length code.new - 1) value (most + 3)) }
     ensures at { IfOk result (λ at. at + 1 ≡ length code.new) }
     ensures longer { OnOk result (length code.new ≡ length code.old + 3) }
@@ -109,7 +113,8 @@ fn test_order(
     requires equal_near { length code.old ≤ equal + 1 + REACH }
     requires below_near { length code.old ≤ below + 1 + REACH }
     ensures gives { OnOk result ((call : SysCall) (value most : ℕ)
-        → GivesAlways code.old call (if nat_lt k (data_word call offset) then above else if data_word call offset == k then equal else below) value most
+        → GivesAlways code.old call (if nat_lt k (data_word call offset) then above
+        else if data_word call offset == k then equal else below) value most
         → GivesAlways code.new call (length code.new - 1) value (most + 3)) }
     ensures at { IfOk result (λ at. at + 1 ≡ length code.new) }
     ensures longer { OnOk result (length code.new ≡ length code.old + 3) }
@@ -167,7 +172,8 @@ pub(crate) fn test_from(
     requires hit_near { length code.old + 5 ≤ hit + 1 + REACH }
     requires miss_near { length code.old + 5 ≤ miss + 1 + REACH }
     ensures gives { OnOk result ((call : SysCall) (value most : ℕ) → IsCall call
-        → GivesAlways code.old call (if holds_of test with (slice_index call.args index) then hit else miss) value most
+        → GivesAlways code.old call (if holds_of test with (slice_index call.args index) then hit
+        else miss) value most
         → GivesAlways code.new call (length code.new - 1) value (most + 6)) }
     ensures at { IfOk result (λ at. at + 1 ≡ length code.new) }
     ensures longer { OnOk result (length code.new ≤ length code.old + 6) }
@@ -206,7 +212,8 @@ pub(crate) fn test_masked(
     requires hit_near { length code.old + 5 ≤ hit + 1 + REACH }
     requires miss_near { length code.old + 5 ≤ miss + 1 + REACH }
     ensures gives { OnOk result ((call : SysCall) (value most : ℕ) → IsCall call
-        → GivesAlways code.old call (if bit_and (slice_index call.args index) mask == with then hit else miss) value most
+        → GivesAlways code.old call (if bit_and (slice_index call.args index) mask == with then hit
+        else miss) value most
         → GivesAlways code.new call (length code.new - 1) value (most + 6)) }
     ensures at { IfOk result (λ at. at + 1 ≡ length code.new) }
     ensures longer { OnOk result (length code.new ≤ length code.old + 6) }

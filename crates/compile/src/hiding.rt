@@ -25,14 +25,16 @@ pub(crate) fn is_hidden(before: &[Entry], entry: &Entry, nr: u32) -> bool
 
 /// Whether an entry has one condition alone, which the other one has too.
 fn hides(earlier: &Entry, entry: &Entry) -> bool
-    ensures { IsTrue result → (call : SysCall) → all_hold entry.now call ≡ true → all_hold earlier.now call ≡ true }
+    ensures { IsTrue result → (call : SysCall) → all_hold entry.now call ≡ true
+        → all_hold earlier.now call ≡ true }
 {
     let conds = earlier.conds.as_slice();
     conds.len() == 1 && has(entry.conds.as_slice(), &conds[0])
 }
 
 fn has(conds: &[Cond], wanted: &Cond) -> bool
-    ensures { IsTrue result → (call : SysCall) → all_of conds.now call ≡ true → holds_on wanted.now call ≡ true }
+    ensures { IsTrue result → (call : SysCall) → all_of conds.now call ≡ true
+        → holds_on wanted.now call ≡ true }
 {
     for cond in conds {
         if is_same(cond, wanted) {

@@ -1,4 +1,5 @@
-ghost use Rattle.std.specs.Prelude.{◌≡◌, ◌≤◌, ◌<◌, ◌+◌, ◌*◌, ◌^◌, ◌&&◌, ℕ, length, take, drop, IfOk, IsTrue, OnOk, true, false, if◌then◌else◌};
+ghost use Rattle.std.specs.Prelude.{◌≡◌, ◌≤◌, ◌<◌, ◌+◌, ◌*◌, ◌^◌, ◌&&◌, ℕ, length, take, drop, IfOk, IsTrue};
+ghost use Rattle.std.specs.Prelude.{OnOk, true, false, if◌then◌else◌};
 ghost use Rattle.std.specs.Bool.{OnFalse};
 ghost use Rattle.call_data.specs.declared.sys_call.SysCall.{SysCall};
 ghost use Rattle.call_data.specs.CallData.{IsCall};
@@ -30,7 +31,8 @@ pub(crate) fn decides(entry: &Entry, nr: u32) -> bool
 /// How many entries come before the first that decides of the number without a condition, and what is
 /// decided behind them. What follows it is never asked.
 fn bare_end(entries: &[Entry], default: Decision, nr: u32) -> (usize, Decision)
-    ensures same { (call : SysCall) → decision_of entries.now default nr call ≡ decision_of (take result.0 entries.now) result.1 nr call }
+    ensures same { (call : SysCall) → decision_of entries.now default nr call
+        ≡ decision_of (take result.0 entries.now) result.1 nr call }
     ensures inside { result.0 ≤ length entries.now }
     ensures bare { AreBare entries.now → added_of (take result.0 entries.now) nr ≡ 0 }
 {
@@ -47,9 +49,12 @@ fn add_named(code: &mut Code, entry: &Entry, nr: u32, chain: Chain) -> Result<Ch
     requires stands { Stands code.old chain.known chain.place }
     ensures gives { IfOk result (λ next. (call : SysCall) (other most : ℕ) → IsCall call → 0 < most
         → LinkGives code.old call chain.known chain.place other most
-        → LinkGives code.new call next.known next.place (if names entry.now nr && all_hold entry.now call then value_of entry.now.decision else other) (most + 6 * (if names entry.now nr then length entry.now.conds else 0))) }
+        → LinkGives code.new call next.known next.place (if names entry.now nr && all_hold entry.now call
+        then value_of entry.now.decision else other)
+        (most + 6 * (if names entry.now nr then length entry.now.conds else 0))) }
     ensures stands { IfOk result (λ next. Stands code.new next.known next.place) }
-    ensures longer { IfOk result (λ next. length code.new + owed next.known ≤ length code.old + owed chain.known + (if names entry.now nr then 1 + 6 * length entry.now.conds else 0)) }
+    ensures longer { IfOk result (λ next. length code.new + owed next.known ≤ length code.old
+        + owed chain.known + (if names entry.now nr then 1 + 6 * length entry.now.conds else 0)) }
     ensures keeps { Keeps code.old code.new }
     ensures grows { length code.old ≤ length code.new }
 {
@@ -71,9 +76,12 @@ fn add_seen(
     requires at_in { at < length entries.now }
     requires stands { Stands code.old chain.known chain.place }
     ensures gives { IfOk result (λ next. (call : SysCall) (last : Decision) → IsCall call
-        → ChainGives code.old call chain.known chain.place entries.now last nr (at + 1) → ChainGives code.new call next.known next.place entries.now last nr at) }
+        → ChainGives code.old call chain.known chain.place entries.now last nr (at + 1)
+        → ChainGives code.new call next.known next.place entries.now last nr at) }
     ensures stands { IfOk result (λ next. Stands code.new next.known next.place) }
-    ensures longer { IfOk result (λ next. length code.new + owed next.known + added_of (drop (at + 1) entries.now) nr ≤ length code.old + owed chain.known + added_of (drop at entries.now) nr) }
+    ensures longer { IfOk result (λ next. length code.new + owed next.known
+        + added_of (drop (at + 1) entries.now) nr ≤ length code.old + owed chain.known
+        + added_of (drop at entries.now) nr) }
     ensures keeps { Keeps code.old code.new }
     ensures grows { length code.old ≤ length code.new }
 {
@@ -94,7 +102,8 @@ fn chain_leaf(
     nr: u32,
 ) -> Result<usize, AllocError>
     ensures gives { IfOk result (λ at. (call : SysCall) → IsCall call
-        → GivesAlways code.new call at (value_of (decision_of entries.now last nr call)) (steps_at entries.now nr)) }
+        → GivesAlways code.new call at (value_of (decision_of entries.now last nr call))
+        (steps_at entries.now nr)) }
     ensures inside { IfOk result (λ at. at < length code.new) }
     ensures recent { IfOk result (λ at. length code.new ≤ at + RECENT) }
     ensures longer { OnOk result (length code.new ≤ length code.old + 1 + added_of entries.now nr) }
@@ -119,7 +128,8 @@ fn entries_leaf(
 ) -> Result<usize, AllocError>
     requires short { length code.old + added_of entries.now nr < 2 ^ 32 }
     ensures gives { IfOk result (λ at. (call : SysCall) → IsCall call
-        → GivesAlways code.new call at (value_of (decision_of entries.now last.now nr call)) (steps_at entries.now nr)) }
+        → GivesAlways code.new call at (value_of (decision_of entries.now last.now nr call))
+        (steps_at entries.now nr)) }
     ensures inside { IfOk result (λ at. at < length code.new) }
     ensures recent { IfOk result (λ at. length code.new ≤ at + RECENT) }
     ensures longer { OnOk result (length code.new ≤ length code.old + 1 + added_of entries.now nr) }

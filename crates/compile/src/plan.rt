@@ -1,4 +1,5 @@
-ghost use Rattle.std.specs.Prelude.{◌≡◌, ◌≢◌, ◌≤◌, ◌<◌, ◌+◌, ◌*◌, ◌/◌, ◌^◌, ◌||◌, not, ◌==◌, ℕ, IsTrue, length, IfOk, IfSome, slice_index, take};
+ghost use Rattle.std.specs.Prelude.{◌≡◌, ◌≢◌, ◌≤◌, ◌<◌, ◌+◌, ◌*◌, ◌/◌, ◌^◌, ◌||◌, not, ◌==◌, ℕ, IsTrue};
+ghost use Rattle.std.specs.Prelude.{length, IfOk, IfSome, slice_index, take};
 ghost use Rattle.std.specs.List.{list_any};
 ghost use Rattle.std.specs.Bool.{OnFalse};
 ghost use Rattle.call_data.specs.declared.sys_call.SysCall.{SysCall};
@@ -32,7 +33,8 @@ pub(crate) struct Plan {
 /// What is returned for all arguments from one to another, if it is the same.
 fn constant(arms: &[Arm], from: u64, to: u64, other: u32) -> Option<u32>
     requires { from ≤ to }
-    ensures { IfSome result (λ value. (arg : ℕ) → from ≤ arg → arg ≤ to → arms_value arms.now arg other ≡ value) }
+    ensures { IfSome result (λ value. (arg : ℕ) → from ≤ arg → arg ≤ to
+        → arms_value arms.now arg other ≡ value) }
 {
     if alike_to(arms, from, to) == to {
         Some(value_at(arms, from, other))
@@ -43,7 +45,8 @@ fn constant(arms: &[Arm], from: u64, to: u64, other: u32) -> Option<u32>
 
 /// What is returned for all arguments with another upper half, if it is the same.
 fn beyond(arms: &[Arm], high: u32, other: u32) -> Option<u32>
-    ensures { IfSome result (λ value. (arg : ℕ) → arg < 2 ^ 64 → arg / 2 ^ 32 ≢ high → arms_value arms.now arg other ≡ value) }
+    ensures { IfSome result (λ value. (arg : ℕ) → arg < 2 ^ 64 → arg / 2 ^ 32 ≢ high
+        → arms_value arms.now arg other ≡ value) }
 {
     let first = u64::from(high) * HALF;
     let last = first + (HALF - 1);
@@ -118,13 +121,17 @@ fn is_equal(op: Op) -> bool {
 /// The plan for a number's arms, if it is no longer and no slower than a chain may be.
 fn plan_of(alloc: Global, asked: &Arms, other: u32) -> Result<Option<Plan>, AllocError>
     requires some { 0 < length asked.now.arms.items }
-    ensures plans { IfOk result (λ found. IfSome found (λ plan. (call : SysCall) → IsCall call → asked.now.index < 6
+    ensures plans { IfOk result (λ found. IfSome found (λ plan. (call : SysCall) → IsCall call
+        → asked.now.index < 6
         → Plans plan call (arms_value asked.now.arms.items (slice_index call.args asked.now.index) other))) }
     ensures index { IfOk result (λ found. IfSome found (λ plan. plan.index ≡ asked.now.index)) }
-    ensures ranges { IfOk result (λ found. IfSome found (λ plan. AreWhole plan.starts.items plan.values.items)) }
+    ensures ranges { IfOk result (λ found.
+        IfSome found (λ plan. AreWhole plan.starts.items plan.values.items)) }
     ensures short { IfOk result (λ found. IfSome found (λ plan.
-        leaf_sizes plan.values.items plan.beyond (length plan.values.items) + 3 * length plan.starts.items ≤ 7 * length asked.now.arms.items + 3)) }
-    ensures few { IfOk result (λ found. IfSome found (λ plan. length plan.starts.items + 2 ≤ 3 * length asked.now.arms.items)) }
+        leaf_sizes plan.values.items plan.beyond (length plan.values.items)
+        + 3 * length plan.starts.items ≤ 7 * length asked.now.arms.items + 3)) }
+    ensures few { IfOk result (λ found. IfSome found (λ plan.
+        length plan.starts.items + 2 ≤ 3 * length asked.now.arms.items)) }
 {
     let arms = asked.arms.as_slice();
     let high = high(arms[0].with);
@@ -148,7 +155,8 @@ fn plan_of(alloc: Global, asked: &Arms, other: u32) -> Result<Option<Plan>, Allo
 fn is_small(lows: &Lows, beyond: u32, links: usize) -> bool
     requires values { length lows.now.values.items ≤ 2 ^ 32 }
     requires starts { length lows.now.starts.items ≤ 2 ^ 32 }
-    ensures short { IsTrue result → leaf_sizes lows.now.values.items beyond (length lows.now.values.items) + 3 * length lows.now.starts.items ≤ 7 * links + 3 }
+    ensures short { IsTrue result → leaf_sizes lows.now.values.items beyond (length lows.now.values.items)
+        + 3 * length lows.now.starts.items ≤ 7 * links + 3 }
     ensures few { IsTrue result → length lows.now.starts.items + 2 ≤ 3 * links }
 {
     let many = lows.starts.len();
@@ -166,12 +174,16 @@ pub(crate) fn plan_for(
     last: Decision,
     nr: u32,
 ) -> Result<Option<Plan>, AllocError>
-    ensures plans { IfOk result (λ found. IfSome found (λ plan. (call : SysCall) → IsCall call → Plans plan call (value_of (decision_of entries.now last nr call)))) }
+    ensures plans { IfOk result (λ found. IfSome found (λ plan. (call : SysCall) → IsCall call
+        → Plans plan call (value_of (decision_of entries.now last nr call)))) }
     ensures index_in { IfOk result (λ found. IfSome found (λ plan. plan.index < 6)) }
-    ensures ranges { IfOk result (λ found. IfSome found (λ plan. AreWhole plan.starts.items plan.values.items)) }
+    ensures ranges { IfOk result (λ found.
+        IfSome found (λ plan. AreWhole plan.starts.items plan.values.items)) }
     ensures short { IfOk result (λ found. IfSome found (λ plan.
-        leaf_sizes plan.values.items plan.beyond (length plan.values.items) + 3 * length plan.starts.items ≤ added_of entries.now nr + 3)) }
-    ensures few { IfOk result (λ found. IfSome found (λ plan. 2 * length plan.starts.items + 5 ≤ steps_at entries.now nr)) }
+        leaf_sizes plan.values.items plan.beyond (length plan.values.items)
+        + 3 * length plan.starts.items ≤ added_of entries.now nr + 3)) }
+    ensures few { IfOk result (λ found. IfSome found (λ plan.
+        2 * length plan.starts.items + 5 ≤ steps_at entries.now nr)) }
 {
     let Some(asked) = asked_arms(alloc, entries, nr)? else {
         return Ok(None);

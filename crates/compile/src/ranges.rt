@@ -1,4 +1,5 @@
-ghost use Rattle.std.specs.Prelude.{◌≡◌, ◌≢◌, ◌≤◌, ◌<◌, ◌+◌, ◌*◌, ℕ, None, Some, length, vec_len, IfOk, IfSome, IsTrue, IsSome, false, if◌then◌else◌};
+ghost use Rattle.std.specs.Prelude.{◌≡◌, ◌≢◌, ◌≤◌, ◌<◌, ◌+◌, ◌*◌, ℕ, None, Some, length, vec_len, IfOk};
+ghost use Rattle.std.specs.Prelude.{IfSome, IsTrue, IsSome, false, if◌then◌else◌};
 ghost use Rattle.std.specs.Bool.{OnFalse};
 ghost use Rattle.call_data.specs.declared.sys_call.SysCall.{SysCall};
 ghost use Rattle.oci_profile.specs.Decision.{value_of};
@@ -17,7 +18,8 @@ use sys_table::NUMBER_LIMIT;
 /// What is returned for a number whatever the arguments are, if the number alone decides.
 pub(crate) fn decided(profile: &Profile, nr: u32) -> Option<u32>
     ensures value { IfSome result (λ value. (call : SysCall) → chosen profile.now nr call ≡ value) }
-    ensures unnamed { named profile.now.entries nr ≡ false → nr < 0x40000000 → result ≡ Some (value_of profile.now.default) }
+    ensures unnamed { named profile.now.entries nr ≡ false → nr < 0x40000000
+        → result ≡ Some (value_of profile.now.default) }
     ensures fit { AreEntries profile.now.entries }
 {
     let entries = profile.entries.as_slice();
@@ -28,7 +30,8 @@ pub(crate) fn decided(profile: &Profile, nr: u32) -> Option<u32>
 }
 
 fn decided_by(entries: &[Entry], default: Decision, nr: u32) -> Option<u32>
-    ensures value { IfSome result (λ value. (call : SysCall) → value_of (decision_of entries.now default nr call) ≡ value) }
+    ensures value { IfSome result (λ value. (call : SysCall)
+        → value_of (decision_of entries.now default nr call) ≡ value) }
     ensures unnamed { named entries.now nr ≡ false → result ≡ Some (value_of default) }
 {
     for entry in entries {
@@ -59,8 +62,10 @@ pub(crate) fn ranges(alloc: Global, profile: &Profile) -> Result<Vec<u32>, Alloc
     ensures ranges { IfOk result (λ starts. AreRanges profile.now starts.items) }
     ensures many { IfOk result (λ starts. 2 ≤ length starts.items) }
     ensures fit { IfOk result (λ _. AreEntries profile.now.entries) }
-    ensures few { IfOk result (λ starts. length starts.items ≤ 2 + 2 * named_below profile.now.entries NUMBER_LIMIT) }
-    ensures short { IfOk result (λ starts. split_size profile.now starts.items starts.items 0 (length starts.items)
+    ensures few { IfOk result (λ starts. length starts.items ≤ 2
+        + 2 * named_below profile.now.entries NUMBER_LIMIT) }
+    ensures short { IfOk result (λ starts.
+        split_size profile.now starts.items starts.items 0 (length starts.items)
         ≤ 3 * length starts.items + added_below profile.now.entries (NUMBER_LIMIT + 1)) }
 {
     let mut starts = Vec::new(alloc);

@@ -31,7 +31,8 @@ pub(crate) fn with_singles(
     ensures split { IfOk result (λ ranges. AreSplit profile.now ranges.starts.items ranges.singles.items) }
     ensures few { IfOk result (λ ranges. length ranges.starts.items ≤ length starts.now) }
     ensures many { IfOk result (λ ranges. 2 ≤ length starts.now → 2 ≤ length ranges.starts.items) }
-    ensures short { IfOk result (λ ranges. split_size profile.now ranges.starts.items ranges.singles.items 0 (length ranges.starts.items)
+    ensures short { IfOk result (λ ranges.
+        split_size profile.now ranges.starts.items ranges.singles.items 0 (length ranges.starts.items)
         ≤ split_size profile.now starts.now starts.now 0 (length starts.now)) }
 {
     let mut news = Vec::new(alloc);
@@ -58,7 +59,8 @@ fn next_range(profile: &Profile, starts: &[u32], at: usize) -> (u32, usize)
     ensures inside { result.1 ≤ length starts.now }
     ensures onward { at < result.1 }
     ensures last { result.1 ≡ length starts.now → result.1 ≡ at + 1 }
-    ensures short { range_size profile.now (slice_index starts.now at) result.0 + 2 ≤ split_size profile.now starts.now starts.now at (result.1 - at) }
+    ensures short { range_size profile.now (slice_index starts.now at) result.0
+        + 2 ≤ split_size profile.now starts.now starts.now at (result.1 - at) }
     ensures alike { (nr : ℕ) (call : SysCall) → IsBetween starts.now at result.1 nr → nr ≢ result.0
         → chosen profile.now nr call ≡ chosen profile.now (slice_index starts.now at) call }
 {
@@ -75,7 +77,9 @@ fn has_single(profile: &Profile, starts: &[u32], at: usize) -> bool
     requires at_in { at < length starts.now }
     ensures inside { IsTrue result → at + 3 < length starts.now }
     ensures one { IsTrue result → slice_index starts.now (at + 2) ≡ slice_index starts.now (at + 1) + 1 }
-    ensures alike { IsTrue result → (call : SysCall) → chosen profile.now (slice_index starts.now (at + 2)) call ≡ chosen profile.now (slice_index starts.now at) call }
+    ensures alike { IsTrue result → (call : SysCall)
+        → chosen profile.now (slice_index starts.now (at + 2)) call
+        ≡ chosen profile.now (slice_index starts.now at) call }
 {
     if starts.len() - at < 4 || starts[at + 1] >= starts[at + 2] {
         return false;

@@ -58,18 +58,23 @@ pub(crate) fn tree(
     requires split { AreSplit profile.now starts.now singles.now }
     requires some { from < to }
     requires to_in { to ≤ length starts.now }
-    requires short { length code.old + split_size profile.now starts.now singles.now from (to - from) < 2 ^ 32 }
-    ensures gives { IfOk result (λ at. (call : SysCall) (levels most : ℕ) → IsCall call → IsEnough profile.now most
+    requires short { length code.old + split_size profile.now starts.now singles.now from
+        (to - from) < 2 ^ 32 }
+    ensures gives { IfOk result (λ at. (call : SysCall) (levels most : ℕ) → IsCall call
+        → IsEnough profile.now most
         → IsBetween starts.now from to call.nr → room ≤ 2 ^ levels
         → Gives code.new call at call.nr (chosen profile.now call.nr call) (most + 2 * levels)) }
     ensures inside { IfOk result (λ at. at < length code.new) }
     ensures recent { IfOk result (λ at. length code.new ≤ at + RECENT) }
     ensures front { IfOk result (λ at. 1 < to - from → at + 1 ≡ length code.new) }
-    ensures longer { OnOk result (length code.new + 2 ≤ length code.old + split_size profile.now starts.now singles.now from (to - from)) }
+    ensures longer { OnOk result (length code.new + 2 ≤ length code.old
+        + split_size profile.now starts.now singles.now from (to - from)) }
 
     // In little code no jump is too far.
-    ensures compact { OnOk result (1 < to - from → length code.old + split_size profile.now starts.now singles.now from (to - from) ≤ RECENT
-        → length code.new + 3 ≤ length code.old + split_size profile.now starts.now singles.now from (to - from)) }
+    ensures compact { OnOk result (1 < to - from
+        → length code.old + split_size profile.now starts.now singles.now from (to - from) ≤ RECENT
+        → length code.new + 3 ≤ length code.old + split_size profile.now starts.now singles.now from
+        (to - from)) }
     ensures keeps { Keeps code.old code.new }
     ensures grows { length code.old ≤ length code.new }
 {

@@ -8,7 +8,8 @@ use Rattle.cri_msgs.specs.declared.version.Version.{Version}
 use Rattle.cri_msgs.specs.Replies.{ReadsReply}
 use Rattle.cri_msgs.specs.Written.{request_text}
 use Rattle.cri_frames.specs.declared.faults.Lost.{Lost}
-use Rattle.cri_frames.specs.declared.faults.Lost.TheVariants.{WriteFailed, ReadFailed, Ended, BadFrame, WrongNumber, Memory}
+use Rattle.cri_frames.specs.declared.faults.Lost.TheVariants.{WriteFailed, ReadFailed, Ended, BadFrame}
+use Rattle.cri_frames.specs.declared.faults.Lost.TheVariants.{WrongNumber, Memory}
 use Rattle.cri_frames.specs.Frames.{IsLength, frame_of}
 use Rattle.cri_frames.specs.Received.{HasNoHead, TakesPart}
 
@@ -36,9 +37,11 @@ pub record TakesOther (version : Version) (id : ℕ) (old new : Option (List ℕ
   pub takes : TakesReply version old new reply
   pub other : reply.id ≢ id
 
--- what was written where a call was lost: all of the request's frame, but where a write failed or memory ran out
+-- what was written where a call was lost: all of the request's frame, but where a write failed or memory ran
+-- out
 abbrev pub Sends : Version → Request → Option (List ℕ) → Option (List ℕ) → Lost → Type 0
-Sends version request old new (WriteFailed count) = (count < length (frame_of_request version request)) × Appends old new (take count (frame_of_request version request))
+Sends version request old new (WriteFailed count) = (count < length (frame_of_request version request))
+    × Appends old new (take count (frame_of_request version request))
 Sends version request old new ReadFailed = Appends old new (frame_of_request version request)
 Sends version request old new Ended = Appends old new (frame_of_request version request)
 Sends version request old new BadFrame = Appends old new (frame_of_request version request)

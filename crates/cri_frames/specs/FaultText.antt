@@ -4,7 +4,8 @@ use Rattle.std.specs.Fmt.{decimal}
 use Rattle.cri_frames.specs.declared.faults.FeedFault.{FeedFault}
 use Rattle.cri_frames.specs.declared.faults.FeedFault.TheVariants.{BadLength, Memory}
 use Rattle.cri_frames.specs.declared.faults.Lost.{Lost}
-use Rattle.cri_frames.specs.declared.faults.Lost.TheVariants.{WriteFailed, ReadFailed, Ended, BadFrame, WrongNumber, Memory as LostMemory}
+use Rattle.cri_frames.specs.declared.faults.Lost.TheVariants.{WriteFailed, ReadFailed, Ended, BadFrame}
+use Rattle.cri_frames.specs.declared.faults.Lost.TheVariants.{WrongNumber, Memory as LostMemory}
 
 abbrev pub feed_fault_text : FeedFault → List ℕ
 feed_fault_text BadLength = codes "BadLength"

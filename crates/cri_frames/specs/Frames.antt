@@ -24,7 +24,8 @@ frame_of version text = head_of version (length text) ++ text
 
 -- no whole frame stands at the front of these bytes
 pub record BeginsNone (bytes : List ℕ) : Type 0 where
-  pub none : (version : Version) (text more : List ℕ) → IsLength (length text) → bytes ≢ frame_of version text ++ more
+  pub none : (version : Version) (text more : List ℕ) → IsLength (length text)
+      → bytes ≢ frame_of version text ++ more
 
 -- the first four bytes are there, and are the head of no frame
 pub record IsBad (bytes : List ℕ) : Type 0 where

@@ -7,7 +7,8 @@ use Rattle.cri_frames.specs.Frames.{IsLength, head_of}
 
 -- less than a head, or a head of the version and fewer bytes than it says
 abbrev pub IsCutOff : Version → List ℕ → Type 0
-IsCutOff version bytes = (length bytes < 4) ⊎ ((count : ℕ) × IsLength count × (take 4 bytes ≡ head_of version count) × (length bytes < 4 + count))
+IsCutOff version bytes = (length bytes < 4) ⊎ ((count : ℕ) × IsLength count
+    × (take 4 bytes ≡ head_of version count) × (length bytes < 4 + count))
 
 -- four bytes that are no head of the version
 pub record IsNoHead (version : Version) (bytes : List ℕ) : Type 0 where

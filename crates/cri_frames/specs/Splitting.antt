@@ -5,6 +5,7 @@ use Rattle.cri_frames.specs.declared.splitting.Next.TheVariants.{Whole, Part, Ba
 use Rattle.cri_frames.specs.Frames.{BeginsNone, IsBad, IsLength, head_of}
 
 abbrev pub Begins : List ℕ → Next → Type 0
-Begins bytes (Whole version count) = IsLength count × (4 + count ≤ length bytes) × (take 4 bytes ≡ head_of version count)
+Begins bytes (Whole version count) = IsLength count × (4 + count ≤ length bytes)
+    × (take 4 bytes ≡ head_of version count)
 Begins bytes Part = BeginsNone bytes × (IsBad bytes → ⊥)
 Begins bytes Bad = IsBad bytes

@@ -7,7 +7,8 @@ use Rattle.cri_msgs.specs.declared.replies.Reply.{Reply}
 use Rattle.cri_msgs.specs.declared.version.Version.{Version}
 use Rattle.cri_msgs.specs.Replies.{ReadsReply}
 use Rattle.cri_frames.specs.declared.faults.Lost.{Lost}
-use Rattle.cri_frames.specs.declared.faults.Lost.TheVariants.{WriteFailed, ReadFailed, Ended, BadFrame, WrongNumber, Memory}
+use Rattle.cri_frames.specs.declared.faults.Lost.TheVariants.{WriteFailed, ReadFailed, Ended, BadFrame}
+use Rattle.cri_frames.specs.declared.faults.Lost.TheVariants.{WrongNumber, Memory}
 use Rattle.cri_frames.specs.declared.moving.Stop.{Stop}
 use Rattle.cri_frames.specs.declared.moving.Stop.TheVariants as stop
 use Rattle.cri_frames.specs.Calls.{frame_of_request}
@@ -32,7 +33,8 @@ lost_by stop.Ended = Ended
 -- why so many bytes were not read
 abbrev pub IsNotFilled : ℕ → Option (List ℕ) → Option (List ℕ) → ℕ → ℕ → Lost → Type 0
 IsNotFilled count old new failures failures' (WriteFailed _) = ⊥
-IsNotFilled count old new failures failures' ReadFailed = TakesFewer count old new × HasRisen failures failures'
+IsNotFilled count old new failures failures' ReadFailed = TakesFewer count old new
+    × HasRisen failures failures'
 IsNotFilled count old new failures failures' Ended = TakesFewer count old new × IsAtEnd new
 IsNotFilled count old new failures failures' BadFrame = ⊥
 IsNotFilled count old new failures failures' WrongNumber = ⊥
@@ -41,7 +43,8 @@ IsNotFilled count old new failures failures' Memory = ⊤
 -- why a frame was not read
 abbrev pub IsNotReceived : Version → Option (List ℕ) → Option (List ℕ) → ℕ → ℕ → Lost → Type 0
 IsNotReceived version old new failures failures' (WriteFailed count) = ⊥
-IsNotReceived version old new failures failures' ReadFailed = TakesPart version old new × HasRisen failures failures'
+IsNotReceived version old new failures failures' ReadFailed = TakesPart version old new
+    × HasRisen failures failures'
 IsNotReceived version old new failures failures' Ended = TakesPart version old new × IsAtEnd new
 IsNotReceived version old new failures failures' BadFrame = HasNoHead version old new
 IsNotReceived version old new failures failures' WrongNumber = ⊥
@@ -50,7 +53,8 @@ IsNotReceived version old new failures failures' Memory = ⊤
 -- why a request was not written
 abbrev pub IsNotSent : Version → Request → Option (List ℕ) → Option (List ℕ) → ℕ → ℕ → Lost → Type 0
 IsNotSent version request old new failures failures' (WriteFailed count) =
-    (count < length (frame_of_request version request)) × Appends old new (take count (frame_of_request version request)) × HasRisen failures failures'
+    (count < length (frame_of_request version request))
+    × Appends old new (take count (frame_of_request version request)) × HasRisen failures failures'
 IsNotSent version request old new failures failures' ReadFailed = ⊥
 IsNotSent version request old new failures failures' Ended = ⊥
 IsNotSent version request old new failures failures' BadFrame = ⊥

@@ -22,7 +22,8 @@ pub fn call_over<W: Wire>(
     version: Version,
 ) -> Result<Reply, Lost>
     // The request's frame was written, and one frame was read: the reply with the request's number.
-    ensures written { OnOk result (Appends (W.output wire.old) (W.output wire.new) (frame_of_request version request.now)) }
+    ensures written { OnOk result (Appends (W.output wire.old) (W.output wire.new)
+        (frame_of_request version request.now)) }
     ensures read { IfOk result (TakesReply version (W.input wire.old) (W.input wire.new)) }
     ensures number { IfOk result (λ reply. reply.id ≡ request.now.id) }
 
@@ -46,8 +47,10 @@ fn send<W: Wire>(
     request: &Request,
     version: Version,
 ) -> Result<(), Lost>
-    ensures written { OnOk result (Appends (W.output wire.old) (W.output wire.new) (frame_of_request version request.now)) }
-    ensures lost { IfErr result (IsNotSent version request.now (W.output wire.old) (W.output wire.new) (W.failed wire.old) (W.failed wire.new)) }
+    ensures written { OnOk result (Appends (W.output wire.old) (W.output wire.new)
+        (frame_of_request version request.now)) }
+    ensures lost { IfErr result (IsNotSent version request.now (W.output wire.old) (W.output wire.new)
+        (W.failed wire.old) (W.failed wire.new)) }
     ensures counted { W.failed wire.old ≤ W.failed wire.new }
     ensures input { Keeps (W.input wire.old) (W.input wire.new) }
 {

@@ -1,4 +1,5 @@
-ghost use Rattle.std.specs.Prelude.{◌≡◌, ◌≤◌, ◌↔◌, ◌++◌, [], IfNone, IfOk, IfSome, IsErrOf, OnErr, OnOk, IsTrue, drop, length};
+ghost use Rattle.std.specs.Prelude.{◌≡◌, ◌≤◌, ◌↔◌, ◌++◌, [], IfNone, IfOk, IfSome, IsErrOf, OnErr, OnOk};
+ghost use Rattle.std.specs.Prelude.{IsTrue, drop, length};
 ghost use Rattle.std.specs.List.{AllByRecursion};
 ghost use Rattle.cri_frames.specs.Frames.{BeginsNone, IsBad, IsLength, frame_of};
 ghost use Rattle.cri_frames.specs.Streams.{HasBadRest, IsFrame, stream_of};
@@ -53,7 +54,8 @@ impl Feed {
 
         // The fault is in the stream, and the frames before it can be taken.
         ensures bad_length { IsErrOf result FeedFault.BadLength → HasBadRest (self.old ++ piece.now) }
-        ensures fails { IsErrOf result FeedFault.BadLength → (HasBadRest self.old → ⊥) → self.new ≡ self.old ++ piece.now }
+        ensures fails { IsErrOf result FeedFault.BadLength → (HasBadRest self.old → ⊥)
+            → self.new ≡ self.old ++ piece.now }
         ensures failed { HasBadRest self.old → (result ≡ Err FeedFault.BadLength) × (self.new ≡ self.old) }
         ensures memory { IsErrOf result FeedFault.Memory → self.new ≡ self.old }
     {
@@ -111,7 +113,8 @@ fn take_in(
     piece: &[u8],
 ) -> Result<bool, AllocError>
     requires { AllByRecursion IsFrame done.old.items }
-    ensures added { OnOk result (stream_of done.new.items part.new.items ≡ stream_of done.old.items part.old.items ++ piece.now) }
+    ensures added { OnOk result (stream_of done.new.items part.new.items
+        ≡ stream_of done.old.items part.old.items ++ piece.now) }
     ensures each { AllByRecursion IsFrame done.new.items }
     ensures begins_none { OnOk result (BeginsNone part.new.items) }
     ensures bad { IfOk result (λ is_bad. IsTrue is_bad ↔ IsBad part.new.items) }

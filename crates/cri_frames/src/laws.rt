@@ -4,7 +4,8 @@ ghost use Rattle.cri_frames.specs.Streams.{Frame, Splits};
 
 /// A stream of bytes is frames and a rest that begins no whole one, and is so in one way only.
 pub fn streams_split_one_way()
-    ensures some { (stream : List ℕ) → ((at : ℕ) → slice_index stream at < 256) → (frames : List Frame) × (rest : List ℕ) × Splits stream frames rest }
+    ensures some { (stream : List ℕ) → ((at : ℕ) → slice_index stream at < 256) → (frames : List Frame)
+        × (rest : List ℕ) × Splits stream frames rest }
     ensures only { (stream : List ℕ) (frames others : List Frame) (rest other : List ℕ)
         → Splits stream frames rest → Splits stream others other → (frames ≡ others) × (rest ≡ other) }
 {}
@@ -12,5 +13,6 @@ pub fn streams_split_one_way()
 /// Four bytes are the head of no frame where the first is neither 0 nor 2, or the other three are no length.
 pub fn bad_heads_are_as_stated()
     ensures { (first high middle low : ℕ) (more : List ℕ) → high < 256 → middle < 256 → low < 256
-        → IsBad (first ∷ high ∷ middle ∷ low ∷ more) ↔ (((first ≡ 0) ⊎ (first ≡ 2)) × IsLength (65536 * high + 256 * middle + low) → ⊥) }
+        → IsBad (first ∷ high ∷ middle ∷ low ∷ more) ↔ (((first ≡ 0) ⊎ (first ≡ 2))
+        × IsLength (65536 * high + 256 * middle + low) → ⊥) }
 {}

@@ -19,7 +19,8 @@ pub(crate) enum Stop {
 pub fn write_all<W: Wire>(wire: &mut W, bytes: &[u8]) -> Result<(), usize>
     ensures ok { OnOk result (Appends (W.output wire.old) (W.output wire.new) bytes.now) }
     ensures within { IfErr result (λ count. count < length bytes.now) }
-    ensures some { IfErr result (λ count. Appends (W.output wire.old) (W.output wire.new) (take count bytes.now)) }
+    ensures some { IfErr result (λ count. Appends (W.output wire.old) (W.output wire.new)
+        (take count bytes.now)) }
     ensures failed { OnErr result (HasRisen (W.failed wire.old) (W.failed wire.new)) }
     ensures counted { W.failed wire.old ≤ W.failed wire.new }
     ensures input { Keeps (W.input wire.old) (W.input wire.new) }
@@ -37,7 +38,8 @@ pub fn write_all<W: Wire>(wire: &mut W, bytes: &[u8]) -> Result<(), usize>
 /// Reads until all of `buf` is filled.
 pub(crate) fn read_all<W: Wire>(wire: &mut W, buf: &mut [u8]) -> Result<(), Stop>
     ensures ok { OnOk result (Consumes (W.input wire.old) (W.input wire.new) buf.new) }
-    ensures stops { IfErr result (Stops (length buf.old) (W.input wire.old) (W.input wire.new) (W.failed wire.old) (W.failed wire.new)) }
+    ensures stops { IfErr result (Stops (length buf.old) (W.input wire.old) (W.input wire.new)
+        (W.failed wire.old) (W.failed wire.new)) }
     ensures counted { W.failed wire.old ≤ W.failed wire.new }
     ensures output { Keeps (W.output wire.old) (W.output wire.new) }
 {

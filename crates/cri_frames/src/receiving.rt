@@ -18,8 +18,10 @@ pub(crate) fn receive<W: Wire>(
     version: Version,
 ) -> Result<Vec<u8>, Lost>
     ensures fits { IfOk result (λ text. IsLength (length text.items)) }
-    ensures taken { IfOk result (λ text. Consumes (W.input wire.old) (W.input wire.new) (frame_of version text.items)) }
-    ensures lost { IfErr result (λ lost. IsNotReceived version (W.input wire.old) (W.input wire.new) (W.failed wire.old) (W.failed wire.new) lost) }
+    ensures taken { IfOk result (λ text. Consumes (W.input wire.old) (W.input wire.new)
+        (frame_of version text.items)) }
+    ensures lost { IfErr result (λ lost. IsNotReceived version (W.input wire.old) (W.input wire.new)
+        (W.failed wire.old) (W.failed wire.new) lost) }
     ensures counted { W.failed wire.old ≤ W.failed wire.new }
     ensures output { Keeps (W.output wire.old) (W.output wire.new) }
 {
@@ -30,8 +32,10 @@ pub(crate) fn receive<W: Wire>(
 // Reads four bytes, the head of a frame of this version, and tells how long the text is.
 fn read_head<W: Wire>(wire: &mut W, version: Version) -> Result<usize, Lost>
     ensures fits { IfOk result IsLength }
-    ensures taken { IfOk result (λ count. Consumes (W.input wire.old) (W.input wire.new) (head_of version count)) }
-    ensures lost { IfErr result (λ lost. IsNotReceived version (W.input wire.old) (W.input wire.new) (W.failed wire.old) (W.failed wire.new) lost) }
+    ensures taken { IfOk result (λ count. Consumes (W.input wire.old) (W.input wire.new)
+        (head_of version count)) }
+    ensures lost { IfErr result (λ lost. IsNotReceived version (W.input wire.old) (W.input wire.new)
+        (W.failed wire.old) (W.failed wire.new) lost) }
     ensures counted { W.failed wire.old ≤ W.failed wire.new }
     ensures output { Keeps (W.output wire.old) (W.output wire.new) }
 {
@@ -47,7 +51,8 @@ fn read_head<W: Wire>(wire: &mut W, version: Version) -> Result<usize, Lost>
 fn read_text<W: Wire>(alloc: Global, wire: &mut W, count: usize) -> Result<Vec<u8>, Lost>
     ensures all { IfOk result (λ text. length text.items ≡ count) }
     ensures taken { IfOk result (λ text. Consumes (W.input wire.old) (W.input wire.new) text.items) }
-    ensures lost { IfErr result (λ lost. IsNotFilled count (W.input wire.old) (W.input wire.new) (W.failed wire.old) (W.failed wire.new) lost) }
+    ensures lost { IfErr result (λ lost. IsNotFilled count (W.input wire.old) (W.input wire.new)
+        (W.failed wire.old) (W.failed wire.new) lost) }
     ensures counted { W.failed wire.old ≤ W.failed wire.new }
     ensures output { Keeps (W.output wire.old) (W.output wire.new) }
 {

@@ -1,4 +1,5 @@
-ghost use Rattle.std.specs.Prelude.{◌≡◌, ◌+◌, ◌≤◌, ◌↔◌, ◌++◌, if◌then◌else◌, IfOk, OnErr, OnOk, IsTrue, drop, length, take};
+ghost use Rattle.std.specs.Prelude.{◌≡◌, ◌+◌, ◌≤◌, ◌↔◌, ◌++◌, if◌then◌else◌, IfOk, OnErr, OnOk, IsTrue, drop};
+ghost use Rattle.std.specs.Prelude.{length, take};
 ghost use Rattle.std.specs.List.{AllByRecursion};
 ghost use Rattle.cri_frames.specs.Frames.{BeginsNone, IsBad};
 ghost use Rattle.cri_frames.specs.Splitting.{Begins};
@@ -69,7 +70,8 @@ fn keep(
     done: &mut VecDeque<Frame>,
 ) -> Result<(), AllocError>
     requires { Begins bytes.now (Next.Whole version count) }
-    ensures same { OnOk result (stream_of done.new.items (drop (4 + count) bytes.now) ≡ stream_of done.old.items bytes.now) }
+    ensures same { OnOk result (stream_of done.new.items (drop (4 + count) bytes.now)
+        ≡ stream_of done.old.items bytes.now) }
     ensures each { AllByRecursion IsFrame done.old.items → AllByRecursion IsFrame done.new.items }
     ensures kept { take (length done.old.items) done.new.items ≡ done.old.items }
 {
@@ -86,7 +88,8 @@ pub(crate) fn split(
     done: &mut VecDeque<Frame>,
 ) -> Result<Cut, AllocError>
     requires { AllByRecursion IsFrame done.old.items }
-    ensures same { IfOk result (λ cut. stream_of done.new.items (drop cut.at bytes.now) ≡ stream_of done.old.items bytes.now) }
+    ensures same { IfOk result (λ cut. stream_of done.new.items (drop cut.at bytes.now)
+        ≡ stream_of done.old.items bytes.now) }
     ensures within { IfOk result (λ cut. cut.at ≤ length bytes.now) }
     ensures begins_none { IfOk result (λ cut. BeginsNone (drop cut.at bytes.now)) }
     ensures bad { IfOk result (λ cut. IsTrue cut.is_bad ↔ IsBad (drop cut.at bytes.now)) }

@@ -22,8 +22,12 @@ use Rattle.cri_msgs.specs.declared.states.State.TheVariants.{Created, Running, E
 use Rattle.cri_msgs.specs.declared.states.Status.{Status}
 use Rattle.cri_msgs.specs.declared.version.Version.{Version}
 use Rattle.cri_msgs.specs.Names.{kind_of, refusal_number, state_name}
-use Rattle.cri_msgs.specs.Reading.{kind_named, kind_in, without_exit, with_exit, state_by, state_of, status_of, listed_of, listed_status_of, few, id_in, listing_in, status_in, statuses_in, ok_of, refusal_numbered, refused_in, ok_in, answer_of, reply_of}
-use Rattle.cri_msgs.specs.Replies.{Lacks, HasExit, HasStatus, IsListed, IsListedStatus, IsOk, HasAnswer, IsReply}
+use Rattle.cri_msgs.specs.Reading.{kind_named, kind_in, without_exit, with_exit, state_by, state_of}
+use Rattle.cri_msgs.specs.Reading.{status_of, listed_of, listed_status_of, few, id_in, listing_in, status_in}
+use Rattle.cri_msgs.specs.Reading.{statuses_in, ok_of, refusal_numbered, refused_in, ok_in, answer_of}
+use Rattle.cri_msgs.specs.Reading.{reply_of}
+use Rattle.cri_msgs.specs.Replies.{Lacks, HasExit, HasStatus, IsListed, IsListedStatus, IsOk, HasAnswer}
+use Rattle.cri_msgs.specs.Replies.{IsReply}
 use Rattle.cri_msgs.proofs.Only.{container_only, numbered_only}
 
 list_is_value : (d : Data) (items : List Data) → list d ≡ Some items → value d ≡ Some d
@@ -41,7 +45,8 @@ has_whole key tree n h = is_there key tree h.0 h.1 (whole_is_value h.0 n h.2)
 has_text : (key : List ℕ) (tree : Data) (t : List ℕ) → HasField text key tree t → has key tree ≡ true
 has_text key tree t h = is_there key tree h.0 h.1 (text_is_value h.0 t h.2)
 
-has_list : (key : List ℕ) (tree : Data) (items : List Data) → HasField list key tree items → has key tree ≡ true
+has_list : (key : List ℕ) (tree : Data) (items : List Data) → HasField list key tree items
+    → has key tree ≡ true
 has_list key tree items h = is_there key tree h.0 h.1 (list_is_value h.0 items h.2)
 
 kind_name_only : (k : ContainerState) → kind_named (state_name k) ≡ Ok k
@@ -50,7 +55,8 @@ kind_name_only kind.Created = refl
 kind_name_only kind.Running = refl
 kind_name_only kind.Exited = refl
 
-kind_only : (tree : Data) (k : ContainerState) → HasField text (codes "state") tree (state_name k) → kind_in tree ≡ Ok k
+kind_only : (tree : Data) (k : ContainerState) → HasField text (codes "state") tree (state_name k)
+    → kind_in tree ≡ Ok k
 unfolding kind_in
 kind_only tree k h = rw (required_only text (codes "state") tree (state_name k) h) (kind_name_only k)
 
@@ -58,7 +64,10 @@ state_by_only : (tree : Data) (state : State) → HasExit tree state → state_b
 unfolding without_exit with_exit
 state_by_only tree Created h = rw (not_there (codes "exit") tree h) refl
 state_by_only tree Running h = rw (not_there (codes "exit") tree h) refl
-state_by_only tree (Exited code) h = rw (required_only whole (codes "exit") tree code h.0, lt-ltb code 256 h.1) refl
+state_by_only tree (Exited code) h = rw (
+  required_only whole (codes "exit") tree code h.0,
+  lt-ltb code 256 h.1,
+) refl
 
 status_only : (tree : Data) (status : Status) → HasStatus tree status → status_of tree ≡ Ok status
 unfolding status_of state_of
@@ -72,22 +81,39 @@ status_only tree status h =
 
 listed_only : (tree : Data) (listed : ListedContainer) → IsListed tree listed → listed_of tree ≡ Ok listed
 unfolding listed_of
-listed_only tree listed h = rw (container_only tree listed.container h.container, kind_only tree listed.state h.state) refl
+listed_only tree listed h = rw (
+  container_only tree listed.container h.container,
+  kind_only tree listed.state h.state,
+) refl
 
-listed_status_only : (tree : Data) (listed : ListedStatus) → IsListedStatus tree listed → listed_status_of tree ≡ Ok listed
+listed_status_only : (tree : Data) (listed : ListedStatus) → IsListedStatus tree listed
+    → listed_status_of tree ≡ Ok listed
 unfolding listed_status_of
-listed_status_only tree listed h = rw (container_only tree listed.container h.container, status_only tree listed.status h.status) refl
+listed_status_only tree listed h = rw (
+  container_only tree listed.container h.container,
+  status_only tree listed.status h.status,
+) refl
 
-few_only : (key : List ℕ) (tree : Data) (trees : List Data) → HasField list key tree trees → length trees ≤ MAX_LISTED → few key tree ≡ Ok trees
+few_only : (key : List ℕ) (tree : Data) (trees : List Data) → HasField list key tree trees
+    → length trees ≤ MAX_LISTED → few key tree ≡ Ok trees
 unfolding few
-few_only key tree trees there short = rw (required_only list key tree trees there, le-ltb MAX_LISTED (length trees) short) refl
+few_only key tree trees there short = rw (
+  required_only list key tree trees there,
+  le-ltb MAX_LISTED (length trees) short,
+) refl
 
 ok_only : (version : Version) (ok : Data) (said : Answer) → IsOk version ok said → ok_of version ok ≡ Ok said
 unfolding ok_of id_in listing_in status_in statuses_in
 ok_only version ok (answer.Refused r) h = absurd h
 ok_only version ok answer.Done h =
-    rw (not_there (codes "container") ok h.0, not_there (codes "containers") ok h.1, not_there (codes "state") ok h.2, not_there (codes "statuses") ok h.3) refl
-ok_only version ok (answer.Container id) h = rw (has_whole (codes "container") ok id h, required_only whole (codes "container") ok id h) refl
+    rw (
+      not_there (codes "container") ok h.0,
+      not_there (codes "containers") ok h.1,
+      not_there (codes "state") ok h.2,
+      not_there (codes "statuses") ok h.3,
+    ) refl
+ok_only version ok (answer.Container id) h =
+    rw (has_whole (codes "container") ok id h, required_only whole (codes "container") ok id h) refl
 ok_only version ok (answer.List items) h =
     rw (
       not_there (codes "container") ok h.0,
@@ -123,20 +149,36 @@ number_only refusal.FailedPrecondition = refl
 number_only refusal.Internal = refl
 number_only refusal.Memory = refl
 
-said_only : (version : Version) (tree ok : Data) (said : Answer) → Lacks (codes "refused") tree → HasField object (codes "ok") tree ok → IsOk version ok said → answer_of version tree ≡ Ok said
+said_only : (version : Version) (tree ok : Data) (said : Answer) → Lacks (codes "refused") tree
+    → HasField object (codes "ok") tree ok → IsOk version ok said → answer_of version tree ≡ Ok said
 unfolding answer_of ok_in
-said_only version tree ok said lacks there is = rw (not_there (codes "refused") tree lacks, required_only object (codes "ok") tree ok there) (ok_only version ok said is)
+said_only version tree ok said lacks there is =
+    rw (not_there (codes "refused") tree lacks, required_only object (codes "ok") tree ok there)
+    (ok_only version ok said is)
 
-answer_only : (version : Version) (tree : Data) (said : Answer) → HasAnswer version tree said → answer_of version tree ≡ Ok said
+answer_only : (version : Version) (tree : Data) (said : Answer) → HasAnswer version tree said
+    → answer_of version tree ≡ Ok said
 unfolding answer_of refused_in
 answer_only version tree (answer.Refused r) h =
-    rw (has_whole (codes "refused") tree (refusal_number r) h, required_only whole (codes "refused") tree (refusal_number r) h, number_only r) refl
+    rw (
+      has_whole (codes "refused") tree (refusal_number r) h,
+      required_only whole (codes "refused") tree (refusal_number r) h,
+      number_only r,
+    ) refl
 answer_only version tree answer.Done h = said_only version tree h.1.0 answer.Done h.0 h.1.1 h.1.2
-answer_only version tree (answer.Container id) h = said_only version tree h.1.0 (answer.Container id) h.0 h.1.1 h.1.2
-answer_only version tree (answer.Status status) h = said_only version tree h.1.0 (answer.Status status) h.0 h.1.1 h.1.2
-answer_only version tree (answer.List items) h = said_only version tree h.1.0 (answer.List items) h.0 h.1.1 h.1.2
-answer_only version tree (answer.Statuses items) h = said_only version tree h.1.0 (answer.Statuses items) h.0 h.1.1 h.1.2
+answer_only version tree (answer.Container id) h =
+    said_only version tree h.1.0 (answer.Container id) h.0 h.1.1 h.1.2
+answer_only version tree (answer.Status status) h =
+    said_only version tree h.1.0 (answer.Status status) h.0 h.1.1 h.1.2
+answer_only version tree (answer.List items) h =
+    said_only version tree h.1.0 (answer.List items) h.0 h.1.1 h.1.2
+answer_only version tree (answer.Statuses items) h =
+    said_only version tree h.1.0 (answer.Statuses items) h.0 h.1.1 h.1.2
 
-pub reply_only : (version : Version) (tree : Data) (reply : Reply) → IsReply version tree reply → reply_of version tree ≡ Ok reply
+pub reply_only : (version : Version) (tree : Data) (reply : Reply) → IsReply version tree reply
+    → reply_of version tree ≡ Ok reply
 unfolding reply_of
-reply_only version tree reply h = rw (numbered_only version tree reply.id h.v h.id, answer_only version tree reply.answer h.answer) refl
+reply_only version tree reply h = rw (
+  numbered_only version tree reply.id h.v h.id,
+  answer_only version tree reply.answer h.answer,
+) refl

@@ -13,11 +13,14 @@ use Rattle.cri_msgs.proofs.FoundReply.{reply_found}
 use Rattle.cri_msgs.proofs.OnlyReply.{reply_only}
 use Rattle.cri_msgs.proofs.Messages.{from_found, from_only}
 
-pub found : (version : Version) (bytes : List ℕ) (r : Result Reply MessageFault) → Gives Memory (λ x. x) r (reply_reading version bytes) → IfOk r (ReadsReply version bytes)
+pub found : (version : Version) (bytes : List ℕ) (r : Result Reply MessageFault)
+    → Gives Memory (λ x. x) r (reply_reading version bytes) → IfOk r (ReadsReply version bytes)
 found version bytes (Ok reply) h =
     let there = from_found (reply_of version) (tree_of bytes) reply h in
     record { tree = there.0; is = there.1; says = reply_found version there.0 reply there.2 }
 found version bytes (Err e) h = tt
 
-pub only : (version : Version) (bytes : List ℕ) (reply : Reply) → ReadsReply version bytes reply → reply_reading version bytes ≡ Ok reply
-only version bytes reply h = from_only (reply_of version) (tree_of bytes) h.tree reply h.is (reply_only version h.tree reply h.says)
+pub only : (version : Version) (bytes : List ℕ) (reply : Reply) → ReadsReply version bytes reply
+    → reply_reading version bytes ≡ Ok reply
+only version bytes reply h = from_only (reply_of version) (tree_of bytes) h.tree reply h.is
+    (reply_only version h.tree reply h.says)

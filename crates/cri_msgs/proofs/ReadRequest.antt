@@ -13,11 +13,14 @@ use Rattle.cri_msgs.proofs.Found.{request_found}
 use Rattle.cri_msgs.proofs.Only.{request_only}
 use Rattle.cri_msgs.proofs.Messages.{from_found, from_only}
 
-pub found : (version : Version) (bytes : List ℕ) (r : Result Request MessageFault) → Gives Memory (λ x. x) r (request_reading version bytes) → IfOk r (ReadsRequest version bytes)
+pub found : (version : Version) (bytes : List ℕ) (r : Result Request MessageFault)
+    → Gives Memory (λ x. x) r (request_reading version bytes) → IfOk r (ReadsRequest version bytes)
 found version bytes (Ok request) h =
     let there = from_found (request_of version) (tree_of bytes) request h in
     record { tree = there.0; is = there.1; says = request_found version there.0 request there.2 }
 found version bytes (Err e) h = tt
 
-pub only : (version : Version) (bytes : List ℕ) (request : Request) → ReadsRequest version bytes request → request_reading version bytes ≡ Ok request
-only version bytes request h = from_only (request_of version) (tree_of bytes) h.tree request h.is (request_only version h.tree request h.says)
+pub only : (version : Version) (bytes : List ℕ) (request : Request) → ReadsRequest version bytes request
+    → request_reading version bytes ≡ Ok request
+only version bytes request h = from_only (request_of version) (tree_of bytes) h.tree request h.is
+    (request_only version h.tree request h.says)

@@ -1,7 +1,9 @@
 -- How long the text of a tree may be.
-use Rattle.std.proofs.Common.{ℕ, ◌+◌, ◌*◌, ◌≤◌, List, [], ◌∷◌, ◌++◌, length, length-append, Bool, true, false, cond, arith}
+use Rattle.std.proofs.Common.{ℕ, ◌+◌, ◌*◌, ◌≤◌, List, [], ◌∷◌, ◌++◌, length, length-append, Bool, true, false}
+use Rattle.std.proofs.Common.{cond, arith}
 use Rattle.std.specs.List.{flat_map}
-use Rattle.serde_json.specs.Data.{Data, null, boolean, number, string, array, object, Items, no_items, item, Members, no_members, member}
+use Rattle.serde_json.specs.Data.{Data, null, boolean, number, string, array, object, Items, no_items, item}
+use Rattle.serde_json.specs.Data.{Members, no_members, member}
 use Rattle.serde_json.specs.Written.{compact_text, comma_if, items_text, members_text, number_text}
 use Rattle.serde_json.proofs.OnLiterals.{serde_json_on_literals}
 
@@ -24,7 +26,9 @@ abbrev mutual
   members_size (member k d ms) = 6 * length k + size d + members_size ms + 4
 
 -- a byte stands there as itself, as an escape of two, or by its number
-at_most : (short low : Bool) (letter high digit x : ℕ) → length (34 ∷ ((cond short (92 ∷ letter ∷ []) (cond low (92 ∷ 117 ∷ 48 ∷ 48 ∷ high ∷ digit ∷ []) (x ∷ [])) ++ []) ++ 34 ∷ [])) ≤ 8
+at_most : (short low : Bool) (letter high digit x : ℕ)
+    → length (34 ∷ ((cond short (92 ∷ letter ∷ [])
+    (cond low (92 ∷ 117 ∷ 48 ∷ 48 ∷ high ∷ digit ∷ []) (x ∷ [])) ++ []) ++ 34 ∷ [])) ≤ 8
 at_most true low letter high digit x = omega arith
 at_most false true letter high digit x = omega arith
 at_most false false letter high digit x = omega arith
@@ -34,7 +38,8 @@ unfolding serde_json_on_literals
 byte_size x = at_most _ _ _ _ _ x
 
 -- a text in quotes, each byte of which stands there as at most six
-in_quotes : (written : ℕ → List ℕ) → ((x : ℕ) → length (34 ∷ ((written x ++ []) ++ 34 ∷ [])) ≤ 8) → (s : List ℕ) → length (34 ∷ (flat_map written s ++ 34 ∷ [])) ≤ 6 * length s + 2
+in_quotes : (written : ℕ → List ℕ) → ((x : ℕ) → length (34 ∷ ((written x ++ []) ++ 34 ∷ [])) ≤ 8)
+    → (s : List ℕ) → length (34 ∷ (flat_map written s ++ 34 ∷ [])) ≤ 6 * length s + 2
 in_quotes written short [] = omega arith
 in_quotes written short (x ∷ s) =
     omega (
@@ -69,7 +74,13 @@ mutual
   items_text_size : (later : Bool) (ds : Items) → length (items_text later ds) ≤ items_size ds + 1
   items_text_size later no_items = omega arith
   items_text_size later (item d ds) =
-      omega (arith, comma_size later (compact_text d ++ items_text true ds), length-append (compact_text d) (items_text true ds), text_size d, items_text_size true ds)
+      omega (
+        arith,
+        comma_size later (compact_text d ++ items_text true ds),
+        length-append (compact_text d) (items_text true ds),
+        text_size d,
+        items_text_size true ds,
+      )
 
   members_text_size : (later : Bool) (ms : Members) → length (members_text later ms) ≤ members_size ms + 1
   members_text_size later no_members = omega arith

@@ -17,9 +17,11 @@ use Rattle.cri_msgs.specs.declared.states.State.{State}
 use Rattle.cri_msgs.specs.declared.states.State.TheVariants.{Created, Running, Exited}
 use Rattle.cri_msgs.specs.declared.states.Status.{Status}
 use Rattle.cri_msgs.specs.declared.version.Version.{Version}
-use Rattle.cri_msgs.specs.Fits.{FitsAnswer, FitsList, FitsListed, FitsListedStatus, FitsState, FitsStatus, IsSmall}
+use Rattle.cri_msgs.specs.Fits.{FitsAnswer, FitsList, FitsListed, FitsListedStatus, FitsState, FitsStatus}
+use Rattle.cri_msgs.specs.Fits.{IsSmall}
 use Rattle.cri_msgs.specs.Names.{kind_of, refusal_number, state_name}
-use Rattle.cri_msgs.specs.Written.{whole_number, exit_tree, status_tree, listed_tree, listed_status_tree, list_tree, refused_tree, ok_tree, answer_tree}
+use Rattle.cri_msgs.specs.Written.{whole_number, exit_tree, status_tree, listed_tree, listed_status_tree}
+use Rattle.cri_msgs.specs.Written.{list_tree, refused_tree, ok_tree, answer_tree}
 use Rattle.cri_msgs.proofs.Sizes.{size, items_size, text_size}
 use Rattle.cri_msgs.proofs.SizesOfMessages.{digits, word_digits, version_digits, label_length}
 
@@ -44,13 +46,25 @@ refusal_digits refusal.Memory = digits 14 (omega arith)
 
 status_size : (status : Status) → FitsStatus status → size (status_tree status) ≤ 900
 status_size status fits =
-    omega (arith, digits status.performed fits.performed, digits status.denied fits.denied, exit_size status.state fits.state, name_length (kind_of status.state))
+    omega (
+      arith,
+      digits status.performed fits.performed,
+      digits status.denied fits.denied,
+      exit_size status.state fits.state,
+      name_length (kind_of status.state),
+    )
 
 listed_size : (listed : ListedContainer) → FitsListed listed → size (listed_tree listed) ≤ 900
 listed_size listed fits =
-    omega (arith, word_digits listed.container.attempt fits.attempt, label_length listed.container.name fits.name, name_length listed.state)
+    omega (
+      arith,
+      word_digits listed.container.attempt fits.attempt,
+      label_length listed.container.name fits.name,
+      name_length listed.state,
+    )
 
-listed_status_size : (listed : ListedStatus) → FitsListedStatus listed → size (listed_status_tree listed) ≤ 900
+listed_status_size : (listed : ListedStatus) → FitsListedStatus listed
+    → size (listed_status_tree listed) ≤ 900
 listed_status_size listed fits =
     omega (
       arith,
@@ -62,39 +76,61 @@ listed_status_size listed fits =
       name_length (kind_of listed.status.state),
     )
 
-entries_size : {A : Type 0} (Fits : A → Type 0) (tree_of : A → Data) → ((x : A) → Fits x → size (tree_of x) ≤ 900) → (xs : List A) → AllByRecursion Fits xs → items_size (items_of (map tree_of xs)) ≤ 901 * length xs
+entries_size : {A : Type 0} (Fits : A → Type 0) (tree_of : A → Data)
+    → ((x : A) → Fits x → size (tree_of x) ≤ 900) → (xs : List A) → AllByRecursion Fits xs
+    → items_size (items_of (map tree_of xs)) ≤ 901 * length xs
 entries_size Fits tree_of one [] all = omega arith
-entries_size Fits tree_of one (x ∷ xs) all = omega (arith, one x all.0, entries_size Fits tree_of one xs all.1)
+entries_size Fits tree_of one (x ∷ xs) all =
+    omega (arith, one x all.0, entries_size Fits tree_of one xs all.1)
 
 abbrev OkIsShort : Data → Type 0
 OkIsShort ok = size ok ≤ 1000000
 
-list_size : {A : Type 0} (Fits : A → Type 0) (tree_of : A → Data) → ((x : A) → Fits x → size (tree_of x) ≤ 900) → (key : List ℕ) (xs : List A) → length key ≤ 10 → FitsList Fits xs → OkIsShort (list_tree key tree_of xs)
-list_size Fits tree_of one key xs short fits = omega (arith, entries_size Fits tree_of one xs fits.each, fits.few, short)
+list_size : {A : Type 0} (Fits : A → Type 0) (tree_of : A → Data)
+    → ((x : A) → Fits x → size (tree_of x) ≤ 900) → (key : List ℕ) (xs : List A) → length key ≤ 10
+    → FitsList Fits xs → OkIsShort (list_tree key tree_of xs)
+list_size Fits tree_of one key xs short fits =
+    omega (arith, entries_size Fits tree_of one xs fits.each, fits.few, short)
 
-ok_size : (version : Version) (id : ℕ) (ok : Data) → IsSmall id → OkIsShort ok → size (ok_tree version id ok) ≤ 1048576
+ok_size : (version : Version) (id : ℕ) (ok : Data) → IsSmall id → OkIsShort ok
+    → size (ok_tree version id ok) ≤ 1048576
 ok_size version id ok small short = omega (arith, version_digits version, digits id small, short)
 
-refused_size : (version : Version) (id : ℕ) (r : Refusal) → IsSmall id → size (refused_tree version id (refusal_number r)) ≤ 1048576
+refused_size : (version : Version) (id : ℕ) (r : Refusal) → IsSmall id
+    → size (refused_tree version id (refusal_number r)) ≤ 1048576
 refused_size version id r small = omega (arith, version_digits version, digits id small, refusal_digits r)
 
-container_size : (id : ℕ) → IsSmall id → OkIsShort (object (member (codes "container") (whole_number id) no_members))
+container_size : (id : ℕ) → IsSmall id → OkIsShort
+    (object (member (codes "container") (whole_number id) no_members))
 container_size id small = omega (arith, digits id small)
 
-listing_size : (items : List ListedContainer) → FitsList FitsListed items → OkIsShort (list_tree (codes "containers") listed_tree items)
-listing_size items fits = list_size FitsListed listed_tree listed_size (codes "containers") items (omega arith) fits
+listing_size : (items : List ListedContainer) → FitsList FitsListed items
+    → OkIsShort (list_tree (codes "containers") listed_tree items)
+listing_size items fits = list_size FitsListed listed_tree listed_size (codes "containers") items
+    (omega arith) fits
 
-statuses_size : (items : List ListedStatus) → FitsList FitsListedStatus items → OkIsShort (list_tree (codes "statuses") listed_status_tree items)
-statuses_size items fits = list_size FitsListedStatus listed_status_tree listed_status_size (codes "statuses") items (omega arith) fits
+statuses_size : (items : List ListedStatus) → FitsList FitsListedStatus items
+    → OkIsShort (list_tree (codes "statuses") listed_status_tree items)
+statuses_size items fits = list_size FitsListedStatus listed_status_tree listed_status_size
+    (codes "statuses") items (omega arith) fits
 
-answer_size : (version : Version) (id : ℕ) (said : Answer) → IsSmall id → FitsAnswer said → size (answer_tree version id said) ≤ 1048576
+answer_size : (version : Version) (id : ℕ) (said : Answer) → IsSmall id → FitsAnswer said
+    → size (answer_tree version id said) ≤ 1048576
 unfolding answer_tree
 answer_size version id (answer.Refused r) small fits = refused_size version id r small
 answer_size version id answer.Done small fits = ok_size version id (object no_members) small (omega arith)
-answer_size version id (answer.Container made) small fits = ok_size version id (object (member (codes "container") (whole_number made) no_members)) small (container_size made fits)
-answer_size version id (answer.Status status) small fits = ok_size version id (status_tree status) small (omega (arith, status_size status fits))
-answer_size version id (answer.List items) small fits = ok_size version id (list_tree (codes "containers") listed_tree items) small (listing_size items fits)
-answer_size version id (answer.Statuses items) small fits = ok_size version id (list_tree (codes "statuses") listed_status_tree items) small (statuses_size items fits)
+answer_size version id (answer.Container made) small fits =
+    ok_size version id (object (member (codes "container") (whole_number made) no_members)) small
+    (container_size made fits)
+answer_size version id (answer.Status status) small fits =
+    ok_size version id (status_tree status) small (omega (arith, status_size status fits))
+answer_size version id (answer.List items) small fits =
+    ok_size version id (list_tree (codes "containers") listed_tree items) small (listing_size items fits)
+answer_size version id (answer.Statuses items) small fits =
+    ok_size version id (list_tree (codes "statuses") listed_status_tree items) small
+    (statuses_size items fits)
 
-pub reply_short : (version : Version) (id : ℕ) (said : Answer) → IsSmall id → FitsAnswer said → length (compact_text (answer_tree version id said)) ≤ 1048576
-reply_short version id said small fits = omega (arith, text_size (answer_tree version id said), answer_size version id said small fits)
+pub reply_short : (version : Version) (id : ℕ) (said : Answer) → IsSmall id → FitsAnswer said
+    → length (compact_text (answer_tree version id said)) ≤ 1048576
+reply_short version id said small fits =
+    omega (arith, text_size (answer_tree version id said), answer_size version id said small fits)

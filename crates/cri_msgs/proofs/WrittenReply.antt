@@ -1,12 +1,14 @@
 -- The tree that is written of a reply says that reply.
-use Rattle.std.proofs.Common.{◌≡◌, ◌<◌, ◌≤◌, ℕ, suc, List, [], ◌∷◌, length, map, codes, false, Some, None, Result, Ok, Err, Vec, Global, refl, sym, ap, subst, arith}
+use Rattle.std.proofs.Common.{◌≡◌, ◌<◌, ◌≤◌, ℕ, suc, List, [], ◌∷◌, length, map, codes, false, Some, None}
+use Rattle.std.proofs.Common.{Result, Ok, Err, Vec, Global, refl, sym, ap, subst, arith}
 use Rattle.std.specs.Prelude.{IfOk}
 use Rattle.std.specs.Str.{IsUtf8}
 use Rattle.std.specs.declared.alloc.AllocError.{AllocError}
 use Rattle.std.specs.List.{AllByRecursion}
 use Rattle.std.proofs.Math.Nat.{max-le}
 use Rattle.std.proofs.lemmas.List.{length-map}
-use Rattle.serde_json.specs.Data.{Data, string, array, object as an_object, no_members, member as a_member, depth, items_depth}
+use Rattle.serde_json.specs.Data.{Data, string, array, object as an_object, no_members, member as a_member}
+use Rattle.serde_json.specs.Data.{depth, items_depth}
 use Rattle.serde_json.specs.Find.{get}
 use Rattle.serde_json.specs.Read.{max_depth, read}
 use Rattle.serde_json.specs.View.{items_of}
@@ -26,22 +28,29 @@ use Rattle.cri_msgs.specs.declared.states.Status.{Status}
 use Rattle.cri_msgs.specs.declared.version.TheConstants.{MAX_TEXT}
 use Rattle.cri_msgs.specs.declared.version.Version.{Version}
 use Rattle.cri_msgs.specs.declared.version.Version.TheVariants.{V2}
-use Rattle.cri_msgs.specs.Fits.{FitsAnswer, FitsList, FitsListed, FitsListedStatus, FitsState, FitsStatus, IsSmall}
+use Rattle.cri_msgs.specs.Fits.{FitsAnswer, FitsList, FitsListed, FitsListedStatus, FitsState, FitsStatus}
+use Rattle.cri_msgs.specs.Fits.{IsSmall}
 use Rattle.cri_msgs.specs.Names.{kind_of, refusal_number, state_name, version_number}
-use Rattle.cri_msgs.specs.Replies.{HasExit, HasStatus, IsListed, IsListedStatus, HasList, IsAnswerOf, IsOk, HasAnswer, IsReply, ReadsReply}
-use Rattle.cri_msgs.specs.Written.{whole_number, exit_tree, status_tree, listed_tree, listed_status_tree, list_tree, refused_tree, ok_tree, answer_tree}
+use Rattle.cri_msgs.specs.Replies.{HasExit, HasStatus, IsListed, IsListedStatus, HasList, IsAnswerOf, IsOk}
+use Rattle.cri_msgs.specs.Replies.{HasAnswer, IsReply, ReadsReply}
+use Rattle.cri_msgs.specs.Written.{whole_number, exit_tree, status_tree, listed_tree, listed_status_tree}
+use Rattle.cri_msgs.specs.Written.{list_tree, refused_tree, ok_tree, answer_tree}
 use Rattle.cri_msgs.proofs.SizesOfMessages.{not_empty}
 use Rattle.cri_msgs.proofs.SizesOfReplies.{reply_short}
 use Rattle.cri_msgs.proofs.WrittenRequest.{has_text, has_whole, has_container}
 
-has_exit : (tree : Data) (state : State) → FitsState state → get (codes "exit") tree ≡ Some (exit_tree state) → HasExit tree state
+has_exit : (tree : Data) (state : State) → FitsState state → get (codes "exit") tree ≡ Some (exit_tree state)
+    → HasExit tree state
 unfolding member
 has_exit tree Created fits is = rw is refl
 has_exit tree Running fits is = rw is refl
 has_exit tree (Exited code) fits is = (has_whole (codes "exit") tree code is, fits)
 
-status_is : (tree : Data) (status : Status) → FitsStatus status → get (codes "state") tree ≡ Some (string (state_name (kind_of status.state))) → get (codes "exit") tree ≡ Some (exit_tree status.state)
-    → get (codes "performed") tree ≡ Some (whole_number status.performed) → get (codes "denied") tree ≡ Some (whole_number status.denied) → HasStatus tree status
+status_is : (tree : Data) (status : Status) → FitsStatus status
+    → get (codes "state") tree ≡ Some (string (state_name (kind_of status.state)))
+    → get (codes "exit") tree ≡ Some (exit_tree status.state)
+    → get (codes "performed") tree ≡ Some (whole_number status.performed)
+    → get (codes "denied") tree ≡ Some (whole_number status.denied) → HasStatus tree status
 status_is tree status fits state exit performed denied = record {
   state = has_text (codes "state") tree (state_name (kind_of status.state)) state;
   exit = has_exit tree status.state fits.state exit;
@@ -56,7 +65,8 @@ listed_is listed fits = record {
   state = has_text (codes "state") (listed_tree listed) (state_name listed.state) refl;
 }
 
-listed_status_is : (listed : ListedStatus) → FitsListedStatus listed → IsListedStatus (listed_status_tree listed) listed
+listed_status_is : (listed : ListedStatus) → FitsListedStatus listed
+    → IsListedStatus (listed_status_tree listed) listed
 unfolding serde_json_on_literals
 listed_status_is listed fits = record {
   container = has_container (listed_status_tree listed) listed.container fits.container refl refl;
@@ -67,11 +77,14 @@ items_same : (ds : List Data) → items_list (items_of ds) ≡ ds
 items_same [] = refl
 items_same (d ∷ ds) = ap (λ rest. d ∷ rest) (items_same ds)
 
-each_is : {A : Type 0} (Fits : A → Type 0) (tree_of : A → Data) (IsItem : Data → A → Type 0) → ((x : A) → Fits x → IsItem (tree_of x) x) → (xs : List A) → AllByRecursion Fits xs → Both IsItem (map tree_of xs) xs
+each_is : {A : Type 0} (Fits : A → Type 0) (tree_of : A → Data) (IsItem : Data → A → Type 0)
+    → ((x : A) → Fits x → IsItem (tree_of x) x) → (xs : List A) → AllByRecursion Fits xs
+    → Both IsItem (map tree_of xs) xs
 each_is Fits tree_of IsItem one [] all = tt
 each_is Fits tree_of IsItem one (x ∷ xs) all = (one x all.0, each_is Fits tree_of IsItem one xs all.1)
 
-list_is : {A : Type 0} (Fits : A → Type 0) (tree_of : A → Data) (IsItem : Data → A → Type 0) → ((x : A) → Fits x → IsItem (tree_of x) x) → (key : List ℕ) (tree : Data) (xs : List A)
+list_is : {A : Type 0} (Fits : A → Type 0) (tree_of : A → Data) (IsItem : Data → A → Type 0)
+    → ((x : A) → Fits x → IsItem (tree_of x) x) → (key : List ℕ) (tree : Data) (xs : List A)
     → FitsList Fits xs → get key tree ≡ Some (array (items_of (map tree_of xs))) → HasList IsItem key tree xs
 unfolding list
 list_is Fits tree_of IsItem one key tree xs fits is = record {
@@ -85,26 +98,37 @@ done_is : (version : Version) → IsOk version (an_object no_members) answer.Don
 unfolding member
 done_is version = (refl, refl, refl, refl)
 
-container_is : (version : Version) (id : ℕ) → IsOk version (an_object (a_member (codes "container") (whole_number id) no_members)) (answer.Container id)
+container_is : (version : Version) (id : ℕ)
+    → IsOk version (an_object (a_member (codes "container") (whole_number id) no_members))
+    (answer.Container id)
 unfolding serde_json_on_literals
-container_is version id = has_whole (codes "container") (an_object (a_member (codes "container") (whole_number id) no_members)) id refl
+container_is version id = has_whole (codes "container")
+    (an_object (a_member (codes "container") (whole_number id) no_members)) id refl
 
-status_ok : (version : Version) (status : Status) → FitsStatus status → IsOk version (status_tree status) (answer.Status status)
+status_ok : (version : Version) (status : Status) → FitsStatus status
+    → IsOk version (status_tree status) (answer.Status status)
 unfolding serde_json_on_literals member
 status_ok version status fits = (refl, refl, status_is (status_tree status) status fits refl refl refl refl)
 
-listing_is : (version : Version) (items : List ListedContainer) → FitsList FitsListed items → IsOk version (list_tree (codes "containers") listed_tree items) (answer.List items)
+listing_is : (version : Version) (items : List ListedContainer) → FitsList FitsListed items
+    → IsOk version (list_tree (codes "containers") listed_tree items) (answer.List items)
 unfolding serde_json_on_literals member
-listing_is version items fits =
-    (refl, list_is FitsListed listed_tree IsListed listed_is (codes "containers") (list_tree (codes "containers") listed_tree items) items fits refl)
+listing_is version items fits = (
+  refl,
+  list_is FitsListed listed_tree IsListed listed_is (codes "containers")
+      (list_tree (codes "containers") listed_tree items) items fits refl,
+)
 
-statuses_are : (version : Version) (items : List ListedStatus) → FitsList FitsListedStatus items → version ≡ V2 → IsOk version (list_tree (codes "statuses") listed_status_tree items) (answer.Statuses items)
+statuses_are : (version : Version) (items : List ListedStatus) → FitsList FitsListedStatus items
+    → version ≡ V2 → IsOk version (list_tree (codes "statuses") listed_status_tree items)
+    (answer.Statuses items)
 unfolding serde_json_on_literals member
 statuses_are version items fits known = (
   refl,
   refl,
   refl,
-  list_is FitsListedStatus listed_status_tree IsListedStatus listed_status_is (codes "statuses") (list_tree (codes "statuses") listed_status_tree items) items fits refl,
+  list_is FitsListedStatus listed_status_tree IsListedStatus listed_status_is (codes "statuses")
+      (list_tree (codes "statuses") listed_status_tree items) items fits refl,
   known,
 )
 
@@ -130,32 +154,41 @@ head_is version id (answer.Status status) = ok_head version id _
 head_is version id (answer.List items) = ok_head version id _
 head_is version id (answer.Statuses items) = ok_head version id _
 
-refused_is : (version : Version) (id refused : ℕ) → HasField whole (codes "refused") (refused_tree version id refused) refused
+refused_is : (version : Version) (id refused : ℕ)
+    → HasField whole (codes "refused") (refused_tree version id refused) refused
 unfolding serde_json_on_literals
 refused_is version id refused = has_whole (codes "refused") (refused_tree version id refused) refused refl
 
 abbrev OkIs : Version → Data → Answer → Type 0
-OkIs version tree said = (member (codes "refused") tree ≡ None) × ((ok : Data) × HasField object (codes "ok") tree ok × IsOk version ok said)
+OkIs version tree said = (member (codes "refused") tree ≡ None)
+    × ((ok : Data) × HasField object (codes "ok") tree ok × IsOk version ok said)
 
-within : (version : Version) (id : ℕ) (ok : Data) (said : Answer) → object ok ≡ Some ok → IsOk version ok said → OkIs version (ok_tree version id ok) said
+within : (version : Version) (id : ℕ) (ok : Data) (said : Answer) → object ok ≡ Some ok → IsOk version ok said
+    → OkIs version (ok_tree version id ok) said
 unfolding serde_json_on_literals member
 within version id ok said an is = (refl, (ok, (ok, refl, an), is))
 
-answer_is : (version : Version) (id : ℕ) (said : Answer) → FitsAnswer said → IsAnswerOf version said → HasAnswer version (answer_tree version id said) said
+answer_is : (version : Version) (id : ℕ) (said : Answer) → FitsAnswer said → IsAnswerOf version said
+    → HasAnswer version (answer_tree version id said) said
 unfolding answer_tree
 answer_is version id (answer.Refused refusal) fits known = refused_is version id (refusal_number refusal)
 answer_is version id answer.Done fits known = within version id _ answer.Done refl (done_is version)
-answer_is version id (answer.Container made) fits known = within version id _ (answer.Container made) refl (container_is version made)
-answer_is version id (answer.Status status) fits known = within version id _ (answer.Status status) refl (status_ok version status fits)
-answer_is version id (answer.List items) fits known = within version id _ (answer.List items) refl (listing_is version items fits)
-answer_is version id (answer.Statuses items) fits known = within version id _ (answer.Statuses items) refl (statuses_are version items fits known)
+answer_is version id (answer.Container made) fits known =
+    within version id _ (answer.Container made) refl (container_is version made)
+answer_is version id (answer.Status status) fits known =
+    within version id _ (answer.Status status) refl (status_ok version status fits)
+answer_is version id (answer.List items) fits known =
+    within version id _ (answer.List items) refl (listing_is version items fits)
+answer_is version id (answer.Statuses items) fits known =
+    within version id _ (answer.Statuses items) refl (statuses_are version items fits known)
 
 -- a list of trees that have no float, and are no deeper than one level
 record IsPlain (tree : Data) : Type 0 where
   no_floats : has_float tree ≡ false
   levels : depth tree ≤ 1
 
-plain_list : {A : Type 0} (tree_of : A → Data) → ((x : A) → IsPlain (tree_of x)) → (xs : List A) → (items_have_float (items_of (map tree_of xs)) ≡ false) × (items_depth (items_of (map tree_of xs)) ≤ 1)
+plain_list : {A : Type 0} (tree_of : A → Data) → ((x : A) → IsPlain (tree_of x)) → (xs : List A)
+    → (items_have_float (items_of (map tree_of xs)) ≡ false) × (items_depth (items_of (map tree_of xs)) ≤ 1)
 plain_list tree_of one [] = (refl, omega arith)
 plain_list tree_of one (x ∷ xs) =
     let rest = plain_list tree_of one xs in
@@ -170,7 +203,11 @@ plain_exit Running = (refl, refl)
 plain_exit (Exited code) = (refl, refl)
 
 plain_status : (listed : ListedStatus) → IsPlain (listed_status_tree listed)
-plain_status listed = record { no_floats = rw (plain_exit listed.status.state).0 refl; levels = rw (plain_exit listed.status.state).1 (omega arith) }
+plain_status listed = record {
+  no_floats = rw (plain_exit listed.status.state).0 refl;
+  levels =
+      rw (plain_exit listed.status.state).1 (omega arith);
+}
 
 pub no_float : (version : Version) (id : ℕ) (said : Answer) → has_float (answer_tree version id said) ≡ false
 unfolding answer_tree
@@ -184,7 +221,9 @@ no_float version id (answer.Statuses items) = rw (plain_list listed_status_tree 
 le_suc : {m n : ℕ} → m ≤ n → suc m ≤ suc n
 le_suc h = omega (arith, h)
 
-list_levels : {A : Type 0} (tree_of : A → Data) → ((x : A) → IsPlain (tree_of x)) → (version : Version) (id : ℕ) (key : List ℕ) (xs : List A) → depth (ok_tree version id (list_tree key tree_of xs)) ≤ 4
+list_levels : {A : Type 0} (tree_of : A → Data) → ((x : A) → IsPlain (tree_of x))
+    → (version : Version) (id : ℕ) (key : List ℕ) (xs : List A)
+    → depth (ok_tree version id (list_tree key tree_of xs)) ≤ 4
 list_levels tree_of one version id key xs =
     let d : items_depth (items_of (map tree_of xs)) ≤ 1 = (plain_list tree_of one xs).1 in
     le_suc (max-le (omega arith) (max-le (le_suc (max-le (le_suc d) (omega arith))) (omega arith)))
@@ -195,10 +234,13 @@ shallow version id (answer.Refused refusal) = omega arith
 shallow version id answer.Done = omega arith
 shallow version id (answer.Container made) = omega arith
 shallow version id (answer.Status status) = rw (plain_exit status.state).1 (omega arith)
-shallow version id (answer.List items) = list_levels listed_tree plain_listed version id (codes "containers") items
-shallow version id (answer.Statuses items) = list_levels listed_status_tree plain_status version id (codes "statuses") items
+shallow version id (answer.List items) =
+    list_levels listed_tree plain_listed version id (codes "containers") items
+shallow version id (answer.Statuses items) =
+    list_levels listed_status_tree plain_status version id (codes "statuses") items
 
-reply_is : (version : Version) (reply : Reply) → FitsAnswer reply.answer → IsAnswerOf version reply.answer → IsReply version (answer_tree version reply.id reply.answer) reply
+reply_is : (version : Version) (reply : Reply) → FitsAnswer reply.answer → IsAnswerOf version reply.answer
+    → IsReply version (answer_tree version reply.id reply.answer) reply
 reply_is version reply fits known =
     let head = head_is version reply.id reply.answer in
     let tree = answer_tree version reply.id reply.answer in
@@ -209,8 +251,11 @@ reply_is version reply fits known =
     }
 
 -- what is written of a reply reads as it
-pub reads : (version : Version) (reply : Reply) (tree : Data) (r : Result (Vec ℕ Global) AllocError) → tree ≡ answer_tree version reply.id reply.answer → FitsAnswer reply.answer → IfOk r (λ b. IsUtf8 b.items)
-    → IfOk r (λ b. depth tree ≤ max_depth → read b.items ≡ Some tree) → IsAnswerOf version reply.answer → IfOk r (λ b. ReadsReply version b.items reply)
+pub reads : (version : Version) (reply : Reply) (tree : Data) (r : Result (Vec ℕ Global) AllocError)
+    → tree ≡ answer_tree version reply.id reply.answer → FitsAnswer reply.answer
+    → IfOk r (λ b. IsUtf8 b.items)
+    → IfOk r (λ b. depth tree ≤ max_depth → read b.items ≡ Some tree) → IsAnswerOf version reply.answer
+    → IfOk r (λ b. ReadsReply version b.items reply)
 reads version reply tree (Err e) is fits utf8 back known = tt
 reads version reply tree (Ok bytes) is fits utf8 back known =
     let levels : depth tree ≤ max_depth = rw is (omega (arith, shallow version reply.id reply.answer)) in
@@ -224,14 +269,18 @@ some : (version : Version) (id : ℕ) (said : Answer) → 0 < length (compact_te
 some version id said = not_empty (codes "v") (answer_tree version id said) _ (head_is version id said).v
 
 -- the text fits into a frame
-pub some_bytes : (version : Version) (reply : Reply) (tree : Data) (r : Result (Vec ℕ Global) AllocError) → tree ≡ answer_tree version reply.id reply.answer
+pub some_bytes : (version : Version) (reply : Reply) (tree : Data) (r : Result (Vec ℕ Global) AllocError)
+    → tree ≡ answer_tree version reply.id reply.answer
     → IfOk r (λ b. has_float tree ≡ false → b.items ≡ compact_text tree) → IfOk r (λ b. 0 < length b.items)
 some_bytes version reply tree (Err e) is text = tt
 some_bytes version reply tree (Ok bytes) is text =
     rw (text (rw is (no_float version reply.id reply.answer)), is) (some version reply.id reply.answer)
 
-pub few_bytes : (version : Version) (reply : Reply) (tree : Data) (r : Result (Vec ℕ Global) AllocError) → tree ≡ answer_tree version reply.id reply.answer → IsSmall reply.id → FitsAnswer reply.answer
-    → IfOk r (λ b. has_float tree ≡ false → b.items ≡ compact_text tree) → IfOk r (λ b. length b.items ≤ MAX_TEXT)
+pub few_bytes : (version : Version) (reply : Reply) (tree : Data) (r : Result (Vec ℕ Global) AllocError)
+    → tree ≡ answer_tree version reply.id reply.answer → IsSmall reply.id → FitsAnswer reply.answer
+    → IfOk r (λ b. has_float tree ≡ false → b.items ≡ compact_text tree)
+    → IfOk r (λ b. length b.items ≤ MAX_TEXT)
 few_bytes version reply tree (Err e) is small fits text = tt
 few_bytes version reply tree (Ok bytes) is small fits text =
-    rw (text (rw is (no_float version reply.id reply.answer)), is) (reply_short version reply.id reply.answer small fits)
+    rw (text (rw is (no_float version reply.id reply.answer)), is)
+    (reply_short version reply.id reply.answer small fits)

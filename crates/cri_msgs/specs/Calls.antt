@@ -1,7 +1,10 @@
 -- What every call names, this project's own.
 use Rattle.std.specs.Prelude.{ℕ, List}
 use Rattle.cri_msgs.specs.declared.calls.Call.{Call}
-use Rattle.cri_msgs.specs.declared.calls.Call.TheVariants.{RunPodSandbox, StopPodSandbox, RemovePodSandbox, CreateContainer, StartContainer, StopContainer, RemoveContainer, ContainerStatus, ListContainers, ContainerStatuses}
+use Rattle.cri_msgs.specs.declared.calls.Call.TheVariants.{RunPodSandbox, StopPodSandbox, RemovePodSandbox}
+use Rattle.cri_msgs.specs.declared.calls.Call.TheVariants.{CreateContainer, StartContainer, StopContainer}
+use Rattle.cri_msgs.specs.declared.calls.Call.TheVariants.{RemoveContainer, ContainerStatus, ListContainers}
+use Rattle.cri_msgs.specs.declared.calls.Call.TheVariants.{ContainerStatuses}
 
 -- the pod that a call is about, whose sandbox it names
 abbrev pub uid_of : Call → List ℕ

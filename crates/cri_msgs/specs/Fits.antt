@@ -5,7 +5,10 @@ use Rattle.manifest.specs.declared.profiles.SeccompProfile.{SeccompProfile}
 use Rattle.manifest.specs.declared.profiles.SeccompProfile.TheVariants.{RuntimeDefault, Localhost, Unconfined}
 use Rattle.manifest.specs.Texts.{is_descending, is_label, is_uid}
 use Rattle.cri_msgs.specs.declared.calls.Call.{Call}
-use Rattle.cri_msgs.specs.declared.calls.Call.TheVariants.{RunPodSandbox, StopPodSandbox, RemovePodSandbox, CreateContainer, StartContainer, StopContainer, RemoveContainer, ContainerStatus, ListContainers, ContainerStatuses}
+use Rattle.cri_msgs.specs.declared.calls.Call.TheVariants.{RunPodSandbox, StopPodSandbox, RemovePodSandbox}
+use Rattle.cri_msgs.specs.declared.calls.Call.TheVariants.{CreateContainer, StartContainer, StopContainer}
+use Rattle.cri_msgs.specs.declared.calls.Call.TheVariants.{RemoveContainer, ContainerStatus, ListContainers}
+use Rattle.cri_msgs.specs.declared.calls.Call.TheVariants.{ContainerStatuses}
 use Rattle.cri_msgs.specs.declared.keys.ContainerMetadata.{ContainerMetadata}
 use Rattle.cri_msgs.specs.declared.keys.Key.{Key}
 use Rattle.cri_msgs.specs.declared.lists.ListedContainer.{ListedContainer}
@@ -40,7 +43,8 @@ abbrev pub FitsCall : Call → Type 0
 FitsCall (RunPodSandbox uid) = FitsUid uid
 FitsCall (StopPodSandbox uid grace) = FitsUid uid × IsSmall grace
 FitsCall (RemovePodSandbox uid) = FitsUid uid
-FitsCall (CreateContainer key image profile) = FitsKey key × IsTrue (is_descending image) × FitsProfile profile
+FitsCall (CreateContainer key image profile) = FitsKey key × IsTrue (is_descending image)
+    × FitsProfile profile
 FitsCall (StartContainer key) = FitsKey key
 FitsCall (StopContainer key grace) = FitsKey key × IsSmall grace
 FitsCall (RemoveContainer key) = FitsKey key

@@ -1,11 +1,16 @@
 -- The names and the numbers in messages. The names of calls, and (less their prefix) of states, are those of
--- CRI v1, `ContainerStatuses` is this project's own. The numbers of refusals are gRPC's status codes, save 14,
--- which is this project's own want of memory.
+-- CRI v1, `ContainerStatuses` is this project's own. The numbers of refusals are gRPC's status codes, save
+-- 14, which is this project's own want of memory.
 use Rattle.std.specs.Prelude.{ℕ, List, codes}
 use Rattle.cri_msgs.specs.declared.calls.Call.{Call}
-use Rattle.cri_msgs.specs.declared.calls.Call.TheVariants.{RunPodSandbox, StopPodSandbox, RemovePodSandbox, CreateContainer, StartContainer, StopContainer, RemoveContainer, ContainerStatus, ListContainers, ContainerStatuses}
+use Rattle.cri_msgs.specs.declared.calls.Call.TheVariants.{RunPodSandbox, StopPodSandbox, RemovePodSandbox}
+use Rattle.cri_msgs.specs.declared.calls.Call.TheVariants.{CreateContainer, StartContainer, StopContainer}
+use Rattle.cri_msgs.specs.declared.calls.Call.TheVariants.{RemoveContainer, ContainerStatus, ListContainers}
+use Rattle.cri_msgs.specs.declared.calls.Call.TheVariants.{ContainerStatuses}
 use Rattle.cri_msgs.specs.declared.refusals.Refusal.{Refusal}
-use Rattle.cri_msgs.specs.declared.refusals.Refusal.TheVariants.{InvalidArgument, NotFound, AlreadyExists, ResourceExhausted, FailedPrecondition, Internal, Memory}
+use Rattle.cri_msgs.specs.declared.refusals.Refusal.TheVariants.{InvalidArgument, NotFound, AlreadyExists}
+use Rattle.cri_msgs.specs.declared.refusals.Refusal.TheVariants.{ResourceExhausted, FailedPrecondition}
+use Rattle.cri_msgs.specs.declared.refusals.Refusal.TheVariants.{Internal, Memory}
 use Rattle.cri_msgs.specs.declared.states.ContainerState.{ContainerState}
 use Rattle.cri_msgs.specs.declared.states.ContainerState.TheVariants as kind
 use Rattle.cri_msgs.specs.declared.states.State.{State}

@@ -1,6 +1,7 @@
 -- What the readers of this crate find in a tree, part by part: this project's own. A message has one fault
 -- alone, so which of these is found first says nothing.
-use Rattle.std.specs.Prelude.{ℕ, ◌==◌, List, length, codes, Bool, not, nat_lt, if◌then◌else◌, Option, Some, None, unwrap_or, Result, Ok, Err}
+use Rattle.std.specs.Prelude.{ℕ, ◌==◌, List, length, codes, Bool, not, nat_lt, if◌then◌else◌, Option, Some}
+use Rattle.std.specs.Prelude.{None, unwrap_or, Result, Ok, Err}
 use Rattle.std.specs.Str.{bytes_eq}
 use Rattle.serde_json.specs.Data.{Data}
 use Rattle.json_tree.specs.declared.faults.FieldFault.{FieldFault}

@@ -43,7 +43,8 @@ pub record IsListedStatus (tree : Data) (listed : ListedStatus) : Type 0 where
   pub status : HasStatus tree listed.status
 
 -- a list of so many of these
-pub record HasList {A : Type 0} (IsItem : Data → A → Type 0) (key : List ℕ) (tree : Data) (items : List A) : Type 0 where
+pub record HasList {A : Type 0} (IsItem : Data → A → Type 0) (key : List ℕ) (tree : Data)
+    (items : List A) : Type 0 where
   pub trees : List Data
   pub there : HasField list key tree trees
   pub few : length trees ≤ MAX_LISTED
@@ -58,16 +59,22 @@ IsAnswerOf version said = Unit {0}
 abbrev pub IsOk : Version → Data → Answer → Type 0
 IsOk version ok (answer.Refused refusal) = ⊥
 IsOk version ok (answer.Container id) = HasField whole (codes "container") ok id
-IsOk version ok (answer.List items) = Lacks (codes "container") ok × HasList IsListed (codes "containers") ok items
-IsOk version ok (answer.Status status) = Lacks (codes "container") ok × Lacks (codes "containers") ok × HasStatus ok status
-IsOk version ok (answer.Statuses items) = Lacks (codes "container") ok × Lacks (codes "containers") ok × Lacks (codes "state") ok
+IsOk version ok (answer.List items) = Lacks (codes "container") ok
+    × HasList IsListed (codes "containers") ok items
+IsOk version ok (answer.Status status) = Lacks (codes "container") ok × Lacks (codes "containers") ok
+    × HasStatus ok status
+IsOk version ok (answer.Statuses items) = Lacks (codes "container") ok × Lacks (codes "containers") ok
+    × Lacks (codes "state") ok
     × HasList IsListedStatus (codes "statuses") ok items × (version ≡ V2)
-IsOk version ok answer.Done = Lacks (codes "container") ok × Lacks (codes "containers") ok × Lacks (codes "state") ok × Lacks (codes "statuses") ok
+IsOk version ok answer.Done = Lacks (codes "container") ok × Lacks (codes "containers") ok
+    × Lacks (codes "state") ok × Lacks (codes "statuses") ok
 
 -- "refused" decides where it is there
 abbrev pub HasAnswer : Version → Data → Answer → Type 0
-HasAnswer version tree (answer.Refused refusal) = HasField whole (codes "refused") tree (refusal_number refusal)
-HasAnswer version tree said = Lacks (codes "refused") tree × ((ok : Data) × HasField object (codes "ok") tree ok × IsOk version ok said)
+HasAnswer version tree (answer.Refused refusal) =
+    HasField whole (codes "refused") tree (refusal_number refusal)
+HasAnswer version tree said = Lacks (codes "refused") tree
+    × ((ok : Data) × HasField object (codes "ok") tree ok × IsOk version ok said)
 
 pub record IsReply (version : Version) (tree : Data) (reply : Reply) : Type 0 where
   pub v : HasField whole (codes "v") tree (version_number version)

@@ -9,7 +9,10 @@ use Rattle.manifest.specs.Pod.{IsWritten}
 use Rattle.manifest.specs.Texts.{is_descending, is_label, is_uid}
 use Rattle.json_tree.specs.Reading.{MayHaveField}
 use Rattle.cri_msgs.specs.declared.calls.Call.{Call}
-use Rattle.cri_msgs.specs.declared.calls.Call.TheVariants.{RunPodSandbox, StopPodSandbox, RemovePodSandbox, CreateContainer, StartContainer, StopContainer, RemoveContainer, ContainerStatus, ListContainers, ContainerStatuses}
+use Rattle.cri_msgs.specs.declared.calls.Call.TheVariants.{RunPodSandbox, StopPodSandbox, RemovePodSandbox}
+use Rattle.cri_msgs.specs.declared.calls.Call.TheVariants.{CreateContainer, StartContainer, StopContainer}
+use Rattle.cri_msgs.specs.declared.calls.Call.TheVariants.{RemoveContainer, ContainerStatus, ListContainers}
+use Rattle.cri_msgs.specs.declared.calls.Call.TheVariants.{ContainerStatuses}
 use Rattle.cri_msgs.specs.declared.calls.Request.{Request}
 use Rattle.cri_msgs.specs.declared.keys.ContainerMetadata.{ContainerMetadata}
 use Rattle.cri_msgs.specs.declared.keys.Key.{Key}
@@ -44,14 +47,16 @@ pub record IsProfile (tree : Data) (profile : SeccompProfile) : Type 0 where
   pub written : IsWritten profile name path
 
 abbrev pub HasProfile : Data → SeccompProfile → Type 0
-HasProfile tree profile = (found : Data) × HasField object (codes "profile") tree found × IsProfile found profile
+HasProfile tree profile = (found : Data) × HasField object (codes "profile") tree found
+    × IsProfile found profile
 
 -- the fields of each call
 abbrev pub HasFields : Data → Call → Type 0
 HasFields tree (RunPodSandbox uid) = HasUid tree uid
 HasFields tree (StopPodSandbox uid grace) = HasUid tree uid × HasGrace tree grace
 HasFields tree (RemovePodSandbox uid) = HasUid tree uid
-HasFields tree (CreateContainer key image profile) = HasKey tree key × HasImage tree image × HasProfile tree profile
+HasFields tree (CreateContainer key image profile) = HasKey tree key × HasImage tree image
+    × HasProfile tree profile
 HasFields tree (StartContainer key) = HasKey tree key
 HasFields tree (StopContainer key grace) = HasKey tree key × HasGrace tree grace
 HasFields tree (RemoveContainer key) = HasKey tree key

@@ -18,7 +18,8 @@ IsExitOf container code listed = (listed.container ≡ container) × (listed.sta
 -- container of the sandbox, and nothing else tells one.
 abbrev pub TellsExit : Call → Answer → Key → ℕ → Type 0
 TellsExit (ContainerStatus asked) (Status status) key code = (asked ≡ key) × (status.state ≡ Exited code)
-TellsExit (ContainerStatuses uid) (Statuses listed) key code = (uid ≡ key.uid) × Any (IsExitOf key.container code) listed
+TellsExit (ContainerStatuses uid) (Statuses listed) key code = (uid ≡ key.uid)
+    × Any (IsExitOf key.container code) listed
 TellsExit call answer key code = ⊥
 
 -- it is not that container's, or has not exited

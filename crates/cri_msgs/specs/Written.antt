@@ -1,7 +1,8 @@
 -- How a message is written: its tree, with the members of each object in the order of their keys' bytes, as
 -- compact JSON. This project's own.
 use Rattle.std.specs.Prelude.{ℕ, List, codes, map}
-use Rattle.serde_json.specs.Data.{Data, null, number, unsigned, string, array, object, member, no_members, Members}
+use Rattle.serde_json.specs.Data.{Data, null, number, unsigned, string, array, object, member, no_members}
+use Rattle.serde_json.specs.Data.{Members}
 use Rattle.serde_json.specs.View.{items_of}
 use Rattle.serde_json.specs.Written.{compact_text}
 use Rattle.manifest.specs.declared.profiles.SeccompProfile.{SeccompProfile}
@@ -133,10 +134,13 @@ ok_tree version id ok = object (
 unfoldable pub answer_tree : Version → ℕ → Answer → Data
 answer_tree version id (answer.Refused refusal) = refused_tree version id (refusal_number refusal)
 answer_tree version id answer.Done = ok_tree version id (object no_members)
-answer_tree version id (answer.Container made) = ok_tree version id (object (member (codes "container") (whole_number made) no_members))
+answer_tree version id (answer.Container made) =
+    ok_tree version id (object (member (codes "container") (whole_number made) no_members))
 answer_tree version id (answer.Status status) = ok_tree version id (status_tree status)
-answer_tree version id (answer.List items) = ok_tree version id (list_tree (codes "containers") listed_tree items)
-answer_tree version id (answer.Statuses items) = ok_tree version id (list_tree (codes "statuses") listed_status_tree items)
+answer_tree version id (answer.List items) =
+    ok_tree version id (list_tree (codes "containers") listed_tree items)
+answer_tree version id (answer.Statuses items) =
+    ok_tree version id (list_tree (codes "statuses") listed_status_tree items)
 
 -- the texts
 abbrev pub request_text : Version → Request → List ℕ

@@ -4,7 +4,8 @@ ghost use Rattle.json_tree.specs.declared.faults.FieldFault.{FieldFault};
 ghost use Rattle.json_tree.specs.Reading.{Gives};
 ghost use Rattle.manifest.specs.Texts as rule;
 ghost use Rattle.cri_msgs.specs.Requests.{number_in};
-ghost use Rattle.cri_msgs.specs.Reading.{container_of, fitting, key_of, message_fault, numbered, profile_in, profile_named, profile_of, with_path, without_path};
+ghost use Rattle.cri_msgs.specs.Reading.{container_of, fitting, key_of, message_fault, numbered, profile_in};
+ghost use Rattle.cri_msgs.specs.Reading.{profile_named, profile_of, with_path, without_path};
 
 use crate::faults::MessageFault;
 use crate::keys::{ContainerMetadata, Key};
@@ -36,7 +37,8 @@ fn name(alloc: Global, tree: &Value) -> Result<Label, FieldFault>
 
 #[tactic(auto, unfolding(crate::specs::Reading::fitting))]
 pub(crate) fn image(alloc: Global, tree: &Value) -> Result<DescendingPath, FieldFault>
-    ensures { Gives FieldFault.Memory (λ p. p) result (fitting rule.is_descending (codes "image") (view tree.now)) }
+    ensures { Gives FieldFault.Memory (λ p. p) result
+        (fitting rule.is_descending (codes "image") (view tree.now)) }
 {
     let text = required_text(tree, "image")?;
     DescendingPath::new(alloc, text)?.ok_or(FieldFault::WrongType)

@@ -3,7 +3,9 @@ ghost use Rattle.serde_json.specs.View.{view};
 ghost use Rattle.json_tree.specs.declared.faults.FieldFault.{FieldFault};
 ghost use Rattle.json_tree.specs.Reading.{Gives, as_read, in_order};
 ghost use Rattle.cri_msgs.specs.declared.lists.TheConstants.{MAX_LISTED};
-ghost use Rattle.cri_msgs.specs.Reading.{answer_of, few, kind_in, listed_of, listed_status_of, listing_in, ok_in, ok_of, refused_in, reply_of, state_by, state_of, status_of, statuses_by, statuses_in, with_exit, without_exit};
+ghost use Rattle.cri_msgs.specs.Reading.{answer_of, few, kind_in, listed_of, listed_status_of, listing_in};
+ghost use Rattle.cri_msgs.specs.Reading.{ok_in, ok_of, refused_in, reply_of, state_by, state_of, status_of};
+ghost use Rattle.cri_msgs.specs.Reading.{statuses_by, statuses_in, with_exit, without_exit};
 
 use crate::fields::{container, numbered};
 use crate::lists::{ListedContainer, ListedStatus, Listing, MAX_LISTED, Statuses};
@@ -124,7 +126,8 @@ fn each_listed(alloc: Global, items: &[Value]) -> Result<Vec<ListedContainer>, F
 
 #[tactic(auto, using(json_tree::proofs::Loops::in_order_more, json_tree::proofs::Loops::in_order_stops))]
 fn each_status(alloc: Global, items: &[Value]) -> Result<Vec<ListedStatus>, FieldFault>
-    ensures value { Gives FieldFault.Memory (λ v. v.items) result (in_order listed_status_of (map view items.now)) }
+    ensures value { Gives FieldFault.Memory (λ v. v.items) result
+        (in_order listed_status_of (map view items.now)) }
     ensures as_many { IfOk result (λ v. length v.items ≡ length items.now) }
 {
     let mut list = Vec::new(alloc);

@@ -4,9 +4,11 @@ ghost use Rattle.serde_json.specs.Data.{array, member, no_members, object, put, 
 ghost use Rattle.serde_json.specs.View.{items_view, members_view, view};
 ghost use Rattle.cri_msgs.specs.declared.lists.ListedContainer.{ListedContainer};
 ghost use Rattle.cri_msgs.specs.declared.lists.ListedStatus.{ListedStatus};
-ghost use Rattle.cri_msgs.specs.Fits.{FitsAnswer, FitsContainer, FitsList, FitsListed, FitsListedStatus, FitsState, FitsStatus, IsSmall};
+ghost use Rattle.cri_msgs.specs.Fits.{FitsAnswer, FitsContainer, FitsList, FitsListed, FitsListedStatus};
+ghost use Rattle.cri_msgs.specs.Fits.{FitsState, FitsStatus, IsSmall};
 ghost use Rattle.cri_msgs.specs.Names.{kind_of, state_name};
-ghost use Rattle.cri_msgs.specs.Written.{answer_tree, exit_tree, list_tree, listed_status_tree, listed_tree, ok_tree, refused_tree, status_tree, version_last, whole_number};
+ghost use Rattle.cri_msgs.specs.Written.{answer_tree, exit_tree, list_tree, listed_status_tree, listed_tree};
+ghost use Rattle.cri_msgs.specs.Written.{ok_tree, refused_tree, status_tree, version_last, whole_number};
 
 use crate::keys::ContainerMetadata;
 use crate::lists::{ListedContainer, ListedStatus, Listing, Statuses};

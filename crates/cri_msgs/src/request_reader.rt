@@ -2,7 +2,8 @@ ghost use Rattle.std.specs.Prelude.{◌≡◌};
 ghost use Rattle.serde_json.specs.View.{view};
 ghost use Rattle.json_tree.specs.declared.faults.FieldFault.{FieldFault};
 ghost use Rattle.json_tree.specs.Reading.{Gives};
-ghost use Rattle.cri_msgs.specs.Reading.{call_by, call_of, create_of, key_of, request_of, stop_of, stop_pod_of};
+ghost use Rattle.cri_msgs.specs.Reading.{call_by, call_of, create_of, key_of, request_of, stop_of};
+ghost use Rattle.cri_msgs.specs.Reading.{stop_pod_of};
 
 use crate::calls::{Call, Request};
 use crate::fields::{image, key, numbered, profile, uid};

@@ -5,7 +5,8 @@ ghost use Rattle.manifest.specs.declared.profiles.SeccompProfile.TheVariants.{Lo
 ghost use Rattle.manifest.specs.Texts.{is_descending};
 ghost use Rattle.cri_msgs.specs.Fits.{FitsCall, FitsKey, FitsProfile, FitsUid, IsSmall};
 ghost use Rattle.cri_msgs.specs.Names.{version_number};
-ghost use Rattle.cri_msgs.specs.Written.{call_tree, create_tree, key_grace_tree, key_tree, profile_tree, uid_grace_tree, uid_tree, version_last, whole_number};
+ghost use Rattle.cri_msgs.specs.Written.{call_tree, create_tree, key_grace_tree, key_tree, profile_tree};
+ghost use Rattle.cri_msgs.specs.Written.{uid_grace_tree, uid_tree, version_last, whole_number};
 
 use crate::calls::Call;
 use crate::keys::Key;
@@ -143,7 +144,8 @@ fn create(
     profile: &SeccompProfile,
 ) -> Result<Value, AllocError>
     ensures tree { IfOk result (λ v. view v ≡ create_tree version id key.now image.now profile.now) }
-    ensures fit { IfOk result (λ _. FitsKey key.now × IsTrue (is_descending image.now) × FitsProfile profile.now) }
+    ensures fit { IfOk result (λ _. FitsKey key.now × IsTrue (is_descending image.now)
+        × FitsProfile profile.now) }
 {
     let profile = profile_tree(alloc, profile)?;
     let object = Object::new(alloc)

@@ -2,7 +2,8 @@
 -- delay of 10 s, 20 s, 40 s, .., capped at five minutes, and begun anew after ten minutes of running).
 -- That it counts from the moment at which the exit was recorded is this project's own.
 -- Lists of runs are oldest first. Moments are whole seconds below 2 ^ 64.
-use Rattle.std.specs.Prelude.{ℕ, ◌+◌, ◌-◌, ◌*◌, ◌^◌, min, nat_le, if◌then◌else◌, List, length, slice_get, Option, Some, None}
+use Rattle.std.specs.Prelude.{ℕ, ◌+◌, ◌-◌, ◌*◌, ◌^◌, min, nat_le, if◌then◌else◌, List, length, slice_get}
+use Rattle.std.specs.Prelude.{Option, Some, None}
 use Rattle.std.specs.List.{fold}
 
 -- one run of a container that ended: its exit code, and from when to when

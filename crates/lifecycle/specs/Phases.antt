@@ -22,7 +22,8 @@ are_succeeded policy tracks = list_all (λ t. t.init || is_succeeded policy t) t
 
 -- an init container isn't finished, or another container was never started
 abbrev pub is_pending : RestartPolicy → List Track → Bool
-is_pending policy tracks = list_any (λ t. if t.init then not (is_finished policy t) else not (was_started t)) tracks
+is_pending policy tracks = list_any (λ t. if t.init then not (is_finished policy t)
+    else not (was_started t)) tracks
 
 -- the first rule that applies
 abbrev pub phase_of : RestartPolicy → Bool → List Track → Phase

@@ -1,6 +1,7 @@
 -- What became of a container: Kubernetes 1.27, pod lifecycle, "Container states". When it counts as
 -- finished is this project's own.
-use Rattle.std.specs.Prelude.{ℕ, ◌+◌, ◌==◌, nat_lt, Bool, true, false, not, if◌then◌else◌, List, length, Option, Some, None}
+use Rattle.std.specs.Prelude.{ℕ, ◌+◌, ◌==◌, nat_lt, Bool, true, false, not, if◌then◌else◌, List, length}
+use Rattle.std.specs.Prelude.{Option, Some, None}
 use Rattle.std.specs.Option.{option_map}
 use Rattle.lifecycle.specs.declared.policy.RestartPolicy.{RestartPolicy}
 use Rattle.lifecycle.specs.declared.track.Stage.{Stage}
@@ -52,7 +53,8 @@ unfinished_state s = Waiting
 
 abbrev pub state_behind : RestartPolicy → Track → Option ℕ → ContainerState
 state_behind policy t None = unfinished_state t.stage
-state_behind policy t (Some code) = if may_restart policy t.init code then unfinished_state t.stage else Terminated code
+state_behind policy t (Some code) = if may_restart policy t.init code then unfinished_state t.stage
+    else Terminated code
 
 abbrev pub state_of : RestartPolicy → Track → ContainerState
 state_of policy t = state_behind policy t (ended_code t)

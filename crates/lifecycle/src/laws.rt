@@ -15,13 +15,15 @@ pub fn finished_init_stays_finished()
 /// What the back-off counts: the latest run of ten minutes or more and those behind it, or all runs where
 /// none lasted so long.
 pub fn back_off_counts_from_the_last_long_run()
-    ensures long { (earlier later : List Run) (run : Run) → 600 ≤ lasted run → All (λ after. lasted after < 600) later
+    ensures long { (earlier later : List Run) (run : Run) → 600 ≤ lasted run
+        → All (λ after. lasted after < 600) later
         → row_of (earlier ++ run ∷ later) ≡ length later + 1 }
     ensures none_long { (runs : List Run) → All (λ run. lasted run < 600) runs → row_of runs ≡ length runs }
 {}
 
 /// A pod with no other containers than init containers has succeeded, unless one of them failed.
 pub fn init_containers_alone_succeed()
-    ensures { (policy : RestartPolicy) (lost : Bool) (tracks : List Track) → All (λ track. track.init ≡ true) tracks
+    ensures { (policy : RestartPolicy) (lost : Bool) (tracks : List Track)
+        → All (λ track. track.init ≡ true) tracks
         → has_failed_init policy tracks ≡ false → phase_of policy lost tracks ≡ Phase.Succeeded }
 {}

@@ -1,5 +1,6 @@
 ghost use Rattle.std.specs.Prelude.{◌≡◌};
-ghost use Rattle.lifecycle.specs.Tracks.{ended_code, is_failed, is_finished, is_succeeded, started_of, state_of, was_started};
+ghost use Rattle.lifecycle.specs.Tracks.{ended_code, is_failed, is_finished, is_succeeded, started_of};
+ghost use Rattle.lifecycle.specs.Tracks.{state_of, was_started};
 
 use crate::policy::{RestartPolicy, may_restart};
 use crate::runs::Runs;

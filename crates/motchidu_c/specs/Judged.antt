@@ -28,4 +28,5 @@ pub record HaveRoom (calls values steps : List ℕ) : Type 0 where
 -- each value and each number of steps is that of the run on its call
 abbrev pub AreJudged : List Insn → List ℕ → List ℕ → List ℕ → Type 0
 AreJudged code calls values steps =
-    (at : ℕ) → at < length values → IsJudged code (bytes_at calls at) (slice_index values at) (slice_index steps at)
+    (at : ℕ) → at < length values → IsJudged code (bytes_at calls at) (slice_index values at)
+    (slice_index steps at)

@@ -12,7 +12,14 @@ use Rattle.compile.specs.declared.fault.CompileFault.TheVariants as compiler
 use Rattle.oci_profile.specs.declared.faults.ProfileFault.{ProfileFault}
 use Rattle.oci_profile.specs.declared.faults.ProfileFault.TheVariants as profile
 use Rattle.motchidu_c.specs.declared.status.Status.{Status}
-use Rattle.motchidu_c.specs.declared.status.Status.TheVariants.{Accepted, Length, TooLong, BadCode, Empty, BadOffset, BadJump, BadWord, BadShift, ZeroDivisor, NoFinalReturn, Unstored, Memory, Lengths, NotJson, NotObject, Missing, WrongType, UnknownAction, UnknownOp, BadIndex, EmptyNames, RepeatedIndex, ErrnoNotAllowed, ErrnoTooLarge, UnknownCall, Notify, TooLarge, TooHeavy, NoRoom}
+use Rattle.motchidu_c.specs.declared.status.Status.TheVariants.{Accepted, Length, TooLong, BadCode, Empty}
+use Rattle.motchidu_c.specs.declared.status.Status.TheVariants.{BadOffset, BadJump, BadWord, BadShift}
+use Rattle.motchidu_c.specs.declared.status.Status.TheVariants.{ZeroDivisor, NoFinalReturn, Unstored, Memory}
+use Rattle.motchidu_c.specs.declared.status.Status.TheVariants.{Lengths, NotJson, NotObject, Missing}
+use Rattle.motchidu_c.specs.declared.status.Status.TheVariants.{WrongType, UnknownAction, UnknownOp, BadIndex}
+use Rattle.motchidu_c.specs.declared.status.Status.TheVariants.{EmptyNames, RepeatedIndex, ErrnoNotAllowed}
+use Rattle.motchidu_c.specs.declared.status.Status.TheVariants.{ErrnoTooLarge, UnknownCall, Notify, TooLarge}
+use Rattle.motchidu_c.specs.declared.status.Status.TheVariants.{TooHeavy, NoRoom}
 
 abbrev pub number_of : Status → ℕ
 number_of Accepted = 0

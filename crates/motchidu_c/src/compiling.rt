@@ -1,4 +1,5 @@
-ghost use Rattle.std.specs.Prelude.{◌≡◌, ◌≢◌, ◌≤◌, ◌<◌, ◌⊎◌, ◌++◌, Some, Err, IsOk, IfOk, IfErr, drop, length};
+ghost use Rattle.std.specs.Prelude.{◌≡◌, ◌≢◌, ◌≤◌, ◌<◌, ◌⊎◌, ◌++◌, Some, Err, IsOk, IfOk, IfErr, drop};
+ghost use Rattle.std.specs.Prelude.{length};
 ghost use Rattle.bpf_code.specs.declared.limits.TheConstants.{MAX_INSNS};
 ghost use Rattle.oci_profile.specs.declared.faults.ProfileFault.{ProfileFault};
 ghost use Rattle.oci_profile.specs.declared.profile.Profile.{Profile};
@@ -6,7 +7,8 @@ ghost use Rattle.oci_profile.specs.declared.reader.TheConstants.{MAX_PROFILE_BYT
 ghost use Rattle.oci_profile.specs.Meaning.{weight};
 ghost use Rattle.oci_profile.specs.Profile.{ReadsProfile};
 ghost use Rattle.oci_profile.specs.Reading.{first_fault};
-ghost use Rattle.motchidu_c.specs.declared.status.Status.TheVariants.{Accepted, Memory, NoRoom, TooHeavy, TooLarge};
+ghost use Rattle.motchidu_c.specs.declared.status.Status.TheVariants.{Accepted, Memory, NoRoom, TooHeavy};
+ghost use Rattle.motchidu_c.specs.declared.status.Status.TheVariants.{TooLarge};
 ghost use Rattle.motchidu_c.specs.Compiled.{IsCompiled, IsFilterOfText, NeedsRoom};
 ghost use Rattle.motchidu_c.specs.Status.{number_of, status_of_compile, status_of_profile};
 
@@ -78,7 +80,8 @@ fn bytes_of(alloc: Global, text: &[u8]) -> Result<Vec<u8>, Status>
 /// is or not: what is told without room is what the same bytes take with room.
 fn place(bytes: &[u8], room: &mut [u8], len: &mut usize) -> Status
     ensures tells { len.new ≡ length bytes.now }
-    ensures fits { length bytes.now ≤ length room.old → (result ≡ Accepted) × (room.new ≡ bytes.now ++ drop (length bytes.now) room.old) }
+    ensures fits { length bytes.now ≤ length room.old → (result ≡ Accepted)
+        × (room.new ≡ bytes.now ++ drop (length bytes.now) room.old) }
     ensures no_room { length room.old < length bytes.now → (result ≡ NoRoom) × (room.new ≡ room.old) }
 {
     *len = bytes.len();

@@ -23,18 +23,21 @@ use std::alloc::Global;
 /// a place; else it is left alone.
 #[unsafe(no_mangle)]
 pub extern "C" fn motchidu_verify(alloc: Global, filter: &[u8], at: &mut usize) -> u32
-    ensures sound { result ≡ number_of Accepted → (code : List Insn) × IsTextOf filter.now code × IsSound code }
+    ensures sound { result ≡ number_of Accepted → (code : List Insn) × IsTextOf filter.now code
+        × IsSound code }
     ensures kept { result ≡ number_of Accepted → at.new ≡ at.old }
     ensures refused { result ≢ number_of Accepted → (refusal : Refusal) × IsRefused filter.now refusal
         × (result ≡ number_of (status_of refusal)) × (at.new ≡ place_or refusal at.old) }
 
     // A text with a fault is refused for that, whether there is memory or not.
-    ensures told { (fault : CodeFault) → HasFault filter.now fault → result ≡ number_of (status_of_text fault) }
+    ensures told { (fault : CodeFault) → HasFault filter.now fault
+        → result ≡ number_of (status_of_text fault) }
 
     // Sound code is accepted, and of other code the first fault is told, where there is memory.
     ensures accepts { (code : List Insn) → IsTextOf filter.now code → IsSound code
         → result ≢ number_of Memory → result ≡ number_of Accepted }
-    ensures first { (code : List Insn) (fault : Fault) → IsTextOf filter.now code → length code ≤ MAX_INSNS → IsFirstFault code fault
+    ensures first { (code : List Insn) (fault : Fault) → IsTextOf filter.now code → length code ≤ MAX_INSNS
+        → IsFirstFault code fault
         → result ≢ number_of Memory → result ≡ number_of (status_of_code fault) }
 {
     match filter_of(alloc, filter) {
@@ -64,9 +67,11 @@ pub extern "C" fn motchidu_run_all(
         → (fault : CodeFault) → HasFault filter.now fault → result ≡ number_of (status_of_text fault) }
 
     // Sound code is run, and of other code the first fault is told, where there is memory.
-    ensures accepts { HaveRoom calls.now values.old steps.old → (code : List Insn) → IsTextOf filter.now code → IsSound code
+    ensures accepts { HaveRoom calls.now values.old steps.old → (code : List Insn) → IsTextOf filter.now code
+        → IsSound code
         → result ≢ number_of Memory → result ≡ number_of Accepted }
-    ensures first { HaveRoom calls.now values.old steps.old → (code : List Insn) (fault : Fault) → IsTextOf filter.now code
+    ensures first { HaveRoom calls.now values.old steps.old → (code : List Insn) (fault : Fault)
+        → IsTextOf filter.now code
         → length code ≤ MAX_INSNS → IsFirstFault code fault
         → result ≢ number_of Memory → result ≡ number_of (status_of_code fault) }
 
@@ -96,7 +101,8 @@ pub extern "C" fn motchidu_longest(
     longest: &mut u32,
     at: &mut usize,
 ) -> u32
-    ensures longest { result ≡ number_of Accepted → (code : List Insn) × IsTextOf filter.now code × IsSound code
+    ensures longest { result ≡ number_of Accepted → (code : List Insn) × IsTextOf filter.now code
+        × IsSound code
         × IsLongest code longest.new }
     ensures longest_kept { result ≢ number_of Accepted → longest.new ≡ longest.old }
     ensures kept { result ≡ number_of Accepted → at.new ≡ at.old }
@@ -104,10 +110,12 @@ pub extern "C" fn motchidu_longest(
         × (result ≡ number_of (status_of refusal)) × (at.new ≡ place_or refusal at.old) }
 
     // As of `motchidu_verify`.
-    ensures told { (fault : CodeFault) → HasFault filter.now fault → result ≡ number_of (status_of_text fault) }
+    ensures told { (fault : CodeFault) → HasFault filter.now fault
+        → result ≡ number_of (status_of_text fault) }
     ensures accepts { (code : List Insn) → IsTextOf filter.now code → IsSound code
         → result ≢ number_of Memory → result ≡ number_of Accepted }
-    ensures first { (code : List Insn) (fault : Fault) → IsTextOf filter.now code → length code ≤ MAX_INSNS → IsFirstFault code fault
+    ensures first { (code : List Insn) (fault : Fault) → IsTextOf filter.now code → length code ≤ MAX_INSNS
+        → IsFirstFault code fault
         → result ≢ number_of Memory → result ≡ number_of (status_of_code fault) }
 {
     match filter_of(alloc, filter) {

@@ -2,7 +2,8 @@
 //! `include/motchidu.h`.
 //!
 //! Each export calls the crates below and states their clauses again. A `Status` is what an export
-//! answers, as a number; which faults it stands for says `specs/Status.antt`. A caller from C owes what the header says of its pointers.
+//! answers, as a number; which faults it stands for says `specs/Status.antt`. A caller from C owes what the
+//! header says of its pointers.
 #![tactic(auto)]
 
 mod calls;

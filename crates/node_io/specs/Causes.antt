@@ -1,6 +1,7 @@
 -- Why the system refuses a call on a file, a folder or a socket, by its number (errno(3)) or the kind that
 -- std makes of that, and the words for it, this project's own: docs/SEMANTICS.md, "Programs".
-use Rattle.std.specs.Prelude.{ℕ, ℤ, ◌==◌, ◌||◌, unsigned_abs, if◌then◌else◌, List, ◌++◌, codes, Option, Some, None}
+use Rattle.std.specs.Prelude.{ℕ, ℤ, ◌==◌, ◌||◌, unsigned_abs, if◌then◌else◌, List, ◌++◌, codes, Option, Some}
+use Rattle.std.specs.Prelude.{None}
 use Rattle.std.specs.Fmt.{decimal}
 use Rattle.std.specs.declared.io.ErrorKind.{ErrorKind}
 use Rattle.std.specs.declared.io.ErrorKind.TheVariants as kind
@@ -8,12 +9,18 @@ use Rattle.node_io.specs.declared.causes.Cause.{Cause}
 use Rattle.node_io.specs.declared.faults.CausedFault.{CausedFault}
 use Rattle.node_io.specs.declared.faults.FileFault.{FileFault}
 use Rattle.node_io.specs.declared.faults.FileFault.TheVariants as fault
-use Rattle.node_io.specs.declared.causes.Cause.TheVariants.{NotFound, NoFolder, PermissionDenied, IsFolder, NotFolder, NotRegular, Outside, NameTooLong, TooManyLinks, TooManyFiles, NoSpace, Quota, ReadOnly, Busy, Device, NotOpen, Interrupted, WouldBlock, Refused, Gone, TimedOut, Number, Other}
+use Rattle.node_io.specs.declared.causes.Cause.TheVariants.{NotFound, NoFolder, PermissionDenied, IsFolder}
+use Rattle.node_io.specs.declared.causes.Cause.TheVariants.{NotFolder, NotRegular, Outside, NameTooLong}
+use Rattle.node_io.specs.declared.causes.Cause.TheVariants.{TooManyLinks, TooManyFiles, NoSpace, Quota}
+use Rattle.node_io.specs.declared.causes.Cause.TheVariants.{ReadOnly, Busy, Device, NotOpen, Interrupted}
+use Rattle.node_io.specs.declared.causes.Cause.TheVariants.{WouldBlock, Refused, Gone, TimedOut, Number}
+use Rattle.node_io.specs.declared.causes.Cause.TheVariants.{Other}
 
 -- EIO, EBADF, ENFILE, EMFILE
 abbrev pub cause_numbered : ℕ → Cause
 cause_numbered number =
-    if number == 5 then Device else (if number == 9 then NotOpen else (if number == 23 || number == 24 then TooManyFiles else Number number))
+    if number == 5 then Device else (if number == 9 then NotOpen
+    else (if number == 23 || number == 24 then TooManyFiles else Number number))
 
 abbrev pub by_number : Option ℤ → Cause
 by_number None = Other

@@ -21,7 +21,8 @@ pub record Disk : Type 0 where
 
 -- the first file with a path
 abbrev pub held_in : List Stored → Held
-held_in files path = option_map (λ (file : Stored). file.bytes) (find (λ (file : Stored). bytes_eq file.path path) files)
+held_in files path = option_map (λ (file : Stored). file.bytes)
+    (find (λ (file : Stored). bytes_eq file.path path) files)
 
 -- the next read is the one that is to fail
 abbrev pub fails_next : Disk → Bool
@@ -39,5 +40,17 @@ fault_of disk path limit = if fails_next disk then Some Failed else fault_in (he
 -- after one more read
 abbrev pub after_read : Disk → Disk
 after_read disk =
-    if fails_next disk then record { files = disk.files; reads = one_more disk.reads; failing = 0; failures = one_more disk.failures }
-    else record { files = disk.files; reads = one_more disk.reads; failing = disk.failing; failures = disk.failures }
+    if fails_next disk then record {
+      files = disk.files;
+      reads = one_more disk.reads;
+      failing = 0;
+      failures =
+          one_more disk.failures;
+    }
+    else record {
+      files = disk.files;
+      reads = one_more disk.reads;
+      failing = disk.failing;
+      failures =
+          disk.failures;
+    }

@@ -1,5 +1,6 @@
 -- The files of the system, this project's own: docs/SEMANTICS.md, "Devices". A path is its bytes.
-use Rattle.std.specs.Prelude.{ℕ, ◌==◌, Bool, not, ◌&&◌, if◌then◌else◌, List, ◌++◌, Option, Some, None, codes, length, slice_index}
+use Rattle.std.specs.Prelude.{ℕ, ◌==◌, Bool, not, ◌&&◌, if◌then◌else◌, List, ◌++◌, Option, Some, None, codes}
+use Rattle.std.specs.Prelude.{length, slice_index}
 use Rattle.std.specs.List.{list_any, slice_split}
 use Rattle.std.specs.Str.{bytes_eq}
 
@@ -19,4 +20,5 @@ descends path = not (length path == 0) && not (slice_index path 0 == 47) && not 
 -- the path that is opened: below a folder, none of an empty folder, and none for a path that leads elsewhere
 abbrev pub opened_in : Option (List ℕ) → List ℕ → Option (List ℕ)
 opened_in None path = Some path
-opened_in (Some folder) path = if not (length folder == 0) && descends path then Some (folder ++ codes "/" ++ path) else None
+opened_in (Some folder) path = if not (length folder == 0) && descends path
+    then Some (folder ++ codes "/" ++ path) else None

@@ -1,9 +1,11 @@
 -- A wire in memory, this project's own: docs/SEMANTICS.md, "Devices".
-use Rattle.std.specs.Prelude.{ℕ, ◌==◌, ◌&&◌, ◌||◌, ◌-◌, Bool, if◌then◌else◌, List, ◌++◌, drop, length, min, nat_lt}
+use Rattle.std.specs.Prelude.{ℕ, ◌==◌, ◌&&◌, ◌||◌, ◌-◌, Bool, if◌then◌else◌, List, ◌++◌, drop, length, min}
+use Rattle.std.specs.Prelude.{nat_lt}
 use Rattle.node_io.specs.Counts.{one_more}
 
 -- the bytes that are left to be read, those that were written, for how many more there is place, how many a
--- call moves at most, how many calls there were, the call from 1 that is to fail (0 for none), and the failures
+-- call moves at most, how many calls there were, the call from 1 that is to fail (0 for none), and the
+-- failures
 pub record Tape : Type 0 where
   pub input : List ℕ
   pub written : List ℕ
@@ -20,8 +22,26 @@ fails_next tape = one_more tape.calls == tape.failing
 -- after a call that moved nothing: a failure that was asked for comes once
 abbrev pub counted : Tape → Tape
 counted tape =
-    if fails_next tape then record { input = tape.input; written = tape.written; place = tape.place; piece = tape.piece; calls = one_more tape.calls; failing = 0; failures = one_more tape.failures }
-    else record { input = tape.input; written = tape.written; place = tape.place; piece = tape.piece; calls = one_more tape.calls; failing = tape.failing; failures = tape.failures }
+    if fails_next tape then record {
+      input = tape.input;
+      written = tape.written;
+      place = tape.place;
+      piece =
+          tape.piece;
+      calls = one_more tape.calls;
+      failing = 0;
+      failures = one_more tape.failures;
+    }
+    else record {
+      input = tape.input;
+      written = tape.written;
+      place = tape.place;
+      piece = tape.piece;
+      calls =
+          one_more tape.calls;
+      failing = tape.failing;
+      failures = tape.failures;
+    }
 
 -- a write of so many bytes fails: it is told to, or there is no place left for any of them
 abbrev pub write_fails : Tape → ℕ → Bool
@@ -29,7 +49,16 @@ write_fails tape count = fails_next tape || (nat_lt 0 count && tape.place == 0)
 
 -- after one more failure, for want of place
 abbrev pub failed_more : Tape → Tape
-failed_more tape = record { input = tape.input; written = tape.written; place = tape.place; piece = tape.piece; calls = tape.calls; failing = tape.failing; failures = one_more tape.failures }
+failed_more tape = record {
+  input = tape.input;
+  written = tape.written;
+  place = tape.place;
+  piece =
+      tape.piece;
+  calls = tape.calls;
+  failing = tape.failing;
+  failures = one_more tape.failures;
+}
 
 -- how many bytes a read into so much room moves
 abbrev pub readable : Tape → ℕ → ℕ
@@ -41,8 +70,27 @@ writable tape count = min (min count tape.piece) tape.place
 
 -- with so many bytes read
 abbrev pub with_read : Tape → ℕ → Tape
-with_read tape n = record { input = drop n tape.input; written = tape.written; place = tape.place; piece = tape.piece; calls = tape.calls; failing = tape.failing; failures = tape.failures }
+with_read tape n = record {
+  input = drop n tape.input;
+  written = tape.written;
+  place = tape.place;
+  piece =
+      tape.piece;
+  calls = tape.calls;
+  failing = tape.failing;
+  failures = tape.failures;
+}
 
 -- with these bytes written
 abbrev pub with_written : Tape → List ℕ → Tape
-with_written tape bytes = record { input = tape.input; written = tape.written ++ bytes; place = tape.place - length bytes; piece = tape.piece; calls = tape.calls; failing = tape.failing; failures = tape.failures }
+with_written tape bytes = record {
+  input = tape.input;
+  written = tape.written ++ bytes;
+  place =
+      tape.place - length bytes;
+  piece = tape.piece;
+  calls = tape.calls;
+  failing = tape.failing;
+  failures =
+      tape.failures;
+}

@@ -18,14 +18,17 @@ pub trait Files {
 
     /// The bytes of the file with this path, if they are no more than the limit.
     fn read(&mut self, path: &str, limit: u64) -> Result<Vec<u8>, FileFault>
-        ensures bytes { IfOk result (λ bytes. Tells (held self.old) path.now (λ found. found ≡ Some bytes.items)) }
+        ensures bytes { IfOk result (λ bytes.
+            Tells (held self.old) path.now (λ found. found ≡ Some bytes.items)) }
         ensures within { IfOk result (λ bytes. length bytes.items ≤ limit) }
-        ensures not_found { IfErr result (λ fault. fault ≡ FileFault.NotFound → Tells (held self.old) path.now (λ found. found ≡ None)) }
+        ensures not_found { IfErr result (λ fault. fault ≡ FileFault.NotFound
+            → Tells (held self.old) path.now (λ found. found ≡ None)) }
         ensures too_large { IfErr result (λ fault. fault ≡ FileFault.TooLarge
             → Tells (held self.old) path.now (λ found. IsSomeAnd found (λ bytes. limit < length bytes))) }
 
         // The device's fault is told only where the device failed.
-        ensures failed { IfErr result (λ fault. fault ≡ FileFault.Failed → HasRisen (failed self.old) (failed self.new)) }
+        ensures failed { IfErr result (λ fault. fault ≡ FileFault.Failed
+            → HasRisen (failed self.old) (failed self.new)) }
         ensures counted { failed self.old ≤ failed self.new }
         ensures kept { held self.new ≡ held self.old };
 

@@ -1,4 +1,5 @@
-ghost use Rattle.std.specs.Prelude.{◌≡◌, ◌<◌, ◌≤◌, find, string_bytes, None, Some, Err, IfOk, IfErr, IfSome, IsSomeAnd, length};
+ghost use Rattle.std.specs.Prelude.{◌≡◌, ◌<◌, ◌≤◌, find, string_bytes, None, Some, Err, IfOk, IfErr, IfSome};
+ghost use Rattle.std.specs.Prelude.{IsSomeAnd, length};
 ghost use Rattle.std.specs.Str.{bytes_eq};
 ghost use Rattle.std.specs.Option.{option_copied, option_map};
 ghost use Rattle.node_io.specs.Counts.{HasRisen};
@@ -67,7 +68,13 @@ impl Model for MemoryFiles {
 
     ghost Value = { Disk };
 
-    ghost view = { λ m. record { files = m.files.items; reads = m.reads; failing = m.failing; failures = m.failures } };
+    ghost view = { λ m. record {
+      files = m.files.items;
+      reads = m.reads;
+      failing = m.failing;
+      failures =
+          m.failures;
+    } };
 }
 
 fn found<'a>(files: &'a [StoredFile], path: &str) -> Option<&'a StoredFile>
@@ -91,14 +98,20 @@ impl MemoryFiles {
 
     /// Makes the read with this number fail, counted from 1 for the first. All others go on.
     pub fn fail_call(&mut self, number: u64)
-        ensures { self.new ≡ record { files = self.old.files; reads = self.old.reads; failing = number; failures = self.old.failures } }
+        ensures { self.new ≡ record {
+          files = self.old.files;
+          reads = self.old.reads;
+          failing = number;
+          failures = self.old.failures;
+        } }
     {
         self.failing = number;
     }
 }
 
 impl Files for MemoryFiles {
-    ghost use Rattle.std.specs.Prelude.{◌≡◌, ◌≢◌, ◌<◌, ◌≤◌, None, Some, Err, IfOk, IfErr, IfSome, IsSomeAnd, length};
+    ghost use Rattle.std.specs.Prelude.{◌≡◌, ◌≢◌, ◌<◌, ◌≤◌, None, Some, Err, IfOk, IfErr, IfSome, IsSomeAnd};
+    ghost use Rattle.std.specs.Prelude.{length};
     ghost use Rattle.node_io.specs.Counts.{HasRisen};
     ghost use Rattle.node_io.specs.Disk.{after_read, fault_of, held_in};
 
@@ -109,16 +122,19 @@ impl Files for MemoryFiles {
     fn read(&mut self, path: &str, limit: u64) -> Result<Vec<u8>, FileFault>
         // Which fault it is, and that any other is Memory.
         ensures fault { IfSome (fault_of self.old path.now limit) (λ fault. result ≡ Err fault) }
-        ensures memory { IfErr result (λ fault. fault ≢ FileFault.Memory → fault_of self.old path.now limit ≡ Some fault) }
+        ensures memory { IfErr result (λ fault. fault ≢ FileFault.Memory
+            → fault_of self.old path.now limit ≡ Some fault) }
         ensures after { self.new ≡ after_read self.old }
 
         // What each device promises.
         ensures bytes { IfOk result (λ bytes. held_in self.old.files path.now ≡ Some bytes.items) }
         ensures within { IfOk result (λ bytes. length bytes.items ≤ limit) }
-        ensures not_found { IfErr result (λ fault. fault ≡ FileFault.NotFound → held_in self.old.files path.now ≡ None) }
+        ensures not_found { IfErr result (λ fault. fault ≡ FileFault.NotFound
+            → held_in self.old.files path.now ≡ None) }
         ensures too_large { IfErr result (λ fault. fault ≡ FileFault.TooLarge
             → IsSomeAnd (held_in self.old.files path.now) (λ bytes. limit < length bytes)) }
-        ensures failed { IfErr result (λ fault. fault ≡ FileFault.Failed → HasRisen self.old.failures self.new.failures) }
+        ensures failed { IfErr result (λ fault. fault ≡ FileFault.Failed
+            → HasRisen self.old.failures self.new.failures) }
         ensures counted { self.old.failures ≤ self.new.failures }
         ensures kept { self.new.files ≡ self.old.files }
     {

@@ -4,8 +4,8 @@ use crate::wire::{Wire, WireFault};
 use std::alloc::{AllocError, Global};
 use std::marker::Model;
 
-/// A wire in memory, which fails when it is told to. It moves at most so many bytes a call, and has place from
-/// the start for all that it takes, so that no write lacks memory.
+/// A wire in memory, which fails when it is told to. It moves at most so many bytes a call, and has place
+/// from the start for all that it takes, so that no write lacks memory.
 #[derive(Drop)]
 pub struct MemoryWire {
     input: Vec<u8>,
@@ -24,9 +24,18 @@ impl Model for MemoryWire {
 
     ghost Value = { Tape };
 
-    ghost view = { λ w. record { input = drop w.at w.input.items; written = w.written.items; place = w.place; piece = w.piece; calls = w.calls; failing = w.failing; failures = w.failures } };
+    ghost view = { λ w. record {
+      input = drop w.at w.input.items;
+      written = w.written.items;
+      place = w.place;
+      piece = w.piece;
+      calls = w.calls;
+      failing = w.failing;
+      failures = w.failures;
+    } };
 
-    ghost invariant = { λ w. (w.at ≤ vec_len w.input) × (vec_len w.written + w.place ≤ vec_capacity w.written) × (0 < w.piece) };
+    ghost invariant = { λ w. (w.at ≤ vec_len w.input) × (vec_len w.written + w.place ≤ vec_capacity w.written)
+        × (0 < w.piece) };
 }
 
 impl MemoryWire {
@@ -42,7 +51,15 @@ impl MemoryWire {
         place: usize,
     ) -> Result<MemoryWire, AllocError>
         requires { 0 < piece }
-        ensures { IfOk result (λ wire. wire ≡ record { input = input.items; written = []; place = place; piece = piece; calls = 0; failing = 0; failures = 0 }) }
+        ensures { IfOk result (λ wire. wire ≡ record {
+          input = input.items;
+          written = [];
+          place = place;
+          piece = piece;
+          calls = 0;
+          failing = 0;
+          failures = 0;
+        }) }
     {
         let written = Vec::with_capacity(alloc, place)?;
         Ok(MemoryWire {
@@ -60,7 +77,17 @@ impl MemoryWire {
     /// Makes the read or write with this number fail, counted from 1 for the first call. All others go
     /// on.
     pub fn fail_call(&mut self, number: u64)
-        ensures { self.new ≡ record { input = self.old.input; written = self.old.written; place = self.old.place; piece = self.old.piece; calls = self.old.calls; failing = number; failures = self.old.failures } }
+        ensures { self.new ≡ record {
+          input = self.old.input;
+          written = self.old.written;
+          place =
+              self.old.place;
+          piece = self.old.piece;
+          calls = self.old.calls;
+          failing = number;
+          failures =
+              self.old.failures;
+        } }
     {
         self.failing = number;
     }
@@ -114,10 +141,12 @@ fn keep(list: &mut Vec<u8>, bytes: &[u8])
 }
 
 impl Wire for MemoryWire {
-    ghost use Rattle.std.specs.Prelude.{◌≡◌, ◌<◌, ◌≤◌, ◌↔◌, true, if◌then◌else◌, IfOk, IsErr, OnErr, Some, length, take};
+    ghost use Rattle.std.specs.Prelude.{◌≡◌, ◌<◌, ◌≤◌, ◌↔◌, true, if◌then◌else◌, IfOk, IsErr, OnErr, Some};
+    ghost use Rattle.std.specs.Prelude.{length, take};
     ghost use Rattle.std.specs.Io.KnownBytes.{Keeps, ReadConsumes, WriteAppends};
     ghost use Rattle.node_io.specs.Counts.{HasRisen};
-    ghost use Rattle.node_io.specs.Tape.{counted, failed_more, fails_next, readable, with_read, with_written, writable, write_fails};
+    ghost use Rattle.node_io.specs.Tape.{counted, failed_more, fails_next, readable, with_read, with_written};
+    ghost use Rattle.node_io.specs.Tape.{writable, write_fails};
 
     ghost input = { λ w. Some w.input };
 
@@ -152,7 +181,8 @@ impl Wire for MemoryWire {
     fn write(&mut self, bytes: &[u8]) -> Result<usize, WireFault>
         // It fails where it is told to, and where it is full, and then moves nothing.
         ensures fails { IsErr result ↔ (write_fails self.old (length bytes.now) ≡ true) }
-        ensures err { OnErr result (self.new ≡ (if fails_next self.old then counted self.old else failed_more (counted self.old))) }
+        ensures err { OnErr result (self.new ≡ (if fails_next self.old then counted self.old
+            else failed_more (counted self.old))) }
         ensures count { IfOk result (λ n. n ≡ writable self.old (length bytes.now)) }
         ensures ok { IfOk result (λ n. self.new ≡ with_written (counted self.old) (take n bytes.now)) }
 

@@ -1,4 +1,5 @@
-ghost use Rattle.std.specs.Prelude.{◌≡◌, ◌==◌, ◌≤◌, Some, None, Err, IfOk, OnErr, is_some, true, length, slice_index};
+ghost use Rattle.std.specs.Prelude.{◌≡◌, ◌==◌, ◌≤◌, Some, None, Err, IfOk, OnErr, is_some, true, length};
+ghost use Rattle.std.specs.Prelude.{slice_index};
 ghost use Rattle.std.specs.Option.{option_map};
 ghost use Rattle.std.specs.String.{string_bytes};
 ghost use Rattle.node_io.specs.System.{climbs, descends, opened_in};
@@ -62,7 +63,8 @@ impl<'a, R: rt::Files + AllocGlobal> SystemFiles<'a, R> {
 
     // The path that is opened.
     fn opened(&self, path: &str) -> Result<Option<String>, AllocError>
-        ensures value { IfOk result (λ opened. option_map string_bytes opened ≡ opened_in self.now.folder path.now) }
+        ensures value { IfOk result (λ opened.
+            option_map string_bytes opened ≡ opened_in self.now.folder path.now) }
         ensures only { OnErr result (is_some (opened_in self.now.folder path.now) ≡ true) }
     {
         let alloc = self.rt.alloc();
@@ -166,11 +168,13 @@ impl<'a, R: rt::Files + AllocGlobal> Files for SystemFiles<'a, R> {
 
         // What each device promises. What the system holds is not known, so the first three say nothing.
         ensures bytes { IfOk result (λ bytes. Tells None path.now (λ found. found ≡ Some bytes.items)) }
-        ensures not_found { IfErr result (λ fault. fault ≡ FileFault.NotFound → Tells None path.now (λ found. found ≡ None)) }
+        ensures not_found { IfErr result (λ fault. fault ≡ FileFault.NotFound
+            → Tells None path.now (λ found. found ≡ None)) }
         ensures too_large { IfErr result (λ fault. fault ≡ FileFault.TooLarge
             → Tells None path.now (λ found. IsSomeAnd found (λ bytes. limit < length bytes))) }
         ensures within { IfOk result (λ bytes. length bytes.items ≤ limit) }
-        ensures failed { IfErr result (λ fault. fault ≡ FileFault.Failed → HasRisen self.old.failures self.new.failures) }
+        ensures failed { IfErr result (λ fault. fault ≡ FileFault.Failed
+            → HasRisen self.old.failures self.new.failures) }
         ensures counted { self.old.failures ≤ self.new.failures }
     {
         let read = self.look_up(path, limit);

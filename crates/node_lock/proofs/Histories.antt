@@ -1,5 +1,6 @@
 -- Histories that grow by a step.
-use Rattle.std.proofs.Common.{◌≡◌, ℕ, ◌+◌, ◌≤◌, nat_le, Bool, true, List, [], ◌∷◌, ◌++◌, append_assoc, length, refl, sym, ap, ◌∙◌, arith}
+use Rattle.std.proofs.Common.{◌≡◌, ℕ, ◌+◌, ◌≤◌, nat_le, Bool, true, List, [], ◌∷◌, ◌++◌, append_assoc, length}
+use Rattle.std.proofs.Common.{refl, sym, ap, ◌∙◌, arith}
 use Rattle.std.proofs.lemmas.Bool.Decides.{nat_tests}
 use Rattle.std.proofs.lemmas.List.{append-nil, length-append}
 use Rattle.worker_pod.specs.declared.settings.Settings.{Settings}
@@ -12,31 +13,43 @@ use Rattle.node_lock.specs.Books.{Books, HasNumbers, IsKept, needed}
 use Rattle.node_lock.specs.Histories.{EndsAt, GoesOn, IsStep, Leads}
 use Rattle.node_lock.specs.Rooms.{room_for}
 
-leads_push : (first : NodeState) (es : List Entry) (last next : NodeState) (e : Entry) → Leads first es last → IsTaken last e.event e.answer next → Leads first (es ++ e ∷ []) next
+leads_push : (first : NodeState) (es : List Entry) (last next : NodeState) (e : Entry) → Leads first es last
+    → IsTaken last e.event e.answer next → Leads first (es ++ e ∷ []) next
 leads_push first [] last next e same step = (next, rw same step, refl)
-leads_push first (x ∷ es) last next e leads step = (leads.0, leads.1, leads_push leads.0 es last next e leads.2 step)
+leads_push first (x ∷ es) last next e leads step =
+    (leads.0, leads.1, leads_push leads.0 es last next e leads.2 step)
 
 -- whatever went
-pub ends_pushed : (settings : Settings) (gone history now : List Entry) (old new : KeptNode) (event : AgentEvent) (e : Entry) → EndsAt settings (gone ++ history) old
-    → IsStep old event e.answer new → e.event ≡ event → now ≡ history ++ e ∷ [] → EndsAt settings (gone ++ now) new
+pub ends_pushed : (settings : Settings) (gone history now : List Entry) (old new : KeptNode)
+    (event : AgentEvent) (e : Entry) → EndsAt settings (gone ++ history) old
+    → IsStep old event e.answer new → e.event ≡ event → now ≡ history ++ e ∷ []
+    → EndsAt settings (gone ++ now) new
 ends_pushed settings gone history now old new event e ends step same longer =
     let next : (n : NodeState) × IsTaken ends.0 event e.answer n × StandsFor new n = step ends.0 ends.2 in
-    rw longer (rw (sym (append_assoc gone history (e ∷ [])))
-    (next.0, leads_push (empty_node settings) (gone ++ history) ends.0 next.0 e ends.1 (rw same next.1), next.2))
+    rw longer (rw (sym (append_assoc gone history (e ∷ []))) (
+      next.0,
+      leads_push (empty_node settings) (gone ++ history) ends.0 next.0 e ends.1 (rw same next.1),
+      next.2,
+    ))
 
--- what a book keeps stays kept behind an entry, where there was room for it and for the ends of the claims that
--- are held then
-pub kept_on : (settings : Settings) (before : ℕ) (history now : List Entry) (old new : KeptNode) (event : AgentEvent) (e : Entry) (total total_now limit capacity capacity_now ahead : ℕ)
-    → IsKept settings old before history total limit capacity → IsStep old event e.answer new → e.event ≡ event → now ≡ history ++ e ∷ [] → total_now ≡ total + 1
-    → held_in new.slots + 1 ≤ ahead → length history + ahead ≤ limit → length history + ahead ≤ capacity_now → IsKept settings new before now total_now limit capacity_now
-kept_on settings before history now old new event e total total_now limit capacity capacity_now ahead kept step same is counted held fits room =
+-- what a book keeps stays kept behind an entry, where there was room for it and for the ends of the claims
+-- that are held then
+pub kept_on : (settings : Settings) (before : ℕ) (history now : List Entry) (old new : KeptNode)
+    (event : AgentEvent) (e : Entry) (total total_now limit capacity capacity_now ahead : ℕ)
+    → IsKept settings old before history total limit capacity → IsStep old event e.answer new
+    → e.event ≡ event → now ≡ history ++ e ∷ [] → total_now ≡ total + 1
+    → held_in new.slots + 1 ≤ ahead → length history + ahead ≤ limit → length history + ahead ≤ capacity_now
+    → IsKept settings new before now total_now limit capacity_now
+kept_on settings before history now old new event e total total_now limit capacity capacity_now ahead kept
+    step same is counted held fits room =
     let longer : length now ≡ length history + 1 = ap length is ∙ length-append history (e ∷ []) in
     let was : total ≡ length history = kept.counted in
     record {
       goes_on = record {
         gone = kept.goes_on.gone;
         before_is = kept.goes_on.before_is;
-        ends = ends_pushed settings kept.goes_on.gone history now old new event e kept.goes_on.ends step same is;
+        ends = ends_pushed settings kept.goes_on.gone history now old new event e kept.goes_on.ends step same
+            is;
       };
       numbers = kept.numbers;
       counted = omega (arith, longer, was, counted);
@@ -46,15 +59,24 @@ kept_on settings before history now old new event e total total_now limit capaci
     }
 
 -- what was found to have room fits
-pub fits : (seen now : Books) (event : AgentEvent) (ahead : ℕ) (has : Bool) → seen ≡ now → ahead ≡ held_in now.node.slots + room_for now.node event
+pub fits : (seen now : Books) (event : AgentEvent) (ahead : ℕ) (has : Bool) → seen ≡ now
+    → ahead ≡ held_in now.node.slots + room_for now.node event
     → has ≡ nat_le (needed now event) now.limit → has ≡ true → length seen.history + ahead ≤ seen.limit
-fits seen now event ahead has same ahead_is has_is has_room = rw same (omega (arith, ahead_is, within (sym has_is ∙ has_room))) where
-  within : nat_le (needed now event) now.limit ≡ true → needed now event ≤ now.limit
-  within is = grind (arith, nat_tests)
+fits seen now event ahead has same ahead_is has_is has_room =
+    rw same (omega (arith, ahead_is, within (sym has_is ∙ has_room))) where
+      within : nat_le (needed now event) now.limit ≡ true → needed now event ≤ now.limit
+      within is = grind (arith, nat_tests)
 
 -- a part that ended went too, and the next one has no entry yet
-pub part_ended : (settings : Settings) (before : ℕ) (history : List Entry) (node : KeptNode) → GoesOn settings before history node → GoesOn settings (before + length history) [] node
+pub part_ended : (settings : Settings) (before : ℕ) (history : List Entry) (node : KeptNode)
+    → GoesOn settings before history node → GoesOn settings (before + length history) [] node
 part_ended settings before history node goes =
-    let long : length (goes.gone ++ history) ≡ length goes.gone + length history = length-append goes.gone history in
+    let long : length (goes.gone ++ history) ≡ length goes.gone + length history =
+    length-append goes.gone history in
     let was : length goes.gone ≡ before = goes.before_is in
-    record { gone = goes.gone ++ history; before_is = omega (arith, long, was); ends = rw (append-nil (goes.gone ++ history)) goes.ends }
+    record {
+      gone = goes.gone ++ history;
+      before_is = omega (arith, long, was);
+      ends =
+          rw (append-nil (goes.gone ++ history)) goes.ends;
+    }

@@ -1,9 +1,10 @@
--- What a book of a node is, and what it keeps: this project's own. docs/SEMANTICS.md, "The agent: the history of
--- a node".
+-- What a book of a node is, and what it keeps: this project's own. docs/SEMANTICS.md, "The agent: the history
+-- of a node".
 use Rattle.std.specs.Prelude.{◌≡◌, ℕ, ◌+◌, ◌^◌, ◌≤◌, ◌<◌, Bool, List, length, All}
 use Rattle.worker_pod.specs.declared.settings.Settings.{Settings}
 use Rattle.worker_core.specs.declared.events.AgentEvent.{AgentEvent}
-use Rattle.worker_core.specs.declared.events.AgentEvent.TheVariants.{Admit, Delete, Claim, Report, Tick, Abandon}
+use Rattle.worker_core.specs.declared.events.AgentEvent.TheVariants.{Admit, Delete, Claim, Report, Tick}
+use Rattle.worker_core.specs.declared.events.AgentEvent.TheVariants.{Abandon}
 use Rattle.worker_core.specs.Kept.{KeptNode}
 use Rattle.worker_core.specs.Slots.{held_in}
 use Rattle.node_lock.specs.declared.entries.Entry.{Entry}
@@ -33,9 +34,10 @@ used history node = length history + held_in node.slots
 abbrev pub HasNumbers : ℕ → Type 0
 HasNumbers before = before + MAX_ENTRIES < 2 ^ 64
 
--- what a book keeps: the node is where its history ends, with all parts that went, each entry of the part that is
--- there is counted, and the limit and the memory have room for the ends of all claims that are held
-pub record IsKept (settings : Settings) (node : KeptNode) (before : ℕ) (history : List Entry) (total limit capacity : ℕ) : Type 0 where
+-- what a book keeps: the node is where its history ends, with all parts that went, each entry of the part
+-- that is there is counted, and the limit and the memory have room for the ends of all claims that are held
+pub record IsKept (settings : Settings) (node : KeptNode) (before : ℕ) (history : List Entry)
+    (total limit capacity : ℕ) : Type 0 where
   pub goes_on : GoesOn settings before history node
   pub numbers : HasNumbers before
   pub counted : total ≡ length history
@@ -47,8 +49,8 @@ pub record IsKept (settings : Settings) (node : KeptNode) (before : ℕ) (histor
 abbrev pub last_number : Books → ℕ
 last_number book = book.before + length book.history
 
--- a part may come to its end: it has entries, no claim is held, the receipts stand in it, and there are numbers for
--- the next part
+-- a part may come to its end: it has entries, no claim is held, the receipts stand in it, and there are
+-- numbers for the next part
 pub record MayEnd (book : Books) (receipts : List Received) : Type 0 where
   pub some : 0 < length book.history
   pub free : held_in book.node.slots ≡ 0

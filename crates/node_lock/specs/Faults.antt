@@ -1,4 +1,5 @@
--- The faults of a book, their names and their numbers: this project's own. docs/SEMANTICS.md, "The agent: the history of a node".
+-- The faults of a book, their names and their numbers: this project's own. docs/SEMANTICS.md, "The agent: the
+-- history of a node".
 use Rattle.std.specs.Prelude.{ℕ, List, codes}
 use Rattle.node_lock.specs.declared.faults.BookFault.{BookFault}
 use Rattle.node_lock.specs.declared.faults.BookFault.TheVariants.{Memory, HistoryFull}

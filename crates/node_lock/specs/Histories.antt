@@ -9,8 +9,8 @@ use Rattle.worker_core.specs.Nodes.{IsTaken, NodeState, StandsFor, empty_node}
 use Rattle.worker_core.specs.Laws.{IsNodeRun, NodeLink}
 use Rattle.node_lock.specs.declared.entries.Entry.{Entry}
 
--- from the first node on each event is taken with the answer that the node's step gives at that point, and the
--- last node is this one. Want of memory is no such answer
+-- from the first node on each event is taken with the answer that the node's step gives at that point, and
+-- the last node is this one. Want of memory is no such answer
 abbrev pub Leads : NodeState → List Entry → NodeState → Type 0
 Leads first [] last = first ≡ last
 Leads first (e ∷ es) last = (next : NodeState) × IsTaken first e.event e.answer next × Leads next es last
@@ -21,7 +21,8 @@ IsLegal settings history = (last : NodeState) × Leads (empty_node settings) his
 
 -- the history is legal, and what is kept of the node stands for where it ends
 abbrev pub EndsAt : Settings → List Entry → KeptNode → Type 0
-EndsAt settings history kept = (last : NodeState) × Leads (empty_node settings) history last × StandsFor kept last
+EndsAt settings history kept = (last : NodeState) × Leads (empty_node settings) history last
+    × StandsFor kept last
 
 -- The same of a history that was written in parts: so many entries went before those that are there, and with
 -- them in front the history is legal, from the empty node on.
@@ -32,7 +33,8 @@ pub record GoesOn (settings : Settings) (before : ℕ) (history : List Entry) (k
 
 -- every node that was kept takes the event with this answer, and comes to one that is kept then
 abbrev pub IsStep : KeptNode → AgentEvent → Answer → KeptNode → Type 0
-IsStep old event answer new = (node : NodeState) → StandsFor old node → (next : NodeState) × IsTaken node event answer next × StandsFor new next
+IsStep old event answer new = (node : NodeState) → StandsFor old node → (next : NodeState)
+    × IsTaken node event answer next × StandsFor new next
 
 -- the links of a run say what the history does; the newest link stands first
 abbrev pub Tells : List NodeLink → List Entry → Type 0

@@ -10,7 +10,8 @@ pub record Received : Type 0 where
 
 -- the entry stands at its number in the part of the history behind so many entries
 abbrev pub Stands : ℕ → List Entry → Received → Type 0
-Stands before history receipt = (before < receipt.number) × (slice_get history (receipt.number - before - 1) ≡ Some receipt.entry)
+Stands before history receipt = (before < receipt.number)
+    × (slice_get history (receipt.number - before - 1) ≡ Some receipt.entry)
 
 -- a tally: how many parts of the count its share has, and the receipts that it counts
 pub record Tallied : Type 0 where

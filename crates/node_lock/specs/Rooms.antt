@@ -1,5 +1,5 @@
--- How much room of a history is kept for the claims that are held: this project's own. docs/SEMANTICS.md, "The
--- agent: the history of a node".
+-- How much room of a history is kept for the claims that are held: this project's own. docs/SEMANTICS.md,
+-- "The agent: the history of a node".
 use Rattle.std.specs.Prelude.{ℕ, Bool, true, false, if◌then◌else◌, Option, is_some}
 use Rattle.worker_core.specs.Kept.{KeptNode}
 use Rattle.worker_core.specs.declared.events.AgentEvent.{AgentEvent}

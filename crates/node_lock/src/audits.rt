@@ -23,8 +23,8 @@ fn stands(before: u64, history: &[Entry], receipt: &Receipt) -> bool
     entry_at(history, (number - before - 1) as usize).same(receipt.entry())
 }
 
-/// Whether each of the receipts stands at its number in the part of a history behind so many entries. So it is
-/// where there are none.
+/// Whether each of the receipts stands at its number in the part of a history behind so many entries. So it
+/// is where there are none.
 pub fn audit(before: u64, history: &[Entry], receipts: &[Receipt]) -> bool
     ensures { IsTrue result ↔ All (Stands before history.now) receipts.now }
 {

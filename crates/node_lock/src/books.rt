@@ -1,4 +1,5 @@
-ghost use Rattle.std.specs.Prelude.{◌≡◌, ◌↔◌, ◌+◌, ◌<◌, ◌≤◌, ◌++◌, [], ◌∷◌, List, true, false, length, nat_le, Err, IfOk, IsTrue, OnOk, OnErr, IsOk};
+ghost use Rattle.std.specs.Prelude.{◌≡◌, ◌↔◌, ◌+◌, ◌<◌, ◌≤◌, ◌++◌, [], ◌∷◌, List, true, false, length};
+ghost use Rattle.std.specs.Prelude.{nat_le, Err, IfOk, IsTrue, OnOk, OnErr, IsOk};
 ghost use Rattle.worker_core.specs.Kept.{after_event, answer_of, fresh_node};
 ghost use Rattle.worker_core.specs.Slots.{held_in};
 ghost use Rattle.node_lock.specs.declared.limits.TheConstants.{MAX_ENTRIES};
@@ -21,9 +22,10 @@ use std::sync::ledger::{Blank, Ledger, Share};
 use worker_core::{AgentEvent, Node};
 use worker_pod::Settings;
 
-/// The node that workers share, the history of what they did, and the count of its entries. A history is written
-/// in parts: the entries of a part are dropped once it has ended, and the next one goes on at the node where it
-/// ended. A book belongs behind a lock: each of its calls is one step, and uses no file and no socket.
+/// The node that workers share, the history of what they did, and the count of its entries. A history is
+/// written in parts: the entries of a part are dropped once it has ended, and the next one goes on at the
+/// node where it ended. A book belongs behind a lock: each of its calls is one step, and uses no file and no
+/// socket.
 #[derive(Drop)]
 pub struct Book<L: Ledger> {
     alloc: Global,
@@ -52,12 +54,13 @@ impl<L: Ledger> Model for Book<L> {
       closed = b.closed;
     } };
 
-    ghost invariant = { λ b. IsKept b.settings b.node b.before b.history.items b.count.total b.limit (vec_capacity b.history) };
+    ghost invariant = { λ b. IsKept b.settings b.node b.before b.history.items b.count.total b.limit
+        (vec_capacity b.history) };
 }
 
 impl<L: Ledger> Book<L> {
-    /// A book of a node without pods, each part of whose history may come to have `limit` entries, and the share
-    /// that counts them, with all parts of its ledger.
+    /// A book of a node without pods, each part of whose history may come to have `limit` entries, and the
+    /// share that counts them, with all parts of its ledger.
     pub fn with_limit(
         alloc: Global,
         settings: Settings,
@@ -95,8 +98,8 @@ impl<L: Ledger> Book<L> {
         ensures value { result.now ≡ self.now.history }
         ensures counted { self.now.total ≡ length result.now }
 
-        // With the parts that went it is one history, which a single thread could have made, and the node is where
-        // it ends.
+        // With the parts that went it is one history, which a single thread could have made, and the node is
+        // where it ends.
         ensures legal { GoesOn self.now.settings self.now.before result.now self.now.node }
     {
         self.history.as_slice()
@@ -163,7 +166,8 @@ impl<L: Ledger> Book<L> {
         ensures counted { OnOk result (share.new.amount ≡ share.old.amount + 1) }
 
         // Whatever went, with it in front the history goes on.
-        ensures goes_on { OnOk result ((gone : List Entry) → EndsAt self.old.settings (gone ++ self.old.history) self.old.node
+        ensures goes_on { OnOk result ((gone : List Entry)
+            → EndsAt self.old.settings (gone ++ self.old.history) self.old.node
             → EndsAt self.new.settings (gone ++ self.new.history) self.new.node) }
 
         // The rest stays.
@@ -195,10 +199,10 @@ impl<L: Ledger> Book<L> {
         Ok(Receipt::new(self.last_number(), entry))
     }
 
-    /// Ends a part of the history, whose receipts are all here: its entries and receipts are dropped, and the next
-    /// part goes on at the node where this one ended, open and with room for as many entries. HistoryFull where
-    /// the part has no entries, where a claim is held, where a receipt doesn't stand at its number, or where there
-    /// are no numbers for another part; that changes nothing. No memory is taken.
+    /// Ends a part of the history, whose receipts are all here: its entries and receipts are dropped, and the
+    /// next part goes on at the node where this one ended, open and with room for as many entries.
+    /// HistoryFull where the part has no entries, where a claim is held, where a receipt doesn't stand at its
+    /// number, or where there are no numbers for another part; that changes nothing. No memory is taken.
     pub fn end_part(&mut self, tally: &mut Tally<L>) -> Result<(), BookFault>
         requires whole { tally.old.parts ≡ L.parts }
         ensures when { IsOk result ↔ MayEnd self.old tally.old.receipts }
@@ -248,8 +252,8 @@ impl<L: Ledger> Book<L> {
         self.closed
     }
 
-    /// How many entries the part has. That is the number of the tally's receipts too, where it has all parts of
-    /// the ledger. Nothing changes.
+    /// How many entries the part has. That is the number of the tally's receipts too, where it has all parts
+    /// of the ledger. Nothing changes.
     pub fn entries(&mut self, tally: &mut Tally<L>) -> u64
         ensures length { result ≡ length self.old.history }
         ensures all { tally.old.parts ≡ L.parts → result ≡ length tally.old.receipts }

@@ -8,7 +8,8 @@ ghost use Rattle.node_lock.specs.Histories.{IsLegal, IsRunOf};
 
 /// A legal history is a run of the node, so that what is proved of every run holds of it.
 pub fn histories_are_runs()
-    ensures { (settings : Settings) (history : List Entry) → IsLegal settings history → IsRunOf settings history }
+    ensures { (settings : Settings) (history : List Entry) → IsLegal settings history
+        → IsRunOf settings history }
 {}
 
 /// What the constants of this crate are.

@@ -1,5 +1,6 @@
 //! What a book asks of a node: room for an event, what is answered, and the step itself.
-ghost use Rattle.std.specs.Prelude.{◌≡◌, ◌+◌, ◌<◌, ◌≤◌, ◌++◌, [], ◌∷◌, false, length, vec_len, vec_capacity, IfOk, OnOk, OnErr};
+ghost use Rattle.std.specs.Prelude.{◌≡◌, ◌+◌, ◌<◌, ◌≤◌, ◌++◌, [], ◌∷◌, false, length, vec_len, vec_capacity};
+ghost use Rattle.std.specs.Prelude.{IfOk, OnOk, OnErr};
 ghost use Rattle.worker_core.specs.Kept.{after_event, answer_of};
 ghost use Rattle.worker_core.specs.Slots.{held_in};
 ghost use Rattle.node_lock.specs.Histories.{IsStep};
@@ -124,7 +125,8 @@ pub(crate) fn entered(
     ensures same { OnErr result (history.new.items ≡ history.old.items) }
     ensures still { OnErr result (node.new ≡ node.old) }
     ensures fault { OnErr result (result ≡ Err BookFault.Memory) }
-    ensures only { OnErr result (length history.old.items + ahead ≤ vec_capacity history.old → is_abandon event ≡ false) }
+    ensures only { OnErr result (length history.old.items + ahead ≤ vec_capacity history.old
+        → is_abandon event ≡ false) }
 {
     history.reserve(ahead)?;
     let Copies { kept, copy, told } = prepared(alloc, node, &event)?;

@@ -77,7 +77,8 @@ impl<L: Ledger> Tally<L> {
         count.audit(&mut self.share);
     }
 
-    // Drops the receipts, and counts their entries no longer. The share is the whole, so nothing is counted then.
+    // Drops the receipts, and counts their entries no longer. The share is the whole, so nothing is counted
+    // then.
     pub(crate) fn clear(&mut self, count: &mut ledger::Book<L>)
         requires whole { self.old.parts ≡ L.parts }
         ensures none { count.new.total ≡ 0 }

@@ -1,9 +1,12 @@
--- The calls of CRI v1 by their names, and which container each is about: this project's own. docs/SEMANTICS.md, "Why a
--- container waits".
+-- The calls of CRI v1 by their names, and which container each is about: this project's own.
+-- docs/SEMANTICS.md, "Why a container waits".
 use Rattle.std.specs.Prelude.{ℕ, ◌&&◌, Bool, true, false, List, codes, Option, Some, None}
 use Rattle.std.specs.Str.{bytes_eq}
 use Rattle.cri_msgs.specs.declared.calls.Call.{Call}
-use Rattle.cri_msgs.specs.declared.calls.Call.TheVariants.{RunPodSandbox, StopPodSandbox, RemovePodSandbox, CreateContainer, StartContainer, StopContainer, RemoveContainer, ContainerStatus, ListContainers, ContainerStatuses}
+use Rattle.cri_msgs.specs.declared.calls.Call.TheVariants.{RunPodSandbox, StopPodSandbox, RemovePodSandbox}
+use Rattle.cri_msgs.specs.declared.calls.Call.TheVariants.{CreateContainer, StartContainer, StopContainer}
+use Rattle.cri_msgs.specs.declared.calls.Call.TheVariants.{RemoveContainer, ContainerStatus, ListContainers}
+use Rattle.cri_msgs.specs.declared.calls.Call.TheVariants.{ContainerStatuses}
 use Rattle.cri_msgs.specs.Calls.{uid_of}
 
 abbrev pub call_name : Call → List ℕ
@@ -35,7 +38,8 @@ is_same_container (Some name) (Some other) = bytes_eq name other
 
 -- both calls are about the same container, or about all of the same pod
 abbrev pub are_about_one : Call → Call → Bool
-are_about_one call other = bytes_eq (uid_of call) (uid_of other) && is_same_container (container_of call) (container_of other)
+are_about_one call other = bytes_eq (uid_of call) (uid_of other)
+    && is_same_container (container_of call) (container_of other)
 
 abbrev pub is_all_or : List ℕ → Option (List ℕ) → Bool
 is_all_or name None = true

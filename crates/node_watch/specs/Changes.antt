@@ -1,6 +1,7 @@
--- The lines that tell what changed of a pod, this project's own: docs/SEMANTICS.md, "What changes". The names are those of
--- Kubernetes 1.27, pod lifecycle.
-use Rattle.std.specs.Prelude.{ℕ, ◌==◌, ◌&&◌, Bool, true, false, if◌then◌else◌, List, [], ◌∷◌, ◌++◌, codes, Option, Some, None}
+-- The lines that tell what changed of a pod, this project's own: docs/SEMANTICS.md, "What changes". The names
+-- are those of Kubernetes 1.27, pod lifecycle.
+use Rattle.std.specs.Prelude.{ℕ, ◌==◌, ◌&&◌, Bool, true, false, if◌then◌else◌, List, [], ◌∷◌, ◌++◌, codes}
+use Rattle.std.specs.Prelude.{Option, Some, None}
 use Rattle.std.specs.Fmt.{decimal}
 use Rattle.lifecycle.specs.declared.phases.Phase.{Phase}
 use Rattle.lifecycle.specs.declared.phases.Phase.TheVariants as phase
@@ -22,7 +23,8 @@ code_text Json state = codes "null"
 abbrev pub pod_line : Form → ℕ → List ℕ → List ℕ → List ℕ
 pod_line Text moment uid what = decimal moment ++ (codes " " ++ (uid ++ (codes " " ++ (what ++ codes "\n"))))
 pod_line Json moment uid what =
-    codes "{\"moment\":" ++ (decimal moment ++ (codes ",\"pod\":\"" ++ (uid ++ (codes "\",\"phase\":\"" ++ (what ++ codes "\"}\n")))))
+    codes "{\"moment\":" ++ (decimal moment
+    ++ (codes ",\"pod\":\"" ++ (uid ++ (codes "\",\"phase\":\"" ++ (what ++ codes "\"}\n")))))
 
 abbrev pub phase_line : Form → ℕ → List ℕ → Phase → List ℕ
 phase_line form moment uid phase = pod_line form moment uid (phase_name phase)
@@ -30,7 +32,8 @@ phase_line form moment uid phase = pod_line form moment uid (phase_name phase)
 -- the members of a container's object: which container it is, and when
 abbrev pub which_members : ℕ → List ℕ → List ℕ → List ℕ
 which_members moment uid name =
-    codes "{\"moment\":" ++ (decimal moment ++ (codes ",\"pod\":\"" ++ (uid ++ (codes "\",\"container\":\"" ++ (name ++ codes "\"")))))
+    codes "{\"moment\":" ++ (decimal moment
+    ++ (codes ",\"pod\":\"" ++ (uid ++ (codes "\",\"container\":\"" ++ (name ++ codes "\"")))))
 
 -- and how it is
 abbrev pub state_members : ContainerState → ℕ → List ℕ
@@ -41,9 +44,11 @@ state_members state restarts =
 -- moment, uid, name, state, code and restarts
 abbrev pub container_line : Form → ℕ → List ℕ → ContainerSeen → List ℕ
 container_line Text moment uid seen =
-    decimal moment ++ (codes " " ++ (uid ++ (codes " " ++ (seen.name ++ (codes " " ++ (state_name seen.state ++ (codes " "
+    decimal moment ++ (codes " " ++ (uid ++
+    (codes " " ++ (seen.name ++ (codes " " ++ (state_name seen.state ++ (codes " "
     ++ (code_text Text seen.state ++ (codes " " ++ (decimal seen.restarts ++ codes "\n"))))))))))
-container_line Json moment uid seen = which_members moment uid seen.name ++ state_members seen.state seen.restarts
+container_line Json moment uid seen = which_members moment uid seen.name
+    ++ state_members seen.state seen.restarts
 
 -- the pod has left the node
 abbrev pub gone_line : Form → ℕ → List ℕ → List ℕ
@@ -69,22 +74,27 @@ is_same old new = is_same_state old.state new.state && old.restarts == new.resta
 -- the line of a container, unless it was seen just so
 abbrev pub container_change : Form → ℕ → List ℕ → Option ContainerSeen → ContainerSeen → List ℕ
 container_change form moment uid None new = container_line form moment uid new
-container_change form moment uid (Some old) new = if is_same old new then [] else container_line form moment uid new
+container_change form moment uid (Some old) new = if is_same old new then []
+    else container_line form moment uid new
 
 -- place by place
 abbrev pub container_changes : Form → ℕ → List ℕ → List ContainerSeen → List ContainerSeen → List ℕ
 container_changes form moment uid old [] = []
-container_changes form moment uid [] (c ∷ cs) = container_change form moment uid None c ++ container_changes form moment uid [] cs
-container_changes form moment uid (o ∷ os) (c ∷ cs) = container_change form moment uid (Some o) c ++ container_changes form moment uid os cs
+container_changes form moment uid [] (c ∷ cs) =
+    container_change form moment uid None c ++ container_changes form moment uid [] cs
+container_changes form moment uid (o ∷ os) (c ∷ cs) = container_change form moment uid (Some o) c
+    ++ container_changes form moment uid os cs
 
 abbrev pub phase_change : Form → ℕ → List ℕ → Option Phase → Phase → List ℕ
 phase_change form moment uid None new = phase_line form moment uid new
-phase_change form moment uid (Some old) new = if is_same_phase old new then [] else phase_line form moment uid new
+phase_change form moment uid (Some old) new = if is_same_phase old new then []
+    else phase_line form moment uid new
 
 -- what changed of a pod, of which this was seen before, or nothing
 abbrev pub pod_changes : Form → ℕ → Option PodSeen → PodSeen → List ℕ
 pod_changes form moment None new =
-    phase_change form moment new.uid None new.phase ++ container_changes form moment new.uid [] new.containers.items
+    phase_change form moment new.uid None new.phase ++ container_changes form moment new.uid
+    [] new.containers.items
 pod_changes form moment (Some old) new =
     phase_change form moment new.uid (Some old.phase) new.phase
     ++ container_changes form moment new.uid old.containers.items new.containers.items

@@ -1,6 +1,7 @@
--- Why the containers of a node wait: the calls that came to nothing last, the newest one first. This project's own:
--- docs/SEMANTICS.md, "Why a container waits".
-use Rattle.std.specs.Prelude.{ℕ, ◌&&◌, ◌==◌, Bool, true, false, if◌then◌else◌, List, [], ◌∷◌, Option, Some, None, find, position, slice_get}
+-- Why the containers of a node wait: the calls that came to nothing last, the newest one first. This
+-- project's own: docs/SEMANTICS.md, "Why a container waits".
+use Rattle.std.specs.Prelude.{ℕ, ◌&&◌, ◌==◌, Bool, true, false, if◌then◌else◌, List, [], ◌∷◌, Option, Some}
+use Rattle.std.specs.Prelude.{None, find, position, slice_get}
 use Rattle.std.specs.List.{remove}
 use Rattle.std.specs.Str.{bytes_eq}
 use Rattle.cri_msgs.specs.declared.calls.Call.{Call}
@@ -27,7 +28,8 @@ without_at (Some place) reasons = remove reasons place
 
 -- the same call came to nothing for the same reason
 abbrev pub goes_on : Call → Trouble → Reason → Bool
-goes_on call trouble reason = bytes_eq (call_name reason.call) (call_name call) && is_same_trouble reason.trouble trouble
+goes_on call trouble reason = bytes_eq (call_name reason.call) (call_name call)
+    && is_same_trouble reason.trouble trouble
 
 abbrev pub since_of : ℕ → Call → Trouble → Option Reason → ℕ
 since_of moment call trouble None = moment
@@ -39,12 +41,14 @@ at_place reasons (Some place) = slice_get reasons place
 
 abbrev pub told_by : ℕ → Call → Option Trouble → Option Reason → List Reason → List Reason
 told_by moment call None was others = others
-told_by moment call (Some trouble) was others = record { call = call; trouble = trouble; since = since_of moment call trouble was } ∷ others
+told_by moment call (Some trouble) was others =
+    record { call = call; trouble = trouble; since = since_of moment call trouble was } ∷ others
 
 -- the call ended at this moment, in this trouble or in none
 abbrev pub noted : ℕ → Call → Option Trouble → List Reason → List Reason
 noted moment call trouble reasons =
-    told_by moment call trouble (at_place reasons (place_of call reasons)) (without_at (place_of call reasons) reasons)
+    told_by moment call trouble (at_place reasons (place_of call reasons))
+    (without_at (place_of call reasons) reasons)
 
 -- the last call about the container that came to nothing
 abbrev pub reason_for : List ℕ → List ℕ → List Reason → Option Reason

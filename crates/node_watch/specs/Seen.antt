@@ -1,5 +1,5 @@
--- What is seen of a pod from outside: its phase, and the state of each of its containers as the table of a node has it.
--- docs/SEMANTICS.md, "What changes".
+-- What is seen of a pod from outside: its phase, and the state of each of its containers as the table of a
+-- node has it. docs/SEMANTICS.md, "What changes".
 use Rattle.std.specs.Prelude.{ℕ, ◌-◌, List, map}
 use Rattle.std.specs.List.{zip}
 use Rattle.lifecycle.specs.declared.phases.Phase.{Phase}

@@ -1,6 +1,7 @@
 ghost use Rattle.std.specs.Prelude.{◌≡◌, option_map};
 ghost use Rattle.cri_msgs.specs.Calls.{uid_of};
-ghost use Rattle.node_watch.specs.Calls.{are_about_one, call_name, concerns, container_of, is_all_or, is_same_container};
+ghost use Rattle.node_watch.specs.Calls.{are_about_one, call_name, concerns, container_of, is_all_or};
+ghost use Rattle.node_watch.specs.Calls.{is_same_container};
 
 use cri_msgs::Call;
 use manifest::{Label, Uid};
@@ -60,7 +61,8 @@ pub fn container_of(call: &Call) -> Option<&Label>
 }
 
 fn is_same_container(name: Option<&Label>, other: Option<&Label>) -> bool
-    ensures { result ≡ is_same_container (option_map (λ n. n.now) name.entry) (option_map (λ n. n.now) other.entry) }
+    ensures { result ≡ is_same_container (option_map (λ n. n.now) name.entry)
+        (option_map (λ n. n.now) other.entry) }
 {
     match (name, other) {
         (None, None) => true,

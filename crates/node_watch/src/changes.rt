@@ -1,5 +1,7 @@
 ghost use Rattle.std.specs.Prelude.{◌≡◌, ◌++◌, IfOk, OnOk, string_bytes, option_copied};
-ghost use Rattle.node_watch.specs.Changes.{container_change, container_changes, container_line, gone_line, is_same, is_same_phase, is_same_state, phase_change, pod_changes, pod_line, state_members, which_members};
+ghost use Rattle.node_watch.specs.Changes.{container_change, container_changes, container_line, gone_line};
+ghost use Rattle.node_watch.specs.Changes.{is_same, is_same_phase, is_same_state, phase_change, pod_changes};
+ghost use Rattle.node_watch.specs.Changes.{pod_line, state_members, which_members};
 ghost use Rattle.lifecycle.specs.Names.{phase_name};
 ghost use Rattle.node_watch.specs.declared.forms.Form.{Form};
 
@@ -46,7 +48,8 @@ fn add_pod(
     uid: &Uid,
     what: &str,
 ) -> Result<(), AllocError>
-    ensures { OnOk result (string_bytes text.new ≡ string_bytes text.old ++ pod_line form moment uid.now what.now) }
+    ensures { OnOk result (string_bytes text.new ≡ string_bytes text.old
+        ++ pod_line form moment uid.now what.now) }
 {
     let uid = uid.as_str();
     match form {
@@ -66,7 +69,8 @@ fn add_line(
     uid: &Uid,
     seen: &ContainerSeen,
 ) -> Result<(), AllocError>
-    ensures { OnOk result (string_bytes text.new ≡ string_bytes text.old ++ container_line form moment uid.now seen.now) }
+    ensures { OnOk result (string_bytes text.new ≡ string_bytes text.old
+        ++ container_line form moment uid.now seen.now) }
 {
     match form {
         Form::Text => add_words(text, moment, uid, seen),
@@ -80,7 +84,8 @@ fn add_words(
     uid: &Uid,
     seen: &ContainerSeen,
 ) -> Result<(), AllocError>
-    ensures { OnOk result (string_bytes text.new ≡ string_bytes text.old ++ container_line Form.Text moment uid.now seen.now) }
+    ensures { OnOk result (string_bytes text.new ≡ string_bytes text.old
+        ++ container_line Form.Text moment uid.now seen.now) }
 {
     let (uid, name, state) = (uid.as_str(), seen.name.as_str(), seen.state);
     let restarts = seen.restarts;
@@ -103,14 +108,16 @@ fn add_object(
     uid: &Uid,
     seen: &ContainerSeen,
 ) -> Result<(), AllocError>
-    ensures { OnOk result (string_bytes text.new ≡ string_bytes text.old ++ container_line Form.Json moment uid.now seen.now) }
+    ensures { OnOk result (string_bytes text.new ≡ string_bytes text.old
+        ++ container_line Form.Json moment uid.now seen.now) }
 {
     add_which(text, moment, uid, &seen.name)?;
     add_state(text, seen.state, seen.restarts)
 }
 
 fn add_which(text: &mut String, moment: u64, uid: &Uid, name: &Label) -> Result<(), AllocError>
-    ensures { OnOk result (string_bytes text.new ≡ string_bytes text.old ++ which_members moment uid.now name.now) }
+    ensures { OnOk result (string_bytes text.new ≡ string_bytes text.old
+        ++ which_members moment uid.now name.now) }
 {
     let (uid, name) = (uid.as_str(), name.as_str());
     write!(
@@ -144,7 +151,8 @@ fn add_container(
     old: Option<&ContainerSeen>,
     new: &ContainerSeen,
 ) -> Result<(), AllocError>
-    ensures { OnOk result (string_bytes text.new ≡ string_bytes text.old ++ container_change form moment uid.now (option_copied old.entry) new.now) }
+    ensures { OnOk result (string_bytes text.new ≡ string_bytes text.old
+        ++ container_change form moment uid.now (option_copied old.entry) new.now) }
 {
     match old {
         Some(old) if is_same(old, new) => Ok(()),
@@ -161,7 +169,8 @@ fn add_containers(
     old: &[ContainerSeen],
     new: &[ContainerSeen],
 ) -> Result<(), AllocError>
-    ensures { OnOk result (string_bytes text.new ≡ string_bytes text.old ++ container_changes form moment uid.now old.now new.now) }
+    ensures { OnOk result (string_bytes text.new ≡ string_bytes text.old
+        ++ container_changes form moment uid.now old.now new.now) }
 {
     let Some((seen, others)) = new.split_first() else {
         return Ok(());
@@ -198,7 +207,8 @@ fn add_phase(
     old: Option<Phase>,
     new: Phase,
 ) -> Result<(), AllocError>
-    ensures { OnOk result (string_bytes text.new ≡ string_bytes text.old ++ phase_change form moment uid.now old new) }
+    ensures { OnOk result (string_bytes text.new ≡ string_bytes text.old
+        ++ phase_change form moment uid.now old new) }
 {
     match old {
         Some(old) if is_same_phase(old, new) => Ok(()),
@@ -206,8 +216,8 @@ fn add_phase(
     }
 }
 
-/// What changed of a pod at a moment, in seconds: a line for its phase, and one for each container whose state or
-/// restarts changed; all of them where nothing was seen of it before.
+/// What changed of a pod at a moment, in seconds: a line for its phase, and one for each container whose
+/// state or restarts changed; all of them where nothing was seen of it before.
 pub fn pod_changes(
     alloc: Global,
     form: Form,
@@ -215,7 +225,8 @@ pub fn pod_changes(
     old: Option<&PodSeen>,
     new: &PodSeen,
 ) -> Result<String, AllocError>
-    ensures { IfOk result (λ text. string_bytes text ≡ pod_changes form moment (option_copied old.entry) new.now) }
+    ensures { IfOk result (λ text. string_bytes text
+        ≡ pod_changes form moment (option_copied old.entry) new.now) }
 {
     let mut text = String::new(alloc);
     let containers = new.containers.as_slice();

@@ -1,5 +1,7 @@
-ghost use Rattle.std.specs.Prelude.{◌≡◌, ◌<◌, ◌∷◌, [], IfOk, OnOk, OnErr, None, Some, Ok, option_copied, vec_len, vec_capacity};
-ghost use Rattle.node_watch.specs.Reasons.{at_place, goes_on, is_same_trouble, noted, place_of, reason_for, since_of, without_at};
+ghost use Rattle.std.specs.Prelude.{◌≡◌, ◌<◌, ◌∷◌, [], IfOk, OnOk, OnErr, None, Some, Ok, option_copied};
+ghost use Rattle.std.specs.Prelude.{vec_len, vec_capacity};
+ghost use Rattle.node_watch.specs.Reasons.{at_place, goes_on, is_same_trouble, noted, place_of, reason_for};
+ghost use Rattle.node_watch.specs.Reasons.{since_of, without_at};
 
 use crate::calls::{are_about_one, call_name, concerns};
 use cri_msgs::{Call, Refusal};
@@ -25,8 +27,8 @@ pub struct Reason {
     pub since: u64,
 }
 
-/// Why the containers of a node wait: the calls that came to nothing last, at most one of each container, and one
-/// of each pod as a whole. Contracts see them, the newest one first.
+/// Why the containers of a node wait: the calls that came to nothing last, at most one of each container, and
+/// one of each pod as a whole. Contracts see them, the newest one first.
 #[derive(Drop)]
 pub struct Reasons {
     alloc: Global,
@@ -84,7 +86,8 @@ fn at_place(reasons: &[Reason], place: Option<usize>) -> Option<&Reason>
 
 fn forget_at(reasons: &mut Vec<Reason>, place: Option<usize>)
     ensures items { reasons.new.items ≡ without_at place reasons.old.items }
-    ensures room { vec_len reasons.old < vec_capacity reasons.old → vec_len reasons.new < vec_capacity reasons.new }
+    ensures room { vec_len reasons.old < vec_capacity reasons.old
+        → vec_len reasons.new < vec_capacity reasons.new }
 {
     if let Some(place) = place {
         if place < reasons.len() {
@@ -114,8 +117,8 @@ impl Reasons {
         }
     }
 
-    /// A call ended at this moment, in seconds: in trouble, or in none. Want of memory changes nothing, and comes
-    /// only where there is trouble.
+    /// A call ended at this moment, in seconds: in trouble, or in none. Want of memory changes nothing, and
+    /// comes only where there is trouble.
     pub fn note(
         &mut self,
         moment: u64,

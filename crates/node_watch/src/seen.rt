@@ -47,7 +47,8 @@ fn add_containers(
     tracks: &[Track],
     seen: &mut Vec<ContainerSeen>,
 ) -> Result<(), AllocError>
-    ensures { OnOk result (seen.new.items ≡ seen.old.items ++ containers_seen policy containers.now tracks.now) }
+    ensures { OnOk result (seen.new.items ≡ seen.old.items
+        ++ containers_seen policy containers.now tracks.now) }
 {
     let Some((container, containers)) = containers.split_first() else {
         return Ok(());
@@ -65,7 +66,8 @@ impl PodSeen {
         ensures uid { IfOk result (λ seen. seen.uid ≡ view.entry.pod.now.uid) }
         ensures phase { IfOk result (λ seen. seen.phase ≡ view.entry.phase) }
         ensures containers { IfOk result (λ seen. seen.containers.items
-            ≡ containers_seen view.entry.pod.now.policy view.entry.pod.now.containers.all view.entry.tracks.now) }
+            ≡ containers_seen view.entry.pod.now.policy view.entry.pod.now.containers.all
+            view.entry.tracks.now) }
     {
         let pod = view.pod;
         let mut containers = Vec::new(alloc);

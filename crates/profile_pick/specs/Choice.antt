@@ -1,6 +1,7 @@
--- Which seccomp profile a container gets. Kubernetes 1.27, "Restrict a Container's Syscalls with seccomp": privileged
--- containers always run as Unconfined, and on a node whose kubelet has `seccompDefault` RuntimeDefault is what those
--- get of which nothing is said. API reference, `SecurityContext`: a container's `seccompProfile` goes before the pod's.
+-- Which seccomp profile a container gets. Kubernetes 1.27, "Restrict a Container's Syscalls with seccomp":
+-- privileged containers always run as Unconfined, and on a node whose kubelet has `seccompDefault`
+-- RuntimeDefault is what those get of which nothing is said. API reference, `SecurityContext`: a container's
+-- `seccompProfile` goes before the pod's.
 use Rattle.std.specs.Prelude.{Bool, true, false, if◌then◌else◌, Option, Some, None}
 use Rattle.manifest.specs.declared.containers.Container.{Container}
 use Rattle.manifest.specs.declared.profiles.SeccompProfile.{SeccompProfile}
@@ -20,7 +21,8 @@ first_said None (Some of_pod) seccomp_default = of_pod
 first_said None None seccomp_default = node_default seccomp_default
 
 abbrev pub choice_of : Option SeccompProfile → Container → Bool → SeccompProfile
-choice_of of_pod container seccomp_default = if container.privileged then Unconfined else first_said container.profile of_pod seccomp_default
+choice_of of_pod container seccomp_default = if container.privileged then Unconfined
+    else first_said container.profile of_pod seccomp_default
 
 -- the choice, its path as what it is
 abbrev pub choice_seen : Choice → SeccompProfile

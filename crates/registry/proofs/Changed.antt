@@ -8,7 +8,8 @@ use Rattle.registry.specs.declared.known.Known.{Known}
 use Rattle.registry.specs.Kept.{Changes, by_bytes, known_in}
 use Rattle.registry.proofs.Texts.{elsewhere, found, here}
 
-pub changes_none : {Y : Type 0} (uid : List ℕ) (old new : BTreeMap (String Y) Known) (f : Known → Known) → new ≡ old → get_by_text old uid ≡ None
+pub changes_none : {Y : Type 0} (uid : List ℕ) (old new : BTreeMap (String Y) Known) (f : Known → Known)
+    → new ≡ old → get_by_text old uid ≡ None
     → Changes (by_bytes old.entries) (by_bytes new.entries) uid f
 changes_none uid old new f same none =
     let nothing = found uid old.entries ∙ none in
@@ -17,11 +18,14 @@ changes_none uid old new f same none =
       others = λ u differ. ap (λ m. known_in (by_bytes m.entries) u) same;
     }
 
-pub changes_some : {Y : Type 0} (uid : List ℕ) (old new : BTreeMap (String Y) Known) (k later : Known) (f : Known → Known) → get_by_text old uid ≡ Some k → later ≡ f k
-    → tree.WritesThrough string_cmp (text_cmp uid) old later new → Changes (by_bytes old.entries) (by_bytes new.entries) uid f
+pub changes_some : {Y : Type 0} (uid : List ℕ) (old new : BTreeMap (String Y) Known) (k later : Known)
+    (f : Known → Known) → get_by_text old uid ≡ Some k → later ≡ f k
+    → tree.WritesThrough string_cmp (text_cmp uid) old later new
+    → Changes (by_bytes old.entries) (by_bytes new.entries) uid f
 changes_some uid old new k later f is comes writes =
     let changes = writes.3 (subst IsSome (sym is) refl) in
     record {
-      here = here uid old new (Some later) changes ∙ ap Some comes ∙ sym (ap (option_map f) (found uid old.entries ∙ is));
+      here = here uid old new (Some later) changes ∙ ap Some comes
+          ∙ sym (ap (option_map f) (found uid old.entries ∙ is));
       others = elsewhere uid old new (Some later) changes;
     }

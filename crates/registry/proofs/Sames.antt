@@ -1,5 +1,6 @@
 -- The test by which a set of attempts looks one up.
-use Rattle.std.proofs.Common.{◌≡◌, ℕ, ◌==◌, ◌&&◌, ◌||◌, List, [], ◌∷◌, refl, ap, ◌∙◌, rules, Ordering, Less, Equal, Greater}
+use Rattle.std.proofs.Common.{◌≡◌, ℕ, ◌==◌, ◌&&◌, ◌||◌, List, [], ◌∷◌, refl, ap, ◌∙◌, rules, Ordering, Less}
+use Rattle.std.proofs.Common.{Equal, Greater}
 use Rattle.std.specs.Ordering.{is_eq, nat_cmp, ordering_then}
 use Rattle.std.specs.Cmp.Lexicographic.{slice_cmp}
 use Rattle.std.specs.List.{list_any}
@@ -23,6 +24,8 @@ same_test a b = both (slice_cmp nat_cmp a.name b.name) (nat_cmp a.attempt b.atte
     ∙ ap (λ f. f && is_eq (nat_cmp a.attempt b.attempt)) (is_eq-slice_cmp a.name b.name)
     ∙ ap (λ g. bytes_eq a.name b.name && g) (same_number a.attempt b.attempt)
 
-pub same_any : (a : ContainerMetadata) (used : List ContainerMetadata) → list_any (is_at (container_cmp a)) used ≡ list_any (is_same a) used
+pub same_any : (a : ContainerMetadata) (used : List ContainerMetadata)
+    → list_any (is_at (container_cmp a)) used ≡ list_any (is_same a) used
 same_any a [] = refl
-same_any a (b ∷ used) = ap (λ f. f || list_any (is_at (container_cmp a)) used) (same_test a b) ∙ ap (λ g. is_same a b || g) (same_any a used)
+same_any a (b ∷ used) = ap (λ f. f || list_any (is_at (container_cmp a)) used) (same_test a b)
+    ∙ ap (λ g. is_same a b || g) (same_any a used)

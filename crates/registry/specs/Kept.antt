@@ -1,5 +1,7 @@
 -- What is kept of a runtime, and what it stands for: this project's own.
-use Rattle.std.specs.Prelude.{◌≡◌, ◌≢◌, ◌==◌, ◌<◌, ◌≤◌, ⊤, IsSome, ℕ, IsTrue, false, String, string_bytes, map, option_map, length, slice_index_or, List, [], ◌∷◌, ◌++◌, Option, Some, None}
+use Rattle.std.specs.Prelude.{◌≡◌, ◌≢◌, ◌==◌, ◌<◌, ◌≤◌, ⊤, IsSome, ℕ, IsTrue, false, String, string_bytes}
+use Rattle.std.specs.Prelude.{map, option_map, length, slice_index_or, List, [], ◌∷◌, ◌++◌, Option, Some}
+use Rattle.std.specs.Prelude.{None}
 use Rattle.std.specs.BTreeSet.{insert_key}
 use Rattle.std.specs.Map.{lookup}
 use Rattle.std.specs.Str.{bytes_eq}
@@ -64,7 +66,8 @@ home_in homes id = lookup (λ i. id == i) homes
 -- the least id above a number that is at home somewhere
 abbrev pub IsNextIn : {A : Type 0} → (ℕ → Option A) → ℕ → Option ℕ → Type 0
 IsNextIn home above None = (id : ℕ) → above < id → home id ≡ None
-IsNextIn home above (Some id) = (above < id) × IsSome (home id) × ((i : ℕ) → above < i → IsSome (home i) → id ≤ i)
+IsNextIn home above (Some id) = (above < id) × IsSome (home id)
+    × ((i : ℕ) → above < i → IsSome (home i) → id ≤ i)
 
 -- what is known of a uid that was named
 abbrev pub known_in : List (List ℕ × Known) → List ℕ → Option Known
@@ -78,7 +81,8 @@ abbrev pub dead : Known → Known
 dead k = known.Removed
 
 abbrev pub with_used : ContainerMetadata → Known → Known
-with_used container (known.Live live) = known.Live (record { ready = live.ready; used = insert_key container_cmp live.used container })
+with_used container (known.Live live) =
+    known.Live (record { ready = live.ready; used = insert_key container_cmp live.used container })
 with_used container known.Removed = known.Removed
 
 abbrev pub stage_of : Option Known → Stage

@@ -1,5 +1,6 @@
 -- What a runtime is, this project's own, over the names of CRI v1: docs/SEMANTICS.md, "The runtime".
-use Rattle.std.specs.Prelude.{◌≡◌, ◌⊎◌, ◌==◌, ⊤, ℕ, ◌≤◌, ◌&&◌, Bool, true, false, if◌then◌else◌, List, [], ◌∷◌, length, Option, Some, None}
+use Rattle.std.specs.Prelude.{◌≡◌, ◌⊎◌, ◌==◌, ⊤, ℕ, ◌≤◌, ◌&&◌, Bool, true, false, if◌then◌else◌, List, []}
+use Rattle.std.specs.Prelude.{◌∷◌, length, Option, Some, None}
 use Rattle.std.specs.List.{list_any, find}
 use Rattle.std.specs.Str.{bytes_eq}
 use Rattle.bpf_code.specs.declared.insn.Insn.{Insn}
@@ -53,7 +54,8 @@ slot_by None false = Free
 
 abbrev pub slot_at : Stage → Sandbox → ContainerMetadata → Slot
 slot_at Unknown s container = Free
-slot_at (Live ready) s container = slot_by (find (is_of container) s.cells) (list_any (is_same container) s.used)
+slot_at (Live ready) s container = slot_by (find (is_of container) s.cells)
+    (list_any (is_same container) s.used)
 slot_at Removed s container = Gone
 
 abbrev pub slot_in : Sandbox → ContainerMetadata → Slot

@@ -1,16 +1,21 @@
--- What each call does, by cases, this project's own: docs/SEMANTICS.md, "The runtime". Which states there are,
--- and that calls which stop or remove may be sent again, is CRI v1's.
-use Rattle.std.specs.Prelude.{◌≡◌, ◌≢◌, ◌⊎◌, ◌+◌, ◌==◌, if◌then◌else◌, ℕ, ◌≤◌, not, count_by, IsPermutation, Bool, true, false, List, [], ◌∷◌, ◌++◌, length, map, Option}
+-- What each call does, by cases, this project's own: docs/SEMANTICS.md, "The runtime". Which states there
+-- are, and that calls which stop or remove may be sent again, is CRI v1's.
+use Rattle.std.specs.Prelude.{◌≡◌, ◌≢◌, ◌⊎◌, ◌+◌, ◌==◌, if◌then◌else◌, ℕ, ◌≤◌, not, count_by, IsPermutation}
+use Rattle.std.specs.Prelude.{Bool, true, false, List, [], ◌∷◌, ◌++◌, length, map, Option}
 use Rattle.std.specs.List.Sorted.{IsSortedByKey}
 use Rattle.std.specs.BTreeSet.{insert_key}
 use Rattle.bpf_code.specs.declared.insn.Insn.{Insn}
 use Rattle.manifest.specs.declared.profiles.SeccompProfile.{SeccompProfile}
 use Rattle.cri_msgs.specs.declared.calls.Call.{Call}
-use Rattle.cri_msgs.specs.declared.calls.Call.TheVariants.{RunPodSandbox, StopPodSandbox, RemovePodSandbox, CreateContainer, StartContainer, StopContainer, RemoveContainer, ContainerStatus, ListContainers, ContainerStatuses}
+use Rattle.cri_msgs.specs.declared.calls.Call.TheVariants.{RunPodSandbox, StopPodSandbox, RemovePodSandbox}
+use Rattle.cri_msgs.specs.declared.calls.Call.TheVariants.{CreateContainer, StartContainer, StopContainer}
+use Rattle.cri_msgs.specs.declared.calls.Call.TheVariants.{RemoveContainer, ContainerStatus, ListContainers}
+use Rattle.cri_msgs.specs.declared.calls.Call.TheVariants.{ContainerStatuses}
 use Rattle.cri_msgs.specs.declared.keys.ContainerMetadata.{ContainerMetadata}
 use Rattle.cri_msgs.specs.declared.lists.ListedContainer.{ListedContainer}
 use Rattle.cri_msgs.specs.declared.lists.ListedStatus.{ListedStatus}
-use Rattle.cri_msgs.specs.declared.refusals.Refusal.TheVariants.{NotFound, AlreadyExists, ResourceExhausted, FailedPrecondition, Memory}
+use Rattle.cri_msgs.specs.declared.refusals.Refusal.TheVariants.{NotFound, AlreadyExists, ResourceExhausted}
+use Rattle.cri_msgs.specs.declared.refusals.Refusal.TheVariants.{FailedPrecondition, Memory}
 use Rattle.cri_msgs.specs.declared.replies.Answer.{Answer}
 use Rattle.cri_msgs.specs.declared.replies.Answer.TheVariants.{Refused, Done, Container, Status}
 use Rattle.cri_msgs.specs.declared.replies.Answer.TheVariants as answers
@@ -28,7 +33,8 @@ use Rattle.registry.specs.declared.stage.Stage.{Stage}
 use Rattle.registry.specs.declared.stage.Stage.TheVariants.{Unknown, Live, Removed}
 use Rattle.registry.specs.declared.limits.TheConstants.{MAX_UIDS, MAX_CELLS, MAX_KEYS, STOPPED, TERMINATED}
 use Rattle.creation.specs.Files.{IsMade, Lacks, WasRead, choice_of}
-use Rattle.registry.specs.Runtime.{AtLeast, IsKnown, Runtime, Sandbox, Slot, change_first, container_in, drop_first, fresh_sandbox, is_of, removed, slot_in}
+use Rattle.registry.specs.Runtime.{AtLeast, IsKnown, Runtime, Sandbox, Slot, change_first, container_in}
+use Rattle.registry.specs.Runtime.{drop_first, fresh_sandbox, is_of, removed, slot_in}
 use Rattle.registry.specs.Runtime.Slot.{Free, There, Gone}
 
 -- what a call sees and changes: the sandbox that it names, and how many cells were made so far
@@ -73,7 +79,11 @@ RunsPod (Live false) full old answer new = Says old answer (Refused FailedPrecon
 RunsPod Removed full old answer new = Says old answer (Refused FailedPrecondition) new
 
 abbrev pub stopped_sandbox : ℕ → Sandbox → Sandbox
-stopped_sandbox grace s = record { stage = Live false; cells = map (killed (code_of_grace grace)) s.cells; used = s.used }
+stopped_sandbox grace s = record {
+  stage = Live false;
+  cells = map (killed (code_of_grace grace)) s.cells;
+  used = s.used;
+}
 
 abbrev pub StopsPod : Stage → ℕ → Part → Answer → Part → Type 0
 StopsPod Unknown grace old answer new = Says old answer Done new
@@ -104,35 +114,42 @@ grown old container cell = record {
   };
 }
 
-abbrev pub MakesFrom : Option (List Insn) → ContainerMetadata → List ℕ → SeccompProfile → FileAnswers → Part → Answer → Part → Type 0
+abbrev pub MakesFrom : Option (List Insn) → ContainerMetadata → List ℕ → SeccompProfile → FileAnswers → Part
+    → Answer → Part → Type 0
 MakesFrom baseline container image choice files old answer new =
     ((refusal : _) × Lacks choice files refusal × Says old answer (Refused refusal) new)
     ⊎ ((WasRead files × Says old answer (Refused Memory) new)
     ⊎ ((cell : Cell) × IsMade baseline (old.made + 1) container image choice files cell
     × (answer ≡ Container (old.made + 1)) × (new ≡ grown old container cell)))
 
-abbrev pub CreatesIn : Slot → Bool → Option (List Insn) → ContainerMetadata → List ℕ → SeccompProfile → FileAnswers → Part → Answer → Part → Type 0
-CreatesIn Gone ready baseline container image choice files old answer new = Says old answer (Refused FailedPrecondition) new
+abbrev pub CreatesIn : Slot → Bool → Option (List Insn) → ContainerMetadata → List ℕ → SeccompProfile
+    → FileAnswers → Part → Answer → Part → Type 0
+CreatesIn Gone ready baseline container image choice files old answer new =
+    Says old answer (Refused FailedPrecondition) new
 CreatesIn (There cell) ready baseline container image choice files old answer new =
     (WasAsked cell image choice × Says old answer (Container cell.making.label.id) new)
     ⊎ ((¬ WasAsked cell image choice) × Says old answer (Refused AlreadyExists) new)
-CreatesIn Free false baseline container image choice files old answer new = Says old answer (Refused FailedPrecondition) new
+CreatesIn Free false baseline container image choice files old answer new =
+    Says old answer (Refused FailedPrecondition) new
 CreatesIn Free true baseline container image choice files old answer new =
     (IsCrowded old.sandbox × Says old answer (Refused ResourceExhausted) new)
     ⊎ ((¬ IsCrowded old.sandbox) × MakesFrom baseline container image choice files old answer new)
 
-abbrev pub Creates : Stage → Option (List Insn) → ContainerMetadata → List ℕ → SeccompProfile → FileAnswers → Part → Answer → Part → Type 0
+abbrev pub Creates : Stage → Option (List Insn) → ContainerMetadata → List ℕ → SeccompProfile → FileAnswers
+    → Part → Answer → Part → Type 0
 Creates Unknown baseline container image choice files old answer new = Says old answer (Refused NotFound) new
 Creates (Live ready) baseline container image choice files old answer new =
     CreatesIn (slot_in old.sandbox container) ready baseline container image choice files old answer new
-Creates Removed baseline container image choice files old answer new = Says old answer (Refused FailedPrecondition) new
+Creates Removed baseline container image choice files old answer new =
+    Says old answer (Refused FailedPrecondition) new
 
 -- the cell of the container, changed
 abbrev pub with_cell : Sandbox → ContainerMetadata → (Cell → Cell) → Sandbox
 with_cell s container f = with_cells s (change_first (is_of container) f s.cells)
 
 abbrev pub StartsCell : State → Bool → ContainerMetadata → Part → Answer → Part → Type 0
-StartsCell Created true container old answer new = Becomes old (with_cell old.sandbox container started) answer Done new
+StartsCell Created true container old answer new =
+    Becomes old (with_cell old.sandbox container started) answer Done new
 StartsCell Created false container old answer new = Says old answer (Refused FailedPrecondition) new
 StartsCell Running ready container old answer new = Says old answer Done new
 StartsCell (Exited code killed) ready container old answer new = Says old answer Done new
@@ -144,11 +161,13 @@ StartsIn Gone ready container old answer new = Says old answer (Refused FailedPr
 
 abbrev pub Starts : Stage → ContainerMetadata → Part → Answer → Part → Type 0
 Starts Unknown container old answer new = Says old answer (Refused NotFound) new
-Starts (Live ready) container old answer new = StartsIn (slot_in old.sandbox container) ready container old answer new
+Starts (Live ready) container old answer new =
+    StartsIn (slot_in old.sandbox container) ready container old answer new
 Starts Removed container old answer new = Says old answer (Refused FailedPrecondition) new
 
 abbrev pub Stops : Slot → ContainerMetadata → ℕ → Part → Answer → Part → Type 0
-Stops (There cell) container grace old answer new = Becomes old (with_cell old.sandbox container (killed (code_of_grace grace))) answer Done new
+Stops (There cell) container grace old answer new =
+    Becomes old (with_cell old.sandbox container (killed (code_of_grace grace))) answer Done new
 Stops Free container grace old answer new = Says old answer Done new
 Stops Gone container grace old answer new = Says old answer Done new
 
@@ -190,33 +209,45 @@ pub record AreStatuses (cells : List Cell) (items : List ListedStatus) : Type 0 
   pub all : IsPermutation (map listed_status cells) items
   pub ordered : IsSortedByKey (λ (item : ListedStatus). item.container) container_cmp items
 
--- what a call that lists the cells of a sandbox which is there is answered: nothing else of a runtime plays a part in it
+-- what a call that lists the cells of a sandbox which is there is answered: nothing else of a runtime plays a
+-- part in it
 abbrev pub TellsCells : Call → List Cell → Answer → Type 0
 TellsCells (ListContainers uid) cells answer =
-    (answer ≡ Refused Memory) ⊎ ((items : List ListedContainer) × IsListing cells items × (answer ≡ answers.List items))
+    (answer ≡ Refused Memory) ⊎ ((items : List ListedContainer) × IsListing cells items
+    × (answer ≡ answers.List items))
 TellsCells (ContainerStatuses uid) cells answer =
-    (answer ≡ Refused Memory) ⊎ ((items : List ListedStatus) × AreStatuses cells items × (answer ≡ answers.Statuses items))
+    (answer ≡ Refused Memory) ⊎ ((items : List ListedStatus) × AreStatuses cells items
+    × (answer ≡ answers.Statuses items))
 TellsCells call cells answer = ⊥
 
 abbrev pub Lists : Part → Answer → Part → Type 0
 Lists old answer new = Says old answer (Refused Memory) new
-    ⊎ ((items : List ListedContainer) × IsListing old.sandbox.cells items × Says old answer (answers.List items) new)
+    ⊎ ((items : List ListedContainer) × IsListing old.sandbox.cells items
+    × Says old answer (answers.List items) new)
 
 abbrev pub ListsStatuses : Part → Answer → Part → Type 0
 ListsStatuses old answer new = Says old answer (Refused Memory) new
-    ⊎ ((items : List ListedStatus) × AreStatuses old.sandbox.cells items × Says old answer (answers.Statuses items) new)
+    ⊎ ((items : List ListedStatus) × AreStatuses old.sandbox.cells items
+    × Says old answer (answers.Statuses items) new)
 
 -- what a call does to the sandbox that it names
 abbrev pub ServesIn : Around → Call → FileAnswers → Part → Answer → Part → Type 0
-ServesIn around (RunPodSandbox uid) files old answer new = RunsPod old.sandbox.stage (IsFull around.stages) old answer new
-ServesIn around (StopPodSandbox uid grace) files old answer new = StopsPod old.sandbox.stage grace old answer new
-ServesIn around (RemovePodSandbox uid) files old answer new = RemovesPod old.sandbox.stage (IsFull around.stages) old answer new
+ServesIn around (RunPodSandbox uid) files old answer new =
+    RunsPod old.sandbox.stage (IsFull around.stages) old answer new
+ServesIn around (StopPodSandbox uid grace) files old answer new =
+    StopsPod old.sandbox.stage grace old answer new
+ServesIn around (RemovePodSandbox uid) files old answer new =
+    RemovesPod old.sandbox.stage (IsFull around.stages) old answer new
 ServesIn around (CreateContainer key image choice) files old answer new =
     Creates old.sandbox.stage around.baseline key.container image choice files old answer new
-ServesIn around (StartContainer key) files old answer new = Starts old.sandbox.stage key.container old answer new
-ServesIn around (StopContainer key grace) files old answer new = Stops (slot_in old.sandbox key.container) key.container grace old answer new
-ServesIn around (RemoveContainer key) files old answer new = Removes (slot_in old.sandbox key.container) key.container old answer new
-ServesIn around (ContainerStatus key) files old answer new = Shows (slot_in old.sandbox key.container) old answer new
+ServesIn around (StartContainer key) files old answer new =
+    Starts old.sandbox.stage key.container old answer new
+ServesIn around (StopContainer key grace) files old answer new =
+    Stops (slot_in old.sandbox key.container) key.container grace old answer new
+ServesIn around (RemoveContainer key) files old answer new =
+    Removes (slot_in old.sandbox key.container) key.container old answer new
+ServesIn around (ContainerStatus key) files old answer new =
+    Shows (slot_in old.sandbox key.container) old answer new
 ServesIn around (ListContainers uid) files old answer new = Lists old answer new
 ServesIn around (ContainerStatuses uid) files old answer new = ListsStatuses old answer new
 
@@ -246,7 +277,8 @@ abbrev pub around_of : Runtime → Around
 around_of r = record { baseline = r.baseline; stages = λ uid. (r.sandbox uid).stage }
 
 -- a request is served: what the table says of the sandbox that it names, and nothing to any other
-pub record Serves (old : Runtime) (call : Call) (files : FileAnswers) (answer : Answer) (new : Runtime) : Type 0 where
+pub record Serves (old : Runtime) (call : Call) (files : FileAnswers) (answer : Answer)
+    (new : Runtime) : Type 0 where
   pub row : ServesIn (around_of old) call files (part_of old (uid_of call)) answer (part_of new (uid_of call))
   pub others : (uid : List ℕ) → uid ≢ uid_of call → new.sandbox uid ≡ old.sandbox uid
   pub baseline : new.baseline ≡ old.baseline

@@ -1,5 +1,6 @@
 -- What a registry and the lists of cells stand for: this project's own.
-use Rattle.std.specs.Prelude.{◌≡◌, ◌≢◌, ◌↔◌, ◌<◌, ◌≤◌, ⊤, ℕ, List, [], ◌∷◌, ◌==◌, if◌then◌else◌, option_map, map, Option, Some, None}
+use Rattle.std.specs.Prelude.{◌≡◌, ◌≢◌, ◌↔◌, ◌<◌, ◌≤◌, ⊤, ℕ, List, [], ◌∷◌, ◌==◌, if◌then◌else◌, option_map}
+use Rattle.std.specs.Prelude.{map, Option, Some, None}
 use Rattle.cri_msgs.specs.declared.keys.ContainerMetadata.{ContainerMetadata}
 use Rattle.runtime_cell.specs.Cell.{Cell}
 use Rattle.registry.specs.declared.known.Known.{Known}
@@ -40,7 +41,12 @@ around_in r = record { baseline = r.baseline; stages = stages_in r }
 
 -- the runtime of a registry and the lists of all uids
 abbrev pub runtime_of : Registry → (List ℕ → List Cell) → Runtime
-runtime_of r cells = record { baseline = r.baseline; made = r.made; sandbox = λ uid. sandbox_of (known_in r.uids uid) (cells uid) }
+runtime_of r cells = record {
+  baseline = r.baseline;
+  made = r.made;
+  sandbox = λ uid.
+      sandbox_of (known_in r.uids uid) (cells uid);
+}
 
 -- ids rise, from above a number
 abbrev pub RiseAbove : ℕ → List ℕ → Type 0
@@ -56,7 +62,8 @@ IsEmptyIn stage.Removed cells = cells ≡ []
 abbrev pub AreBound : Registry → Type 0
 AreBound r = (id : ℕ) (uid : List ℕ) → home_in r.homes id ≡ Some uid → id ≤ r.made
 
--- the registry's ids of the uid are those of its list, in rising order; where there is no sandbox there are no cells
+-- the registry's ids of the uid are those of its list, in rising order; where there is no sandbox there are
+-- no cells
 pub record Agrees (r : Registry) (uid : List ℕ) (cells : List Cell) : Type 0 where
   pub home : (id : ℕ) → (home_in r.homes id ≡ Some uid) ↔ In id (map id_of cells)
   pub rise : RiseAbove 0 (map id_of cells)
@@ -65,7 +72,8 @@ pub record Agrees (r : Registry) (uid : List ℕ) (cells : List Cell) : Type 0 w
 -- of every other uid the registry says what it said
 pub record Spares (old new : Registry) (uid : List ℕ) (before : List Cell) : Type 0 where
   pub known : (u : List ℕ) → u ≢ uid → known_in new.uids u ≡ known_in old.uids u
-  pub home : AreBound old → Agrees old uid before → (u : List ℕ) → u ≢ uid → (id : ℕ) → (home_in new.homes id ≡ Some u) ↔ (home_in old.homes id ≡ Some u)
+  pub home : AreBound old → Agrees old uid before → (u : List ℕ) → u ≢ uid → (id : ℕ)
+      → (home_in new.homes id ≡ Some u) ↔ (home_in old.homes id ≡ Some u)
   pub baseline : new.baseline ≡ old.baseline
   pub made : old.made ≤ new.made
 
@@ -75,7 +83,8 @@ pub record Keeps (old new : Registry) (uid : List ℕ) (before behind : List Cel
   pub agrees : AreBound old → Agrees old uid before → Agrees new uid behind
 
 -- the id is at home at the uid, the attempt was made in its sandbox, and the id is the last one
-pub record IsPlaced (old new : Registry) (uid : List ℕ) (container : ContainerMetadata) (id : ℕ) : Type 0 where
+pub record IsPlaced (old new : Registry) (uid : List ℕ) (container : ContainerMetadata)
+    (id : ℕ) : Type 0 where
   pub here : known_in new.uids uid ≡ option_map (with_used container) (known_in old.uids uid)
   pub others : (u : List ℕ) → u ≢ uid → known_in new.uids u ≡ known_in old.uids u
   pub home : (i : ℕ) → home_in new.homes i ≡ (if id == i then Some uid else home_in old.homes i)

@@ -1,5 +1,7 @@
 //! The cells of a sandbox.
-ghost use Rattle.std.specs.Prelude.{◌≡◌, ◌⊎◌, ◌-◌, ◌==◌, ◌<◌, ◌++◌, ◌∷◌, ◌≤◌, [], List, IfNone, IfSome, IsTrue, OnOk, OnErr, length, map, take, find, option_copied, option_map, position};
+ghost use Rattle.std.specs.Prelude.{◌≡◌, ◌⊎◌, ◌-◌, ◌==◌, ◌<◌, ◌++◌, ◌∷◌, ◌≤◌, [], List, IfNone, IfSome};
+ghost use Rattle.std.specs.Prelude.{IsTrue, OnOk, OnErr, length, map, take, find, option_copied, option_map};
+ghost use Rattle.std.specs.Prelude.{position};
 ghost use Rattle.manifest.specs.Texts.{is_label};
 ghost use Rattle.runtime_cell.specs.Cell.{Cell, killed, started};
 ghost use Rattle.registry.specs.declared.limits.TheConstants.{MAX_CELLS};
@@ -13,7 +15,8 @@ use std::alloc::{AllocError, Global};
 use std::marker::Model;
 use std::mem;
 
-/// The cells of a sandbox, at most [`MAX_CELLS`], in the order in which they were made. Contracts see the list.
+/// The cells of a sandbox, at most [`MAX_CELLS`], in the order in which they were made. Contracts see the
+/// list.
 #[derive(Drop)]
 pub struct Cells {
     cells: Vec<Cell>,
@@ -238,8 +241,8 @@ fn pop_in(cells: &mut Vec<Cell>)
     drop(cells.pop());
 }
 
-/// The place of a cell with this id. Ids rise in the list of a sandbox, so that it is found by halves. Where it
-/// is not there a walk makes sure of that.
+/// The place of a cell with this id. Ids rise in the list of a sandbox, so that it is found by halves. Where
+/// it is not there a walk makes sure of that.
 fn place_of_id(cells: &[Cell], id: u64) -> Option<usize>
     ensures inside { IfSome result (λ at. at < length cells.now) }
     ensures found { IfSome result (λ at. IsAtPlace cells.now at id) }

@@ -1,5 +1,6 @@
 //! What a call does to a container of a sandbox that is there.
-ghost use Rattle.std.specs.Prelude.{◌≡◌, ◌⊎◌, ◌↔◌, ℕ, Option, Some, List, true, if◌then◌else◌, map, IsTrue, IfSome, IfNone};
+ghost use Rattle.std.specs.Prelude.{◌≡◌, ◌⊎◌, ◌↔◌, ℕ, Option, Some, List, true, if◌then◌else◌, map, IsTrue};
+ghost use Rattle.std.specs.Prelude.{IfSome, IfNone};
 ghost use Rattle.bpf_code.specs.declared.insn.Insn.{Insn};
 ghost use Rattle.registry.specs.declared.known.Known.{Known};
 ghost use Rattle.std.specs.List.{list_any};
@@ -9,7 +10,8 @@ ghost use Rattle.registry.specs.Runtime.{id_of, is_same, slot_in};
 ghost use Rattle.creation.specs.declared.files.FileAnswers.{FileAnswers};
 ghost use Rattle.registry.specs.Runtime.Slot.{Free};
 ghost use Rattle.creation.specs.Files.{choice_of};
-ghost use Rattle.registry.specs.Serves.{CreatesIn, IsCrowded, Shows, StartsIn, Stops, WasAsked, code_of_grace};
+ghost use Rattle.registry.specs.Serves.{CreatesIn, IsCrowded, Shows, StartsIn, Stops, WasAsked};
+ghost use Rattle.registry.specs.Serves.{code_of_grace};
 ghost use Rattle.registry.specs.Stands.{part_by, sandbox_of};
 
 use crate::cells::Cells;
@@ -30,8 +32,10 @@ pub(crate) fn code_of_grace(grace: u64) -> u8
 /// Starts a container that was not started.
 #[tactic(auto, using(crate::proofs::Ids::ids_started, crate::proofs::Ids::ids_killed))]
 pub(crate) fn start(live: &Live, cells: &mut Cells, container: &ContainerMetadata) -> Answer
-    ensures row { (made : ℕ) → StartsIn (slot_in (sandbox_of (Some (Known.Live live.now)) cells.old) container.now) live.now.ready container.now
-        (part_by made (Some (Known.Live live.now)) cells.old) result (part_by made (Some (Known.Live live.now)) cells.new) }
+    ensures row { (made : ℕ) → StartsIn (slot_in (sandbox_of (Some (Known.Live live.now)) cells.old)
+        container.now) live.now.ready container.now
+        (part_by made (Some (Known.Live live.now)) cells.old) result
+        (part_by made (Some (Known.Live live.now)) cells.new) }
     ensures ids { map id_of cells.new ≡ map id_of cells.old }
 {
     match cells.state_of(container) {
@@ -51,7 +55,8 @@ pub(crate) fn start(live: &Live, cells: &mut Cells, container: &ContainerMetadat
 
 /// The answer where the container's cell is not there.
 fn missing(live: &Live, container: &ContainerMetadata) -> Answer
-    ensures { result ≡ (if list_any (is_same container.now) live.now.used then Answer.Refused Refusal.FailedPrecondition else Answer.Refused Refusal.NotFound) }
+    ensures { result ≡ (if list_any (is_same container.now) live.now.used
+        then Answer.Refused Refusal.FailedPrecondition else Answer.Refused Refusal.NotFound) }
 {
     if live.used.has(container) {
         Answer::Refused(Refusal::FailedPrecondition)
@@ -68,8 +73,10 @@ pub(crate) fn stop(
     container: &ContainerMetadata,
     grace: u64,
 ) -> Answer
-    ensures row { (made : ℕ) → Stops (slot_in (sandbox_of (Some (Known.Live live.now)) cells.old) container.now) container.now grace
-        (part_by made (Some (Known.Live live.now)) cells.old) result (part_by made (Some (Known.Live live.now)) cells.new) }
+    ensures row { (made : ℕ) → Stops (slot_in (sandbox_of (Some (Known.Live live.now)) cells.old)
+        container.now) container.now grace
+        (part_by made (Some (Known.Live live.now)) cells.old) result
+        (part_by made (Some (Known.Live live.now)) cells.new) }
     ensures ids { map id_of cells.new ≡ map id_of cells.old }
 {
     match cells.state_of(container) {
@@ -84,7 +91,8 @@ pub(crate) fn stop(
 /// Tells the status of a container.
 pub(crate) fn status(live: &Live, cells: &Cells, container: &ContainerMetadata) -> Answer
     ensures { (made : ℕ) → Shows (slot_in (sandbox_of (Some (Known.Live live.now)) cells.now) container.now)
-        (part_by made (Some (Known.Live live.now)) cells.now) result (part_by made (Some (Known.Live live.now)) cells.now) }
+        (part_by made (Some (Known.Live live.now)) cells.now) result
+        (part_by made (Some (Known.Live live.now)) cells.now) }
 {
     match cells.of(container) {
         Some(cell) => Answer::Status(status_of(cell)),
@@ -101,9 +109,12 @@ pub(crate) fn made_before(
     choice: &SeccompProfile,
 ) -> Option<Answer>
     ensures said { IfSome result (λ answer. (made : ℕ) (baseline : Option (List Insn)) (files : FileAnswers)
-        → CreatesIn (slot_in (sandbox_of (Some (Known.Live live.now)) cells.now) container.now) live.now.ready baseline container.now image.now choice.now files
-        (part_by made (Some (Known.Live live.now)) cells.now) answer (part_by made (Some (Known.Live live.now)) cells.now)) }
-    ensures free { IfNone result (slot_in (sandbox_of (Some (Known.Live live.now)) cells.now) container.now ≡ Free) }
+        → CreatesIn (slot_in (sandbox_of (Some (Known.Live live.now)) cells.now) container.now) live.now.ready
+        baseline container.now image.now choice.now files
+        (part_by made (Some (Known.Live live.now)) cells.now) answer
+        (part_by made (Some (Known.Live live.now)) cells.now)) }
+    ensures free { IfNone result (slot_in (sandbox_of (Some (Known.Live live.now)) cells.now) container.now
+        ≡ Free) }
     ensures ready { IfNone result (live.now.ready ≡ true) }
     ensures place { IfNone result (IsCrowded (sandbox_of (Some (Known.Live live.now)) cells.now) → ⊥) }
 {

@@ -46,7 +46,8 @@ impl Homes {
     }
 
     pub(crate) fn put(&mut self, alloc: Global, id: u64, uid: &str) -> Result<(), AllocError>
-        ensures ok { OnOk result ((i : ℕ) → home_in self.new i ≡ (if id == i then Some uid.now else home_in self.old i)) }
+        ensures ok { OnOk result ((i : ℕ) → home_in self.new i
+            ≡ (if id == i then Some uid.now else home_in self.old i)) }
         ensures err { OnErr result ((i : ℕ) → home_in self.new i ≡ home_in self.old i) }
     {
         let copy = String::from_str(alloc, uid)?;
@@ -62,7 +63,8 @@ impl Homes {
 
     /// Takes out the ids of these cells.
     pub(crate) fn forget(&mut self, cells: &[Cell])
-        ensures { (i : ℕ) → home_in self.new i ≡ (if list_any (λ cell. id_of cell == i) cells.now then None else home_in self.old i) }
+        ensures { (i : ℕ) → home_in self.new i ≡ (if list_any (λ cell. id_of cell == i) cells.now then None
+            else home_in self.old i) }
     {
         for cell in cells {
             self.remove(cell.label().id);

@@ -1,5 +1,6 @@
 ghost use Rattle.std.specs.Prelude.{◌≡◌, ◌+◌};
-ghost use Rattle.registry.specs.declared.limits.TheConstants.{MAX_CELLS, MAX_KEYS, MAX_UIDS, STOPPED, TERMINATED};
+ghost use Rattle.registry.specs.declared.limits.TheConstants.{MAX_CELLS, MAX_KEYS, MAX_UIDS, STOPPED};
+ghost use Rattle.registry.specs.declared.limits.TheConstants.{TERMINATED};
 
 /// What the constants of this crate are.
 pub fn constants_are_as_stated()

@@ -4,7 +4,8 @@ ghost use Rattle.registry.specs.declared.limits.TheConstants.{MAX_CELLS};
 ghost use Rattle.manifest.specs.Texts.{is_label};
 ghost use Rattle.registry.specs.Runtime.{container_in};
 ghost use Rattle.registry.specs.Kept.{AreNamed};
-ghost use Rattle.registry.specs.Serves.{AreStatuses, IsListing, TellsCells, listed, listed_status, state_told, status_of};
+ghost use Rattle.registry.specs.Serves.{AreStatuses, IsListing, TellsCells, listed, listed_status};
+ghost use Rattle.registry.specs.Serves.{state_told, status_of};
 
 use crate::cells::Cells;
 use cri_msgs::{
@@ -119,9 +120,9 @@ pub(crate) fn statuses(alloc: Global, cells: &[Cell]) -> Result<Statuses, AllocE
     Ok(Statuses::new(items))
 }
 
-/// The answer to a call that lists the cells of a sandbox, ListContainers or ContainerStatuses, by these cells alone;
-/// none where it is another call. It is what [`crate::Registry::serve_lent`] answers as long as the sandbox is there,
-/// so whoever has the cells' lock need not hold up other sandboxes meanwhile.
+/// The answer to a call that lists the cells of a sandbox, ListContainers or ContainerStatuses, by these
+/// cells alone; none where it is another call. It is what [`crate::Registry::serve_lent`] answers as long as
+/// the sandbox is there, so whoever has the cells' lock need not hold up other sandboxes meanwhile.
 pub fn tell_cells(alloc: Global, call: &Call, cells: &Cells) -> Option<Answer>
     ensures { IfSome result (λ answer. TellsCells call.now cells.now answer) }
 {

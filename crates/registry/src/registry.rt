@@ -1,5 +1,6 @@
 //! What a runtime knows of all uids, but for their cells.
-ghost use Rattle.std.specs.Prelude.{◌≡◌, ◌↔◌, ◌<◌, ◌++◌, ◌∷◌, IsTrue, OnOk, OnErr, ℕ, List, [], true, length, Option, IfSome, IfNone, option_copied};
+ghost use Rattle.std.specs.Prelude.{◌≡◌, ◌↔◌, ◌<◌, ◌++◌, ◌∷◌, IsTrue, OnOk, OnErr, ℕ, List, [], true, length};
+ghost use Rattle.std.specs.Prelude.{Option, IfSome, IfNone, option_copied};
 ghost use Rattle.creation.specs.declared.files.FileAnswers.{FileAnswers};
 ghost use Rattle.registry.specs.declared.limits.TheConstants.{MAX_CELLS};
 ghost use Rattle.manifest.specs.Texts.{is_label};
@@ -9,8 +10,11 @@ ghost use Rattle.registry.specs.Kept.{IsNextIn, home_in};
 ghost use Rattle.registry.specs.Runtime.{empty, fresh_sandbox, removed, slot_in};
 ghost use Rattle.registry.specs.Runtime.Slot.{Free};
 ghost use Rattle.cri_msgs.specs.Calls.{uid_of};
-ghost use Rattle.registry.specs.Serves.{Creates, Enters, IsCrowded, IsFull, Lists, ListsStatuses, MakesFrom, Removes, RemovesPod, RunsPod, ServesIn, Shows, Starts, Stops, StopsPod, gone_with, handed_out};
-ghost use Rattle.registry.specs.Stands.{Agrees, AreBound, IsPlaced, IsUnplaced, Keeps, Spares, around_in, part_in, runtime_of, stages_in};
+ghost use Rattle.registry.specs.Serves.{Creates, Enters, IsCrowded, IsFull, Lists, ListsStatuses, MakesFrom};
+ghost use Rattle.registry.specs.Serves.{Removes, RemovesPod, RunsPod, ServesIn, Shows, Starts, Stops};
+ghost use Rattle.registry.specs.Serves.{StopsPod, gone_with, handed_out};
+ghost use Rattle.registry.specs.Stands.{Agrees, AreBound, IsPlaced, IsUnplaced, Keeps, Spares, around_in};
+ghost use Rattle.registry.specs.Stands.{part_in, runtime_of, stages_in};
 
 use crate::cells::Cells;
 use crate::containers::{code_of_grace, made_before, start, status, stop};
@@ -99,7 +103,8 @@ impl Registry {
         ensures number { result.id ≡ request.id }
 
         // What the table of calls says of that sandbox.
-        ensures row { ServesIn (around_in self.old) request.call files (part_in self.old (uid_of request.call) cells.old) result.answer
+        ensures row { ServesIn (around_in self.old) request.call files
+            (part_in self.old (uid_of request.call) cells.old) result.answer
             (part_in self.new (uid_of request.call) cells.new) }
 
         // Every other uid is as it was.
@@ -109,7 +114,8 @@ impl Registry {
         ensures keeps { Keeps self.old self.new (uid_of request.call) cells.old cells.new }
 
         // The cells of a sandbox that is removed are handed out, and no others.
-        ensures gone { gone.new ≡ handed_out request.call (stages_in self.old (uid_of request.call)) cells.old gone.old }
+        ensures gone { gone.new ≡ handed_out request.call (stages_in self.old (uid_of request.call)) cells.old
+            gone.old }
     {
         let Request { id, call } = request;
         let answer = self.answer(cells, gone, call, files);
@@ -123,7 +129,8 @@ impl Registry {
         call: Call,
         files: FileAnswers,
     ) -> Answer
-        ensures row { ServesIn (around_in self.old) call files (part_in self.old (uid_of call) cells.old) result (part_in self.new (uid_of call) cells.new) }
+        ensures row { ServesIn (around_in self.old) call files (part_in self.old (uid_of call) cells.old)
+            result (part_in self.new (uid_of call) cells.new) }
         ensures spares { Spares self.old self.new (uid_of call) cells.old }
         ensures keeps { Keeps self.old self.new (uid_of call) cells.old cells.new }
         ensures gone { gone.new ≡ handed_out call (stages_in self.old (uid_of call)) cells.old gone.old }
@@ -147,7 +154,8 @@ impl Registry {
     }
 
     pub(crate) fn run_pod(&mut self, cells: &mut Cells, uid: &Uid) -> Answer
-        ensures row { RunsPod (stages_in self.old uid.now) (IsFull (stages_in self.old)) (part_in self.old uid.now cells.old) result (part_in self.new uid.now cells.new) }
+        ensures row { RunsPod (stages_in self.old uid.now) (IsFull (stages_in self.old))
+            (part_in self.old uid.now cells.old) result (part_in self.new uid.now cells.new) }
         ensures spares { Spares self.old self.new uid.now cells.old }
         ensures keeps { Keeps self.old self.new uid.now cells.old cells.new }
     {
@@ -162,7 +170,8 @@ impl Registry {
     /// Makes a sandbox of a uid that was never named.
     fn wake(&mut self, cells: &mut Cells, uid: &Uid) -> Answer
         requires { stages_in self.old uid.now ≡ Stage.Unknown }
-        ensures row { Enters (IsFull (stages_in self.old)) (part_in self.old uid.now cells.old) fresh_sandbox result (part_in self.new uid.now cells.new) }
+        ensures row { Enters (IsFull (stages_in self.old)) (part_in self.old uid.now cells.old) fresh_sandbox
+            result (part_in self.new uid.now cells.new) }
         ensures spares { Spares self.old self.new uid.now cells.old }
         ensures keeps { Keeps self.old self.new uid.now cells.old cells.new }
     {
@@ -183,7 +192,8 @@ impl Registry {
     }
 
     pub(crate) fn stop_pod(&mut self, cells: &mut Cells, uid: &Uid, grace: u64) -> Answer
-        ensures row { StopsPod (stages_in self.old uid.now) grace (part_in self.old uid.now cells.old) result (part_in self.new uid.now cells.new) }
+        ensures row { StopsPod (stages_in self.old uid.now) grace (part_in self.old uid.now cells.old) result
+            (part_in self.new uid.now cells.new) }
         ensures spares { Spares self.old self.new uid.now cells.old }
         ensures keeps { Keeps self.old self.new uid.now cells.old cells.new }
     {
@@ -199,7 +209,8 @@ impl Registry {
     }
 
     pub(crate) fn remove_pod(&mut self, cells: &mut Cells, gone: &mut Cells, uid: &Uid) -> Answer
-        ensures row { RemovesPod (stages_in self.old uid.now) (IsFull (stages_in self.old)) (part_in self.old uid.now cells.old) result (part_in self.new uid.now cells.new) }
+        ensures row { RemovesPod (stages_in self.old uid.now) (IsFull (stages_in self.old))
+            (part_in self.old uid.now cells.old) result (part_in self.new uid.now cells.new) }
         ensures spares { Spares self.old self.new uid.now cells.old }
         ensures keeps { Keeps self.old self.new uid.now cells.old cells.new }
         ensures gone { gone.new ≡ gone_with (stages_in self.old uid.now) cells.old gone.old }
@@ -219,7 +230,8 @@ impl Registry {
     /// Marks a uid that was never named as removed.
     fn bury(&mut self, uid: &Uid) -> Answer
         requires { stages_in self.old uid.now ≡ Stage.Unknown }
-        ensures row { (cells : List Cell) → Enters (IsFull (stages_in self.old)) (part_in self.old uid.now cells) removed result (part_in self.new uid.now cells) }
+        ensures row { (cells : List Cell) → Enters (IsFull (stages_in self.old))
+            (part_in self.old uid.now cells) removed result (part_in self.new uid.now cells) }
         ensures spares { (cells : List Cell) → Spares self.old self.new uid.now cells }
         ensures keeps { (cells : List Cell) → Keeps self.old self.new uid.now cells cells }
     {
@@ -233,7 +245,8 @@ impl Registry {
     }
 
     pub(crate) fn start(&self, cells: &mut Cells, key: &Key) -> Answer
-        ensures row { Starts (stages_in self.now key.now.uid) key.now.container (part_in self.now key.now.uid cells.old) result (part_in self.now key.now.uid cells.new) }
+        ensures row { Starts (stages_in self.now key.now.uid) key.now.container
+            (part_in self.now key.now.uid cells.old) result (part_in self.now key.now.uid cells.new) }
         ensures keeps { Keeps self.now self.now key.now.uid cells.old cells.new }
     {
         match self.uids.get(key.uid.as_str()) {
@@ -244,7 +257,8 @@ impl Registry {
     }
 
     pub(crate) fn stop(&self, cells: &mut Cells, key: &Key, grace: u64) -> Answer
-        ensures row { Stops (slot_in (part_in self.now key.now.uid cells.old).sandbox key.now.container) key.now.container grace
+        ensures row { Stops (slot_in (part_in self.now key.now.uid cells.old).sandbox key.now.container)
+            key.now.container grace
             (part_in self.now key.now.uid cells.old) result (part_in self.now key.now.uid cells.new) }
         ensures keeps { Keeps self.now self.now key.now.uid cells.old cells.new }
     {
@@ -280,7 +294,8 @@ impl Registry {
     }
 
     pub(crate) fn statuses(&self, cells: &Cells, uid: &Uid) -> Answer
-        ensures { ListsStatuses (part_in self.now uid.now cells.now) result (part_in self.now uid.now cells.now) }
+        ensures { ListsStatuses (part_in self.now uid.now cells.now) result
+            (part_in self.now uid.now cells.now) }
     {
         match self.uids.get(uid.as_str()) {
             None => Answer::Statuses(Statuses::new(Vec::new(self.alloc))),
@@ -293,7 +308,8 @@ impl Registry {
     }
 
     pub(crate) fn remove(&mut self, cells: &mut Cells, key: &Key) -> Answer
-        ensures row { Removes (slot_in (part_in self.old key.now.uid cells.old).sandbox key.now.container) key.now.container
+        ensures row { Removes (slot_in (part_in self.old key.now.uid cells.old).sandbox key.now.container)
+            key.now.container
             (part_in self.old key.now.uid cells.old) result (part_in self.new key.now.uid cells.new) }
         ensures spares { Spares self.old self.new key.now.uid cells.old }
         ensures keeps { Keeps self.old self.new key.now.uid cells.old cells.new }
@@ -321,7 +337,8 @@ impl Registry {
         choice: &SeccompProfile,
         files: &FileAnswers,
     ) -> Answer
-        ensures row { Creates (stages_in self.old key.uid) self.old.baseline key.container image.now choice.now files.now
+        ensures row { Creates (stages_in self.old key.uid) self.old.baseline key.container image.now
+            choice.now files.now
             (part_in self.old key.uid cells.old) result (part_in self.new key.uid cells.new) }
         ensures spares { Spares self.old self.new key.uid cells.old }
         ensures keeps { Keeps self.old self.new key.uid cells.old cells.new }
@@ -340,10 +357,13 @@ impl Registry {
         image: &DescendingPath,
         choice: &SeccompProfile,
     ) -> Option<Answer>
-        ensures said { IfSome result (λ answer. (files : FileAnswers) → Creates (stages_in self.now key.now.uid) self.now.baseline key.now.container image.now choice.now files
+        ensures said { IfSome result (λ answer. (files : FileAnswers)
+            → Creates (stages_in self.now key.now.uid) self.now.baseline key.now.container image.now
+            choice.now files
             (part_in self.now key.now.uid cells.now) answer (part_in self.now key.now.uid cells.now)) }
         ensures ready { IfNone result (stages_in self.now key.now.uid ≡ Stage.Live true) }
-        ensures free { IfNone result (slot_in (part_in self.now key.now.uid cells.now).sandbox key.now.container ≡ Free) }
+        ensures free { IfNone result (slot_in (part_in self.now key.now.uid cells.now).sandbox
+            key.now.container ≡ Free) }
         ensures place { IfNone result (IsCrowded (part_in self.now key.now.uid cells.now).sandbox → ⊥) }
     {
         match self.uids.get(key.uid.as_str()) {

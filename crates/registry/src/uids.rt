@@ -105,8 +105,10 @@ fn add_in(
     uid: &str,
     container: ContainerMetadata,
 ) -> Result<(), AllocError>
-    ensures ok { OnOk result (Changes (by_bytes map.old.entries) (by_bytes map.new.entries) uid.now (with_used container)) }
-    ensures err { OnErr result (Changes (by_bytes map.old.entries) (by_bytes map.new.entries) uid.now (λ k. k)) }
+    ensures ok { OnOk result (Changes (by_bytes map.old.entries) (by_bytes map.new.entries) uid.now
+        (with_used container)) }
+    ensures err { OnErr result (Changes (by_bytes map.old.entries) (by_bytes map.new.entries) uid.now
+        (λ k. k)) }
 {
     match map.get_mut(uid) {
         None => Ok(()),

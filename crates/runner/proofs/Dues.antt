@@ -1,5 +1,6 @@
 -- A map by ids, as the list of its entries with their uids.
-use Rattle.std.proofs.Common.{◌≡◌, ℕ, ◌==◌, Bool, true, false, List, [], ◌∷◌, Option, Some, None, option_map, IsSome, refl, sym, ap, subst, ◌∙◌, rules}
+use Rattle.std.proofs.Common.{◌≡◌, ℕ, ◌==◌, Bool, true, false, List, [], ◌∷◌, Option, Some, None, option_map}
+use Rattle.std.proofs.Common.{IsSome, refl, sym, ap, subst, ◌∙◌, rules}
 use mathlib.Core.Bool.{cond}
 use Rattle.std.specs.Arc.{arc_value}
 use Rattle.std.specs.declared.sync.Arc.{Arc}
@@ -17,16 +18,19 @@ uid_in list = (arc_value {X = SandboxCells} list).uid
 same_number : (x y : ℕ) → is_eq (nat_cmp x y) ≡ (x == y)
 same_number x y = search (rules)
 
-found_step : (b d : Bool) (x : Arc SandboxCells Global) (r : Option (List ℕ)) (s : Option (Arc SandboxCells Global)) → b ≡ d → r ≡ option_map uid_in s
+found_step : (b d : Bool) (x : Arc SandboxCells Global) (r : Option (List ℕ))
+    (s : Option (Arc SandboxCells Global)) → b ≡ d → r ≡ option_map uid_in s
     → cond b (Some (uid_in x)) r ≡ option_map uid_in (cond d (Some x) s)
 found_step true true x r s e same = refl
 found_step false false x r s e same = same
 found_step true false x r s e same = absurd cc
 found_step false true x r s e same = absurd cc
 
-pub found_due : (id : ℕ) (entries : List (ℕ × Arc SandboxCells Global)) → home_in (homes_of entries) id ≡ option_map uid_in (lookup (is_at (nat_cmp id)) entries)
+pub found_due : (id : ℕ) (entries : List (ℕ × Arc SandboxCells Global))
+    → home_in (homes_of entries) id ≡ option_map uid_in (lookup (is_at (nat_cmp id)) entries)
 found_due id [] = refl
-found_due id (e ∷ entries) = found_step (id == e.0) (is_eq (nat_cmp id e.0)) e.1 _ _ (sym (same_number id e.0)) (found_due id entries)
+found_due id (e ∷ entries) = found_step (id == e.0) (is_eq (nat_cmp id e.0)) e.1 _ _
+    (sym (same_number id e.0)) (found_due id entries)
 
 none_if : (o : Option (Arc SandboxCells Global)) → o ≡ None → option_map uid_in o ≡ None
 none_if o none = ap (option_map uid_in) none
@@ -39,7 +43,13 @@ only_if : (o : Option (Arc SandboxCells Global)) → IsSome (option_map uid_in o
 only_if None some = absurd cc
 only_if (Some x) some = refl
 
-pub next_due : (f : ℕ → Option (Arc SandboxCells Global)) (h : ℕ → Option (List ℕ)) → ((i : ℕ) → h i ≡ option_map uid_in (f i)) → (above : ℕ) (r : Option ℕ) → IsNextIn f above r → IsNextIn h above r
+pub next_due : (f : ℕ → Option (Arc SandboxCells Global)) (h : ℕ → Option (List ℕ))
+    → ((i : ℕ) → h i ≡ option_map uid_in (f i)) → (above : ℕ) (r : Option ℕ) → IsNextIn f above r
+    → IsNextIn h above r
 next_due f h same above None next = λ id more. same id ∙ none_if (f id) (next id more)
-next_due f h same above (Some id) next =
-    (next.0, subst IsSome (sym (same id)) (some_if (f id) next.1), λ i more some. next.2 i more (only_if (f i) (subst IsSome (same i) some)))
+next_due f h same above (Some id) next = (
+  next.0,
+  subst IsSome (sym (same id)) (some_if (f id) next.1),
+  λ i more some.
+      next.2 i more (only_if (f i) (subst IsSome (same i) some)),
+)

@@ -1,5 +1,6 @@
 -- The least id of a share is the first id of all that is of the share.
-use Rattle.std.proofs.Common.{arith, ◌≡◌, ◌==◌, ◌%◌, ◌<◌, ℕ, Bool, true, false, if◌then◌else◌, IsSome, Option, None, Some, ◌⊎◌, inl, inr, refl, sym, subst}
+use Rattle.std.proofs.Common.{arith, ◌≡◌, ◌==◌, ◌%◌, ◌<◌, ℕ, Bool, true, false, if◌then◌else◌, IsSome, Option}
+use Rattle.std.proofs.Common.{None, Some, ◌⊎◌, inl, inr, refl, sym, subst}
 use Rattle.std.proofs.Math.Nat.{eq-or-lt_of_le}
 use Rattle.registry.specs.Kept.{IsNextIn}
 use Rattle.runner.specs.Labelled.{Passed, of_share}
@@ -28,24 +29,30 @@ module _ {A : Type 0} (runner runners : ℕ) (home : ℕ → Option A) where
   abbrev share : ℕ → Option A
   share = of_share runner runners home
 
-  pub next_is_own : (above last id : ℕ) → Passed share above last → IsNextIn home last (Some id) → (id % runners == runner) ≡ true → IsNextIn share above (Some id)
+  pub next_is_own : (above last id : ℕ) → Passed share above last → IsNextIn home last (Some id)
+      → (id % runners == runner) ≡ true → IsNextIn share above (Some id)
   next_is_own above last id passed next own = (
     (let step = next.0 in let low = passed.0 in omega arith),
     own_is (id % runners == runner) (home id) own next.1,
     λ i after some. next.2 i (passed.1 i after some) (of_both (i % runners == runner) (home i) some),
   )
 
-  pub next_is_none : (above last : ℕ) → Passed share above last → IsNextIn home last None → IsNextIn share above None
+  pub next_is_none : (above last : ℕ) → Passed share above last → IsNextIn home last None
+      → IsNextIn share above None
   next_is_none above last passed next i after =
-      is_none (share i) (λ some. not_some (home i) (next i (passed.1 i after some)) (of_both (i % runners == runner) (home i) some))
+      is_none (share i) (λ some. not_some (home i) (next i (passed.1 i after some))
+      (of_both (i % runners == runner) (home i) some))
 
   -- one that is of the share is not this one
   behind : (id i : ℕ) → (id % runners == runner) ≡ false → IsSome (share i) → (id ≡ i) ⊎ (id < i) → id < i
-  behind id i other some (inl same) = absurd (not_own (id % runners == runner) (home id) other (subst (λ j. IsSome (share j)) (sym same) some))
+  behind id i other some (inl same) = absurd
+      (not_own (id % runners == runner) (home id) other (subst (λ j. IsSome (share j)) (sym same) some))
   behind id i other some (inr after) = after
 
-  pub next_is_passed : (above last id : ℕ) → Passed share above last → IsNextIn home last (Some id) → (id % runners == runner) ≡ false → Passed share above id
+  pub next_is_passed : (above last id : ℕ) → Passed share above last → IsNextIn home last (Some id)
+      → (id % runners == runner) ≡ false → Passed share above id
   next_is_passed above last id passed next other = (
     (let step = next.0 in let low = passed.0 in omega arith),
-    λ i after some. behind id i other some (eq-or-lt_of_le (next.2 i (passed.1 i after some) (of_both (i % runners == runner) (home i) some))),
+    λ i after some. behind id i other some
+        (eq-or-lt_of_le (next.2 i (passed.1 i after some) (of_both (i % runners == runner) (home i) some))),
   )

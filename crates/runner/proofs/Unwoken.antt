@@ -1,7 +1,10 @@
 -- Where no memory is there for a sandbox, nothing has changed.
 use Rattle.std.proofs.Common.{inl, inr, List, [], refl, sym, subst, arith}
 use Rattle.cri_msgs.specs.declared.calls.Call.{Call}
-use Rattle.cri_msgs.specs.declared.calls.Call.TheVariants.{RunPodSandbox, StopPodSandbox, RemovePodSandbox, CreateContainer, StartContainer, StopContainer, RemoveContainer, ContainerStatus, ListContainers, ContainerStatuses}
+use Rattle.cri_msgs.specs.declared.calls.Call.TheVariants.{RunPodSandbox, StopPodSandbox, RemovePodSandbox}
+use Rattle.cri_msgs.specs.declared.calls.Call.TheVariants.{CreateContainer, StartContainer, StopContainer}
+use Rattle.cri_msgs.specs.declared.calls.Call.TheVariants.{RemoveContainer, ContainerStatus, ListContainers}
+use Rattle.cri_msgs.specs.declared.calls.Call.TheVariants.{ContainerStatuses}
 use Rattle.cri_msgs.specs.declared.refusals.Refusal.TheVariants.{Memory}
 use Rattle.cri_msgs.specs.declared.replies.Answer.TheVariants.{Refused}
 use Rattle.runtime_cell.specs.Cell.{Cell}
@@ -24,9 +27,11 @@ spares registry uid cells = record {
 keeps : (registry : Registry) (uid : List _) (cells : List Cell) → Keeps registry registry uid cells cells
 keeps registry uid cells = record { bound = λ bound. bound; agrees = λ bound agrees. agrees }
 
-pub unwoken : (registry : Registry) (call : Call) (files : FileAnswers) → Wakes registry call → LendsTo registry registry call files (Refused Memory) [] []
+pub unwoken : (registry : Registry) (call : Call) (files : FileAnswers) → Wakes registry call
+    → LendsTo registry registry call files (Refused Memory) [] []
 unwoken registry (RunPodSandbox uid) files wakes = record {
-  row = subst (λ (stage : Stage). RunsPod stage (IsFull (stages_in registry)) (part_in registry uid []) (Refused Memory) (part_in registry uid [])) (sym wakes.0)
+  row = subst (λ (stage : Stage). RunsPod stage (IsFull (stages_in registry)) (part_in registry uid [])
+      (Refused Memory) (part_in registry uid [])) (sym wakes.0)
       (inr (wakes.1, inl (refl, refl)));
   spares = spares registry uid [];
   keeps = keeps registry uid [];

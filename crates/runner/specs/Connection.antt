@@ -1,5 +1,5 @@
--- Serving a connection, this project's own: docs/SEMANTICS.md, "Serving a connection". What is said of bytes is
--- said of wires that tell them.
+-- Serving a connection, this project's own: docs/SEMANTICS.md, "Serving a connection". What is said of bytes
+-- is said of wires that tell them.
 use Rattle.std.specs.Prelude.{◌≡◌, ◌⊎◌, ℕ, List, [], ◌∷◌, ◌++◌, map, Option, Result}
 use Rattle.std.specs.List.{AllByRecursion, flat_map}
 use Rattle.std.specs.Io.KnownBytes.{Appends, Consumes, IsAtEnd}
@@ -48,19 +48,23 @@ pub record IsServed {S P H : Type 0} (Scripts : Reads S) (Profiles : Reads P) (m
   pub replied : may old.host request files reply new.host
 
 -- a frame gets its reply: its text is a request of its version, which is served, or is none
-abbrev pub Answers : {S P H : Type 0} → Reads S → Reads P → Replies H → Service S P H → Exchange → Service S P H → Type 0
+abbrev pub Answers : {S P H : Type 0} → Reads S → Reads P → Replies H → Service S P H → Exchange
+    → Service S P H → Type 0
 Answers Scripts Profiles may old e new =
-    ((request : Request) × ReadsRequest e.frame.0 e.frame.1 request × IsServed Scripts Profiles may old request e.reply new)
-    ⊎ (((request : Request) → ReadsRequest e.frame.0 e.frame.1 request → ⊥) × (e.reply ≡ refusal_of e.frame.1) × (new ≡ old))
+    ((request : Request) × ReadsRequest e.frame.0 e.frame.1 request
+    × IsServed Scripts Profiles may old request e.reply new)
+    ⊎ (((request : Request) → ReadsRequest e.frame.0 e.frame.1 request → ⊥) × (e.reply ≡ refusal_of e.frame.1)
+    × (new ≡ old))
 
 -- one exchange after the other
 abbrev pub Follow : {X : Type 0} → (X → Exchange → X → Type 0) → X → List Exchange → X → Type 0
 Follow One old [] new = new ≡ old
 Follow {X} One old (e ∷ es) new = (mid : X) × One old e mid × Follow One mid es new
 
--- The bytes that came are whole frames, and what is left behind them. Each frame got one reply, in order, and of
--- the replies' frames this is unwritten.
-pub record Talk {X : Type 0} (One : X → Exchange → X → Type 0) (old new : X) (came left unwritten : List ℕ) (output output' : Option (List ℕ)) : Type 0 where
+-- The bytes that came are whole frames, and what is left behind them. Each frame got one reply, in order, and
+-- of the replies' frames this is unwritten.
+pub record Talk {X : Type 0} (One : X → Exchange → X → Type 0) (old new : X) (came left unwritten : List ℕ)
+    (output output' : Option (List ℕ)) : Type 0 where
   pub exchanges : List Exchange
   pub each : AllByRecursion (λ (e : Exchange). IsFrame e.frame) exchanges
   pub frames : came ≡ stream_of (map (λ (e : Exchange). e.frame) exchanges) left
@@ -70,7 +74,8 @@ pub record Talk {X : Type 0} (One : X → Exchange → X → Type 0) (old new : 
   pub sent : Appends output output' written
 
 -- all that was read was answered but for a rest that begins no whole frame, and all replies were written
-pub record WholeTalk {X : Type 0} (One : X → Exchange → X → Type 0) (old new : X) (input input' output output' : Option (List ℕ)) (Leaves : List ℕ → Type 0) : Type 0 where
+pub record WholeTalk {X : Type 0} (One : X → Exchange → X → Type 0) (old new : X)
+    (input input' output output' : Option (List ℕ)) (Leaves : List ℕ → Type 0) : Type 0 where
   pub came : List ℕ
   pub left : List ℕ
   pub taken : Consumes input input' came
@@ -79,7 +84,8 @@ pub record WholeTalk {X : Type 0} (One : X → Exchange → X → Type 0) (old n
   pub talk : Talk One old new came left [] output output'
 
 -- some of what was read was answered, and a beginning of the replies was written
-pub record PartTalk {X : Type 0} (One : X → Exchange → X → Type 0) (old new : X) (input input' output output' : Option (List ℕ)) : Type 0 where
+pub record PartTalk {X : Type 0} (One : X → Exchange → X → Type 0) (old new : X)
+    (input input' output output' : Option (List ℕ)) : Type 0 where
   pub came : List ℕ
   pub left : List ℕ
   pub unwritten : List ℕ
@@ -87,8 +93,11 @@ pub record PartTalk {X : Type 0} (One : X → Exchange → X → Type 0) (old ne
   pub talk : Talk One old new came left unwritten output output'
 
 -- how a connection ends
-abbrev pub Ends : {X : Type 0} → (X → Exchange → X → Type 0) → X → X → Option (List ℕ) → Option (List ℕ) → Option (List ℕ) → Option (List ℕ) → Ending → Type 0
-Ends One old new input input' output output' Ended = IsAtEnd input' × WholeTalk One old new input input' output output' (λ left. IsBad left → ⊥)
-Ends One old new input input' output output' BadLength = WholeTalk One old new input input' output output' IsBad
+abbrev pub Ends : {X : Type 0} → (X → Exchange → X → Type 0) → X → X → Option (List ℕ) → Option (List ℕ)
+    → Option (List ℕ) → Option (List ℕ) → Ending → Type 0
+Ends One old new input input' output output' Ended = IsAtEnd input'
+    × WholeTalk One old new input input' output output' (λ left. IsBad left → ⊥)
+Ends One old new input input' output output' BadLength =
+    WholeTalk One old new input input' output output' IsBad
 Ends One old new input input' output output' Failed = PartTalk One old new input input' output output'
 Ends One old new input input' output output' Memory = PartTalk One old new input input' output output'

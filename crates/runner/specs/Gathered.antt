@@ -1,11 +1,15 @@
 -- What the reads of a request's files gave, this project's own: docs/SEMANTICS.md, "Serving a connection".
-use Rattle.std.specs.Prelude.{◌≡◌, ℕ, ◌<◌, ◌≤◌, ⊤, List, length, Option, Some, None, Result, Ok, Err, IsSomeAnd}
+use Rattle.std.specs.Prelude.{◌≡◌, ℕ, ◌<◌, ◌≤◌, ⊤, List, length, Option, Some, None, Result, Ok, Err}
+use Rattle.std.specs.Prelude.{IsSomeAnd}
 use Rattle.node_io.specs.declared.faults.FileFault.{FileFault}
 use Rattle.node_io.specs.declared.faults.FileFault.TheVariants.{NotFound, TooLarge, Failed, Memory}
 use Rattle.node_io.specs.Counts.{HasRisen}
 use Rattle.node_io.specs.Held.{Held, Tells}
 use Rattle.cri_msgs.specs.declared.calls.Call.{Call}
-use Rattle.cri_msgs.specs.declared.calls.Call.TheVariants.{RunPodSandbox, StopPodSandbox, RemovePodSandbox, CreateContainer, StartContainer, StopContainer, RemoveContainer, ContainerStatus, ListContainers, ContainerStatuses}
+use Rattle.cri_msgs.specs.declared.calls.Call.TheVariants.{RunPodSandbox, StopPodSandbox, RemovePodSandbox}
+use Rattle.cri_msgs.specs.declared.calls.Call.TheVariants.{CreateContainer, StartContainer, StopContainer}
+use Rattle.cri_msgs.specs.declared.calls.Call.TheVariants.{RemoveContainer, ContainerStatus, ListContainers}
+use Rattle.cri_msgs.specs.declared.calls.Call.TheVariants.{ContainerStatuses}
 use Rattle.creation.specs.Files.{path_of}
 use Rattle.node_io.specs.declared.files.TheConstants.{MAX_FILE_BYTES}
 
@@ -35,17 +39,22 @@ profile_path (ContainerStatus key) = None
 profile_path (ListContainers uid) = None
 profile_path (ContainerStatuses uid) = None
 
--- what is told of the file with a path: the bytes that are held there, or why there are none; a failure only where the device's count rose
+-- what is told of the file with a path: the bytes that are held there, or why there are none; a failure only
+-- where the device's count rose
 abbrev pub IsTold : Option Held → Type 0 → List ℕ → Result (List ℕ) FileFault → Type 0
-IsTold held rose path (Ok bytes) = Tells held path (λ found. found ≡ Some bytes) × (length bytes ≤ MAX_FILE_BYTES)
+IsTold held rose path (Ok bytes) = Tells held path (λ found. found ≡ Some bytes)
+    × (length bytes ≤ MAX_FILE_BYTES)
 IsTold held rose path (Err NotFound) = Tells held path (λ found. found ≡ None)
-IsTold held rose path (Err TooLarge) = Tells held path (λ found. IsSomeAnd found (λ bytes. MAX_FILE_BYTES < length bytes))
+IsTold held rose path (Err TooLarge) = Tells held path (λ found.
+    IsSomeAnd found (λ bytes. MAX_FILE_BYTES < length bytes))
 IsTold held rose path (Err Failed) = rose
 IsTold held rose path (Err Memory) = ⊤
 
 -- what files gave for a path that is needed, and how they are left; where none is needed they were not asked
-abbrev pub Gave : {F : Type 0} → (F → Option Held) → (F → ℕ) → F → Option (List ℕ) → Option (Result (List ℕ) FileFault) → F → Type 0
+abbrev pub Gave : {F : Type 0} → (F → Option Held) → (F → ℕ) → F → Option (List ℕ)
+    → Option (Result (List ℕ) FileFault) → F → Type 0
 Gave held failed old None told new = (told ≡ None) × (new ≡ old)
 Gave held failed old (Some path) None new = ⊥
 Gave held failed old (Some path) (Some told) new =
-    IsTold (held old) (HasRisen (failed old) (failed new)) path told × (held new ≡ held old) × (failed old ≤ failed new)
+    IsTold (held old) (HasRisen (failed old) (failed new)) path told × (held new ≡ held old)
+    × (failed old ≤ failed new)

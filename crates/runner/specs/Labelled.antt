@@ -1,5 +1,6 @@
 -- Values under the texts that they name themselves, and turns of a round, which private functions cite.
-use Rattle.std.specs.Prelude.{◌≡◌, ◌==◌, ◌%◌, ◌<◌, ◌≤◌, ℕ, Bool, if◌then◌else◌, IsSome, List, map, Option, None, Some}
+use Rattle.std.specs.Prelude.{◌≡◌, ◌==◌, ◌%◌, ◌<◌, ◌≤◌, ℕ, Bool, if◌then◌else◌, IsSome, List, map, Option}
+use Rattle.std.specs.Prelude.{None, Some}
 use Rattle.std.specs.Arc.{arc_value}
 use Rattle.std.specs.declared.sync.Arc.{Arc}
 use Rattle.std.specs.Global.{Global}
@@ -9,7 +10,8 @@ use Rattle.runner.specs.declared.lists.SandboxCells.{SandboxCells}
 
 -- each value is found under its own label
 abbrev pub AreLabelled : {X : Type 0} → (X → List ℕ) → List (List ℕ × X) → Type 0
-AreLabelled {X} label entries = (text : List ℕ) (x : X) → lookup (bytes_eq text) entries ≡ Some x → label x ≡ text
+AreLabelled {X} label entries = (text : List ℕ) (x : X) → lookup (bytes_eq text) entries ≡ Some x
+    → label x ≡ text
 
 -- the ids of cells, with the uids of the sandboxes that they are in
 abbrev pub homes_of : List (ℕ × Arc SandboxCells Global) → List (ℕ × List ℕ)

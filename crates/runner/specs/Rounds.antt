@@ -1,5 +1,6 @@
 -- A round of one runner, this project's own: docs/SEMANTICS.md, "Threads".
-use Rattle.std.specs.Prelude.{◌≡◌, ◌||◌, ⊤, ℕ, Bool, true, false, List, [], ◌∷◌, Option, Some, None, IsSome, option_map}
+use Rattle.std.specs.Prelude.{◌≡◌, ◌||◌, ⊤, ℕ, Bool, true, false, List, [], ◌∷◌, Option, Some, None, IsSome}
+use Rattle.std.specs.Prelude.{option_map}
 use Rattle.runtime_cell.specs.declared.cell.Did.{Did}
 use Rattle.runtime_cell.specs.declared.cell.Did.TheVariants.{Idle, Performed, Denied, Ended}
 use Rattle.runtime_cell.specs.Cell.{Cell}
@@ -20,8 +21,8 @@ moves_on (Some Performed) = true
 moves_on (Some (Denied verdict)) = true
 moves_on (Some (Ended code)) = true
 
--- Of the cells of a sandbox, under their lock, the one with the id does one step. Nothing comes of it where the cell is gone,
--- or where its sandbox could not be held on to.
+-- Of the cells of a sandbox, under their lock, the one with the id does one step. Nothing comes of it where
+-- the cell is gone, or where its sandbox could not be held on to.
 abbrev pub StepsAt : ℕ → Option Did → Type 0
 StepsAt id None = ⊤
 StepsAt id (Some did) = (cells : List Cell) × (cells' : List Cell) × MayStepIn cells id (Some did) cells'
@@ -34,11 +35,13 @@ WasStepped (Some visit) = (did : Option Did) × StepsAt visit.id did × (visit.w
 abbrev pub id_in : Option Visit → Option ℕ
 id_in visit = option_map (λ (v : Visit). v.id) visit
 
--- The least id of the share above the one that was asked for came, and its cell did one step; or there was none. What
--- was at home where is what the registry's lock found: what other threads do between two locks is not known.
+-- The least id of the share above the one that was asked for came, and its cell did one step; or there was
+-- none. What was at home where is what the registry's lock found: what other threads do between two locks is
+-- not known.
 abbrev pub MayVisit : ℕ → ℕ → Asked → Type 0
 MayVisit runner runners asked =
-    ((homes : List (ℕ × List ℕ)) × IsNextIn (of_share runner runners (home_in homes)) asked.above (id_in asked.visit))
+    ((homes : List (ℕ × List ℕ)) × IsNextIn (of_share runner runners (home_in homes)) asked.above
+    (id_in asked.visit))
     × WasStepped asked.visit
 
 -- of what was asked, the latest first: the id of the last visit, 0 for none
@@ -63,7 +66,8 @@ went_on (asked ∷ earlier) = went_on earlier || went asked.visit
 abbrev pub AreVisits : ℕ → ℕ → List Asked → Type 0
 AreVisits runner runners [] = ⊤
 AreVisits runner runners (asked ∷ earlier) =
-    IsSome asked.visit × (asked.above ≡ last_of earlier) × MayVisit runner runners asked × AreVisits runner runners earlier
+    IsSome asked.visit × (asked.above ≡ last_of earlier) × MayVisit runner runners asked
+    × AreVisits runner runners earlier
 
 -- a round asks for visits until there is none above the last one
 pub record IsRound (runner runners : ℕ) (asked : List Asked) (told : Bool) : Type 0 where

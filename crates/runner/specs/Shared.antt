@@ -13,9 +13,10 @@ use Rattle.registry.specs.Serves.{IsFull}
 use Rattle.registry.specs.Stands.{AreBound, stages_in}
 use Rattle.runtime_core.specs.Stands.{LendsTo}
 
--- One event on a node with this filter of its own: a registry and a list of cells were held while the request was
--- served. What other threads did before, and will do, is not known.
-pub record MayServe (baseline : Option (List Insn)) (request : Request) (files : FileAnswers) (reply : Reply) : Type 0 where
+-- One event on a node with this filter of its own: a registry and a list of cells were held while the request
+-- was served. What other threads did before, and will do, is not known.
+pub record MayServe (baseline : Option (List Insn)) (request : Request) (files : FileAnswers)
+    (reply : Reply) : Type 0 where
   pub registry : Registry
   pub own : registry.baseline ≡ baseline
   pub registry' : Registry

@@ -19,7 +19,8 @@ pub record SendsPart (bytes : List ℕ) (output output' : Option (List ℕ)) : T
   pub sent : Appends output output' written
 
 -- some of the bytes that came were answered, and a beginning of the replies was written
-pub record CutsTalk {X : Type 0} (One : X → Exchange → X → Type 0) (old new : X) (came : List ℕ) (output output' : Option (List ℕ)) : Type 0 where
+pub record CutsTalk {X : Type 0} (One : X → Exchange → X → Type 0) (old new : X) (came : List ℕ)
+    (output output' : Option (List ℕ)) : Type 0 where
   pub left : List ℕ
   pub unwritten : List ℕ
   pub talk : Talk One old new came left unwritten output output'

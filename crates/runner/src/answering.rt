@@ -26,11 +26,14 @@ pub(crate) fn answer<W: Wire, S: Files, P: Files, H: Host>(
     text: &[u8],
 ) -> Result<(), ServeFault>
     requires { IsLength (length text.now) }
-    ensures ok { OnOk result (Talk (Answers (Gave S.held S.failed) (Gave P.held P.failed) H.may) service.old service.new
+    ensures ok { OnOk result (Talk (Answers (Gave S.held S.failed) (Gave P.held P.failed) H.may) service.old
+        service.new
         (frame_of version text.now) [] [] (W.output wire.old) (W.output wire.new)) }
-    ensures cut { OnErr result (CutsTalk (Answers (Gave S.held S.failed) (Gave P.held P.failed) H.may) service.old service.new
+    ensures cut { OnErr result (CutsTalk (Answers (Gave S.held S.failed) (Gave P.held P.failed) H.may)
+        service.old service.new
         (frame_of version text.now) (W.output wire.old) (W.output wire.new)) }
-    ensures failed { IfErr result (λ cut. cut ≡ ServeFault.Failed → HasRisen (W.failed wire.old) (W.failed wire.new)) }
+    ensures failed { IfErr result (λ cut. cut ≡ ServeFault.Failed
+        → HasRisen (W.failed wire.old) (W.failed wire.new)) }
     ensures counted { W.failed wire.old ≤ W.failed wire.new }
     ensures input { Keeps (W.input wire.old) (W.input wire.new) }
 {
@@ -45,7 +48,8 @@ fn reply_in_turn<S: Files, P: Files, H: Host>(
     version: Version,
     text: &[u8],
 ) -> Result<Reply, AllocError>
-    ensures reply { IfOk result (λ reply. Answers (Gave S.held S.failed) (Gave P.held P.failed) H.may service.old
+    ensures reply { IfOk result (λ reply. Answers (Gave S.held S.failed)
+        (Gave P.held P.failed) H.may service.old
         (record { frame = (version, text.now); reply = reply }) service.new) }
     ensures err { OnErr result (service.new ≡ service.old) }
 {
@@ -62,7 +66,8 @@ fn reply_to<S: Files, P: Files, H: Host>(
     version: Version,
     text: &[u8],
 ) -> Result<Reply, AllocError>
-    ensures reply { IfOk result (λ reply. Answers (Gave S.held S.failed) (Gave P.held P.failed) H.may service.old
+    ensures reply { IfOk result (λ reply. Answers (Gave S.held S.failed)
+        (Gave P.held P.failed) H.may service.old
         (record { frame = (version, text.now); reply = reply }) service.new) }
     ensures err { OnErr result (service.new ≡ service.old) }
 {
@@ -78,7 +83,8 @@ fn reply_to<S: Files, P: Files, H: Host>(
 
 // Reads the files of a request, then serves it.
 fn serve<S: Files, P: Files, H: Host>(service: &mut Service<S, P, H>, request: Request) -> Reply
-    ensures { IsServed (Gave S.held S.failed) (Gave P.held P.failed) H.may service.old request result service.new }
+    ensures { IsServed (Gave S.held S.failed) (Gave P.held P.failed) H.may service.old request result
+        service.new }
 {
     let files = gather(&mut service.scripts, &mut service.profiles, &request);
     service.host.serve(request, files)
@@ -91,9 +97,12 @@ fn send<W: Wire>(
     version: Version,
     reply: &Reply,
 ) -> Result<(), ServeFault>
-    ensures ok { OnOk result (Appends (W.output wire.old) (W.output wire.new) (frame_of version (reply_text version reply.now))) }
-    ensures cut { OnErr result (SendsPart (frame_of version (reply_text version reply.now)) (W.output wire.old) (W.output wire.new)) }
-    ensures failed { IfErr result (λ cut. cut ≡ ServeFault.Failed → HasRisen (W.failed wire.old) (W.failed wire.new)) }
+    ensures ok { OnOk result (Appends (W.output wire.old) (W.output wire.new)
+        (frame_of version (reply_text version reply.now))) }
+    ensures cut { OnErr result (SendsPart (frame_of version (reply_text version reply.now))
+        (W.output wire.old) (W.output wire.new)) }
+    ensures failed { IfErr result (λ cut. cut ≡ ServeFault.Failed
+        → HasRisen (W.failed wire.old) (W.failed wire.new)) }
     ensures counted { W.failed wire.old ≤ W.failed wire.new }
     ensures input { Keeps (W.input wire.old) (W.input wire.new) }
 {

@@ -20,9 +20,9 @@ use std::alloc::Global;
 // How many bytes are read at once.
 const PIECE: usize = 4096;
 
-/// Serves one connection to its end. Each frame that comes, in order, is answered with one frame of its version:
-/// the reply of the host to the frame's request and what its files gave, or the refusal InvalidArgument of a text
-/// that is no request. The files are read before the host is asked.
+/// Serves one connection to its end. Each frame that comes, in order, is answered with one frame of its
+/// version: the reply of the host to the frame's request and what its files gave, or the refusal
+/// InvalidArgument of a text that is no request. The files are read before the host is asked.
 pub fn serve_wire<W: Wire, S: Files, P: Files, H: Host>(
     alloc: Global,
     wire: &mut W,
@@ -48,12 +48,15 @@ fn serve_all<W: Wire, S: Files, P: Files, H: Host>(
     wire: &mut W,
     service: &mut Service<S, P, H>,
 ) -> Result<Ending, ServeFault>
-    ensures ending { IfOk result (Ends (Answers (Gave S.held S.failed) (Gave P.held P.failed) H.may) service.old service.new
+    ensures ending { IfOk result (Ends (Answers (Gave S.held S.failed) (Gave P.held P.failed) H.may)
+        service.old service.new
         (W.input wire.old) (W.input wire.new) (W.output wire.old) (W.output wire.new)) }
     ensures good { IfOk result (λ ending. ending ≡ Ending.Failed → ⊥) }
-    ensures cut { OnErr result (PartTalk (Answers (Gave S.held S.failed) (Gave P.held P.failed) H.may) service.old service.new
+    ensures cut { OnErr result (PartTalk (Answers (Gave S.held S.failed) (Gave P.held P.failed) H.may)
+        service.old service.new
         (W.input wire.old) (W.input wire.new) (W.output wire.old) (W.output wire.new)) }
-    ensures failed { IfErr result (λ cut. cut ≡ ServeFault.Failed → HasRisen (W.failed wire.old) (W.failed wire.new)) }
+    ensures failed { IfErr result (λ cut. cut ≡ ServeFault.Failed
+        → HasRisen (W.failed wire.old) (W.failed wire.new)) }
     ensures counted { W.failed wire.old ≤ W.failed wire.new }
 {
     let mut feed = Feed::new(alloc);
@@ -75,7 +78,8 @@ fn read_piece<W: Wire>(wire: &mut W, feed: &mut Feed) -> Result<usize, ServeFaul
     requires { HasBadRest feed.old → ⊥ }
     ensures ok { IfOk result (ReadsPiece (W.input wire.old) (W.input wire.new) feed.old feed.new) }
     ensures cut { OnErr result ((more : List ℕ) × Consumes (W.input wire.old) (W.input wire.new) more) }
-    ensures failed { IfErr result (λ cut. cut ≡ ServeFault.Failed → HasRisen (W.failed wire.old) (W.failed wire.new)) }
+    ensures failed { IfErr result (λ cut. cut ≡ ServeFault.Failed
+        → HasRisen (W.failed wire.old) (W.failed wire.new)) }
     ensures counted { W.failed wire.old ≤ W.failed wire.new }
     ensures output { Keeps (W.output wire.old) (W.output wire.new) }
 {
@@ -96,12 +100,15 @@ fn answer_whole<W: Wire, S: Files, P: Files, H: Host>(
     service: &mut Service<S, P, H>,
     feed: &mut Feed,
 ) -> Result<(), ServeFault>
-    ensures ok { OnOk result (Talk (Answers (Gave S.held S.failed) (Gave P.held P.failed) H.may) service.old service.new
+    ensures ok { OnOk result (Talk (Answers (Gave S.held S.failed) (Gave P.held P.failed) H.may) service.old
+        service.new
         feed.old feed.new [] (W.output wire.old) (W.output wire.new)) }
     ensures begins_none { OnOk result (BeginsNone feed.new) }
-    ensures cut { OnErr result (CutsTalk (Answers (Gave S.held S.failed) (Gave P.held P.failed) H.may) service.old service.new
+    ensures cut { OnErr result (CutsTalk (Answers (Gave S.held S.failed) (Gave P.held P.failed) H.may)
+        service.old service.new
         feed.old (W.output wire.old) (W.output wire.new)) }
-    ensures failed { IfErr result (λ cut. cut ≡ ServeFault.Failed → HasRisen (W.failed wire.old) (W.failed wire.new)) }
+    ensures failed { IfErr result (λ cut. cut ≡ ServeFault.Failed
+        → HasRisen (W.failed wire.old) (W.failed wire.new)) }
     ensures counted { W.failed wire.old ≤ W.failed wire.new }
     ensures input { Keeps (W.input wire.old) (W.input wire.new) }
 {

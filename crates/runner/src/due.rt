@@ -11,8 +11,8 @@ use std::marker::Model;
 use std::ops::Bound;
 use std::sync::Arc;
 
-/// The cells that were started and that no visit found at their end, by their ids, each with where it is. Contracts
-/// see the ids with the uids, and whether one is not kept.
+/// The cells that were started and that no visit found at their end, by their ids, each with where it is.
+/// Contracts see the ids with the uids, and whether one is not kept.
 #[derive(Drop)]
 pub(crate) struct Due {
     cells: BTreeMap<u64, Arc<SandboxCells, Global>>,

@@ -17,7 +17,8 @@ pub fn gather<S: Files, P: Files>(
     request: &Request,
 ) -> FileAnswers
     ensures script { Gave S.held S.failed scripts.old (script_path request.now.call) result.script scripts.new }
-    ensures profile { Gave P.held P.failed profiles.old (profile_path request.now.call) result.profile profiles.new }
+    ensures profile { Gave P.held P.failed profiles.old (profile_path request.now.call) result.profile
+        profiles.new }
 {
     match &request.call {
         Call::CreateContainer { image, profile, .. } => FileAnswers {
@@ -46,7 +47,8 @@ fn own_profile<P: Files>(
 
 // What the read of a file gave.
 fn contents<F: Files>(files: &mut F, path: &str) -> Result<Contents, FileFault>
-    ensures told { IsTold (F.held files.old) (HasRisen (F.failed files.old) (F.failed files.new)) path.now result }
+    ensures told { IsTold (F.held files.old) (HasRisen (F.failed files.old) (F.failed files.new)) path.now
+        result }
     ensures held { F.held files.new ≡ F.held files.old }
     ensures counted { F.failed files.old ≤ F.failed files.new }
 {

@@ -12,8 +12,8 @@ use std::collections::BTreeMap;
 use std::marker::Model;
 use std::sync::{Arc, Mutex};
 
-/// The cells of a sandbox behind their lock. A thread may have it still when the sandbox is removed: it finds no
-/// cell then.
+/// The cells of a sandbox behind their lock. A thread may have it still when the sandbox is removed: it finds
+/// no cell then.
 #[derive(Drop)]
 pub(crate) struct SandboxCells {
     pub(crate) uid: Uid,
@@ -38,7 +38,8 @@ impl Model for CellLists {
 
     ghost view = { λ l. length l.map.entries };
 
-    ghost invariant = { λ l. AreLabelled (λ list. (arc_value {X = SandboxCells} list).uid) (by_bytes l.map.entries) };
+    ghost invariant = { λ l. AreLabelled (λ list. (arc_value {X = SandboxCells} list).uid)
+        (by_bytes l.map.entries) };
 }
 
 impl CellLists {
@@ -89,7 +90,8 @@ fn put_in(
 ) -> Result<Arc<SandboxCells, Global>, AllocError>
     requires { AreLabelled (λ list. (arc_value {X = SandboxCells} list).uid) (by_bytes map.old.entries) }
     ensures own { IfOk result (λ list. (arc_value list).uid ≡ uid.now) }
-    ensures labelled { AreLabelled (λ list. (arc_value {X = SandboxCells} list).uid) (by_bytes map.new.entries) }
+    ensures labelled { AreLabelled (λ list. (arc_value {X = SandboxCells} list).uid)
+        (by_bytes map.new.entries) }
 {
     let list = new_list(alloc, uid)?;
     let kept = Arc::try_clone(&list)?;
@@ -112,7 +114,8 @@ fn take_in(
 ) -> Option<Arc<SandboxCells, Global>>
     requires { AreLabelled (λ list. (arc_value {X = SandboxCells} list).uid) (by_bytes map.old.entries) }
     ensures own { IfSome result (λ list. (arc_value list).uid ≡ uid.now) }
-    ensures labelled { AreLabelled (λ list. (arc_value {X = SandboxCells} list).uid) (by_bytes map.new.entries) }
+    ensures labelled { AreLabelled (λ list. (arc_value {X = SandboxCells} list).uid)
+        (by_bytes map.new.entries) }
 {
     map.remove(uid)
 }

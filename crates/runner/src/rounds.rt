@@ -54,7 +54,8 @@ pub(crate) trait Visits {
         ensures may { MayVisit (runner self.old) (runners self.old) (record { above = above; visit = result }) }
         ensures runner { runner self.new ≡ runner self.old }
         ensures runners { runners self.new ≡ runners self.old }
-        ensures asked { asked self.new ≡ option_map (λ before. record { above = above; visit = result } ∷ before) (asked self.old) };
+        ensures asked { asked self.new ≡ option_map (λ before. record { above = above; visit = result }
+            ∷ before) (asked self.old) };
 }
 
 // A round: each visit is asked for above the id of the one before, until there is none. It tells whether a
@@ -113,7 +114,8 @@ impl<B: Baseline> SharedRuntime<B> {
         over: Option<u64>,
     ) -> Option<NextCell>
         requires { runner < runners }
-        ensures { (homes : List (ℕ × List ℕ)) × IsNextIn (of_share runner runners (home_in homes)) above (option_map (λ next. next.id) result) }
+        ensures { (homes : List (ℕ × List ℕ))
+            × IsNextIn (of_share runner runners (home_in homes)) above (option_map (λ next. next.id) result) }
     {
         let mut sandboxes = self.sandboxes.lock(rt);
         if let Some(id) = over {
@@ -165,7 +167,8 @@ impl<B: Baseline> Sandboxes<B> {
     #[tactic(auto, using(crate::proofs::Shares::next_is_own, crate::proofs::Shares::next_is_none, crate::proofs::Shares::next_is_passed))]
     fn next_cell(&self, above: u64, runner: u64, runners: u64) -> Option<NextCell>
         requires { runner < runners }
-        ensures { IsNextIn (of_share runner runners (home_in (visited self.now.registry.homes self.now.due))) above (option_map (λ next. next.id) result) }
+        ensures { IsNextIn (of_share runner runners (home_in (visited self.now.registry.homes self.now.due)))
+            above (option_map (λ next. next.id) result) }
     {
         let mut last = above;
         while let Some(id) = self.next_id(last) {

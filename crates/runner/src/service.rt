@@ -15,8 +15,8 @@ pub trait Host {
     fn serve(&mut self, request: Request, files: FileAnswers) -> Reply
         ensures { may self.old request files result self.new };
 
-    /// A text of so many bytes is about to be read and answered. Its tree may take many times the memory of the
-    /// text, so a host may have it wait until others are answered.
+    /// A text of so many bytes is about to be read and answered. Its tree may take many times the memory of
+    /// the text, so a host may have it wait until others are answered.
     fn begin_reading(&self, _length: usize) {}
 
     /// A text of so many bytes was read and answered.
@@ -39,7 +39,8 @@ impl Host for Runtime {
     ghost use Rattle.registry.specs.Serves.{Serves};
     ghost use Rattle.runtime_core.specs.Stands.{stands_for};
 
-    ghost may = { λ old request files reply new. (reply.id ≡ request.id) × Serves (stands_for old) request.call files reply.answer (stands_for new) };
+    ghost may = { λ old request files reply new. (reply.id ≡ request.id)
+        × Serves (stands_for old) request.call files reply.answer (stands_for new) };
 
     fn serve(&mut self, request: Request, files: FileAnswers) -> Reply {
         Runtime::serve(self, request, files)

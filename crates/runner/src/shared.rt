@@ -60,7 +60,8 @@ impl<B: Baseline> Sandboxes<B> {
 
     // The cells of a sandbox that is there, to be held beyond the registry's lock.
     fn there(&self, uid: &Uid) -> Option<Arc<SandboxCells, Global>>
-        ensures { IfSome result (λ _. (registry : Registry) × AreBound registry × (registry.baseline ≡ B.filter) × (ready : Bool) × (stages_in registry uid.now ≡ Live ready)) }
+        ensures { IfSome result (λ _. (registry : Registry) × AreBound registry
+            × (registry.baseline ≡ B.filter) × (ready : Bool) × (stages_in registry uid.now ≡ Live ready)) }
     {
         match self.registry.stage(uid.as_str()) {
             Stage::Live { .. } => Arc::try_clone(self.lists.get(uid.as_str())?).ok(),
@@ -129,8 +130,8 @@ impl<B: Baseline> SharedRuntime<B> {
         }
         let sandboxes = self.sandboxes.lock(rt);
         let list = sandboxes.there(uid_of(&request.call))?;
-        // Whoever waits for these cells holds up no other sandbox. A sandbox that is removed meanwhile has none,
-        // which is what is told of it then.
+        // Whoever waits for these cells holds up no other sandbox. A sandbox that is removed meanwhile has
+        // none, which is what is told of it then.
         drop(sandboxes);
         let cells = list.cells.lock(rt);
         let answer = tell_cells(self.alloc, &request.call, &cells)?;
@@ -203,8 +204,8 @@ fn serve<R: Wait>(
     }
 }
 
-// A cell that is started is kept among those that rounds visit. Only where the start is done: a cell that is to be
-// visited and does nothing has come to its end then.
+// A cell that is started is kept among those that rounds visit. Only where the start is done: a cell that is
+// to be visited and does nothing has come to its end then.
 fn serve_there<R: Wait>(
     rt: &R,
     registry: &mut Registry,

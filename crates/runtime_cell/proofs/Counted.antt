@@ -7,7 +7,8 @@ one : (b : Bool) → cond b 1 0 + cond (not b) 1 0 ≡ 1
 one true = refl
 one false = refl
 
-pub all_counted : {X : Type 0} (p : X → Bool) (xs : List X) → count_by p xs + count_by (λ x. not (p x)) xs ≡ length xs
+pub all_counted : {X : Type 0} (p : X → Bool) (xs : List X) → count_by p xs + count_by (λ x. not (p x)) xs
+    ≡ length xs
 all_counted p [] = refl
 all_counted p (x ∷ xs) =
     let here = one (p x) in

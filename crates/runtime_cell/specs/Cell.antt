@@ -1,6 +1,7 @@
 -- The cell of a container, this project's own: what it was made from, its state, its record, and the
 -- filters that its script added. docs/SEMANTICS.md, "Playing a script".
-use Rattle.std.specs.Prelude.{◌≡◌, ℕ, List, [], ◌∷◌, ◌++◌, length, drop, slice_get, Option, Some, None, Bool, true, false}
+use Rattle.std.specs.Prelude.{◌≡◌, ℕ, List, [], ◌∷◌, ◌++◌, length, drop, slice_get, Option, Some, None, Bool}
+use Rattle.std.specs.Prelude.{true, false}
 use Rattle.bpf_code.specs.declared.insn.Insn.{Insn}
 use Rattle.bpf_machine.specs.Runs.{Runs}
 use Rattle.call_data.specs.CallData.{IsCall}
@@ -42,7 +43,13 @@ abbrev pub nameless : ℕ → Label
 nameless attempt = record { id = 0; name = []; attempt = attempt; image = []; path = None }
 
 abbrev pub alone : List Step → List (List Insn) → ℕ → Making
-alone script stack attempt = record { label = nameless attempt; script = script; stack = stack; profile = None }
+alone script stack attempt = record {
+  label = nameless attempt;
+  script = script;
+  stack = stack;
+  profile =
+      None;
+}
 
 -- the filters by which its calls are judged
 abbrev pub filters_of : Cell → List (List Insn)
@@ -54,9 +61,26 @@ step_in c = slice_get c.making.script (length c.entries)
 
 -- once the step is done
 abbrev pub after : Cell → Next → Cell
-after c (Goes entry more) = record { making = c.making; state = Running; entries = c.entries ++ entry ∷ []; added = c.added ++ more }
-after c (Stops entry code) = record { making = c.making; state = Exited code false; entries = c.entries ++ entry ∷ []; added = c.added }
-after c (Over code) = record { making = c.making; state = Exited code false; entries = c.entries; added = c.added }
+after c (Goes entry more) = record {
+  making = c.making;
+  state = Running;
+  entries = c.entries ++ entry ∷ [];
+  added = c.added ++ more;
+}
+after c (Stops entry code) = record {
+  making = c.making;
+  state = Exited code false;
+  entries =
+      c.entries ++ entry ∷ [];
+  added = c.added;
+}
+after c (Over code) = record {
+  making = c.making;
+  state = Exited code false;
+  entries = c.entries;
+  added =
+      c.added;
+}
 
 abbrev pub told_of_entry : JudgedCall → Bool → Did
 told_of_entry entry true = Performed
@@ -69,7 +93,9 @@ told_of (Stops entry code) = Ended code
 told_of (Over code) = Ended code
 
 abbrev pub StepsIn : State → Cell → Did → Cell → Type 0
-StepsIn Running old did new = (next : Next) × IsNext (filters_of old) old.making.label.attempt (step_in old) next × (did ≡ told_of next) × (new ≡ after old next)
+StepsIn Running old did new = (next : Next)
+    × IsNext (filters_of old) old.making.label.attempt (step_in old) next × (did ≡ told_of next)
+    × (new ≡ after old next)
 StepsIn Created old did new = (did ≡ Idle) × (new ≡ old)
 StepsIn (Exited code killed) old did new = (did ≡ Idle) × (new ≡ old)
 
@@ -103,12 +129,14 @@ exit_of _ = None
 
 -- the filter gives at every call what the profile says
 abbrev pub GivesMeaning : List Insn → Profile → Type 0
-GivesMeaning code profile = (call : SysCall) → IsCall call → (steps : ℕ) × Runs code call (meaning profile call) steps
+GivesMeaning code profile = (call : SysCall) → IsCall call → (steps : ℕ)
+    × Runs code call (meaning profile call) steps
 
 -- the newest filter of the stack is that of the profile, if there is one
 abbrev pub Confines : List (List Insn) → Option Profile → Type 0
 Confines stack None = Unit {0}
-Confines stack (Some profile) = (older : List (List Insn)) × (code : List Insn) × (stack ≡ older ++ code ∷ []) × GivesMeaning code profile
+Confines stack (Some profile) = (older : List (List Insn)) × (code : List Insn) × (stack ≡ older ++ code ∷ [])
+    × GivesMeaning code profile
 
 -- what a cell may be made from
 pub record IsWellMade (making : Making) : Type 0 where
@@ -121,7 +149,8 @@ abbrev pub IsWhole : Cell → Outcome → Type 0
 IsWhole c outcome = IsOutcome c.making.stack c.making.label.attempt c.making.script [] outcome
 
 abbrev pub IsRest : Cell → Outcome → Type 0
-IsRest c outcome = IsOutcome c.making.stack c.making.label.attempt (drop (length c.entries) c.making.script) c.added outcome
+IsRest c outcome = IsOutcome c.making.stack c.making.label.attempt (drop (length c.entries) c.making.script)
+    c.added outcome
 
 -- what came so far, and what is to come with the filters that were added, are the script's outcome
 abbrev pub GoesOn : Cell → Type 0

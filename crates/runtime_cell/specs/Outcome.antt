@@ -1,6 +1,7 @@
 -- What comes of a script under a stack of filters, to which it may add filters of its own. What a verdict
 -- does to a call is seccomp(2)'s; scripts are this project's own: docs/SEMANTICS.md, "Playing a script".
-use Rattle.std.specs.Prelude.{◌≡◌, ℕ, ◌+◌, ◌-◌, ◌==◌, min, nat_le, if◌then◌else◌, Bool, true, false, List, [], ◌∷◌, ◌++◌, length, slice_index, Option, Some, None}
+use Rattle.std.specs.Prelude.{◌≡◌, ℕ, ◌+◌, ◌-◌, ◌==◌, min, nat_le, if◌then◌else◌, Bool, true, false, List, []}
+use Rattle.std.specs.Prelude.{◌∷◌, ◌++◌, length, slice_index, Option, Some, None}
 use Rattle.action.specs.declared.action.Action.{Action}
 use Rattle.action.specs.declared.action.Action.TheVariants.{KillProcess, KillThread, Trap}
 use Rattle.action.specs.declared.verdict.Verdict.{Verdict}
@@ -40,7 +41,13 @@ code_at codes attempt = slice_index codes (min attempt (length codes - 1))
 
 -- the call that installs a filter: seccomp(SECCOMP_SET_MODE_FILTER, 0, ..), by which address is left open
 abbrev pub install_call : SysCall
-install_call = record { nr = SECCOMP; arch = NATIVE_ARCH; ip = 0; args = SET_MODE_FILTER ∷ 0 ∷ 0 ∷ 0 ∷ 0 ∷ 0 ∷ [] }
+install_call = record {
+  nr = SECCOMP;
+  arch = NATIVE_ARCH;
+  ip = 0;
+  args =
+      SET_MODE_FILTER ∷ 0 ∷ 0 ∷ 0 ∷ 0 ∷ 0 ∷ [];
+}
 
 -- what a step does: a call is judged, filters are added, and the script goes on; or it ends with a code
 pub data Next : Type 0 where
@@ -68,12 +75,14 @@ installed filter entry end on_error false place = judged entry end
 abbrev pub IsNext : List (List Insn) → ℕ → Option Step → Next → Type 0
 IsNext stack attempt None next = next ≡ Over 0
 IsNext stack attempt (Some (Call call on_error)) next =
-    (verdict : Verdict) × IsJudged stack call verdict × (next ≡ judged (entry_of call verdict) (end_of verdict on_error))
+    (verdict : Verdict) × IsJudged stack call verdict
+    × (next ≡ judged (entry_of call verdict) (end_of verdict on_error))
 IsNext stack attempt (Some (Exit code)) next = next ≡ Over code
 IsNext stack attempt (Some (ExitByAttempt codes)) next = next ≡ Over (code_at codes attempt)
 IsNext stack attempt (Some (Install filter on_error)) next =
     (verdict : Verdict) × IsJudged stack install_call verdict
-    × (next ≡ installed filter (entry_of install_call verdict) (end_of verdict on_error) on_error (performs_of verdict.action) (has_place stack filter))
+    × (next ≡ installed filter (entry_of install_call verdict) (end_of verdict on_error) on_error
+    (performs_of verdict.action) (has_place stack filter))
 
 -- every judged call, in order; the filters that the script adds; and the code with which it ends
 pub record Outcome : Type 0 where
@@ -87,8 +96,10 @@ joined entries rest = record { entries = entries ++ rest.entries; added = rest.a
 
 -- the outcome of a step, and of those that come after it with the filters that were added by then
 abbrev pub ComesBy : Next → List (List Insn) → (List (List Insn) → Outcome → Type 0) → Outcome → Type 0
-ComesBy (Goes entry more) added After outcome = (rest : Outcome) × After (added ++ more) rest × (outcome ≡ joined (entry ∷ []) rest)
-ComesBy (Stops entry code) added After outcome = outcome ≡ record { entries = entry ∷ []; added = added; code = code }
+ComesBy (Goes entry more) added After outcome = (rest : Outcome) × After (added ++ more) rest
+    × (outcome ≡ joined (entry ∷ []) rest)
+ComesBy (Stops entry code) added After outcome =
+    outcome ≡ record { entries = entry ∷ []; added = added; code = code }
 ComesBy (Over code) added After outcome = outcome ≡ record { entries = []; added = added; code = code }
 
 -- the outcome of steps under the stack that was there at the start and the filters that were added since: a
@@ -96,4 +107,5 @@ ComesBy (Over code) added After outcome = outcome ≡ record { entries = []; add
 abbrev pub IsOutcome : List (List Insn) → ℕ → List Step → List (List Insn) → Outcome → Type 0
 IsOutcome start attempt [] added outcome = outcome ≡ record { entries = []; added = added; code = 0 }
 IsOutcome start attempt (step ∷ steps) added outcome =
-    (next : Next) × IsNext (start ++ added) attempt (Some step) next × ComesBy next added (IsOutcome start attempt steps) outcome
+    (next : Next) × IsNext (start ++ added) attempt (Some step) next
+    × ComesBy next added (IsOutcome start attempt steps) outcome

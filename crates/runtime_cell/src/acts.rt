@@ -3,7 +3,8 @@ ghost use Rattle.action.specs.Verdict.{performs_of};
 ghost use Rattle.bpf_code.specs.declared.insn.Insn.{Insn};
 ghost use Rattle.script.specs.declared.scripts.Step.{Step};
 ghost use Rattle.runtime_cell.specs.Keeps.{next_by};
-ghost use Rattle.runtime_cell.specs.Outcome.{code_at, end_of, entry_of, install_call, installed, judged, on_errno};
+ghost use Rattle.runtime_cell.specs.Outcome.{code_at, end_of, entry_of, install_call, installed, judged};
+ghost use Rattle.runtime_cell.specs.Outcome.{on_errno};
 
 use crate::calls::{ENOMEM, JudgedCall, KILLED, entry_of, install_call};
 use action::{Action, Verdict};
@@ -24,7 +25,8 @@ pub(crate) enum Act {
 
 /// What is done at a call with this verdict.
 pub(crate) fn call_act(call: SysCall, verdict: Verdict, on_error: Option<u8>) -> Act
-    ensures { (step : Option Step) → next_by result step ≡ judged (entry_of call verdict) (end_of verdict on_error) }
+    ensures { (step : Option Step) → next_by result step
+        ≡ judged (entry_of call verdict) (end_of verdict on_error) }
 {
     judged(entry_of(call, verdict), end_of(verdict, on_error))
 }
@@ -33,7 +35,8 @@ pub(crate) fn call_act(call: SysCall, verdict: Verdict, on_error: Option<u8>) ->
 /// place for the filter is told.
 pub(crate) fn install_act(verdict: Verdict, has_place: bool, on_error: Option<u8>) -> Act
     ensures { (filter : List Insn) (own : Option ℕ) → next_by result (Some (Step.Install filter own))
-        ≡ installed filter (entry_of install_call verdict) (end_of verdict on_error) on_error (performs_of verdict.action) has_place }
+        ≡ installed filter (entry_of install_call verdict) (end_of verdict on_error) on_error
+        (performs_of verdict.action) has_place }
 {
     let entry = entry_of(install_call(), verdict);
     match (entry.performed, has_place) {

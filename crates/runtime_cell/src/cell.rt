@@ -1,6 +1,8 @@
-ghost use Rattle.std.specs.Prelude.{◌≡◌, ◌+◌, ◌<◌, ◌≤◌, ◌++◌, ◌∷◌, [], IfOk, IfSome, IsTrue, option_map, count_by, drop, length, not, option_to_list, slice_get};
+ghost use Rattle.std.specs.Prelude.{◌≡◌, ◌+◌, ◌<◌, ◌≤◌, ◌++◌, ◌∷◌, [], IfOk, IfSome, IsTrue, option_map};
+ghost use Rattle.std.specs.Prelude.{count_by, drop, length, not, option_to_list, slice_get};
 ghost use Rattle.verdict.specs.Stack.{AllSound};
-ghost use Rattle.runtime_cell.specs.Cell.{Confines, FollowsScript, Steps, alone, exit_of, filters_of, fresh, killed, started, step_in, told_of_entry};
+ghost use Rattle.runtime_cell.specs.Cell.{Confines, FollowsScript, Steps, alone, exit_of, filters_of, fresh};
+ghost use Rattle.runtime_cell.specs.Cell.{killed, started, step_in, told_of_entry};
 ghost use Rattle.runtime_cell.specs.Keeps.{IsUnended, next_by};
 ghost use Rattle.runtime_cell.specs.Outcome.{IsNext, has_place};
 
@@ -84,7 +86,9 @@ impl Cell {
         profile: Option<Profile>,
     ) -> Result<Cell, AllocError>
         requires { Confines stack.filters profile }
-        ensures { IfOk result (λ cell. cell ≡ fresh (record { label = label; script = script; stack = stack.filters; profile = profile }) State.Created) }
+        ensures { IfOk result (λ cell. cell ≡ fresh
+            (record { label = label; script = script; stack = stack.filters; profile = profile })
+            State.Created) }
     {
         Cell::fresh(alloc, label, script, stack, profile, State::Created)
     }
@@ -133,7 +137,8 @@ impl Cell {
 
         // The script goes on only where an entry is added.
         ensures onward { self.new.state ≡ State.Running
-            → (length self.new.entries ≡ length self.old.entries + 1) × (length self.new.entries ≤ length self.new.making.script) }
+            → (length self.new.entries ≡ length self.old.entries + 1)
+            × (length self.new.entries ≤ length self.new.making.script) }
         ensures making { self.new.making ≡ self.old.making }
     {
         stacks_judge_every_call();
@@ -240,7 +245,8 @@ impl Cell {
     ) -> Result<Cell, AllocError>
         requires confined { Confines stack.filters profile }
         requires unended { IsUnended state }
-        ensures { IfOk result (λ cell. cell ≡ fresh (record { label = label; script = script; stack = stack.filters; profile = profile }) state) }
+        ensures { IfOk result (λ cell. cell ≡ fresh
+            (record { label = label; script = script; stack = stack.filters; profile = profile }) state) }
     {
         stacks_judge_every_call();
         let mut stack = stack;
@@ -262,7 +268,8 @@ impl Cell {
 
     /// What is done at the next step.
     fn act(&self) -> Act
-        ensures { IsNext (filters_of self.now) self.now.making.label.attempt (step_in self.now) (next_by result (step_in self.now)) }
+        ensures { IsNext (filters_of self.now) self.now.making.label.attempt (step_in self.now)
+            (next_by result (step_in self.now)) }
     {
         match self.script.steps().get(self.entries.len()) {
             None => Act::Over(0),

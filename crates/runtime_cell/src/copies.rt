@@ -1,4 +1,5 @@
-ghost use Rattle.std.specs.Prelude.{◌≡◌, ◌+◌, ◌++◌, IfOk, OnOk, Some, drop, option_map, option_to_list, slice_get};
+ghost use Rattle.std.specs.Prelude.{◌≡◌, ◌+◌, ◌++◌, IfOk, OnOk, Some, drop, option_map, option_to_list};
+ghost use Rattle.std.specs.Prelude.{slice_get};
 ghost use Rattle.runtime_cell.specs.Keeps.{filter_in, filters_in};
 
 use bpf_verify::Filter;

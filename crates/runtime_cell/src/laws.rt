@@ -9,7 +9,8 @@ ghost use Rattle.verdict.specs.Stack.{AllSound, IsJudged};
 ghost use Rattle.runtime_cell.specs.declared.calls.TheConstants.{ENOMEM, KILLED, SECCOMP, SET_MODE_FILTER};
 ghost use Rattle.runtime_cell.specs.declared.cell.Did.{Did};
 ghost use Rattle.runtime_cell.specs.declared.cell.State.{State};
-ghost use Rattle.runtime_cell.specs.Cell.{Cell, FollowsScript, IsWellMade, Making, Steps, filters_of, fresh, killed, started};
+ghost use Rattle.runtime_cell.specs.Cell.{Cell, FollowsScript, IsWellMade, Making, Steps, filters_of, fresh};
+ghost use Rattle.runtime_cell.specs.Cell.{killed, started};
 ghost use Rattle.runtime_cell.specs.Laws.{IsAdded, IsLater, TakesUp};
 ghost use Rattle.runtime_cell.specs.Outcome.{IsOutcome, Outcome};
 
@@ -18,9 +19,12 @@ use verdict::{added_filters_widen_nothing, stacks_judge_every_call};
 /// Under sound filters each script comes to one outcome, and one only.
 pub fn outcomes_are_determined()
     ensures some { (start : List (List Insn)) (attempt : ℕ) (script : List Step) (added : List (List Insn))
-        → AllSound (start ++ added) → HasSoundFilters script → (outcome : Outcome) × IsOutcome start attempt script added outcome }
-    ensures one { (start : List (List Insn)) (attempt : ℕ) (script : List Step) (added : List (List Insn)) (outcome other : Outcome)
-        → IsOutcome start attempt script added outcome → IsOutcome start attempt script added other → outcome ≡ other }
+        → AllSound (start ++ added) → HasSoundFilters script → (outcome : Outcome)
+        × IsOutcome start attempt script added outcome }
+    ensures one { (start : List (List Insn)) (attempt : ℕ) (script : List Step) (added : List (List Insn))
+        (outcome other : Outcome)
+        → IsOutcome start attempt script added outcome → IsOutcome start attempt script added other
+        → outcome ≡ other }
 {
     stacks_judge_every_call();
 }
@@ -29,7 +33,8 @@ pub fn outcomes_are_determined()
 pub fn cells_follow_their_scripts()
     ensures created { (making : Making) → IsWellMade making → FollowsScript (fresh making State.Created) }
     ensures started { (c : Cell) → FollowsScript c → FollowsScript (started c) }
-    ensures stepped { (old : Cell) (did : Did) (new : Cell) → FollowsScript old → Steps old did new → FollowsScript new }
+    ensures stepped { (old : Cell) (did : Did) (new : Cell) → FollowsScript old → Steps old did new
+        → FollowsScript new }
     ensures killed { (c : Cell) (code : ℕ) → FollowsScript c → FollowsScript (killed code c) }
 {
     stacks_judge_every_call();
@@ -48,10 +53,12 @@ pub fn cells_only_grow()
 /// Each call that a cell takes up is judged by all its filters, and no other one is added to its record.
 /// Filters that the script added let nothing pass that the filters of its start stop alone.
 pub fn calls_are_judged_by_all_filters()
-    ensures taken { (old : Cell) (did : Did) (new : Cell) (call : SysCall) → Steps old did new → TakesUp old call → IsAdded old new call }
+    ensures taken { (old : Cell) (did : Did) (new : Cell) (call : SysCall) → Steps old did new
+        → TakesUp old call → IsAdded old new call }
     ensures added { (old : Cell) (did : Did) (new : Cell) → Steps old did new
         → (new.entries ≡ old.entries) ⊎ ((call : SysCall) × TakesUp old call) }
-    ensures start_binds { (c : Cell) (call : SysCall) (alone together : Verdict) → IsJudged c.making.stack call alone → IsJudged (filters_of c) call together
+    ensures start_binds { (c : Cell) (call : SysCall) (alone together : Verdict)
+        → IsJudged c.making.stack call alone → IsJudged (filters_of c) call together
         → IsTrue (performs_of together.action) → IsTrue (performs_of alone.action) }
 {
     added_filters_widen_nothing();

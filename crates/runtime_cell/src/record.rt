@@ -1,5 +1,6 @@
 //! The record of a cell, with what is told of it kept beside it.
-ghost use Rattle.std.specs.Prelude.{◌≡◌, ◌<◌, ◌≤◌, ◌++◌, ◌∷◌, [], IfOk, count_by, length, not, vec_capacity, vec_len};
+ghost use Rattle.std.specs.Prelude.{◌≡◌, ◌<◌, ◌≤◌, ◌++◌, ◌∷◌, [], IfOk, count_by, length, not, vec_capacity};
+ghost use Rattle.std.specs.Prelude.{vec_len};
 
 use crate::calls::JudgedCall;
 use std::alloc::{AllocError, Global};

@@ -12,20 +12,27 @@ use Rattle.registry.specs.Stands.{Agrees, IsEmptyIn, around_in, part_in, runtime
 use Rattle.registry.proofs.Texts.{text_cases}
 use Rattle.runtime_core.specs.Stands.{IsListFor, IsWhole, LendsTo, cells_in, list_in}
 
-module _ (old new : Registry) (lists later : List (List ℕ × List Cell)) (call : Call) (files : FileAnswers) (answer : Answer) (before behind : List Cell)
-    (whole : IsWhole old lists) (was : cells_in lists (uid_of call) ≡ before) (is : cells_in later (uid_of call) ≡ behind)
-    (others : (u : List ℕ) → u ≢ uid_of call → list_in later u ≡ list_in lists u) (lent : LendsTo old new call files answer before behind)
+module _ (old new : Registry) (lists later : List (List ℕ × List Cell)) (call : Call) (files : FileAnswers)
+    (answer : Answer) (before behind : List Cell)
+    (whole : IsWhole old lists) (was : cells_in lists (uid_of call) ≡ before)
+    (is : cells_in later (uid_of call) ≡ behind)
+    (others : (u : List ℕ) → u ≢ uid_of call → list_in later u ≡ list_in lists u)
+    (lent : LendsTo old new call files answer before behind)
     (listed : IsListFor (stages_in new (uid_of call)) (list_in later (uid_of call))) where
   pub serves : Serves (runtime_of old (cells_in lists)) call files answer (runtime_of new (cells_in later))
   serves = record {
-    row = subst (λ cells. ServesIn (around_in old) call files (part_in old (uid_of call) cells) answer (part_in new (uid_of call) (cells_in later (uid_of call)))) (sym was)
-        (subst (λ cells. ServesIn (around_in old) call files (part_in old (uid_of call) before) answer (part_in new (uid_of call) cells)) (sym is) lent.row);
-    others = λ u other. ap (λ k. sandbox_of k (cells_in later u)) (lent.spares.known u other) ∙ ap (λ l. sandbox_of (known_in old.uids u) (unwrap_or l [])) (others u other);
+    row = subst (λ cells. ServesIn (around_in old) call files (part_in old (uid_of call) cells) answer
+        (part_in new (uid_of call) (cells_in later (uid_of call)))) (sym was)
+        (subst (λ cells. ServesIn (around_in old) call files (part_in old (uid_of call) before) answer
+        (part_in new (uid_of call) cells)) (sym is) lent.row);
+    others = λ u other. ap (λ k. sandbox_of k (cells_in later u)) (lent.spares.known u other)
+        ∙ ap (λ l. sandbox_of (known_in old.uids u) (unwrap_or l [])) (others u other);
     baseline = lent.spares.baseline;
   }
 
   here : Agrees new (uid_of call) (cells_in later (uid_of call))
-  here = subst (Agrees new (uid_of call)) (sym is) (lent.keeps.agrees whole.bound (subst (Agrees old (uid_of call)) was (whole.agrees (uid_of call))))
+  here = subst (Agrees new (uid_of call)) (sym is)
+      (lent.keeps.agrees whole.bound (subst (Agrees old (uid_of call)) was (whole.agrees (uid_of call))))
 
   held : Agrees old (uid_of call) before
   held = subst (Agrees old (uid_of call)) was (whole.agrees (uid_of call))
@@ -37,7 +44,8 @@ module _ (old new : Registry) (lists later : List (List ℕ × List Cell)) (call
       λ among. (lent.spares.home whole.bound held u other id).1 (((whole.agrees u).home id).1 among),
     );
     rise = (whole.agrees u).rise;
-    empty = subst (λ k. IsEmptyIn (stage_of k) (cells_in lists u)) (sym (lent.spares.known u other)) (whole.agrees u).empty;
+    empty = subst (λ k. IsEmptyIn (stage_of k) (cells_in lists u)) (sym (lent.spares.known u other))
+        (whole.agrees u).empty;
   })
 
   pub whole_still : IsWhole new later

@@ -1,5 +1,6 @@
 -- A call that leaves a sandbox there, or not there, is served with its list.
-use Rattle.std.proofs.Common.{◌≡◌, ◌≢◌, ℕ, false, List, [], Option, Some, None, is_some, unwrap_or, refl, sym, ap, ◌∙◌, subst}
+use Rattle.std.proofs.Common.{◌≡◌, ◌≢◌, ℕ, false, List, [], Option, Some, None, is_some, unwrap_or, refl, sym}
+use Rattle.std.proofs.Common.{ap, ◌∙◌, subst}
 use Rattle.cri_msgs.specs.declared.calls.Call.{Call}
 use Rattle.cri_msgs.specs.declared.replies.Answer.{Answer}
 use Rattle.runtime_cell.specs.Cell.{Cell}
@@ -15,7 +16,8 @@ use Rattle.runtime_core.proofs.ById.{still_list}
 use Rattle.runtime_core.proofs.Serving.{serves, whole_still}
 use Rattle.runtime_core.proofs.Stays.{alive}
 
-pub list_for : (s later : Stage) (l : Option (List Cell)) → alive later ≡ alive s → IsListFor s l → IsListFor later l
+pub list_for : (s later : Stage) (l : Option (List Cell)) → alive later ≡ alive s → IsListFor s l
+    → IsListFor later l
 list_for stage.Unknown stage.Unknown l same listed = listed
 list_for stage.Unknown (stage.Live ready) l same listed = absurd cc
 list_for stage.Unknown stage.Removed l same listed = listed
@@ -32,45 +34,61 @@ no_cells_for stage.Unknown cells listed empty = empty
 no_cells_for (stage.Live ready) cells listed empty = absurd cc
 no_cells_for stage.Removed cells listed empty = empty
 
-pub record Done (old new : Registry) (lists later : List (List ℕ × List Cell)) (call : Call) (files : FileAnswers) (answer : Answer) : Type 0 where
+pub record Done (old new : Registry) (lists later : List (List ℕ × List Cell)) (call : Call)
+    (files : FileAnswers) (answer : Answer) : Type 0 where
   pub does : Serves (runtime_of old (cells_in lists)) call files answer (runtime_of new (cells_in later))
   pub still : IsWhole new later
 
-module _ (old new : Registry) (lists later : List (List ℕ × List Cell)) (call : Call) (files : FileAnswers) (answer : Answer) (whole : IsWhole old lists)
+module _ (old new : Registry) (lists later : List (List ℕ × List Cell)) (call : Call) (files : FileAnswers)
+    (answer : Answer) (whole : IsWhole old lists)
     (others : (u : List ℕ) → u ≢ uid_of call → list_in later u ≡ list_in lists u)
-    (alike : (before behind : List Cell) → LendsTo old new call files answer before behind → alive (stages_in new (uid_of call)) ≡ alive (stages_in old (uid_of call))) where
-  done_by : (l l' : Option (List Cell)) → list_in lists (uid_of call) ≡ l → list_in later (uid_of call) ≡ l' → Lends old new call files answer l l' → Done old new lists later call files answer
+    (alike : (before behind : List Cell) → LendsTo old new call files answer before behind
+    → alive (stages_in new (uid_of call)) ≡ alive (stages_in old (uid_of call))) where
+  done_by : (l l' : Option (List Cell)) → list_in lists (uid_of call) ≡ l → list_in later (uid_of call) ≡ l'
+      → Lends old new call files answer l l' → Done old new lists later call files answer
   done_by None behind was is lends =
       let cells = lends.1.0 in
       let lent = lends.1.1 in
       let same = alike [] cells lent in
       let listed : IsListFor (stages_in new (uid_of call)) (list_in later (uid_of call)) =
-      subst (IsListFor (stages_in new (uid_of call))) (was ∙ sym (is ∙ lends.0)) (list_for (stages_in old (uid_of call)) (stages_in new (uid_of call)) (list_in lists (uid_of call)) same (whole.listed (uid_of call))) in
+      subst (IsListFor (stages_in new (uid_of call))) (was ∙ sym (is ∙ lends.0))
+      (list_for (stages_in old (uid_of call)) (stages_in new (uid_of call))
+      (list_in lists (uid_of call)) same (whole.listed (uid_of call))) in
       let before : cells_in lists (uid_of call) ≡ [] = ap (λ l. unwrap_or l []) was in
       let behind_none : cells_in later (uid_of call) ≡ [] = ap (λ l. unwrap_or l []) (is ∙ lends.0) in
-      let agrees = lent.keeps.agrees whole.bound (subst (Agrees old (uid_of call)) before (whole.agrees (uid_of call))) in
-      let empty : cells ≡ [] = no_cells_for (stages_in new (uid_of call)) cells (subst (IsListFor (stages_in new (uid_of call))) (is ∙ lends.0) listed) agrees.empty in
+      let agrees = lent.keeps.agrees whole.bound
+      (subst (Agrees old (uid_of call)) before (whole.agrees (uid_of call))) in
+      let empty : cells ≡ [] = no_cells_for (stages_in new (uid_of call)) cells
+      (subst (IsListFor (stages_in new (uid_of call))) (is ∙ lends.0) listed) agrees.empty in
       record {
-        does = serves old new lists later call files answer [] cells whole before (behind_none ∙ sym empty) others lent listed;
-        still = whole_still old new lists later call files answer [] cells whole before (behind_none ∙ sym empty) others lent listed;
+        does = serves old new lists later call files answer [] cells whole before (behind_none
+            ∙ sym empty) others lent listed;
+        still = whole_still old new lists later call files answer [] cells whole before (behind_none
+            ∙ sym empty) others lent listed;
       }
   done_by (Some before) None was is lends = elim lends [ ]
   done_by (Some before) (Some behind) was is lends =
       let same = alike before behind lends in
       let listed : IsListFor (stages_in new (uid_of call)) (list_in later (uid_of call)) =
       list_for (stages_in old (uid_of call)) (stages_in new (uid_of call)) (list_in later (uid_of call)) same
-      (still_list (stages_in old (uid_of call)) (list_in lists (uid_of call)) (list_in later (uid_of call)) (ap is_some is ∙ sym (ap is_some was)) (whole.listed (uid_of call))) in
+      (still_list (stages_in old (uid_of call)) (list_in lists (uid_of call)) (list_in later (uid_of call))
+      (ap is_some is ∙ sym (ap is_some was)) (whole.listed (uid_of call))) in
       record {
-        does = serves old new lists later call files answer before behind whole (ap (λ l. unwrap_or l []) was) (ap (λ l. unwrap_or l []) is) others lends listed;
-        still = whole_still old new lists later call files answer before behind whole (ap (λ l. unwrap_or l []) was) (ap (λ l. unwrap_or l []) is) others lends listed;
+        does = serves old new lists later call files answer before behind whole (ap (λ l. unwrap_or l []) was)
+            (ap (λ l. unwrap_or l []) is) others lends listed;
+        still = whole_still old new lists later call files answer before behind whole
+            (ap (λ l. unwrap_or l []) was) (ap (λ l. unwrap_or l []) is) others lends listed;
       }
 
-  pub done : Lends old new call files answer (list_in lists (uid_of call)) (list_in later (uid_of call)) → Done old new lists later call files answer
+  pub done : Lends old new call files answer (list_in lists (uid_of call)) (list_in later (uid_of call))
+      → Done old new lists later call files answer
   done lends = done_by (list_in lists (uid_of call)) (list_in later (uid_of call)) refl refl lends
 
 -- a list that was there is lent
-pub lent_some : (old new : Registry) (call : Call) (files : FileAnswers) (answer : Answer) (before : List Cell) (l later : Option (List Cell)) → l ≡ Some before
-    → Lends old new call files answer l later → (behind : List Cell) × (later ≡ Some behind) × LendsTo old new call files answer before behind
+pub lent_some : (old new : Registry) (call : Call) (files : FileAnswers) (answer : Answer)
+    (before : List Cell) (l later : Option (List Cell)) → l ≡ Some before
+    → Lends old new call files answer l later → (behind : List Cell) × (later ≡ Some behind)
+    × LendsTo old new call files answer before behind
 lent_some old new call files answer before None later is lends = absurd cc
 lent_some old new call files answer before (Some cells) None is lends = elim lends [ ]
 lent_some old new call files answer before (Some cells) (Some behind) is lends =
@@ -85,7 +103,11 @@ dead_none (stage.Live ready) is = absurd cc
 dead_none stage.Removed is = refl
 
 -- where no sandbox is there its list is empty, so none is as good
-pub lent_none : (old new : Registry) (call : Call) (files : FileAnswers) (answer : Answer) (before behind : List Cell) → AreBound old → Agrees old (uid_of call) before
-    → alive (stages_in new (uid_of call)) ≡ false → LendsTo old new call files answer before behind → LendsTo old new call files answer before []
+pub lent_none : (old new : Registry) (call : Call) (files : FileAnswers) (answer : Answer)
+    (before behind : List Cell) → AreBound old → Agrees old (uid_of call) before
+    → alive (stages_in new (uid_of call)) ≡ false → LendsTo old new call files answer before behind
+    → LendsTo old new call files answer before []
 lent_none old new call files answer before behind bound agrees is lent =
-    subst (LendsTo old new call files answer before) (no_cells_for (stages_in new (uid_of call)) behind (dead_none (stages_in new (uid_of call)) is) (lent.keeps.agrees bound agrees).empty) lent
+    subst (LendsTo old new call files answer before)
+    (no_cells_for (stages_in new (uid_of call)) behind (dead_none (stages_in new (uid_of call)) is)
+    (lent.keeps.agrees bound agrees).empty) lent

@@ -39,14 +39,19 @@ pub record IsWhole (registry : Registry) (lists : List (List ℕ × List Cell)) 
   pub agrees : (uid : List ℕ) → Agrees registry uid (cells_in lists uid)
   pub listed : (uid : List ℕ) → IsListFor (stages_in registry uid) (list_in lists uid)
 
--- a request is served with the list of its uid, or with an empty one; the list may change, and is there as long as it was
-pub record LendsTo (old new : Registry) (call : Call) (files : FileAnswers) (answer : Answer) (before behind : List Cell) : Type 0 where
-  pub row : ServesIn (around_in old) call files (part_in old (uid_of call) before) answer (part_in new (uid_of call) behind)
+-- a request is served with the list of its uid, or with an empty one; the list may change, and is there as
+-- long as it was
+pub record LendsTo (old new : Registry) (call : Call) (files : FileAnswers) (answer : Answer)
+    (before behind : List Cell) : Type 0 where
+  pub row : ServesIn (around_in old) call files (part_in old (uid_of call) before) answer
+      (part_in new (uid_of call) behind)
   pub spares : Spares old new (uid_of call) before
   pub keeps : Keeps old new (uid_of call) before behind
 
-abbrev pub Lends : Registry → Registry → Call → FileAnswers → Answer → Option (List Cell) → Option (List Cell) → Type 0
-Lends old new call files answer None behind = (behind ≡ None) × ((cells : List Cell) × LendsTo old new call files answer [] cells)
+abbrev pub Lends : Registry → Registry → Call → FileAnswers → Answer → Option (List Cell) → Option (List Cell)
+    → Type 0
+Lends old new call files answer None behind = (behind ≡ None)
+    × ((cells : List Cell) × LendsTo old new call files answer [] cells)
 Lends old new call files answer (Some before) None = ⊥
 Lends old new call files answer (Some before) (Some behind) = LendsTo old new call files answer before behind
 

@@ -68,7 +68,8 @@ impl Lists {
         files: FileAnswers,
     ) -> Reply
         ensures number { result.id ≡ request.id }
-        ensures lent { Lends registry.old registry.new request.call files result.answer (list_in self.old (uid_of request.call)) (list_in self.new (uid_of request.call)) }
+        ensures lent { Lends registry.old registry.new request.call files result.answer
+            (list_in self.old (uid_of request.call)) (list_in self.new (uid_of request.call)) }
         ensures others { (u : List ℕ) → u ≢ uid_of request.call → list_in self.new u ≡ list_in self.old u }
     {
         let mut gone = Cells::new(self.alloc);
@@ -119,7 +120,8 @@ fn cell_in<'m>(map: &'m BTreeMap<String, Cells>, uid: &str, id: u64) -> Option<&
 fn take_in(alloc: Global, map: &mut BTreeMap<String, Cells>, uid: &str) -> Cells
     ensures cells { result ≡ cells_in (by_bytes map.old.entries) uid.now }
     ensures here { list_in (by_bytes map.new.entries) uid.now ≡ None }
-    ensures others { (u : List ℕ) → u ≢ uid.now → list_in (by_bytes map.new.entries) u ≡ list_in (by_bytes map.old.entries) u }
+    ensures others { (u : List ℕ) → u ≢ uid.now
+        → list_in (by_bytes map.new.entries) u ≡ list_in (by_bytes map.old.entries) u }
 {
     match map.remove(uid) {
         Some(cells) => cells,
@@ -136,8 +138,11 @@ fn lend_in(
     files: FileAnswers,
 ) -> Reply
     ensures number { result.id ≡ request.id }
-    ensures lent { Lends registry.old registry.new request.call files result.answer (list_in (by_bytes map.old.entries) (uid_of request.call)) (list_in (by_bytes map.new.entries) (uid_of request.call)) }
-    ensures others { (u : List ℕ) → u ≢ uid_of request.call → list_in (by_bytes map.new.entries) u ≡ list_in (by_bytes map.old.entries) u }
+    ensures lent { Lends registry.old registry.new request.call files result.answer
+        (list_in (by_bytes map.old.entries) (uid_of request.call))
+        (list_in (by_bytes map.new.entries) (uid_of request.call)) }
+    ensures others { (u : List ℕ) → u ≢ uid_of request.call
+        → list_in (by_bytes map.new.entries) u ≡ list_in (by_bytes map.old.entries) u }
 {
     match map.get_mut(uid_of(&request.call).as_str()) {
         Some(cells) => registry.serve_lent(cells, gone, request, files),
@@ -149,10 +154,13 @@ fn lend_in(
 }
 
 fn step_in(map: &mut BTreeMap<String, Cells>, uid: &str, id: u64) -> Option<Did>
-    ensures moves { MayStepIn (cells_in (by_bytes map.old.entries) uid.now) id result (cells_in (by_bytes map.new.entries) uid.now) }
+    ensures moves { MayStepIn (cells_in (by_bytes map.old.entries) uid.now) id result
+        (cells_in (by_bytes map.new.entries) uid.now) }
     ensures ids { ids_in (by_bytes map.new.entries) uid.now ≡ ids_in (by_bytes map.old.entries) uid.now }
-    ensures listed { is_some (list_in (by_bytes map.new.entries) uid.now) ≡ is_some (list_in (by_bytes map.old.entries) uid.now) }
-    ensures others { (u : List ℕ) → u ≢ uid.now → list_in (by_bytes map.new.entries) u ≡ list_in (by_bytes map.old.entries) u }
+    ensures listed { is_some (list_in (by_bytes map.new.entries) uid.now)
+        ≡ is_some (list_in (by_bytes map.old.entries) uid.now) }
+    ensures others { (u : List ℕ) → u ≢ uid.now
+        → list_in (by_bytes map.new.entries) u ≡ list_in (by_bytes map.old.entries) u }
 {
     match map.get_mut(uid) {
         Some(cells) => cells.step(id),
@@ -161,10 +169,13 @@ fn step_in(map: &mut BTreeMap<String, Cells>, uid: &str, id: u64) -> Option<Did>
 }
 
 fn kill_in(map: &mut BTreeMap<String, Cells>, uid: &str, id: u64, code: u8) -> Option<()>
-    ensures moves { MayKillIn (cells_in (by_bytes map.old.entries) uid.now) id code result (cells_in (by_bytes map.new.entries) uid.now) }
+    ensures moves { MayKillIn (cells_in (by_bytes map.old.entries) uid.now) id code result
+        (cells_in (by_bytes map.new.entries) uid.now) }
     ensures ids { ids_in (by_bytes map.new.entries) uid.now ≡ ids_in (by_bytes map.old.entries) uid.now }
-    ensures listed { is_some (list_in (by_bytes map.new.entries) uid.now) ≡ is_some (list_in (by_bytes map.old.entries) uid.now) }
-    ensures others { (u : List ℕ) → u ≢ uid.now → list_in (by_bytes map.new.entries) u ≡ list_in (by_bytes map.old.entries) u }
+    ensures listed { is_some (list_in (by_bytes map.new.entries) uid.now)
+        ≡ is_some (list_in (by_bytes map.old.entries) uid.now) }
+    ensures others { (u : List ℕ) → u ≢ uid.now
+        → list_in (by_bytes map.new.entries) u ≡ list_in (by_bytes map.old.entries) u }
 {
     match map.get_mut(uid) {
         Some(cells) => cells.kill_id(id, code),

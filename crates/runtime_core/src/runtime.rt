@@ -91,7 +91,8 @@ impl Runtime {
 fn serve(registry: &mut Registry, lists: &mut Lists, request: Request, files: FileAnswers) -> Reply
     requires { IsWhole registry.old lists.old }
     ensures number { result.id ≡ request.id }
-    ensures serves { Serves (runtime_of registry.old (cells_in lists.old)) request.call files result.answer (runtime_of registry.new (cells_in lists.new)) }
+    ensures serves { Serves (runtime_of registry.old (cells_in lists.old)) request.call files result.answer
+        (runtime_of registry.new (cells_in lists.new)) }
     ensures whole { IsWhole registry.new lists.new }
 {
     match kind_of(&request.call) {
@@ -111,7 +112,8 @@ fn serve_there(
     requires whole { IsWhole registry.old lists.old }
     requires quiet { kind_of request.call ≡ Kind.Other }
     ensures number { result.id ≡ request.id }
-    ensures serves { Serves (runtime_of registry.old (cells_in lists.old)) request.call files result.answer (runtime_of registry.new (cells_in lists.new)) }
+    ensures serves { Serves (runtime_of registry.old (cells_in lists.old)) request.call files result.answer
+        (runtime_of registry.new (cells_in lists.new)) }
     ensures whole { IsWhole registry.new lists.new }
 {
     lists.lend(registry, request, files)
@@ -127,7 +129,8 @@ fn run_pod(
     requires whole { IsWhole registry.old lists.old }
     requires runs { kind_of request.call ≡ Kind.Runs }
     ensures number { result.id ≡ request.id }
-    ensures serves { Serves (runtime_of registry.old (cells_in lists.old)) request.call files result.answer (runtime_of registry.new (cells_in lists.new)) }
+    ensures serves { Serves (runtime_of registry.old (cells_in lists.old)) request.call files result.answer
+        (runtime_of registry.new (cells_in lists.new)) }
     ensures whole { IsWhole registry.new lists.new }
 {
     match registry.stage(uid_of(&request.call).as_str()) {
@@ -143,7 +146,8 @@ fn known(registry: &mut Registry, lists: &mut Lists, request: Request, files: Fi
     requires runs { kind_of request.call ≡ Kind.Runs }
     requires named { stages_in registry.old (uid_of request.call) ≢ Stage.Unknown }
     ensures number { result.id ≡ request.id }
-    ensures serves { Serves (runtime_of registry.old (cells_in lists.old)) request.call files result.answer (runtime_of registry.new (cells_in lists.new)) }
+    ensures serves { Serves (runtime_of registry.old (cells_in lists.old)) request.call files result.answer
+        (runtime_of registry.new (cells_in lists.new)) }
     ensures whole { IsWhole registry.new lists.new }
 {
     lists.lend(registry, request, files)
@@ -155,7 +159,8 @@ fn wake(registry: &mut Registry, lists: &mut Lists, request: Request, files: Fil
     requires runs { kind_of request.call ≡ Kind.Runs }
     requires unknown { stages_in registry.old (uid_of request.call) ≡ Stage.Unknown }
     ensures number { result.id ≡ request.id }
-    ensures serves { Serves (runtime_of registry.old (cells_in lists.old)) request.call files result.answer (runtime_of registry.new (cells_in lists.new)) }
+    ensures serves { Serves (runtime_of registry.old (cells_in lists.old)) request.call files result.answer
+        (runtime_of registry.new (cells_in lists.new)) }
     ensures whole { IsWhole registry.new lists.new }
 {
     let id = request.id;
@@ -196,8 +201,10 @@ fn lent_new(
     requires unknown { stages_in registry.old (uid_of request.call) ≡ Stage.Unknown }
     ensures number { result.id ≡ request.id }
     ensures others { (u : List ℕ) → u ≢ uid_of request.call → list_in lists.new u ≡ list_in lists.old u }
-    ensures lent { LendsTo registry.old registry.new request.call files result.answer [] (cells_in lists.new (uid_of request.call)) }
-    ensures listed { IsListFor (stages_in registry.new (uid_of request.call)) (list_in lists.new (uid_of request.call)) }
+    ensures lent { LendsTo registry.old registry.new request.call files result.answer []
+        (cells_in lists.new (uid_of request.call)) }
+    ensures listed { IsListFor (stages_in registry.new (uid_of request.call))
+        (list_in lists.new (uid_of request.call)) }
 {
     let reply = lists.lend(registry, request, files);
     match registry.stage(uid.as_str()) {
@@ -226,7 +233,8 @@ fn remove_pod(
     requires whole { IsWhole registry.old lists.old }
     requires removes { kind_of request.call ≡ Kind.Removes }
     ensures number { result.id ≡ request.id }
-    ensures serves { Serves (runtime_of registry.old (cells_in lists.old)) request.call files result.answer (runtime_of registry.new (cells_in lists.new)) }
+    ensures serves { Serves (runtime_of registry.old (cells_in lists.old)) request.call files result.answer
+        (runtime_of registry.new (cells_in lists.new)) }
     ensures whole { IsWhole registry.new lists.new }
 {
     let mut cells = lists.take(uid_of(&request.call).as_str());
@@ -236,7 +244,8 @@ fn remove_pod(
 
 fn step(registry: &Registry, lists: &mut Lists, id: u64) -> Option<Did>
     requires { IsWhole registry.now lists.old }
-    ensures step { MayStep (runtime_of registry.now (cells_in lists.old)) id result (runtime_of registry.now (cells_in lists.new)) }
+    ensures step { MayStep (runtime_of registry.now (cells_in lists.old)) id result
+        (runtime_of registry.now (cells_in lists.new)) }
     ensures whole { IsWhole registry.now lists.new }
 {
     match registry.home(id) {
@@ -247,7 +256,8 @@ fn step(registry: &Registry, lists: &mut Lists, id: u64) -> Option<Did>
 
 fn kill(registry: &Registry, lists: &mut Lists, id: u64, code: u8) -> Option<()>
     requires { IsWhole registry.now lists.old }
-    ensures kill { MayKill (runtime_of registry.now (cells_in lists.old)) id code result (runtime_of registry.now (cells_in lists.new)) }
+    ensures kill { MayKill (runtime_of registry.now (cells_in lists.old)) id code result
+        (runtime_of registry.now (cells_in lists.new)) }
     ensures whole { IsWhole registry.now lists.new }
 {
     match registry.home(id) {

@@ -8,7 +8,8 @@ use Rattle.call_data.specs.declared.sys_call.SysCall.{SysCall}
 use Rattle.verdict.specs.Stack.{IsJudged}
 use Rattle.manifest.specs.declared.profiles.SeccompProfile.{SeccompProfile}
 use Rattle.cri_msgs.specs.declared.calls.Call.{Call}
-use Rattle.cri_msgs.specs.declared.calls.Call.TheVariants.{RemovePodSandbox, CreateContainer, ContainerStatus, ContainerStatuses}
+use Rattle.cri_msgs.specs.declared.calls.Call.TheVariants.{RemovePodSandbox, CreateContainer, ContainerStatus}
+use Rattle.cri_msgs.specs.declared.calls.Call.TheVariants.{ContainerStatuses}
 use Rattle.cri_msgs.specs.declared.keys.Key.{Key}
 use Rattle.cri_msgs.specs.declared.replies.Answer.{Answer}
 use Rattle.cri_msgs.specs.declared.replies.Answer.TheVariants.{Container, Done, Status, Statuses}
@@ -66,20 +67,28 @@ pub record MakesAt (l : Link) (key : Key) (making : Making) : Type 0 where
   pub was_free : slot_of l.old key ≡ Free
 
 pub record RunLaws (baseline : Option (List Insn)) (ls : List Link) : Type 0 where
-  -- a call is performed exactly where a step took it up, and the filters of the start and those added before allow it
-  pub confined : (key : Key) (place : ℕ) (call : SysCall) → Performed ls key place call ↔ TookUp ls key place call
+  -- a call is performed exactly where a step took it up, and the filters of the start and those added before
+  -- allow it
+  pub confined : (key : Key) (place : ℕ) (call : SysCall)
+      → Performed ls key place call ↔ TookUp ls key place call
   -- and never where those of the start deny it
-  pub start_binds : (key : Key) (cell : Cell) (place : ℕ) (entry : JudgedCall) (alone : Verdict) → Seen ls key cell
-      → slice_get cell.entries place ≡ Some entry → entry.performed ≡ true → IsJudged cell.making.stack entry.call alone → IsTrue (performs_of alone.action)
+  pub start_binds : (key : Key) (cell : Cell) (place : ℕ) (entry : JudgedCall) (alone : Verdict)
+      → Seen ls key cell
+      → slice_get cell.entries place ≡ Some entry → entry.performed ≡ true
+      → IsJudged cell.making.stack entry.call alone → IsTrue (performs_of alone.action)
   -- a key has one making at all times, which one request gave
-  pub one_making : (key : Key) (cell other : Cell) → Seen ls key cell → Seen ls key other → cell.making ≡ other.making
-  pub made_from : (key : Key) (cell : Cell) → Seen ls key cell → (l : Link) × In l ls × MakesAt l key cell.making × (l.old.baseline ≡ baseline)
+  pub one_making : (key : Key) (cell other : Cell) → Seen ls key cell → Seen ls key other
+      → cell.making ≡ other.making
+  pub made_from : (key : Key) (cell : Cell) → Seen ls key cell → (l : Link) × In l ls
+      × MakesAt l key cell.making × (l.old.baseline ≡ baseline)
   -- the record begins the one outcome of the script, and is the whole where no one else ended it
   pub follows : (key : Key) (cell : Cell) → Seen ls key cell → FollowsScript cell
   -- an id is one key's at all times
-  pub one_id : (key other : Key) (cell its : Cell) → Seen ls key cell → Seen ls other its → id_of cell ≡ id_of its → key ≡ other
+  pub one_id : (key other : Key) (cell its : Cell) → Seen ls key cell → Seen ls other its
+      → id_of cell ≡ id_of its → key ≡ other
   -- a cell ends with one code
-  pub one_exit : (key : Key) (cell other : Cell) (code code' : ℕ) (by by' : _) → Seen ls key cell → Seen ls key other
+  pub one_exit : (key : Key) (cell other : Cell) (code code' : ℕ) (by by' : _) → Seen ls key cell
+      → Seen ls key other
       → cell.state ≡ Exited code by → other.state ≡ Exited code' by' → code ≡ code'
 
 abbrev pub IsThere : Slot → Type 0
@@ -100,7 +109,8 @@ pub record Starts (l : Link) (key : Key) : Type 0 where
   pub running : is.state ≡ Running
 
 abbrev pub Answered : List Link → Call → Answer → Type 0
-Answered ls call answer = (l : Link) × In l ls × ((files : FileAnswers) × (l.event ≡ Served call files answer))
+Answered ls call answer = (l : Link) × In l ls
+    × ((files : FileAnswers) × (l.event ≡ Served call files answer))
 
 -- the link is a step of one key's cell, which has the id, and of no other
 pub record StepsOne (l : Link) (id : ℕ) (did : Did) : Type 0 where
@@ -116,7 +126,8 @@ pub record StepsOne (l : Link) (id : ℕ) (did : Did) : Type 0 where
 -- the status is told of the key's container, by itself or in a list
 abbrev pub TellsStatus : Call → Answer → Key → status.Status → Type 0
 TellsStatus (ContainerStatus asked) (Status told) key status = (asked ≡ key) × (told ≡ status)
-TellsStatus (ContainerStatuses uid) (Statuses listed) key status = (uid ≡ key.uid) × Any (λ item. (item.container ≡ key.container) × (item.status ≡ status)) listed
+TellsStatus (ContainerStatuses uid) (Statuses listed) key status = (uid ≡ key.uid)
+    × Any (λ item. (item.container ≡ key.container) × (item.status ≡ status)) listed
 TellsStatus call answer key status = ⊥
 
 -- a link, and those before it
@@ -124,15 +135,22 @@ pub record LinkLaws (l : Link) (before : List Link) : Type 0 where
   pub made_once : (key : Key) → Makes l key → (b : Link) → In b before → ¬ Makes b key
   pub started_once : (key : Key) → Starts l key → (b : Link) → In b before → ¬ Starts b key
   -- what is there is a later form of all that was there before, and what went stays away
-  pub only_grows : (key : Key) (cell later : Cell) → Seen before key cell → slot_of l.new key ≡ There later → IsLater cell later
+  pub only_grows : (key : Key) (cell later : Cell) → Seen before key cell → slot_of l.new key ≡ There later
+      → IsLater cell later
   pub gone_stays : (key : Key) → slot_of l.old key ≡ Gone → slot_of l.new key ≡ Gone
   pub steps_one : (id : ℕ) (did : Did) → l.event ≡ Stepped id (Some did) → StepsOne l id did
   -- a removed sandbox performs nothing
-  pub removed_is_silent : (uid : List ℕ) → Answered before (RemovePodSandbox uid) Done → (key : Key) → key.uid ≡ uid
+  pub removed_is_silent : (uid : List ℕ) → Answered before (RemovePodSandbox uid) Done → (key : Key)
+      → key.uid ≡ uid
       → (place : ℕ) (call : SysCall) → ¬ TookUpAt l key place call
-  pub removed_stays : (uid : List ℕ) → Answered before (RemovePodSandbox uid) Done → (key : Key) → key.uid ≡ uid → slot_of l.new key ≡ Gone
+  pub removed_stays : (uid : List ℕ) → Answered before (RemovePodSandbox uid) Done → (key : Key)
+      → key.uid ≡ uid → slot_of l.new key ≡ Gone
   -- a status that is told is that of the key's cell, and so is an exit code
-  pub status_is_true : (call : Call) (files : FileAnswers) (answer : Answer) (key : Key) (status : status.Status) → l.event ≡ Served call files answer
-      → TellsStatus call answer key status → (cell : Cell) × (slot_of l.new key ≡ There cell) × (status ≡ status_of cell)
-  pub told_is_true : (call : Call) (files : FileAnswers) (answer : Answer) (key : Key) (code : ℕ) → l.event ≡ Served call files answer
-      → TellsExit call answer key code → (cell : Cell) × (slot_of l.new key ≡ There cell) × ((killed : _) × (cell.state ≡ Exited code killed))
+  pub status_is_true : (call : Call) (files : FileAnswers) (answer : Answer) (key : Key)
+      (status : status.Status) → l.event ≡ Served call files answer
+      → TellsStatus call answer key status → (cell : Cell) × (slot_of l.new key ≡ There cell)
+      × (status ≡ status_of cell)
+  pub told_is_true : (call : Call) (files : FileAnswers) (answer : Answer) (key : Key) (code : ℕ)
+      → l.event ≡ Served call files answer
+      → TellsExit call answer key code → (cell : Cell) × (slot_of l.new key ≡ There cell)
+      × ((killed : _) × (cell.state ≡ Exited code killed))

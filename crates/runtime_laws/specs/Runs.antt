@@ -1,4 +1,5 @@
--- What may happen to a runtime, and all that happened to it, this project's own: docs/SEMANTICS.md, "The runtime".
+-- What may happen to a runtime, and all that happened to it, this project's own: docs/SEMANTICS.md, "The
+-- runtime".
 use Rattle.std.specs.Prelude.{◌≡◌, ⊤, ℕ, List, [], ◌∷◌, Option}
 use Rattle.bpf_code.specs.declared.insn.Insn.{Insn}
 use Rattle.cri_msgs.specs.declared.calls.Call.{Call}
@@ -9,7 +10,8 @@ use Rattle.registry.specs.Runtime.{Runtime, empty}
 use Rattle.registry.specs.Serves.{Serves}
 use Rattle.runtime_core.specs.Steps.{MayKill, MayStep}
 
--- a call was served, with what its files gave, and answered; the cell with an id did a step, or was ended by a code
+-- a call was served, with what its files gave, and answered; the cell with an id did a step, or was ended by
+-- a code
 pub data Event : Type 0 where
   Served : Call → FileAnswers → Answer → Event
   Stepped : ℕ → Option Did → Event
@@ -30,7 +32,8 @@ abbrev pub now : Option (List Insn) → List Link → Runtime
 now baseline [] = empty baseline
 now baseline (l ∷ ls) = l.new
 
--- the newest one first: any requests, with any answers of files, and any steps and ends, from the empty runtime on
+-- the newest one first: any requests, with any answers of files, and any steps and ends, from the empty
+-- runtime on
 abbrev pub IsRun : Option (List Insn) → List Link → Type 0
 IsRun baseline [] = ⊤
 IsRun baseline (l ∷ ls) = (l.old ≡ now baseline ls) × Happens l.old l.event l.new × IsRun baseline ls

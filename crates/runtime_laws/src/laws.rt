@@ -10,7 +10,8 @@ use verdict::stacks_judge_every_call;
 /// those before it.
 pub fn every_run()
     ensures run { (baseline : Option (List Insn)) (ls : List Link) → IsRun baseline ls → RunLaws baseline ls }
-    ensures link { (baseline : Option (List Insn)) (l : Link) (before : List Link) → IsRun baseline (l ∷ before) → LinkLaws l before }
+    ensures link { (baseline : Option (List Insn)) (l : Link) (before : List Link)
+        → IsRun baseline (l ∷ before) → LinkLaws l before }
 {
     cells_only_grow();
     cells_follow_their_scripts();

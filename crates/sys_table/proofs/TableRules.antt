@@ -23,11 +23,13 @@ unfolding names
 each = refl
 
 -- a binary search by name in `BY_NAME` finds the number of the name
-pub looked_up : (order name : List ℕ) (r : Result ℕ ℕ) → order ≡ BY_NAME → IsSearchInRange r (length order) → IsBinarySearchResult (λ n. slice_cmp nat_cmp (text_at n) name) order r
+pub looked_up : (order name : List ℕ) (r : Result ℕ ℕ) → order ≡ BY_NAME → IsSearchInRange r (length order)
+    → IsBinarySearchResult (λ n. slice_cmp nat_cmp (text_at n) name) order r
     → MatchResult r (λ at. number_of name ≡ Some (get_or order at 0)) (λ _. number_of name ≡ None)
 unfolding number_of
 looked_up order name r is_order in_range position =
-    searched (slice_cmp nat_cmp) nat_list_cmp_total exact_bytes names order (rw is_order rising) (rw is_order each) name r in_range position
+    searched (slice_cmp nat_cmp) nat_list_cmp_total exact_bytes names order (rw is_order rising)
+    (rw is_order each) name r in_range position
 
 -- a name that has a number is the text there
 pub named_at : (name : List ℕ) (number : ℕ) → number_of name ≡ Some number → name_of number ≡ Some name
@@ -39,12 +41,14 @@ named_at (c ∷ cs) number h =
     rw (← same) refl
 
 -- and a text has its number
-pub numbered : (number : ℕ) (text name : List ℕ) → text_at number ≡ text → named text ≡ Some name → number_of name ≡ Some number
+pub numbered : (number : ℕ) (text name : List ℕ) → text_at number ≡ text → named text ≡ Some name
+    → number_of name ≡ Some number
 unfolding number_of
 numbered number [] name at h = cc
 numbered number (c ∷ cs) name at h =
     let same : name ≡ c ∷ cs = cc in
-    rw same (found (slice_cmp nat_cmp) nat_list_cmp_total exact_bytes names BY_NAME rising each number c cs at)
+    rw same (found (slice_cmp nat_cmp) nat_list_cmp_total exact_bytes names BY_NAME rising each number c cs
+    at)
 
 length-names : length names ≡ NUMBER_LIMIT
 unfolding names
@@ -53,4 +57,5 @@ length-names = refl
 pub below_all : (name : List ℕ) (number : ℕ) → number_of name ≡ Some number → number < NUMBER_LIMIT
 unfolding number_of
 below_all [] number h = cc
-below_all (c ∷ cs) number h = let at = position-Some (bytes_eq (c ∷ cs)) names number [] h in rw (← length-names) at.0
+below_all (c ∷ cs) number h = let at = position-Some (bytes_eq (c ∷ cs)) names number [] h in
+    rw (← length-names) at.0

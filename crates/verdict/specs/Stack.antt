@@ -20,7 +20,8 @@ abbrev pub HaveValues : List (List Insn) → SysCall → List ℕ → Type 0
 HaveValues [] call [] = Unit {0}
 HaveValues [] call (value ∷ values) = ⊥
 HaveValues (code ∷ stack) call [] = ⊥
-HaveValues (code ∷ stack) call (value ∷ values) = ((steps : ℕ) × Runs code call value steps) × HaveValues stack call values
+HaveValues (code ∷ stack) call (value ∷ values) = ((steps : ℕ) × Runs code call value steps)
+    × HaveValues stack call values
 
 -- the rank of the value at this place
 abbrev pub rank_at : List ℕ → ℕ → ℕ
@@ -35,7 +36,8 @@ pub record IsChosen (values : List ℕ) (at : ℕ) : Type 0 where
 -- the verdict of a list of values, the oldest one first; with none the call is allowed
 pub data IsVerdictOf (values : List ℕ) (verdict : Verdict) : Type 0 where
   of_none : values ≡ [] → verdict ≡ record { action = Allow; ret_data = 0 } → IsVerdictOf values verdict
-  of_chosen : (at : ℕ) → IsChosen values at → verdict ≡ verdict_of (slice_index values at) → IsVerdictOf values verdict
+  of_chosen : (at : ℕ) → IsChosen values at → verdict ≡ verdict_of (slice_index values at)
+      → IsVerdictOf values verdict
 
 -- what the stack says of the call
 abbrev pub IsJudged : List (List Insn) → SysCall → Verdict → Type 0

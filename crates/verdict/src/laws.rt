@@ -11,7 +11,8 @@ use bpf_machine::{runs_are_determined, sound_code_runs};
 
 /// A stack of sound filters says something of every call, and one thing only.
 pub fn stacks_judge_every_call()
-    ensures every { (stack : List (List Insn)) → AllSound stack → (verdicts : SysCall → Verdict) × Judges stack verdicts }
+    ensures every { (stack : List (List Insn)) → AllSound stack → (verdicts : SysCall → Verdict)
+        × Judges stack verdicts }
     ensures one { (stack : List (List Insn)) (call : SysCall) (verdict other : Verdict)
         → IsJudged stack call verdict → IsJudged stack call other → verdict ≡ other }
 {
@@ -23,7 +24,8 @@ pub fn stacks_judge_every_call()
 /// Filters that are added to a stack let no call pass that it stops alone.
 pub fn added_filters_widen_nothing()
     ensures rank { (stack added : List (List Insn)) (call : SysCall) (alone together : Verdict)
-        → IsJudged stack call alone → IsJudged (stack ++ added) call together → rank_of together.action ≤ rank_of alone.action }
+        → IsJudged stack call alone → IsJudged (stack ++ added) call together
+        → rank_of together.action ≤ rank_of alone.action }
     ensures performs { (stack added : List (List Insn)) (call : SysCall) (alone together : Verdict)
         → IsJudged stack call alone → IsJudged (stack ++ added) call together
         → IsTrue (performs_of together.action) → IsTrue (performs_of alone.action) }

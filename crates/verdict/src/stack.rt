@@ -1,4 +1,5 @@
-ghost use Rattle.std.specs.Prelude.{◌≡◌, ◌+◌, ◌<◌, ◌≤◌, ◌++◌, [], ◌∷◌, OnOk, OnErr, IfErr, IsErrAnd, length, nat_le};
+ghost use Rattle.std.specs.Prelude.{◌≡◌, ◌+◌, ◌<◌, ◌≤◌, ◌++◌, [], ◌∷◌, OnOk, OnErr, IfErr, IsErrAnd, length};
+ghost use Rattle.std.specs.Prelude.{nat_le};
 ghost use Rattle.verdict.specs.declared.stack.TheConstants.{MAX_STACK_INSNS};
 ghost use Rattle.verdict.specs.Stack.{AllSound, IsJudged, counted};
 
@@ -53,7 +54,11 @@ impl Model for Stack {
 
     ghost Value = { Stacked };
 
-    ghost view = { λ s. record { filters = s.filters.items; room = vec_capacity s.filters - length s.filters.items } };
+    ghost view = { λ s. record {
+      filters = s.filters.items;
+      room =
+          vec_capacity s.filters - length s.filters.items;
+    } };
 
     ghost invariant = { λ s. (s.taken ≡ counted s.filters.items) × (s.taken ≤ MAX_STACK_INSNS + 4)
         × AllSound s.filters.items };
@@ -96,7 +101,8 @@ impl Stack {
         ensures back { IfErr result (λ refused. refused.0 ≡ filter) }
 
         // It is too long exactly where its length and what is counted for the others exceed the limit.
-        ensures too_many { IfErr result (λ refused. refused.1 ≡ StackFault.TooManyInsns → MAX_STACK_INSNS < length filter + counted self.old.filters) }
+        ensures too_many { IfErr result (λ refused. refused.1 ≡ StackFault.TooManyInsns
+            → MAX_STACK_INSNS < length filter + counted self.old.filters) }
         ensures refused { MAX_STACK_INSNS < length filter + counted self.old.filters
             → IsErrAnd result (λ refused. refused.1 ≡ StackFault.TooManyInsns) }
 

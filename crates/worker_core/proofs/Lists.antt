@@ -1,11 +1,13 @@
 -- Lists of which one element is changed or removed.
-use Rattle.std.proofs.Common.{◌≡◌, ◌⊎◌, inl, inr, ℕ, List, [], ◌∷◌, ◌++◌, length, Option, Some, None, slice_get, map, refl, ◌∙◌, sym, ap, suc, zero, arith}
+use Rattle.std.proofs.Common.{◌≡◌, ◌⊎◌, inl, inr, ℕ, List, [], ◌∷◌, ◌++◌, length, Option, Some, None}
+use Rattle.std.proofs.Common.{slice_get, map, refl, ◌∙◌, sym, ap, suc, zero, arith}
 use Rattle.std.specs.List.{remove}
 use Rattle.worker_core.specs.declared.slots.Slot.{Slot}
 use Rattle.worker_core.specs.Slots.{AllEndedBy, changed, changed_to}
 
 -- what is left was there
-pub in_remove : {A : Type 0} (xs : List A) (place at : ℕ) (x : A) → slice_get (remove xs place) at ≡ Some x → (j : ℕ) × (slice_get xs j ≡ Some x)
+pub in_remove : {A : Type 0} (xs : List A) (place at : ℕ) (x : A) → slice_get (remove xs place) at ≡ Some x
+    → (j : ℕ) × (slice_get xs j ≡ Some x)
 in_remove [] zero at x e = absurd cc
 in_remove [] (suc place) at x e = absurd cc
 in_remove (y ∷ ys) zero at x e = (suc at, e)
@@ -14,17 +16,20 @@ in_remove (y ∷ ys) (suc place) (suc at) x e =
     let found : (j : ℕ) × (slice_get ys j ≡ Some x) = in_remove ys place at x e in
     (suc found.0, found.1)
 
-pub ended_by_remove : (now : ℕ) (slots : List Slot) (place : ℕ) → AllEndedBy now slots → AllEndedBy now (remove slots place)
+pub ended_by_remove : (now : ℕ) (slots : List Slot) (place : ℕ) → AllEndedBy now slots
+    → AllEndedBy now (remove slots place)
 ended_by_remove now slots place by at slot e =
     let found : (j : ℕ) × (slice_get slots j ≡ Some slot) = in_remove slots place at slot e in
     by found.0 slot found.1
 
 -- what is read off a list goes along with its changes
-pub changed_behind : {A : Type 0} (f : A → A) (x : A) (xs : List A) (place : ℕ) (o : Option A) → changed_to f (x ∷ xs) (suc place) o ≡ x ∷ changed_to f xs place o
+pub changed_behind : {A : Type 0} (f : A → A) (x : A) (xs : List A) (place : ℕ) (o : Option A)
+    → changed_to f (x ∷ xs) (suc place) o ≡ x ∷ changed_to f xs place o
 changed_behind f x xs place None = refl
 changed_behind f x xs place (Some y) = refl
 
-pub map_changed : {A B : Type 0} (g : A → B) (f : A → A) (h : B → B) → ((x : A) → g (f x) ≡ h (g x)) → (xs : List A) (place : ℕ)
+pub map_changed : {A B : Type 0} (g : A → B) (f : A → A) (h : B → B) → ((x : A) → g (f x) ≡ h (g x))
+    → (xs : List A) (place : ℕ)
     → map g (changed f xs place) ≡ changed h (map g xs) place
 map_changed g f h same [] place = refl
 map_changed g f h same (x ∷ xs) zero = λ i. same x i ∷ map g xs
@@ -34,14 +39,17 @@ map_changed g f h same (x ∷ xs) (suc place) =
     ∙ sym (changed_behind h (g x) (map g xs) place (slice_get (map g xs) place))
 
 -- an element of the changed list is as it was, or the one that was changed
-pub in_changed : {A : Type 0} (f : A → A) (xs : List A) (place at : ℕ) (y : A) → slice_get (changed f xs place) at ≡ Some y
+pub in_changed : {A : Type 0} (f : A → A) (xs : List A) (place at : ℕ) (y : A)
+    → slice_get (changed f xs place) at ≡ Some y
     → (slice_get xs at ≡ Some y) ⊎ ((x : A) × (at ≡ place) × (slice_get xs at ≡ Some x) × (y ≡ f x))
 in_changed f [] place at y e = inl e
 in_changed f (x ∷ xs) zero zero y e = inr (x, refl, refl, cc)
 in_changed f (x ∷ xs) zero (suc at) y e = inl e
-in_changed f (x ∷ xs) (suc place) zero y e = inl (ap (λ l. slice_get l zero) (sym (changed_behind f x xs place (slice_get xs place))) ∙ e)
+in_changed f (x ∷ xs) (suc place) zero y e =
+    inl (ap (λ l. slice_get l zero) (sym (changed_behind f x xs place (slice_get xs place))) ∙ e)
 in_changed f (x ∷ xs) (suc place) (suc at) y e =
-    elim (in_changed f xs place at y (ap (λ l. slice_get l (suc at)) (sym (changed_behind f x xs place (slice_get xs place))) ∙ e)) [
+    elim (in_changed f xs place at y (ap (λ l. slice_get l (suc at))
+    (sym (changed_behind f x xs place (slice_get xs place))) ∙ e)) [
       | inl same ↦ inl same
       | inr found ↦ inr (found.0, ap (λ (n : ℕ). suc n) found.1, found.2, found.3)
     ]
@@ -52,7 +60,8 @@ skip zero at = suc at
 skip (suc place) zero = zero
 skip (suc place) (suc at) = suc (skip place at)
 
-pub in_remove_at : {A : Type 0} (xs : List A) (place at : ℕ) (x : A) → slice_get (remove xs place) at ≡ Some x → slice_get xs (skip place at) ≡ Some x
+pub in_remove_at : {A : Type 0} (xs : List A) (place at : ℕ) (x : A) → slice_get (remove xs place) at ≡ Some x
+    → slice_get xs (skip place at) ≡ Some x
 in_remove_at [] zero at x e = absurd cc
 in_remove_at [] (suc place) at x e = absurd cc
 in_remove_at (y ∷ ys) zero at x e = e
@@ -67,7 +76,8 @@ skip_apart (suc place) (suc a) zero e = absurd (omega (arith, e))
 skip_apart (suc place) (suc a) (suc b) e = ap (λ (n : ℕ). suc n) (skip_apart place a b (omega (arith, e)))
 
 -- an element of the longer list was there, or is the new one
-pub in_push : {A : Type 0} (xs : List A) (x : A) (at : ℕ) (y : A) → slice_get (xs ++ x ∷ []) at ≡ Some y → (slice_get xs at ≡ Some y) ⊎ ((at ≡ length xs) × (y ≡ x))
+pub in_push : {A : Type 0} (xs : List A) (x : A) (at : ℕ) (y : A) → slice_get (xs ++ x ∷ []) at ≡ Some y
+    → (slice_get xs at ≡ Some y) ⊎ ((at ≡ length xs) × (y ≡ x))
 in_push [] x zero y e = inr (refl, cc)
 in_push [] x (suc at) y e = absurd cc
 in_push (z ∷ zs) x zero y e = inl e
@@ -78,17 +88,20 @@ in_push (z ∷ zs) x (suc at) y e =
     ]
 
 -- what is read off an element that is there
-pub got : {A B : Type 0} (g : A → B) (xs : List A) (at : ℕ) (y : B) → slice_get (map g xs) at ≡ Some y → (x : A) × (slice_get xs at ≡ Some x) × (g x ≡ y)
+pub got : {A B : Type 0} (g : A → B) (xs : List A) (at : ℕ) (y : B) → slice_get (map g xs) at ≡ Some y
+    → (x : A) × (slice_get xs at ≡ Some x) × (g x ≡ y)
 got g [] at y e = absurd cc
 got g (x ∷ xs) zero y e = (x, refl, cc)
 got g (x ∷ xs) (suc at) y e = got g xs at y e
 
-pub there : {A B : Type 0} (g : A → B) (xs : List A) (at : ℕ) (x : A) → slice_get xs at ≡ Some x → slice_get (map g xs) at ≡ Some (g x)
+pub there : {A B : Type 0} (g : A → B) (xs : List A) (at : ℕ) (x : A) → slice_get xs at ≡ Some x
+    → slice_get (map g xs) at ≡ Some (g x)
 there g [] at x e = absurd cc
 there g (z ∷ zs) zero x e = let same : z ≡ x = cc in ap (λ v. Some (g v)) same
 there g (z ∷ zs) (suc at) x e = there g zs at x e
 
-pub ended_by_push : (now : ℕ) (old new : List Slot) (slot : Slot) → new ≡ old ++ slot ∷ [] → slot.state.latest ≡ 0 → AllEndedBy now old → AllEndedBy now new
+pub ended_by_push : (now : ℕ) (old new : List Slot) (slot : Slot) → new ≡ old ++ slot ∷ []
+    → slot.state.latest ≡ 0 → AllEndedBy now old → AllEndedBy now new
 ended_by_push now old new slot more fresh by at last e =
     elim (in_push old slot at last (ap (λ (slots : List Slot). slice_get slots at) (sym more) ∙ e)) [
       | inl there ↦ by at last there

@@ -1,9 +1,11 @@
--- The refusals of a node, their names and their numbers: this project's own. docs/SEMANTICS.md, "The agent: the node".
+-- The refusals of a node, their names and their numbers: this project's own. docs/SEMANTICS.md, "The agent:
+-- the node".
 use Rattle.std.specs.Prelude.{ℕ, List, codes, Bool, true, false}
 use Rattle.worker_core.specs.declared.answers.Answer.{Answer}
 use Rattle.worker_core.specs.declared.answers.Answer.TheVariants.{Refused}
 use Rattle.worker_core.specs.declared.answers.NodeRefusal.{NodeRefusal}
-use Rattle.worker_core.specs.declared.answers.NodeRefusal.TheVariants.{Full, KnownUid, NoSuchPod, NotYours, ClockBack, Memory}
+use Rattle.worker_core.specs.declared.answers.NodeRefusal.TheVariants.{Full, KnownUid, NoSuchPod, NotYours}
+use Rattle.worker_core.specs.declared.answers.NodeRefusal.TheVariants.{ClockBack, Memory}
 
 abbrev pub refusal_number : NodeRefusal → ℕ
 refusal_number Full = 1

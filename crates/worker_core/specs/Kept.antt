@@ -1,6 +1,7 @@
 -- What a node's agent keeps, what it answers to an event, and what it keeps then: this project's own.
 -- docs/SEMANTICS.md, "The agent: the node".
-use Rattle.std.specs.Prelude.{◌≡◌, ◌⊎◌, ℕ, ◌+◌, nat_le, nat_lt, Bool, true, false, ◌||◌, if◌then◌else◌, List, [], ◌∷◌, ◌++◌, length, Option, Some, None, slice_get}
+use Rattle.std.specs.Prelude.{◌≡◌, ◌⊎◌, ℕ, ◌+◌, nat_le, nat_lt, Bool, true, false, ◌||◌, if◌then◌else◌, List}
+use Rattle.std.specs.Prelude.{[], ◌∷◌, ◌++◌, length, Option, Some, None, slice_get}
 use Rattle.manifest.specs.declared.pods.Pod.{Pod}
 use Rattle.std.specs.Option.{option_map}
 use Rattle.cri_msgs.specs.declared.calls.Request.{Request}
@@ -11,15 +12,18 @@ use Rattle.worker_pod.specs.Next.{next_of, numbered}
 use Rattle.worker_core.specs.declared.answers.Answer.{Answer}
 use Rattle.worker_core.specs.declared.answers.Answer.TheVariants.{Done, Claimed, Nothing, Refused}
 use Rattle.worker_core.specs.declared.answers.NodeRefusal.{NodeRefusal}
-use Rattle.worker_core.specs.declared.answers.NodeRefusal.TheVariants.{Full, KnownUid, NoSuchPod, NotYours, ClockBack, Memory}
+use Rattle.worker_core.specs.declared.answers.NodeRefusal.TheVariants.{Full, KnownUid, NoSuchPod, NotYours}
+use Rattle.worker_core.specs.declared.answers.NodeRefusal.TheVariants.{ClockBack, Memory}
 use Rattle.worker_core.specs.declared.claims.Grant.{Grant}
 use Rattle.worker_core.specs.declared.events.AgentEvent.{AgentEvent}
-use Rattle.worker_core.specs.declared.events.AgentEvent.TheVariants.{Admit, Delete, Claim, Report, Tick, Abandon}
+use Rattle.worker_core.specs.declared.events.AgentEvent.TheVariants.{Admit, Delete, Claim, Report, Tick}
+use Rattle.worker_core.specs.declared.events.AgentEvent.TheVariants.{Abandon}
 use Rattle.worker_core.specs.declared.limits.TheConstants.{LAST_NUMBER, MAX_PODS, MAX_UIDS}
 use Rattle.worker_core.specs.declared.slots.Slot.{Slot}
 use Rattle.worker_core.specs.declared.turns.Turn.{Turn}
 use Rattle.worker_core.specs.Known.{is_known, with_uid}
-use Rattle.worker_core.specs.Slots.{changed, claimed_by, deleted, ended_at, fresh_slot, holder_of, outcome_of, place_of, records_at}
+use Rattle.worker_core.specs.Slots.{changed, claimed_by, deleted, ended_at, fresh_slot, holder_of, outcome_of}
+use Rattle.worker_core.specs.Slots.{place_of, records_at}
 use Rattle.worker_core.specs.Turns.{longest}
 
 pub record KeptNode : Type 0 where
@@ -40,7 +44,8 @@ abbrev pub is_full : KeptNode → Bool
 is_full kept = nat_le MAX_PODS (length kept.slots) || nat_le MAX_UIDS (length kept.known)
 
 abbrev pub refusal_of : KeptNode → Pod → Option NodeRefusal
-refusal_of kept pod = if is_known pod.uid kept.known then Some KnownUid else if is_full kept then Some Full else None
+refusal_of kept pod = if is_known pod.uid kept.known then Some KnownUid else if is_full kept then Some Full
+    else None
 
 abbrev pub admit_answer : Option NodeRefusal → Answer
 admit_answer None = Done
@@ -65,7 +70,14 @@ delete_answer None = Refused NoSuchPod
 delete_answer (Some place) = Done
 
 abbrev pub with_slots : KeptNode → List Slot → KeptNode
-with_slots kept slots = record { settings = kept.settings; moment = kept.moment; number = kept.number; known = kept.known; slots = slots }
+with_slots kept slots = record {
+  settings = kept.settings;
+  moment = kept.moment;
+  number = kept.number;
+  known =
+      kept.known;
+  slots = slots;
+}
 
 abbrev pub after_delete : KeptNode → Option ℕ → KeptNode
 after_delete kept None = kept
@@ -79,7 +91,8 @@ grant_with place uid (Some request) = Some (record { place = place; uid = uid; r
 abbrev pub grant_of_slot : KeptNode → ℕ → Option Slot → Option Grant
 grant_of_slot kept place None = None
 grant_of_slot kept place (Some slot) =
-    grant_with place slot.state.pod.uid (option_map (numbered (kept.number + 1)) (next_of slot.state kept.moment))
+    grant_with place slot.state.pod.uid (option_map (numbered (kept.number + 1))
+    (next_of slot.state kept.moment))
 
 abbrev pub grant_of_turn : KeptNode → Option Turn → Option Grant
 grant_of_turn kept None = None
@@ -87,7 +100,8 @@ grant_of_turn kept (Some turn) = grant_of_slot kept turn.place (slice_get kept.s
 
 -- behind the last number nothing is given
 abbrev pub grant_of : KeptNode → Option Grant
-grant_of kept = if nat_lt kept.number LAST_NUMBER then grant_of_turn kept (longest kept.moment kept.slots) else None
+grant_of kept = if nat_lt kept.number LAST_NUMBER then grant_of_turn kept (longest kept.moment kept.slots)
+    else None
 
 abbrev pub grant_answer : Option Grant → Answer
 grant_answer None = Nothing
@@ -129,7 +143,14 @@ abbrev pub tick_answer : KeptNode → ℕ → Answer
 tick_answer kept now = if nat_lt now kept.moment then Refused ClockBack else Done
 
 abbrev pub with_moment : KeptNode → ℕ → KeptNode
-with_moment kept now = record { settings = kept.settings; moment = now; number = kept.number; known = kept.known; slots = kept.slots }
+with_moment kept now = record {
+  settings = kept.settings;
+  moment = now;
+  number = kept.number;
+  known =
+      kept.known;
+  slots = kept.slots;
+}
 
 abbrev pub after_tick : KeptNode → ℕ → KeptNode
 after_tick kept now = if nat_lt now kept.moment then kept else with_moment kept now
@@ -172,7 +193,8 @@ takes_memory kept (Report worker reported) = records kept (outcome_of reported) 
 takes_memory kept event = false
 
 -- want of memory is told last, and changes nothing
-pub record LacksMemory (due : Answer) (may : Bool) (old : KeptNode) (answer : Answer) (new : KeptNode) : Type 0 where
+pub record LacksMemory (due : Answer) (may : Bool) (old : KeptNode) (answer : Answer)
+    (new : KeptNode) : Type 0 where
   pub takes : may ≡ true
   pub changing : changes due ≡ true
   pub answer_is : answer ≡ Refused Memory
@@ -195,4 +217,5 @@ gives_request (Claim worker) = true
 gives_request event = false
 
 abbrev pub Foresees : KeptNode → AgentEvent → Answer → Type 0
-Foresees kept event answer = (answer ≡ answer_of kept event) ⊎ LacksCopy (answer_of kept event) (gives_request event) answer
+Foresees kept event answer = (answer ≡ answer_of kept event) ⊎ LacksCopy (answer_of kept event)
+    (gives_request event) answer

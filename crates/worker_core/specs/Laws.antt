@@ -1,6 +1,7 @@
 -- What holds of every run of a node: this project's own, over the order of init containers and restarts of
 -- Kubernetes 1.27, pod lifecycle. docs/SEMANTICS.md, "The agent: the node".
-use Rattle.std.specs.Prelude.{◌≡◌, ◌⊎◌, ℕ, ◌+◌, ◌<◌, ◌≤◌, nat_lt, Bool, true, false, List, [], ◌∷◌, length, Option, Some, None, slice_get}
+use Rattle.std.specs.Prelude.{◌≡◌, ◌⊎◌, ℕ, ◌+◌, ◌<◌, ◌≤◌, nat_lt, Bool, true, false, List, [], ◌∷◌, length}
+use Rattle.std.specs.Prelude.{Option, Some, None, slice_get}
 use Rattle.lifecycle.specs.BackOff.{Run, last_of, ready_at}
 use Rattle.lifecycle.specs.Restart.{may_restart}
 use Rattle.lifecycle.specs.declared.track.Track.{Track}
@@ -41,7 +42,8 @@ node_now settings (l ∷ ls) = l.new
 
 abbrev pub IsNodeRun : Settings → List NodeLink → Type 0
 IsNodeRun settings [] = Unit {0}
-IsNodeRun settings (l ∷ ls) = (l.old ≡ node_now settings ls) × NodeStep l.old l.event l.answer l.new × IsNodeRun settings ls
+IsNodeRun settings (l ∷ ls) = (l.old ≡ node_now settings ls) × NodeStep l.old l.event l.answer l.new
+    × IsNodeRun settings ls
 
 -- some link of the list is such
 abbrev pub Happened : (NodeLink → Type 0) → List NodeLink → Type 0
@@ -117,29 +119,39 @@ pub record NodeLaws (settings : Settings) (ls : List NodeLink) : Type 0 where
       → Holds (node_now settings ls) worker uid request → Holds (node_now settings ls) worker another its
       → (uid ≡ another) × (request ≡ its)
   -- what is held was given, and each pod was admitted
-  pub given : (worker : ℕ) (uid : List ℕ) (request : Request) → Holds (node_now settings ls) worker uid request → Happened (Gives worker uid request) ls
-  pub admitted : (at : ℕ) (p : OnNode) → slice_get (node_now settings ls).pods at ≡ Some p → Happened (Admits p.past.pod) ls
+  pub given : (worker : ℕ) (uid : List ℕ) (request : Request)
+      → Holds (node_now settings ls) worker uid request → Happened (Gives worker uid request) ls
+  pub admitted : (at : ℕ) (p : OnNode) → slice_get (node_now settings ls).pods at ≡ Some p
+      → Happened (Admits p.past.pod) ls
   -- what is asked for a pod is about the pod
-  pub held_is_about : (worker : ℕ) (uid : List ℕ) (request : Request) → Holds (node_now settings ls) worker uid request → uid_of request.call ≡ uid
-  pub claims_are_about : (at : ℕ) (p : OnNode) → slice_get (node_now settings ls).pods at ≡ Some p → AreOf p.past.pod.uid p.past.claims
+  pub held_is_about : (worker : ℕ) (uid : List ℕ) (request : Request)
+      → Holds (node_now settings ls) worker uid request → uid_of request.call ≡ uid
+  pub claims_are_about : (at : ℕ) (p : OnNode) → slice_get (node_now settings ls).pods at ≡ Some p
+      → AreOf p.past.pod.uid p.past.claims
   -- each ended claim of a pod was held by a worker that told how it ended
-  pub ended : (at : ℕ) (p : OnNode) (c : Claimed) → slice_get (node_now settings ls).pods at ≡ Some p → Among c p.past.claims → Happened (Ends p.past.pod.uid c) ls
+  pub ended : (at : ℕ) (p : OnNode) (c : Claimed) → slice_get (node_now settings ls).pods at ≡ Some p
+      → Among c p.past.claims → Happened (Ends p.past.pod.uid c) ls
   -- each container of the manifest has its track at its place, which says whether it is an init container
   pub tracked : (at : ℕ) (p : OnNode) → slice_get (node_now settings ls).pods at ≡ Some p
-      → length (read_off p.past.pod (node_now settings ls).settings p.past.claims).tracks ≡ length p.past.pod.containers.all
+      → length (read_off p.past.pod (node_now settings ls).settings p.past.claims).tracks
+      ≡ length p.past.pod.containers.all
   pub inits : (at : ℕ) (p : OnNode) → slice_get (node_now settings ls).pods at ≡ Some p
-      → (place : ℕ) (track : Track) → slice_get (read_off p.past.pod (node_now settings ls).settings p.past.claims).tracks place ≡ Some track
+      → (place : ℕ) (track : Track) → slice_get
+      (read_off p.past.pod (node_now settings ls).settings p.past.claims).tracks place ≡ Some track
       → track.init ≡ is_init p.past.pod place
   -- the run at each place, from 0, was told by a reply to a claim of the container's attempt of that number
   pub numbered : (at : ℕ) (p : OnNode) → slice_get (node_now settings ls).pods at ≡ Some p
       → (place : ℕ) (track : Track) (container : Container)
-      → slice_get (read_off p.past.pod (node_now settings ls).settings p.past.claims).tracks place ≡ Some track
+      → slice_get (read_off p.past.pod (node_now settings ls).settings p.past.claims).tracks place
+      ≡ Some track
       → slice_get p.past.pod.containers.all place ≡ Some container
-      → (k : ℕ) (run : Run) → slice_get track.runs k ≡ Some run → Told p.past.pod.uid p.past.claims container.name k run
+      → (k : ℕ) (run : Run) → slice_get track.runs k ≡ Some run
+      → Told p.past.pod.uid p.past.claims container.name k run
   -- and where the container's attempt ended, the last run is that attempt's
   pub told : (at : ℕ) (p : OnNode) → slice_get (node_now settings ls).pods at ≡ Some p
       → (place : ℕ) (track : Track) (container : Container)
-      → slice_get (read_off p.past.pod (node_now settings ls).settings p.past.claims).tracks place ≡ Some track
+      → slice_get (read_off p.past.pod (node_now settings ls).settings p.past.claims).tracks place
+      ≡ Some track
       → slice_get p.past.pod.containers.all place ≡ Some container
       → WasTold p.past.pod.uid p.past.claims container.name track
 
@@ -159,11 +171,13 @@ pub record GivenLaw (old : NodeState) (worker : ℕ) (uid : List ℕ) (request :
   pub number : request.id ≡ old.number + 1
   pub longest : (at : ℕ) (other : OnNode) → slice_get old.pods at ≡ Some other → other.held ≡ None
       → ¬ (next_of (state_of old other) old.moment ≡ None)
-      → ((state_of old pod).worked ≤ (state_of old other).worked) × (at < place → (state_of old pod).worked < (state_of old other).worked)
+      → ((state_of old pod).worked ≤ (state_of old other).worked)
+      × (at < place → (state_of old pod).worked < (state_of old other).worked)
 
 -- attempt k is behind: its run is the last that the node holds, it was told, another may be, and the back-off
 -- is over
-pub record Again (node : NodeState) (p : OnNode) (place : ℕ) (track : Track) (container : Container) (k : ℕ) : Type 0 where
+pub record Again (node : NodeState) (p : OnNode) (place : ℕ) (track : Track) (container : Container)
+    (k : ℕ) : Type 0 where
   pub run : Run
   pub last : last_of track.runs ≡ Some run
   pub was_told : Told p.past.pod.uid p.past.claims container.name k run
@@ -180,9 +194,10 @@ pub record EndedWithZero (node : NodeState) (p : OnNode) (place : ℕ) (containe
   pub attempt : ℕ
   pub was_told : Told p.past.pod.uid p.past.claims container.name attempt run
 
--- where an attempt at a container is made: the request is what the manifest says, the init containers, for one
--- of them those in front of it, have ended with code 0, and so on behind an attempt that ended
-pub record CreationLaw (old : NodeState) (uid : List ℕ) (key : Key) (image : List ℕ) (profile : SeccompProfile) : Type 0 where
+-- where an attempt at a container is made: the request is what the manifest says, the init containers, for
+-- one of them those in front of it, have ended with code 0, and so on behind an attempt that ended
+pub record CreationLaw (old : NodeState) (uid : List ℕ) (key : Key) (image : List ℕ)
+    (profile : SeccompProfile) : Type 0 where
   pub place : ℕ
   pub pod : OnNode
   pub here : slice_get old.pods place ≡ Some pod
@@ -193,9 +208,12 @@ pub record CreationLaw (old : NodeState) (uid : List ℕ) (key : Key) (image : L
   pub container_is : slice_get pod.past.pod.containers.all creation.place ≡ Some creation.container
   pub key_is : key ≡ key_named uid creation.container.name key.container.attempt
   pub profile_is : profile ≡ choice_of pod.past.pod.profile creation.container old.settings.seccomp_default
-  pub inits : (at : ℕ) (container : Container) → slice_get pod.past.pod.containers.all at ≡ Some container → is_init pod.past.pod at ≡ true
-      → (is_init pod.past.pod creation.place ≡ true → at < creation.place) → EndedWithZero old pod at container
-  pub again : (k : ℕ) → key.container.attempt ≡ k + 1 → Again old pod creation.place creation.track creation.container k
+  pub inits : (at : ℕ) (container : Container) → slice_get pod.past.pod.containers.all at ≡ Some container
+      → is_init pod.past.pod at ≡ true
+      → (is_init pod.past.pod creation.place ≡ true → at < creation.place)
+      → EndedWithZero old pod at container
+  pub again : (k : ℕ) → key.container.attempt ≡ k + 1
+      → Again old pod creation.place creation.track creation.container k
 
 -- the pod is on the node still
 pub record Stays (new : NodeState) (p : OnNode) : Type 0 where
@@ -204,7 +222,8 @@ pub record Stays (new : NodeState) (p : OnNode) : Type 0 where
   pub here : slice_get new.pods place ≡ Some now
   pub same : now.past.pod ≡ p.past.pod
 
--- the worker that held the pod told how its claim ended, and with that claim the removal of its sandbox was answered
+-- the worker that held the pod told how its claim ended, and with that claim the removal of its sandbox was
+-- answered
 pub record HasLeft (old : NodeState) (event : AgentEvent) (p : OnNode) : Type 0 where
   pub held : Held
   pub by : p.held ≡ Some held
@@ -219,13 +238,18 @@ pub record NodeLinkLaws (l : NodeLink) (before : List NodeLink) : Type 0 where
   -- a number is used once
   pub number_once : (worker other : ℕ) (uid another : List ℕ) (request its : Request)
       → Gives worker uid request l → Happened (Gives other another its) before → its.id < request.id
-  pub given : (worker : ℕ) (uid : List ℕ) (request : Request) → Gives worker uid request l → GivenLaw l.old worker uid request
+  pub given : (worker : ℕ) (uid : List ℕ) (request : Request) → Gives worker uid request l
+      → GivenLaw l.old worker uid request
   -- only a worker that claims is given a request
-  pub asked : (uid : List ℕ) (number : ℕ) (request : Request) → l.answer ≡ Given uid number request → (worker : ℕ) × Gives worker uid request l
+  pub asked : (uid : List ℕ) (number : ℕ) (request : Request) → l.answer ≡ Given uid number request
+      → (worker : ℕ) × Gives worker uid request l
   -- where a worker is given nothing, nothing is due, or there is no number left
-  pub nothing : (worker : ℕ) → l.event ≡ Claim worker → l.answer ≡ Nothing → l.old.number < LAST_NUMBER → ¬ IsDueAt l.old l.old.moment
+  pub nothing : (worker : ℕ) → l.event ≡ Claim worker → l.answer ≡ Nothing → l.old.number < LAST_NUMBER
+      → ¬ IsDueAt l.old l.old.moment
   pub creation : (worker : ℕ) (uid : List ℕ) (request : Request) → Gives worker uid request l
-      → (key : Key) (image : List ℕ) (profile : SeccompProfile) → request.call ≡ CreateContainer key image profile
+      → (key : Key) (image : List ℕ) (profile : SeccompProfile)
+      → request.call ≡ CreateContainer key image profile
       → CreationLaw l.old uid key image profile
   -- a pod leaves only where the removal of its sandbox was answered
-  pub remains : (at : ℕ) (p : OnNode) → slice_get l.old.pods at ≡ Some p → Stays l.new p ⊎ HasLeft l.old l.event p
+  pub remains : (at : ℕ) (p : OnNode) → slice_get l.old.pods at ≡ Some p
+      → Stays l.new p ⊎ HasLeft l.old l.event p

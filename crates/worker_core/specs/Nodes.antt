@@ -1,6 +1,7 @@
 -- A node, as the whole list of each pod's ended claims says it, and what an event makes of it: this project's
 -- own. docs/SEMANTICS.md, "The agent: the node".
-use Rattle.std.specs.Prelude.{◌≡◌, ◌⊎◌, ℕ, ◌≤◌, nat_lt, true, if◌then◌else◌, List, [], ◌∷◌, ◌++◌, length, map, Option, Some, None, slice_get}
+use Rattle.std.specs.Prelude.{◌≡◌, ◌⊎◌, ℕ, ◌≤◌, nat_lt, true, if◌then◌else◌, List, [], ◌∷◌, ◌++◌, length, map}
+use Rattle.std.specs.Prelude.{Option, Some, None, slice_get}
 use Rattle.std.specs.List.{remove}
 use Rattle.manifest.specs.declared.pods.Pod.{Pod}
 use Rattle.cri_msgs.specs.declared.calls.Call.{Call}
@@ -15,7 +16,8 @@ use Rattle.worker_core.specs.declared.answers.NodeRefusal.{NodeRefusal}
 use Rattle.worker_core.specs.declared.answers.NodeRefusal.TheVariants.{Memory}
 use Rattle.worker_core.specs.declared.claims.Grant.{Grant}
 use Rattle.worker_core.specs.declared.events.AgentEvent.{AgentEvent}
-use Rattle.worker_core.specs.declared.events.AgentEvent.TheVariants.{Admit, Delete, Claim, Report, Tick, Abandon}
+use Rattle.worker_core.specs.declared.events.AgentEvent.TheVariants.{Admit, Delete, Claim, Report, Tick}
+use Rattle.worker_core.specs.declared.events.AgentEvent.TheVariants.{Abandon}
 use Rattle.worker_core.specs.declared.slots.Held.{Held}
 use Rattle.worker_core.specs.declared.slots.Slot.{Slot}
 use Rattle.worker_core.specs.Known.{is_known}
@@ -48,7 +50,14 @@ abbrev pub slots_of : NodeState → List Slot
 slots_of node = map (slot_of node.settings) node.pods
 
 abbrev pub kept_of : NodeState → KeptNode
-kept_of node = record { settings = node.settings; moment = node.moment; number = node.number; known = node.admitted; slots = slots_of node }
+kept_of node = record {
+  settings = node.settings;
+  moment = node.moment;
+  number = node.number;
+  known =
+      node.admitted;
+  slots = slots_of node;
+}
 
 -- Admit
 abbrev pub with_admitted : NodeState → Pod → NodeState
@@ -66,7 +75,13 @@ admit_node node pod (Some refusal) = node
 
 -- Delete
 abbrev pub with_pods : NodeState → List OnNode → NodeState
-with_pods node pods = record { settings = node.settings; moment = node.moment; number = node.number; admitted = node.admitted; pods = pods }
+with_pods node pods = record {
+  settings = node.settings;
+  moment = node.moment;
+  number = node.number;
+  admitted = node.admitted;
+  pods = pods;
+}
 
 abbrev pub pod_deleted : OnNode → OnNode
 pod_deleted p = record { past = as_deleted p.past; held = p.held }
@@ -96,24 +111,35 @@ abbrev pub claim_node : NodeState → ℕ → Option ℕ → NodeState
 claim_node node worker None = give_node node worker (grant_of (kept_of node))
 claim_node node worker (Some place) = node
 
--- Report and Abandon: the claim ends now, and stands first among the pod's; a pod whose removal was answered leaves
+-- Report and Abandon: the claim ends now, and stands first among the pod's; a pod whose removal was answered
+-- leaves
 abbrev pub past_ended : ℕ → Outcome → Past → Option Held → Past
 past_ended now how past None = past
-past_ended now how past (Some held) = with_claim past (record { moment = now; request = held.request; outcome = how })
+past_ended now how past (Some held) = with_claim past
+    (record { moment = now; request = held.request; outcome = how })
 
 abbrev pub pod_ended : ℕ → Outcome → OnNode → OnNode
 pod_ended now how p = record { past = past_ended now how p.past p.held; held = None }
 
 abbrev pub pods_left : Settings → List OnNode → ℕ → List OnNode
-pods_left settings pods place = if is_gone_slot (slice_get (map (slot_of settings) pods) place) then remove pods place else pods
+pods_left settings pods place = if is_gone_slot (slice_get (map (slot_of settings) pods) place)
+    then remove pods place else pods
 
 abbrev pub end_node : NodeState → Outcome → Option ℕ → NodeState
 end_node node how None = node
-end_node node how (Some place) = with_pods node (pods_left node.settings (changed (pod_ended node.moment how) node.pods place) place)
+end_node node how (Some place) = with_pods node
+    (pods_left node.settings (changed (pod_ended node.moment how) node.pods place) place)
 
 -- Tick
 abbrev pub at_moment : NodeState → ℕ → NodeState
-at_moment node now = record { settings = node.settings; moment = now; number = node.number; admitted = node.admitted; pods = node.pods }
+at_moment node now = record {
+  settings = node.settings;
+  moment = now;
+  number = node.number;
+  admitted =
+      node.admitted;
+  pods = node.pods;
+}
 
 abbrev pub tick_node : NodeState → ℕ → NodeState
 tick_node node now = if nat_lt now node.moment then node else at_moment node now
@@ -123,7 +149,8 @@ abbrev pub next_node : NodeState → AgentEvent → NodeState
 next_node node (Admit pod) = admit_node node pod (refusal_of (kept_of node) pod)
 next_node node (Delete uid) = delete_node node (place_of uid (slots_of node))
 next_node node (Claim worker) = claim_node node worker (holder_of worker (slots_of node))
-next_node node (Report worker reported) = end_node node (outcome_of reported) (holder_of worker (slots_of node))
+next_node node (Report worker reported) =
+    end_node node (outcome_of reported) (holder_of worker (slots_of node))
 next_node node (Tick now) = tick_node node now
 next_node node (Abandon worker) = end_node node outcome.Abandoned (holder_of worker (slots_of node))
 
@@ -133,7 +160,8 @@ pub record IsTaken (old : NodeState) (event : AgentEvent) (answer : Answer) (new
   pub new_is : new ≡ next_node old event
 
 -- it would be taken, but there is no memory for it
-pub record IsOutOfMemory (old : NodeState) (event : AgentEvent) (answer : Answer) (new : NodeState) : Type 0 where
+pub record IsOutOfMemory (old : NodeState) (event : AgentEvent) (answer : Answer)
+    (new : NodeState) : Type 0 where
   pub takes : takes_memory (kept_of old) event ≡ true
   pub changing : changes (answer_of (kept_of old) event) ≡ true
   pub answer_is : answer ≡ Refused Memory

@@ -1,6 +1,7 @@
 -- Which pod a worker is given, and from when on one can be given: this project's own. docs/SEMANTICS.md,
 -- "The agent: the node".
-use Rattle.std.specs.Prelude.{ℕ, ◌+◌, nat_lt, min, max, Bool, true, ◌&&◌, if◌then◌else◌, List, [], ◌∷◌, Option, Some, None}
+use Rattle.std.specs.Prelude.{ℕ, ◌+◌, nat_lt, min, max, Bool, true, ◌&&◌, if◌then◌else◌, List, [], ◌∷◌}
+use Rattle.std.specs.Prelude.{Option, Some, None}
 use Rattle.worker_pod.specs.Next.{has_come}
 use Rattle.worker_core.specs.declared.slots.Slot.{Slot}
 use Rattle.worker_core.specs.declared.turns.Turn.{Turn}

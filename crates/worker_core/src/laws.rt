@@ -18,7 +18,8 @@ use worker_pod::{
 /// the init containers, and behind the back-off of a run that was told.
 pub fn every_run()
     ensures run { (settings : Settings) (ls : List NodeLink) → IsNodeRun settings ls → NodeLaws settings ls }
-    ensures link { (settings : Settings) (l : NodeLink) (before : List NodeLink) → IsNodeRun settings (l ∷ before) → NodeLinkLaws l before }
+    ensures link { (settings : Settings) (l : NodeLink) (before : List NodeLink)
+        → IsNodeRun settings (l ∷ before) → NodeLinkLaws l before }
 {
     calls_are_of_the_pod();
     creations_follow();
@@ -32,9 +33,11 @@ pub fn every_run()
 /// Where as many uids were admitted as may ever be, one of them is told as known and any other finds the node
 /// full, whatever pods are there.
 pub fn uids_end()
-    ensures known { (kept : KeptNode) (pod : Pod) → length kept.known ≡ MAX_UIDS → is_known pod.uid kept.known ≡ true
+    ensures known { (kept : KeptNode) (pod : Pod) → length kept.known ≡ MAX_UIDS
+        → is_known pod.uid kept.known ≡ true
         → refusal_of kept pod ≡ Some NodeRefusal.KnownUid }
-    ensures new { (kept : KeptNode) (pod : Pod) → length kept.known ≡ MAX_UIDS → is_known pod.uid kept.known ≡ false
+    ensures new { (kept : KeptNode) (pod : Pod) → length kept.known ≡ MAX_UIDS
+        → is_known pod.uid kept.known ≡ false
         → refusal_of kept pod ≡ Some NodeRefusal.Full }
 {}
 

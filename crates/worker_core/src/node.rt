@@ -1,6 +1,10 @@
-ghost use Rattle.std.specs.Prelude.{◌≡◌, ◌<◌, ◌≤◌, Some, None, length, nat_lt, true, false, is_some, slice_get, map, IfSome, IfOk, OnOk, OnErr, option_copied, IsOk};
+ghost use Rattle.std.specs.Prelude.{◌≡◌, ◌<◌, ◌≤◌, Some, None, length, nat_lt, true, false, is_some};
+ghost use Rattle.std.specs.Prelude.{slice_get, map, IfSome, IfOk, OnOk, OnErr, option_copied, IsOk};
 ghost use Rattle.worker_core.specs.declared.limits.TheConstants.{LAST_NUMBER, MAX_PODS, MAX_UIDS};
-ghost use Rattle.worker_core.specs.Kept.{Foresees, KeptStep, Takes, admit_answer, after_admit, after_claim, after_delete, after_end, after_tick, claim_answer, delete_answer, end_answer, fresh_node, grant_of, grant_of_turn, is_full, changes, records, refusal_of, tick_answer, with_grant, with_pod};
+ghost use Rattle.worker_core.specs.Kept.{Foresees, KeptStep, Takes, admit_answer, after_admit, after_claim};
+ghost use Rattle.worker_core.specs.Kept.{after_delete, after_end, after_tick, claim_answer, delete_answer};
+ghost use Rattle.worker_core.specs.Kept.{end_answer, fresh_node, grant_of, grant_of_turn, is_full, changes};
+ghost use Rattle.worker_core.specs.Kept.{records, refusal_of, tick_answer, with_grant, with_pod};
 ghost use Rattle.worker_pod.specs.Next.{phase_in};
 ghost use Rattle.worker_core.specs.Turns.{soonest};
 ghost use Rattle.worker_core.specs.Laws.{IsClaimOf};
@@ -51,7 +55,10 @@ impl Model for Node {
     } };
 
     // No claim ended later than now, and the pods are few enough to be counted.
-    ghost invariant = { λ n. record { ended : AllEndedBy n.moment n.slots.items; few : length n.slots.items ≤ MAX_PODS } };
+    ghost invariant = { λ n. record {
+      ended : AllEndedBy n.moment n.slots.items;
+      few : length n.slots.items ≤ MAX_PODS;
+    } };
 }
 
 fn admit_answer(refusal: Option<NodeRefusal>) -> Answer
@@ -218,7 +225,8 @@ impl Node {
     }
 
     fn claim_answer(&self, worker: u32) -> Result<Answer, AllocError>
-        ensures answer { IfOk result (λ answer. answer ≡ claim_answer self.now (holder_of worker self.now.slots)) }
+        ensures answer { IfOk result (λ answer.
+            answer ≡ claim_answer self.now (holder_of worker self.now.slots)) }
         ensures only { OnErr result (changes (claim_answer self.now (holder_of worker self.now.slots)) ≡ true) }
     {
         if self.is_busy(worker) {
@@ -231,7 +239,8 @@ impl Node {
     }
 
     fn claim(&mut self, worker: u32) -> Result<Answer, AllocError>
-        ensures answer { IfOk result (λ answer. answer ≡ claim_answer self.old (holder_of worker self.old.slots)) }
+        ensures answer { IfOk result (λ answer.
+            answer ≡ claim_answer self.old (holder_of worker self.old.slots)) }
         ensures node { OnOk result (self.new ≡ after_claim self.old worker (holder_of worker self.old.slots)) }
         ensures err { OnErr result (self.new ≡ self.old) }
         ensures only { OnErr result (changes (claim_answer self.old (holder_of worker self.old.slots)) ≡ true) }
@@ -266,7 +275,10 @@ impl Node {
     }
 
     fn report(&mut self, worker: u32, reported: Reported) -> Answer
-        ensures { Takes (end_answer (holder_of worker self.old.slots)) (after_end self.old (outcome_of reported) (holder_of worker self.old.slots)) (records self.old (outcome_of reported) (holder_of worker self.old.slots)) self.old result self.new }
+        ensures { Takes (end_answer (holder_of worker self.old.slots))
+            (after_end self.old (outcome_of reported) (holder_of worker self.old.slots))
+            (records self.old (outcome_of reported) (holder_of worker self.old.slots)) self.old result
+            self.new }
     {
         match self.end(worker, reported.outcome()) {
             Ok(answer) => answer,
@@ -335,7 +347,8 @@ impl Node {
     /// copied, and may lack memory.
     pub fn answer(&self, event: &AgentEvent) -> Answer
         ensures kept { Foresees self.now event.now result }
-        ensures answer { (node : NodeState) → StandsFor self.now node → Foresees (kept_of node) event.now result }
+        ensures answer { (node : NodeState) → StandsFor self.now node
+            → Foresees (kept_of node) event.now result }
     {
         self.foreseen(event)
     }
@@ -344,9 +357,12 @@ impl Node {
     pub fn pod(&self, i: usize) -> Option<PodView<'_>>
         ensures there { is_some result ≡ is_some (slice_get self.now.slots i) }
         ensures few { length self.now.slots ≤ MAX_PODS }
-        ensures pod { IfSome result (λ view. slice_get (map (λ slot. slot.state.pod) self.now.slots) i ≡ Some view.pod.now) }
-        ensures tracks { IfSome result (λ view. slice_get (map (λ slot. slot.state.tracks) self.now.slots) i ≡ Some view.tracks.now) }
-        ensures phase { IfSome result (λ view. slice_get (map (λ slot. phase_in slot.state) self.now.slots) i ≡ Some view.phase) }
+        ensures pod { IfSome result (λ view. slice_get (map (λ slot. slot.state.pod) self.now.slots) i
+            ≡ Some view.pod.now) }
+        ensures tracks { IfSome result (λ view. slice_get (map (λ slot. slot.state.tracks) self.now.slots) i
+            ≡ Some view.tracks.now) }
+        ensures phase { IfSome result (λ view. slice_get (map (λ slot. phase_in slot.state) self.now.slots) i
+            ≡ Some view.phase) }
     {
         match self.slots.as_slice().get(i) {
             Some(slot) => Some(slot.state.view()),
@@ -376,7 +392,8 @@ impl Node {
         ensures kept { option_copied result ≡ claim_of worker self.now.slots }
 
         // It is what the worker holds at every node that what is held stands for.
-        ensures claim { (node : NodeState) → StandsFor self.now node → IsClaimOf node worker (option_copied result) }
+        ensures claim { (node : NodeState) → StandsFor self.now node
+            → IsClaimOf node worker (option_copied result) }
     {
         claim_of(worker, self.slots.as_slice())
     }

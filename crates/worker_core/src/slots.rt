@@ -1,7 +1,11 @@
-ghost use Rattle.std.specs.Prelude.{◌≡◌, ℕ, ◌+◌, ◌<◌, ◌≤◌, [], ◌∷◌, ◌++◌, Some, None, true, false, length, slice_get, vec_len, vec_capacity, IfOk, OnOk, OnErr, option_copied, IsOk};
+ghost use Rattle.std.specs.Prelude.{◌≡◌, ℕ, ◌+◌, ◌<◌, ◌≤◌, [], ◌∷◌, ◌++◌, Some, None, true, false, length};
+ghost use Rattle.std.specs.Prelude.{slice_get, vec_len, vec_capacity, IfOk, OnOk, OnErr, option_copied, IsOk};
 ghost use Rattle.std.specs.String.{string_bytes};
 ghost use Rattle.worker_core.specs.Known.{with_uid};
-ghost use Rattle.worker_core.specs.Slots.{AllEndedBy, changed, claimed_by, deleted, ended, ended_at, free_due, fresh_slot, held_in, holder_of, is_free, is_gone_slot, is_held_by, left, place_of, claim_of, request_at, request_of, records_at, records_held};
+ghost use Rattle.worker_core.specs.Slots.{AllEndedBy, changed, claimed_by, deleted, ended, ended_at};
+ghost use Rattle.worker_core.specs.Slots.{free_due, fresh_slot, held_in, holder_of, is_free, is_gone_slot};
+ghost use Rattle.worker_core.specs.Slots.{is_held_by, left, place_of, claim_of, request_at, request_of};
+ghost use Rattle.worker_core.specs.Slots.{records_at, records_held};
 
 use crate::known::KnownUids;
 use cri_msgs::Request;

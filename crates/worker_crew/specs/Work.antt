@@ -1,5 +1,5 @@
--- What a worker of the agent does, as its receipts tell it: this project's own. docs/SEMANTICS.md, "The agent:
--- workers".
+-- What a worker of the agent does, as its receipts tell it: this project's own. docs/SEMANTICS.md, "The
+-- agent: workers".
 use Rattle.std.specs.Prelude.{◌≡◌, ℕ, ◌<◌, List, [], ◌∷◌, ◌++◌, Option, Some, None, Result, Ok, Err}
 use Rattle.cri_frames.specs.declared.faults.Lost.{Lost}
 use Rattle.cri_msgs.specs.declared.calls.Request.{Request}
@@ -40,16 +40,18 @@ refused_by (Refused refusal) = Some refusal
 refused_by answer = None
 
 -- an event of the worker became an entry, whose receipt comes last, and it is told why the node refused it
-pub record Recorded (worker : ℕ) (event : AgentEvent) (told : Option NodeRefusal) (old new : List Received) : Type 0 where
+pub record Recorded (worker : ℕ) (event : AgentEvent) (told : Option NodeRefusal)
+    (old new : List Received) : Type 0 where
   pub receipt : Received
   pub last : new ≡ old ++ receipt ∷ []
   pub worker_is : receipt.entry.worker ≡ worker
   pub event_is : receipt.entry.event ≡ event
   pub refused : told ≡ refused_by receipt.entry.answer
 
--- from a claim's request and the number of its entry on: the numbers rise, the entries are the worker's, and each
--- report comes right behind its claim
-abbrev pub IsWorkFrom : (Request → Result Reply Lost → Type 0) → ℕ → Option Request → ℕ → List Received → Type 0
+-- from a claim's request and the number of its entry on: the numbers rise, the entries are the worker's, and
+-- each report comes right behind its claim
+abbrev pub IsWorkFrom : (Request → Result Reply Lost → Type 0) → ℕ → Option Request → ℕ → List Received
+    → Type 0
 IsWorkFrom may worker before low [] = Unit {0}
 IsWorkFrom may worker before low (r ∷ rs) =
     (low < r.number) × (r.entry.worker ≡ worker) × MayFollow may before r.entry.event

@@ -76,7 +76,8 @@ fn start_workers<
 ) -> WorkerPool<L, P>
     requires few { vec_len peers < PARTS }
     requires parts { vec_len peers < coordinator.old.parts }
-    ensures parts { IsTrue result.complete → coordinator.new.parts + vec_len result.threads ≡ coordinator.old.parts }
+    ensures parts { IsTrue result.complete → coordinator.new.parts + vec_len result.threads
+        ≡ coordinator.old.parts }
     ensures few { vec_len result.threads < PARTS }
 {
     let mut threads = Vec::new(alloc);
@@ -118,7 +119,8 @@ fn join_workers<L: Ledger, P: Drop, R: Threads>(
     peers: &mut Vec<P>,
     pool: WorkerPool<L, P>,
 ) -> bool
-    ensures whole { IsTrue result → IsTrue pool.complete × (all.new.parts ≡ all.old.parts + vec_len pool.threads) }
+    ensures whole { IsTrue result → IsTrue pool.complete
+        × (all.new.parts ≡ all.old.parts + vec_len pool.threads) }
     ensures few { vec_len peers.new ≤ vec_len peers.old + vec_len pool.threads }
 {
     let WorkerPool { threads, complete } = pool;
@@ -140,8 +142,8 @@ struct WorkGroup<L: Ledger, P: Drop, E: Drop> {
     errands: E,
 }
 
-// What is left of a part: the receipts for all that was done in it, if they could be brought together, the peers,
-// and what worker 0 does beside telling the time.
+// What is left of a part: the receipts for all that was done in it, if they could be brought together, the
+// peers, and what worker 0 does beside telling the time.
 #[derive(Drop)]
 struct PartEnd<L: Ledger, P: Drop, E: Drop> {
     ended: Ended,
@@ -155,8 +157,8 @@ struct PartEnd<L: Ledger, P: Drop, E: Drop> {
 pub struct CrewEnd<L: Ledger, E: Drop> {
     /// Why it ended.
     pub ended: Ended,
-    /// The receipts for all that was done in the last part of the history; none where they could not be brought
-    /// together.
+    /// The receipts for all that was done in the last part of the history; none where they could not be
+    /// brought together.
     pub tally: Option<Tally<L>>,
     pub errands: E,
 }
@@ -250,12 +252,12 @@ fn part<
     )
 }
 
-/// Starts a worker for each of these peers, numbered from 1, in a thread of its own, and tells the time and runs
-/// the errands beside them until there is nothing left to wait for; a clock that is counted waits for the
-/// counterpart's containers before it moves on. Where a part of the history is full the workers come to rest, and
-/// begin anew at the next part; HistoryFull is told where the part can't end. The book is closed at last, and calls
-/// that are under way are ended. The tally has the receipts of all workers and the coordinator's, for all that was
-/// done in the last part; none where they could not be brought together.
+/// Starts a worker for each of these peers, numbered from 1, in a thread of its own, and tells the time and
+/// runs the errands beside them until there is nothing left to wait for; a clock that is counted waits for
+/// the counterpart's containers before it moves on. Where a part of the history is full the workers come to
+/// rest, and begin anew at the next part; HistoryFull is told where the part can't end. The book is closed at
+/// last, and calls that are under way are ended. The tally has the receipts of all workers and the
+/// coordinator's, for all that was done in the last part; none where they could not be brought together.
 pub fn crew<
     L: Ledger + Send + Sync,
     P: Peer + Send + Drop,

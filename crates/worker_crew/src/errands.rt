@@ -26,7 +26,8 @@ pub trait Errands {
     /// Up to which moment time is counted, where the crew was to count up to this one.
     fn until(&self, until: u64) -> u64;
 
-    /// Counted time has come to this end, at this moment. With what the crew ends; none where there is more to do.
+    /// Counted time has come to this end, at this moment. With what the crew ends; none where there is more
+    /// to do.
     fn at_end(&mut self, ended: Ended, now: u64) -> Option<Ended>;
 }
 

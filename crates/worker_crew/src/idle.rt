@@ -41,7 +41,8 @@ fn is_over(node: &Node) -> bool {
     true
 }
 
-/// What is to be done at this moment by the one who tells the time. None where the workers have something to do.
+/// What is to be done at this moment by the one who tells the time. None where the workers have something to
+/// do.
 pub(crate) fn standstill_of<L: Ledger>(
     book: &Book<L>,
     workers: u32,

@@ -1,5 +1,5 @@
-//! What is kept beside a node's book of what its entries changed: lines that were not told yet, and why containers
-//! wait. It is brought up to date under the book's lock, so that no change is missed.
+//! What is kept beside a node's book of what its entries changed: lines that were not told yet, and why
+//! containers wait. It is brought up to date under the book's lock, so that no change is missed.
 
 use cri_msgs::{Answer, Call};
 use lifecycle::Phase;
@@ -143,7 +143,8 @@ impl Observer {
         Ok(Before { call: copy, seen })
     }
 
-    /// What a worker's claim is about that is about to end. None where nothing is kept, or there is no memory.
+    /// What a worker's claim is about that is about to end. None where nothing is kept, or there is no
+    /// memory.
     pub(crate) fn before(&mut self, node: &Node, worker: u32) -> Option<Before> {
         if self.observed == Observed::Nothing {
             return None;

@@ -83,8 +83,8 @@ impl TimeKeeper {
         }
     }
 
-    /// Waits for the workers of a part that is full: each ends once its call has come back, or the last moment
-    /// was reached before.
+    /// Waits for the workers of a part that is full: each ends once its call has come back, or the last
+    /// moment was reached before.
     pub(crate) fn rest<L: Ledger, R: Wait + Clock>(&self, rt: &R, shared: &Shared<L>) -> Ended {
         if let Pace::Machine(Some(until)) = self.pace {
             for _ in rt.forever() {
@@ -158,8 +158,8 @@ impl TimeKeeper {
     }
 }
 
-// When the clock is to be looked at again, if nothing changes before: where workers have something to do, in a
-// second.
+// When the clock is to be looked at again, if nothing changes before: where workers have something to do, in
+// a second.
 fn next_look(found: Option<Standstill>, now: u64) -> u64 {
     match found {
         Some(Standstill::At(due)) => due,

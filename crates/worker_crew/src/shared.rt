@@ -15,8 +15,8 @@ use std::sync::{Condvar, CondvarTimeouts, Mutex, Wait};
 use std::time::{Clock, Duration};
 use worker_core::{AgentEvent, Answer, MAX_PODS, Node};
 
-/// What stands under the lock: the book, how many workers have not ended, the number of the last entry that told
-/// the time, and what is kept of the entries beside the book.
+/// What stands under the lock: the book, how many workers have not ended, the number of the last entry that
+/// told the time, and what is kept of the entries beside the book.
 #[derive(Drop)]
 struct Guarded<L: Ledger> {
     book: Book<L>,
@@ -25,8 +25,8 @@ struct Guarded<L: Ledger> {
     observer: Observer,
 }
 
-/// How many entries there may be at one moment of counted time. Behind so many the moment is taken for one that
-/// never ends.
+/// How many entries there may be at one moment of counted time. Behind so many the moment is taken for one
+/// that never ends.
 pub(crate) const MAX_AT_MOMENT: u64 = 1_048_576;
 
 /// A node's book, which its workers share. Its lock is held for one step at a time, and never while a call is
@@ -35,9 +35,9 @@ pub(crate) const MAX_AT_MOMENT: u64 = 1_048_576;
 pub struct Shared<L: Ledger> {
     guarded: Mutex<Guarded<L>>,
     // Wakes one of the workers that were given nothing where a request is due behind an entry of worker 0, or
-    // behind a claim, so that no more are woken than have something to do; and all of them when a worker ends,
-    // and once the book is closed. The end of a claim makes nothing due but its own pod, and whoever held that
-    // claims next.
+    // behind a claim, so that no more are woken than have something to do; and all of them when a worker
+    // ends, and once the book is closed. The end of a claim makes nothing due but its own pod, and whoever
+    // held that claims next.
     due: Condvar,
     // Wakes worker 0: at each entry that is no claim, when a worker ends, and once the book is closed.
     changed: Condvar,
@@ -292,8 +292,8 @@ impl<L: Ledger> Shared<L> {
         counted_standstill(&guarded, now)
     }
 
-    /// Waits until there is something else to be done at this moment than what was found, or a change that was not
-    /// told, for so long at most.
+    /// Waits until there is something else to be done at this moment than what was found, or a change that
+    /// was not told, for so long at most.
     pub(crate) fn wait_change<R: Wait + Clock>(
         &self,
         rt: &R,

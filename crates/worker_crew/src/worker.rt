@@ -1,5 +1,6 @@
 //! What a worker does: it claims, calls a runtime with no lock held, and reports.
-ghost use Rattle.std.specs.Prelude.{◌≡◌, ◌+◌, ◌<◌, ◌≤◌, ◌++◌, [], ◌∷◌, Option, Result, length, vec_len, vec_capacity, true, IfSome, IfNone, OnSome};
+ghost use Rattle.std.specs.Prelude.{◌≡◌, ◌+◌, ◌<◌, ◌≤◌, ◌++◌, [], ◌∷◌, Option, Result, length, vec_len};
+ghost use Rattle.std.specs.Prelude.{vec_capacity, true, IfSome, IfNone, OnSome};
 ghost use Rattle.cri_frames.specs.declared.faults.Lost.{Lost};
 ghost use Rattle.cri_msgs.specs.declared.calls.Request.{Request};
 ghost use Rattle.cri_msgs.specs.declared.replies.Reply.{Reply};
@@ -83,7 +84,8 @@ fn report<L: Ledger, P: Peer, R: Wait>(
     requires own { worker_of event ≡ worker }
     ensures above { IfSome result (λ r. last < r.number) }
     ensures worker { IfSome result (λ r. r.entry.worker ≡ worker) }
-    ensures may { (before : Option Request) → MayFollow P.may before event → IfSome result (λ r. MayFollow P.may before r.entry.event) }
+    ensures may { (before : Option Request) → MayFollow P.may before event
+        → IfSome result (λ r. MayFollow P.may before r.entry.event) }
     ensures counted { OnSome result (share.new.amount ≡ share.old.amount + 1) }
     ensures uncounted { IfNone result (share.new.amount ≡ share.old.amount) }
     ensures parts { share.new.parts ≡ share.old.parts }

@@ -1,5 +1,7 @@
 -- Only statuses tell of an exit, and what one claim makes of one container's track.
-use Rattle.std.proofs.Common.{◌≡◌, ℕ, ◌-◌, ◌==◌, Bool, true, false, cond, find, if◌then◌else◌, List, [], ◌∷◌, ◌++◌, length, Option, Some, None, slice_get, refl, sym, ◌∙◌, ap, suc, length-append, arith}
+use Rattle.std.proofs.Common.{◌≡◌, ℕ, ◌-◌, ◌==◌, Bool, true, false, cond, find, if◌then◌else◌, List, [], ◌∷◌}
+use Rattle.std.proofs.Common.{◌++◌, length, Option, Some, None, slice_get, refl, sym, ◌∙◌, ap, suc}
+use Rattle.std.proofs.Common.{length-append, arith}
 use Rattle.std.proofs.lemmas.Bool.{eqb-true}
 use Rattle.std.proofs.lemmas.List.Elements.{All-push, All-weaker}
 use Rattle.std.proofs.lemmas.Slice.Eq.{bytes_eq-Decides}
@@ -25,11 +27,13 @@ use Rattle.worker_pod.specs.declared.news.News.{News}
 use Rattle.worker_pod.specs.declared.news.News.TheVariants as news
 use Rattle.worker_pod.specs.declared.settings.Outcome.{Outcome}
 use Rattle.worker_pod.specs.declared.settings.Outcome.TheVariants as outcome
-use Rattle.worker_pod.specs.News.{answer_tells_of, cell_tells, done_tells, is_cell_of, hearing_of, heard, made_tells, state_tells, status_tells, statuses_tell_of, told_of}
+use Rattle.worker_pod.specs.News.{answer_tells_of, cell_tells, done_tells, is_cell_of, hearing_of, heard}
+use Rattle.worker_pod.specs.News.{made_tells, state_tells, status_tells, statuses_tell_of, told_of}
 use Rattle.cri_msgs.specs.Calls.{uid_of}
 use Rattle.worker_pod.specs.Laws.{HasEnded, LastRun, Told, TellsRun, WasTold, key_named}
 use Rattle.worker_pod.specs.Past.{Claimed}
-use Rattle.worker_pod.specs.Tracks.{cleared_at, exit_at, exited_at, named_in, number_by, run_at, run_by, seen_at, stage_at, stage_by, started_at, track_after, with_run, worked_in}
+use Rattle.worker_pod.specs.Tracks.{cleared_at, exit_at, exited_at, named_in, number_by, run_at, run_by}
+use Rattle.worker_pod.specs.Tracks.{seen_at, stage_at, stage_by, started_at, track_after, with_run, worked_in}
 use Rattle.worker_pod.proofs.Offers.{and_left, and_right}
 
 abbrev metadata : List ℕ → ℕ → ContainerMetadata
@@ -60,17 +64,21 @@ name_is : (a b : List ℕ) → bytes_eq a b ≡ true → a ≡ b
 name_is a b e = (bytes_eq-Decides a b).0 e
 
 -- the call names the attempt
-pub names : (asked : Key) (name : List ℕ) (of : ℕ) → named_in asked name ≡ Some of → (asked.container.name ≡ name) × (asked.container.attempt ≡ of)
+pub names : (asked : Key) (name : List ℕ) (of : ℕ) → named_in asked name ≡ Some of
+    → (asked.container.name ≡ name) × (asked.container.attempt ≡ of)
 names asked name of e = by_test (bytes_eq asked.container.name name) refl e where
-  by_test : (b : Bool) → bytes_eq asked.container.name name ≡ b → (if b then Some asked.container.attempt else None) ≡ Some of
+  by_test : (b : Bool) → bytes_eq asked.container.name name ≡ b
+      → (if b then Some asked.container.attempt else None) ≡ Some of
       → (asked.container.name ≡ name) × (asked.container.attempt ≡ of)
   by_test true test h = (name_is asked.container.name name test, cc)
   by_test false test h = absurd cc
 
-key_is : (key : Key) (uid name : List ℕ) (of : ℕ) → key.uid ≡ uid → (key.container.name ≡ name) × (key.container.attempt ≡ of) → key ≡ key_named uid name of
+key_is : (key : Key) (uid name : List ℕ) (of : ℕ) → key.uid ≡ uid → (key.container.name ≡ name)
+    × (key.container.attempt ≡ of) → key ≡ key_named uid name of
 key_is key uid name of u n = rw (← u, ← n.0, ← n.1) refl
 
-status_is : (asked key : Key) (a : Answer) (code : ℕ) → asked ≡ key → status_tells a ≡ news.Exited code → TellsExit (call.ContainerStatus asked) a key code
+status_is : (asked key : Key) (a : Answer) (code : ℕ) → asked ≡ key → status_tells a ≡ news.Exited code
+    → TellsExit (call.ContainerStatus asked) a key code
 status_is asked key (answer.Status status) code same e = (same, state_is status.state code e)
 status_is asked key answer.Done code same e = absurd cc
 status_is asked key (answer.Refused refusal) code same e = absurd cc
@@ -79,23 +87,38 @@ status_is asked key (answer.List items) code same e = absurd cc
 status_is asked key (answer.Statuses items) code same e = absurd cc
 
 -- the listed cell that decides is of the attempt
-cell_is : (name : List ℕ) (of : ℕ) (listed : ListedStatus) → is_cell_of name of listed ≡ true → listed.container ≡ metadata name of
+cell_is : (name : List ℕ) (of : ℕ) (listed : ListedStatus) → is_cell_of name of listed ≡ true
+    → listed.container ≡ metadata name of
 cell_is name of listed e =
-    let attempt : listed.container.attempt ≡ of = eqb-true listed.container.attempt of (and_left (listed.container.attempt == of) (bytes_eq listed.container.name name) e) in
-    let same : listed.container.name ≡ name = name_is listed.container.name name (and_right (listed.container.attempt == of) (bytes_eq listed.container.name name) e) in
+    let attempt : listed.container.attempt ≡ of = eqb-true listed.container.attempt of
+    (and_left (listed.container.attempt == of) (bytes_eq listed.container.name name) e) in
+    let same : listed.container.name ≡ name =
+    name_is listed.container.name name (and_right (listed.container.attempt == of)
+    (bytes_eq listed.container.name name) e) in
     rw (← same, ← attempt) refl
 
-found_in : (name : List ℕ) (of code : ℕ) (items : List ListedStatus) → cell_tells (find (is_cell_of name of) items) ≡ news.Exited code → Any (IsExitOf (metadata name of) code) items
+found_in : (name : List ℕ) (of code : ℕ) (items : List ListedStatus)
+    → cell_tells (find (is_cell_of name of) items) ≡ news.Exited code
+    → Any (IsExitOf (metadata name of) code) items
 found_in name of code [] e = absurd cc
 found_in name of code (l ∷ ls) e = by_test (is_cell_of name of l) refl e (found_in name of code ls) where
-  by_test : (b : Bool) → is_cell_of name of l ≡ b → cell_tells (cond b (Some l) (find (is_cell_of name of) ls)) ≡ news.Exited code
-      → (cell_tells (find (is_cell_of name of) ls) ≡ news.Exited code → Any (IsExitOf (metadata name of) code) ls) → Any (IsExitOf (metadata name of) code) (l ∷ ls)
-  by_test true test h behind = (0, l, omega arith, refl, (cell_is name of l test, state_is l.status.state code h))
+  by_test : (b : Bool) → is_cell_of name of l ≡ b
+      → cell_tells (cond b (Some l) (find (is_cell_of name of) ls)) ≡ news.Exited code
+      → (cell_tells (find (is_cell_of name of) ls) ≡ news.Exited code
+      → Any (IsExitOf (metadata name of) code) ls) → Any (IsExitOf (metadata name of) code) (l ∷ ls)
+  by_test true test h behind = (
+    0,
+    l,
+    omega arith,
+    refl,
+    (cell_is name of l test, state_is l.status.state code h),
+  )
   by_test false test h behind =
       let found : Any (IsExitOf (metadata name of) code) ls = behind h in
       (suc found.0, found.1, omega (arith, found.2), found.3, found.4)
 
-statuses_are : (u uid name : List ℕ) (of : ℕ) (a : Answer) (code : ℕ) → u ≡ uid → statuses_tell_of name of a ≡ news.Exited code
+statuses_are : (u uid name : List ℕ) (of : ℕ) (a : Answer) (code : ℕ) → u ≡ uid → statuses_tell_of name of
+    a ≡ news.Exited code
     → TellsExit (call.ContainerStatuses u) a (key_named uid name of) code
 statuses_are u uid name of (answer.Statuses items) code same e = (same, found_in name of code items e)
 statuses_are u uid name of answer.Done code same e = absurd cc
@@ -105,19 +128,26 @@ statuses_are u uid name of (answer.Status status) code same e = absurd cc
 statuses_are u uid name of (answer.List items) code same e = absurd cc
 
 -- an answer to the call tells the exit of the attempt that the claim works on
-answer_is : (c : Call) (a : Answer) (uid name : List ℕ) (s : Stage) (of code : ℕ) → uid_of c ≡ uid → worked_in c name s ≡ Some of
+answer_is : (c : Call) (a : Answer) (uid name : List ℕ) (s : Stage) (of code : ℕ) → uid_of c ≡ uid
+    → worked_in c name s ≡ Some of
     → answer_tells_of name of c a ≡ news.Exited code → TellsExit c a (key_named uid name of) code
 answer_is (call.RunPodSandbox u) a uid name s of code same works e = absurd cc
 answer_is (call.StopPodSandbox u grace) a uid name s of code same works e = absurd cc
 answer_is (call.RemovePodSandbox u) a uid name s of code same works e = absurd cc
-answer_is (call.CreateContainer its image profile) a uid name s of code same works e = absurd (made_silent a code e)
-answer_is (call.StartContainer its) a uid name s of code same works e = let never : news.Started ≡ news.Exited code = done_silent news.Started a code e in absurd cc
-answer_is (call.StopContainer its grace) a uid name s of code same works e = let never : news.Nothing ≡ news.Exited code = done_silent news.Nothing a code e in absurd cc
-answer_is (call.RemoveContainer its) a uid name s of code same works e = let never : news.Cleared ≡ news.Exited code = done_silent news.Cleared a code e in absurd cc
+answer_is (call.CreateContainer its image profile) a uid name s of code same works e =
+    absurd (made_silent a code e)
+answer_is (call.StartContainer its) a uid name s of code same works e =
+    let never : news.Started ≡ news.Exited code = done_silent news.Started a code e in absurd cc
+answer_is (call.StopContainer its grace) a uid name s of code same works e =
+    let never : news.Nothing ≡ news.Exited code = done_silent news.Nothing a code e in absurd cc
+answer_is (call.RemoveContainer its) a uid name s of code same works e =
+    let never : news.Cleared ≡ news.Exited code = done_silent news.Cleared a code e in absurd cc
 answer_is (call.ContainerStatus asked) a uid name s of code same works e =
-    status_is asked (key_named uid name of) a code (key_is asked uid name of same (names asked name of works)) e
+    status_is asked (key_named uid name of) a code (key_is asked uid name of same (names asked name of works))
+    e
 answer_is (call.ListContainers u) a uid name s of code same works e = absurd cc
-answer_is (call.ContainerStatuses u) a uid name s of code same works e = statuses_are u uid name of a code same e
+answer_is (call.ContainerStatuses u) a uid name s of code same works e = statuses_are u uid name of
+    a code same e
 
 -- the claim's reply told the exit of the attempt
 pub record IsTold (request : Request) (how : Outcome) (key : Key) (code : ℕ) : Type 0 where
@@ -126,39 +156,51 @@ pub record IsTold (request : Request) (how : Outcome) (key : Key) (code : ℕ) :
   pub number : reply.id ≡ request.id
   pub tells : TellsExit request.call reply.answer key code
 
-by_answer : (request : Request) (how : Outcome) (said : Option Answer) → heard request how ≡ said → (uid name : List ℕ) (s : Stage) (of code : ℕ)
-    → uid_of request.call ≡ uid → worked_in request.call name s ≡ Some of → hearing_of name of request.call said ≡ news.Exited code → IsTold request how (key_named uid name of) code
+by_answer : (request : Request) (how : Outcome) (said : Option Answer) → heard request how ≡ said
+    → (uid name : List ℕ) (s : Stage) (of code : ℕ)
+    → uid_of request.call ≡ uid → worked_in request.call name s ≡ Some of → hearing_of name of
+    request.call said ≡ news.Exited code → IsTold request how (key_named uid name of) code
 by_answer request how None is uid name s of code same works e = absurd cc
-by_answer request (outcome.Replied reply) (Some said) is uid name s of code same works e = by_number (reply.id == request.id) refl is where
-  by_number : (b : Bool) → (reply.id == request.id) ≡ b → (if b then Some reply.answer else None) ≡ Some said → IsTold request (outcome.Replied reply) (key_named uid name of) code
-  by_number true test h = record {
-    reply = reply;
-    is = refl;
-    number = eqb-true reply.id request.id test;
-    tells =
-        let answer : said ≡ reply.answer = cc in
-        answer_is request.call reply.answer uid name s of code same works (ap (answer_tells_of name of request.call) (sym answer) ∙ e);
-  }
-  by_number false test h = absurd cc
+by_answer request (outcome.Replied reply) (Some said) is uid name s of code same works e =
+    by_number (reply.id == request.id) refl is where
+      by_number : (b : Bool) → (reply.id == request.id) ≡ b → (if b then Some reply.answer else None)
+          ≡ Some said
+          → IsTold request (outcome.Replied reply) (key_named uid name of) code
+      by_number true test h = record {
+        reply = reply;
+        is = refl;
+        number = eqb-true reply.id request.id test;
+        tells =
+            let answer : said ≡ reply.answer = cc in
+            answer_is request.call reply.answer uid name s of
+            code same works (ap (answer_tells_of name of request.call) (sym answer) ∙ e);
+      }
+      by_number false test h = absurd cc
 by_answer request outcome.Lost (Some said) is uid name s of code same works e = absurd cc
 by_answer request outcome.Abandoned (Some said) is uid name s of code same works e = absurd cc
 
-pub told_is : (request : Request) (how : Outcome) (uid name : List ℕ) (s : Stage) (of code : ℕ) → uid_of request.call ≡ uid → worked_in request.call name s ≡ Some of
+pub told_is : (request : Request) (how : Outcome) (uid name : List ℕ) (s : Stage) (of code : ℕ)
+    → uid_of request.call ≡ uid → worked_in request.call name s ≡ Some of
     → told_of name of request how ≡ news.Exited code → IsTold request how (key_named uid name of) code
-told_is request how uid name s of code same works e = by_answer request how (heard request how) refl uid name s of code same works e
+told_is request how uid name s of code same works e =
+    by_answer request how (heard request how) refl uid name s of code same works e
 
 -- told before is told
-pub told_more : (uid : List ℕ) (c : Claimed) (cs : List Claimed) (name : List ℕ) (k : ℕ) (run : Run) → Told uid cs name k run → Told uid (c ∷ cs) name k run
+pub told_more : (uid : List ℕ) (c : Claimed) (cs : List Claimed) (name : List ℕ) (k : ℕ) (run : Run)
+    → Told uid cs name k run → Told uid (c ∷ cs) name k run
 told_more uid c cs name k run t = (suc t.0, t.1, omega (arith, t.2), t.3, t.4)
 
 -- a track with the same runs, none of whose attempts ended but those that had
-unchanged : (uid : List ℕ) (c : Claimed) (cs : List Claimed) (name : List ℕ) (old new : Track) → new.runs ≡ old.runs
-    → ((k : ℕ) → HasEnded k new.stage → HasEnded k old.stage) → WasTold uid cs name old → WasTold uid (c ∷ cs) name new
+unchanged : (uid : List ℕ) (c : Claimed) (cs : List Claimed) (name : List ℕ) (old new : Track)
+    → new.runs ≡ old.runs
+    → ((k : ℕ) → HasEnded k new.stage → HasEnded k old.stage) → WasTold uid cs name old
+    → WasTold uid (c ∷ cs) name new
 unchanged uid c cs name old new runs same was = record {
   ended = λ k h.
       let l : LastRun uid cs name old k = was.ended k (same k h) in
       record { run = l.run; last = ap last_of runs ∙ l.last; told = told_more uid c cs name k l.run l.told };
-  runs = rw runs (All-weaker (λ (run : Run). (k : ℕ) × Told uid cs name k run) (λ (run : Run). (k : ℕ) × Told uid (c ∷ cs) name k run)
+  runs = rw runs (All-weaker (λ (run : Run). (k : ℕ) × Told uid cs name k run) (λ (run : Run). (k : ℕ)
+      × Told uid (c ∷ cs) name k run)
       (λ run t. (t.0, told_more uid c cs name t.0 run t.1)) old.runs was.runs);
 }
 
@@ -176,7 +218,8 @@ seen_same : (now of : ℕ) (s : Stage) (k : ℕ) → HasEnded k (seen_at now of 
 seen_same now of stage.Absent k h = h
 seen_same now of (stage.Made attempt) k h = h
 seen_same now of (stage.Running attempt started polled) k h = by_test (attempt == of) h where
-  by_test : (b : Bool) → HasEnded k (if b then stage.Running attempt started (Some now) else stage.Running attempt started polled) → ⊥
+  by_test : (b : Bool) → HasEnded k (if b then stage.Running attempt started (Some now)
+      else stage.Running attempt started polled) → ⊥
   by_test true e = e
   by_test false e = e
 seen_same now of (stage.Exited attempt) k h = h
@@ -187,7 +230,8 @@ cleared_same of stage.Absent k h = h
 cleared_same of (stage.Made attempt) k h = h
 cleared_same of (stage.Running attempt started polled) k h = h
 cleared_same of (stage.Exited attempt) k h = by_test (attempt == of) h where
-  by_test : (b : Bool) → HasEnded k (if b then stage.Removed attempt else stage.Exited attempt) → HasEnded k (stage.Exited attempt)
+  by_test : (b : Bool) → HasEnded k (if b then stage.Removed attempt else stage.Exited attempt)
+      → HasEnded k (stage.Exited attempt)
   by_test true e = e
   by_test false e = e
 cleared_same of (stage.Removed attempt) k h = h
@@ -202,13 +246,16 @@ last_pushed runs run =
     ap (slice_get (runs ++ run ∷ [])) end ∙ at_end runs run
 
 -- an exit was told
-exited : (uid : List ℕ) (c : Claimed) (cs : List Claimed) (name : List ℕ) (of : ℕ) (old : Track) (attempt started code : ℕ) (polled : Option ℕ)
+exited : (uid : List ℕ) (c : Claimed) (cs : List Claimed) (name : List ℕ) (of : ℕ) (old : Track)
+    (attempt started code : ℕ) (polled : Option ℕ)
     → TellsRun (key_named uid name of) (record { started = started; code = code; recorded = c.moment }) c
-    → (b : Bool) → (attempt == of) ≡ b → old.stage ≡ stage.Running attempt started polled → WasTold uid cs name old
+    → (b : Bool) → (attempt == of) ≡ b → old.stage ≡ stage.Running attempt started polled
+    → WasTold uid cs name old
     → WasTold uid (c ∷ cs) name (record {
       init = old.init;
       stage = if b then stage.Exited attempt else stage.Running attempt started polled;
-      runs = with_run (if b then Some (record { started = started; code = code; recorded = c.moment }) else None) old.runs;
+      runs = with_run (if b then Some (record { started = started; code = code; recorded = c.moment })
+          else None) old.runs;
       worked = c.request.id;
     })
 exited uid c cs name of old attempt started code polled tells true test at was =
@@ -222,15 +269,22 @@ exited uid c cs name of old attempt started code polled tells true test at was =
         told = rw (← h) here;
       };
       runs = All-push (λ (run : Run). (k : ℕ) × Told uid (c ∷ cs) name k run) old.runs run
-          (All-weaker (λ (run : Run). (k : ℕ) × Told uid cs name k run) (λ (run : Run). (k : ℕ) × Told uid (c ∷ cs) name k run)
+          (All-weaker (λ (run : Run). (k : ℕ) × Told uid cs name k run) (λ (run : Run). (k : ℕ)
+          × Told uid (c ∷ cs) name k run)
           (λ run t. (t.0, told_more uid c cs name t.0 run t.1)) old.runs was.runs)
           (attempt, here);
     }
 exited uid c cs name of old attempt started code polled tells false test at was =
-    unchanged uid c cs name old (record { init = old.init; stage = stage.Running attempt started polled; runs = old.runs; worked = c.request.id }) refl (λ k h. absurd h) was
+    unchanged uid c cs name old (record {
+      init = old.init;
+      stage = stage.Running attempt started polled;
+      runs = old.runs;
+      worked = c.request.id;
+    }) refl (λ k h. absurd h) was
 
 by_stage : (uid : List ℕ) (c : Claimed) (cs : List Claimed) (name : List ℕ) (of code : ℕ) (old : Track)
-    → ((started : ℕ) → TellsRun (key_named uid name of) (record { started = started; code = code; recorded = c.moment }) c)
+    → ((started : ℕ) → TellsRun (key_named uid name of)
+    (record { started = started; code = code; recorded = c.moment }) c)
     → (s : Stage) → old.stage ≡ s → WasTold uid cs name old
     → WasTold uid (c ∷ cs) name (record {
       init = old.init;
@@ -240,10 +294,14 @@ by_stage : (uid : List ℕ) (c : Claimed) (cs : List Claimed) (name : List ℕ) 
     })
 by_stage uid c cs name of code old tells (stage.Running attempt started polled) at was =
     exited uid c cs name of old attempt started code polled (tells started) (attempt == of) refl at was
-by_stage uid c cs name of code old tells stage.Absent at was = unchanged uid c cs name old _ refl (λ k h. absurd h) was
-by_stage uid c cs name of code old tells (stage.Made attempt) at was = unchanged uid c cs name old _ refl (λ k h. absurd h) was
-by_stage uid c cs name of code old tells (stage.Exited attempt) at was = unchanged uid c cs name old _ refl (λ k h. rw at h) was
-by_stage uid c cs name of code old tells (stage.Removed attempt) at was = unchanged uid c cs name old _ refl (λ k h. rw at h) was
+by_stage uid c cs name of code old tells stage.Absent at was =
+    unchanged uid c cs name old _ refl (λ k h. absurd h) was
+by_stage uid c cs name of code old tells (stage.Made attempt) at was =
+    unchanged uid c cs name old _ refl (λ k h. absurd h) was
+by_stage uid c cs name of code old tells (stage.Exited attempt) at was =
+    unchanged uid c cs name old _ refl (λ k h. rw at h) was
+by_stage uid c cs name of code old tells (stage.Removed attempt) at was =
+    unchanged uid c cs name old _ refl (λ k h. rw at h) was
 
 -- the track behind a claim that worked on this attempt, and told this of it
 abbrev behind : Claimed → ℕ → News → Track → Track
@@ -255,13 +313,18 @@ behind c of n old = record {
 }
 
 by_news : (uid : List ℕ) (c : Claimed) (cs : List Claimed) (name : List ℕ) (of : ℕ) (old : Track) (n : News)
-    → ((code : ℕ) → n ≡ news.Exited code → (started : ℕ) → TellsRun (key_named uid name of) (record { started = started; code = code; recorded = c.moment }) c)
+    → ((code : ℕ) → n ≡ news.Exited code → (started : ℕ)
+    → TellsRun (key_named uid name of) (record { started = started; code = code; recorded = c.moment }) c)
     → WasTold uid cs name old → WasTold uid (c ∷ cs) name (behind c of n old)
-by_news uid c cs name of old (news.Exited code) tells was = by_stage uid c cs name of code old (tells code refl) old.stage refl was
+by_news uid c cs name of old (news.Exited code) tells was = by_stage uid c cs name of
+    code old (tells code refl) old.stage refl was
 by_news uid c cs name of old news.Made tells was = unchanged uid c cs name old _ refl (λ k h. absurd h) was
-by_news uid c cs name of old news.Started tells was = unchanged uid c cs name old _ refl (started_same c.moment of old.stage) was
-by_news uid c cs name of old news.NotExited tells was = unchanged uid c cs name old _ refl (seen_same c.moment of old.stage) was
-by_news uid c cs name of old news.Cleared tells was = unchanged uid c cs name old _ refl (cleared_same of old.stage) was
+by_news uid c cs name of old news.Started tells was =
+    unchanged uid c cs name old _ refl (started_same c.moment of old.stage) was
+by_news uid c cs name of old news.NotExited tells was =
+    unchanged uid c cs name old _ refl (seen_same c.moment of old.stage) was
+by_news uid c cs name of old news.Cleared tells was =
+    unchanged uid c cs name old _ refl (cleared_same of old.stage) was
 by_news uid c cs name of old news.Lost tells was = unchanged uid c cs name old _ refl (λ k h. h) was
 by_news uid c cs name of old news.Refused tells was = unchanged uid c cs name old _ refl (λ k h. h) was
 by_news uid c cs name of old news.SandboxReady tells was = unchanged uid c cs name old _ refl (λ k h. h) was
@@ -270,19 +333,29 @@ by_news uid c cs name of old news.SandboxRemoved tells was = unchanged uid c cs 
 by_news uid c cs name of old news.Nothing tells was = unchanged uid c cs name old _ refl (λ k h. h) was
 
 -- a claim of the pod
-pub told_behind : (uid : List ℕ) (c : Claimed) (cs : List Claimed) (name : List ℕ) (old : Track) → uid_of c.request.call ≡ uid → WasTold uid cs name old
+pub told_behind : (uid : List ℕ) (c : Claimed) (cs : List Claimed) (name : List ℕ) (old : Track)
+    → uid_of c.request.call ≡ uid → WasTold uid cs name old
     → WasTold uid (c ∷ cs) name (track_after c.moment c.request c.outcome name old)
 told_behind uid c cs name old same was = by_attempt (worked_in c.request.call name old.stage) refl where
-  by_attempt : (works : Option ℕ) → worked_in c.request.call name old.stage ≡ works → WasTold uid (c ∷ cs) name (record {
-    init = old.init;
-    stage = stage_by c.moment c.request c.outcome name old.stage works;
-    runs = with_run (run_by c.moment c.request c.outcome name old.stage works) old.runs;
-    worked = number_by c.request old.worked works;
-  })
+  by_attempt : (works : Option ℕ) → worked_in c.request.call name old.stage ≡ works
+      → WasTold uid (c ∷ cs) name (record {
+        init = old.init;
+        stage = stage_by c.moment c.request c.outcome name old.stage works;
+        runs = with_run (run_by c.moment c.request c.outcome name old.stage works) old.runs;
+        worked = number_by c.request old.worked works;
+      })
   by_attempt None is = unchanged uid c cs name old _ refl (λ k h. h) was
   by_attempt (Some of) is =
       by_news uid c cs name of old (told_of name of c.request c.outcome)
       (λ code e started.
-      let found : IsTold c.request c.outcome (key_named uid name of) code = told_is c.request c.outcome uid name old.stage of code same is e in
-      record { reply = found.reply; is = found.is; number = found.number; tells = found.tells; recorded = refl })
+      let found : IsTold c.request c.outcome (key_named uid name of) code =
+      told_is c.request c.outcome uid name old.stage of code same is e in
+      record {
+        reply = found.reply;
+        is = found.is;
+        number = found.number;
+        tells = found.tells;
+        recorded =
+            refl;
+      })
       was

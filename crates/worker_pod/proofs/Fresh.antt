@@ -8,13 +8,15 @@ use Rattle.manifest.specs.Containers.{ContainerList}
 use Rattle.worker_pod.specs.Past.{fresh_tracks}
 use Rattle.worker_pod.specs.Tracks.{AllStartedBy, StartedBy, fresh}
 
-none_started : (c : ContainerList) (places : List ℕ) → AllStartedBy 0 (map (λ place. fresh (nat_lt place c.inits)) places)
+none_started : (c : ContainerList) (places : List ℕ)
+    → AllStartedBy 0 (map (λ place. fresh (nat_lt place c.inits)) places)
 unfolding AllStartedBy
 none_started c [] = tt
 none_started c (place ∷ places) = (tt, none_started c places)
 
 -- nothing, at a pod without claims
-pub fresh_started : (c : ContainerList) (tracks : List Track) → tracks ≡ fresh_tracks c → AllStartedBy 0 tracks
+pub fresh_started : (c : ContainerList) (tracks : List Track) → tracks ≡ fresh_tracks c
+    → AllStartedBy 0 tracks
 fresh_started c tracks e = rw e (none_started c (range_with_len 0 (length c.all)))
 
 started_later : (now later : ℕ) → now ≤ later → (s : Stage) → StartedBy now s → StartedBy later s
@@ -25,7 +27,8 @@ started_later now later l (stage.Exited attempt) b = b
 started_later now later l (stage.Removed attempt) b = b
 
 -- by a moment, and so by a later one
-pub all_later : (now later : ℕ) → now ≤ later → (tracks : List Track) → AllStartedBy now tracks → AllStartedBy later tracks
+pub all_later : (now later : ℕ) → now ≤ later → (tracks : List Track) → AllStartedBy now tracks
+    → AllStartedBy later tracks
 unfolding AllStartedBy
 all_later now later l [] b = b
 all_later now later l (t ∷ ts) b = (started_later now later l t.stage b.0, all_later now later l ts b.1)

@@ -1,5 +1,6 @@
 -- The container that is chosen is one whose turn it is and that is due.
-use Rattle.std.proofs.Common.{◌≡◌, ℕ, ◌+◌, ◌≤◌, nat_le, Bool, true, false, ◌&&◌, if◌then◌else◌, List, [], ◌∷◌, Option, Some, None, slice_get, ◌⊎◌, inl, inr, refl, sym, ap, suc, arith}
+use Rattle.std.proofs.Common.{◌≡◌, ℕ, ◌+◌, ◌≤◌, nat_le, Bool, true, false, ◌&&◌, if◌then◌else◌, List, [], ◌∷◌}
+use Rattle.std.proofs.Common.{Option, Some, None, slice_get, ◌⊎◌, inl, inr, refl, sym, ap, suc, arith}
 use Rattle.std.proofs.lemmas.Bool.{leb-true}
 use Rattle.lifecycle.specs.declared.policy.RestartPolicy.{RestartPolicy}
 use Rattle.lifecycle.specs.declared.track.Track.{Track}
@@ -20,7 +21,8 @@ abbrev pub pick_of : ℕ → Track → Want → Pick
 pick_of at t want = record { at = at; worked = t.worked; work = want.work }
 
 -- the pick is the container at this place, by what is to be done for it
-pub record IsOffer (now at : ℕ) (t : Track) (turn : Option Want) (best : Option Pick) (pick : Pick) : Type 0 where
+pub record IsOffer (now at : ℕ) (t : Track) (turn : Option Want) (best : Option Pick)
+    (pick : Pick) : Type 0 where
   pub want : Want
   pub turn_is : turn ≡ Some want
   pub due : want.from ≤ now
@@ -44,10 +46,12 @@ by_test now at t want best pick false test e = inl e
 pub better_is : (now at : ℕ) (t : Track) (turn : Option Want) (best : Option Pick) (pick : Pick)
     → better now best at t turn ≡ Some pick → (best ≡ Some pick) ⊎ IsOffer now at t turn best pick
 better_is now at t None best pick e = inl e
-better_is now at t (Some want) best pick e = by_test now at t want best pick (nat_le want.from now && is_longer best t.worked) refl e
+better_is now at t (Some want) best pick e =
+    by_test now at t want best pick (nat_le want.from now && is_longer best t.worked) refl e
 
 -- the pick is one of these containers, the first of which stands at this place
-pub record IsAmong (policy : RestartPolicy) (poll now : ℕ) (front : Option ℕ) (at : ℕ) (ts : List Track) (pick : Pick) : Type 0 where
+pub record IsAmong (policy : RestartPolicy) (poll now : ℕ) (front : Option ℕ) (at : ℕ) (ts : List Track)
+    (pick : Pick) : Type 0 where
   pub off : ℕ
   pub track : Track
   pub here : slice_get ts off ≡ Some track
@@ -57,7 +61,8 @@ pub record IsAmong (policy : RestartPolicy) (poll now : ℕ) (front : Option ℕ
   pub due : want.from ≤ now
   pub work : pick.work ≡ want.work
 
-among_more : (policy : RestartPolicy) (poll now : ℕ) (front : Option ℕ) (at : ℕ) (t : Track) (ts : List Track) (pick : Pick)
+among_more : (policy : RestartPolicy) (poll now : ℕ) (front : Option ℕ) (at : ℕ) (t : Track) (ts : List Track)
+    (pick : Pick)
     → IsAmong policy poll now front (at + 1) ts pick → IsAmong policy poll now front at (t ∷ ts) pick
 among_more policy poll now front at t ts pick a = record {
   off = suc a.off;
@@ -70,8 +75,10 @@ among_more policy poll now front at t ts pick a = record {
   work = a.work;
 }
 
-among_first : (policy : RestartPolicy) (poll now : ℕ) (front : Option ℕ) (at : ℕ) (t : Track) (ts : List Track) (best : Option Pick) (pick : Pick)
-    → IsOffer now at t (turn_of policy poll front at t) best pick → IsAmong policy poll now front at (t ∷ ts) pick
+among_first : (policy : RestartPolicy) (poll now : ℕ) (front : Option ℕ) (at : ℕ) (t : Track)
+    (ts : List Track) (best : Option Pick) (pick : Pick)
+    → IsOffer now at t (turn_of policy poll front at t) best pick
+    → IsAmong policy poll now front at (t ∷ ts) pick
 among_first policy poll now front at t ts best pick o =
     let place : pick.at ≡ at = sym (ap (λ (p : Pick). p.at) o.is) in
     record {
@@ -85,11 +92,14 @@ among_first policy poll now front at t ts best pick o =
       work = sym (ap (λ (p : Pick). p.work) o.is);
     }
 
-pub chosen_among : (policy : RestartPolicy) (poll now : ℕ) (front : Option ℕ) (at : ℕ) (best : Option Pick) (ts : List Track) (pick : Pick)
-    → chosen_from policy poll now front at best ts ≡ Some pick → (best ≡ Some pick) ⊎ IsAmong policy poll now front at ts pick
+pub chosen_among : (policy : RestartPolicy) (poll now : ℕ) (front : Option ℕ) (at : ℕ) (best : Option Pick)
+    (ts : List Track) (pick : Pick)
+    → chosen_from policy poll now front at best ts ≡ Some pick
+    → (best ≡ Some pick) ⊎ IsAmong policy poll now front at ts pick
 chosen_among policy poll now front at best [] pick e = inl e
 chosen_among policy poll now front at best (t ∷ ts) pick e =
-    elim (chosen_among policy poll now front (at + 1) (better now best at t (turn_of policy poll front at t)) ts pick e) [
+    elim (chosen_among policy poll now front (at + 1) (better now best at t (turn_of policy poll front at t))
+    ts pick e) [
       | inl same ↦ elim (better_is now at t (turn_of policy poll front at t) best pick same) [
         | inl kept ↦ inl kept
         | inr offer ↦ inr (among_first policy poll now front at t ts best pick offer)

@@ -1,5 +1,6 @@
 -- A pod's requests are about the pod.
-use Rattle.std.proofs.Common.{◌≡◌, ℕ, nat_le, Bool, true, false, if◌then◌else◌, Option, Some, None, slice_get, refl, sym, ◌∙◌, ap}
+use Rattle.std.proofs.Common.{◌≡◌, ℕ, nat_le, Bool, true, false, if◌then◌else◌, Option, Some, None, slice_get}
+use Rattle.std.proofs.Common.{refl, sym, ◌∙◌, ap}
 use Rattle.std.specs.Option.{option_map}
 use Rattle.manifest.specs.declared.containers.Container.{Container}
 use Rattle.manifest.specs.declared.pods.Pod.{Pod}
@@ -17,7 +18,8 @@ use Rattle.worker_pod.specs.Next.{call_by, call_of, duty_of, key_in, look_by, ne
 use Rattle.worker_pod.specs.Past.{Kept}
 use Rattle.worker_pod.specs.Wants.{chosen}
 
-by_work : (pod : Pod) (settings : Settings) (c : Container) (work : Work) → uid_of (call_of pod settings c work) ≡ pod.uid
+by_work : (pod : Pod) (settings : Settings) (c : Container) (work : Work)
+    → uid_of (call_of pod settings c work) ≡ pod.uid
 by_work pod settings c (Create attempt) = refl
 by_work pod settings c (Start attempt) = refl
 by_work pod settings c (Look attempt) = by_version settings.version where
@@ -26,28 +28,35 @@ by_work pod settings c (Look attempt) = by_version settings.version where
   by_version V2 = refl
 by_work pod settings c (Clear attempt) = refl
 
-by_container : (pod : Pod) (settings : Settings) (c : Option Container) (work : Work) (call : Call) → option_map (λ c. call_of pod settings c work) c ≡ Some call → uid_of call ≡ pod.uid
+by_container : (pod : Pod) (settings : Settings) (c : Option Container) (work : Work) (call : Call)
+    → option_map (λ c. call_of pod settings c work) c ≡ Some call → uid_of call ≡ pod.uid
 by_container pod settings None work call e = absurd cc
 by_container pod settings (Some c) work call e =
     let same : call_of pod settings c work ≡ call = cc in
     ap uid_of (sym same) ∙ by_work pod settings c work
 
-by_pick : (pod : Pod) (settings : Settings) (o : Option Pick) (call : Call) → call_by pod settings o ≡ Some call → uid_of call ≡ pod.uid
+by_pick : (pod : Pod) (settings : Settings) (o : Option Pick) (call : Call)
+    → call_by pod settings o ≡ Some call → uid_of call ≡ pod.uid
 by_pick pod settings None call e = absurd cc
-by_pick pod settings (Some pick) call e = by_container pod settings (slice_get pod.containers.all pick.at) pick.work call e
+by_pick pod settings (Some pick) call e =
+    by_container pod settings (slice_get pod.containers.all pick.at) pick.work call e
 
 uid_is : (a b : Call) → Some a ≡ Some b → uid_of b ≡ uid_of a
 uid_is a b e = let same : b ≡ a = cc in ap uid_of same
 
-by_duty : (kept : Kept) (now : ℕ) (call : Call) (d : Duty) → next_by kept now d ≡ Some call → uid_of call ≡ kept.pod.uid
+by_duty : (kept : Kept) (now : ℕ) (call : Call) (d : Duty) → next_by kept now d ≡ Some call
+    → uid_of call ≡ kept.pod.uid
 by_duty kept now call duty.Nothing e = absurd cc
 by_duty kept now call duty.RunSandbox e = uid_is _ call e
 by_duty kept now call duty.StopSandbox e = uid_is _ call e
 by_duty kept now call duty.RemoveSandbox e = uid_is _ call e
-by_duty kept now call duty.Containers e = by_pick kept.pod kept.settings (chosen kept.pod.policy kept.settings.poll now kept.tracks) call e
+by_duty kept now call duty.Containers e =
+    by_pick kept.pod kept.settings (chosen kept.pod.policy kept.settings.poll now kept.tracks) call e
 
-pub of_the_pod : (kept : Kept) (now : ℕ) (call : Call) → next_of kept now ≡ Some call → uid_of call ≡ kept.pod.uid
+pub of_the_pod : (kept : Kept) (now : ℕ) (call : Call) → next_of kept now ≡ Some call
+    → uid_of call ≡ kept.pod.uid
 of_the_pod kept now call e = by_rest (nat_le kept.rest now) e where
-  by_rest : (b : Bool) → (if b then next_by kept now (duty_of kept) else None) ≡ Some call → uid_of call ≡ kept.pod.uid
+  by_rest : (b : Bool) → (if b then next_by kept now (duty_of kept) else None) ≡ Some call
+      → uid_of call ≡ kept.pod.uid
   by_rest true h = by_duty kept now call (duty_of kept) h
   by_rest false h = absurd cc

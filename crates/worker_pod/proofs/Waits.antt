@@ -1,5 +1,7 @@
 -- The container that is chosen waited longest.
-use Rattle.std.proofs.Common.{◌≡◌, ℕ, ◌+◌, ◌<◌, ◌≤◌, nat_le, nat_lt, Bool, true, false, ◌&&◌, if◌then◌else◌, List, [], ◌∷◌, Option, Some, None, slice_get, ◌⊎◌, inl, inr, refl, sym, ◌∙◌, ap, suc, zero, arith}
+use Rattle.std.proofs.Common.{◌≡◌, ℕ, ◌+◌, ◌<◌, ◌≤◌, nat_le, nat_lt, Bool, true, false, ◌&&◌, if◌then◌else◌}
+use Rattle.std.proofs.Common.{List, [], ◌∷◌, Option, Some, None, slice_get, ◌⊎◌, inl, inr, refl, sym, ◌∙◌, ap}
+use Rattle.std.proofs.Common.{suc, zero, arith}
 use Rattle.std.proofs.lemmas.Bool.{le-leb, ltb-true, ltb-false}
 use Rattle.lifecycle.specs.declared.policy.RestartPolicy.{RestartPolicy}
 use Rattle.lifecycle.specs.declared.track.Track.{Track}
@@ -14,7 +16,8 @@ abbrev IsBehind : Pick → Pick → Type 0
 IsBehind best pick = (pick ≡ best) ⊎ (pick.worked < best.worked)
 
 -- a pick at a container that was worked on longer ago
-offer_behind : (now at : ℕ) (t : Track) (turn : Option Want) (best b pick : Pick) → IsOffer now at t turn (Some best) b → IsBehind b pick → IsBehind best pick
+offer_behind : (now at : ℕ) (t : Track) (turn : Option Want) (best b pick : Pick)
+    → IsOffer now at t turn (Some best) b → IsBehind b pick → IsBehind best pick
 offer_behind now at t turn best b pick o behind =
     let less : t.worked < best.worked = ltb-true t.worked best.worked o.longer in
     let worked : b.worked ≡ t.worked = sym (ap (λ (p : Pick). p.worked) o.is) in
@@ -24,20 +27,24 @@ offer_behind now at t turn best b pick o behind =
     ]
 
 -- a better one is there where one was
-better_there : (now at : ℕ) (t : Track) (turn : Option Want) (best : Pick) → (b : Pick) × (better now (Some best) at t turn ≡ Some b)
+better_there : (now at : ℕ) (t : Track) (turn : Option Want) (best : Pick) → (b : Pick)
+    × (better now (Some best) at t turn ≡ Some b)
 better_there now at t None best = (best, refl)
-better_there now at t (Some want) best = by_test (nat_le want.from now && is_longer (Some best) t.worked) where
-  by_test : (b : Bool) → (p : Pick) × ((if b then Some (pick_of at t want) else Some best) ≡ Some p)
-  by_test true = (pick_of at t want, refl)
-  by_test false = (best, refl)
+better_there now at t (Some want) best =
+    by_test (nat_le want.from now && is_longer (Some best) t.worked) where
+      by_test : (b : Bool) → (p : Pick) × ((if b then Some (pick_of at t want) else Some best) ≡ Some p)
+      by_test true = (pick_of at t want, refl)
+      by_test false = (best, refl)
 
-pub best_behind : (policy : RestartPolicy) (poll now : ℕ) (front : Option ℕ) (at : ℕ) (best : Pick) (ts : List Track) (pick : Pick)
+pub best_behind : (policy : RestartPolicy) (poll now : ℕ) (front : Option ℕ) (at : ℕ) (best : Pick)
+    (ts : List Track) (pick : Pick)
     → chosen_from policy poll now front at (Some best) ts ≡ Some pick → IsBehind best pick
 best_behind policy poll now front at best [] pick e = inl cc
 best_behind policy poll now front at best (t ∷ ts) pick e =
     let turn : Option Want = turn_of policy poll front at t in
     let there : (b : Pick) × (better now (Some best) at t turn ≡ Some b) = better_there now at t turn best in
-    let rest : IsBehind there.0 pick = best_behind policy poll now front (at + 1) there.0 ts pick (ap (λ (o : Option Pick). chosen_from policy poll now front (at + 1) o ts) (sym there.1) ∙ e) in
+    let rest : IsBehind there.0 pick = best_behind policy poll now front (at + 1) there.0 ts pick
+    (ap (λ (o : Option Pick). chosen_from policy poll now front (at + 1) o ts) (sym there.1) ∙ e) in
     elim (better_is now at t turn (Some best) there.0 there.1) [
       | inl same ↦ let is : best ≡ there.0 = cc in rw is rest
       | inr offer ↦ offer_behind now at t turn best there.0 pick offer rest
@@ -50,7 +57,8 @@ record IsNoLater (now at : ℕ) (t : Track) (best : Option Pick) (want : Want) :
   worked : pick.worked ≤ t.worked
   place : ((b : Pick) → best ≡ Some b → b.at < at) → pick.at ≤ at
 
-no_later : (now at : ℕ) (t : Track) (best : Option Pick) (want : Want) → want.from ≤ now → IsNoLater now at t best want
+no_later : (now at : ℕ) (t : Track) (best : Option Pick) (want : Want) → want.from ≤ now
+    → IsNoLater now at t best want
 no_later now at t None want due = record {
   pick = pick_of at t want;
   is = rw (le-leb want.from now due) refl;
@@ -76,7 +84,8 @@ no_later now at t (Some b) want due = by_test (nat_lt t.worked b.worked) refl wh
   }
 
 -- a better one stands no later than here
-better_before : (now at : ℕ) (t : Track) (turn : Option Want) (best : Option Pick) → ((b : Pick) → best ≡ Some b → b.at < at)
+better_before : (now at : ℕ) (t : Track) (turn : Option Want) (best : Option Pick)
+    → ((b : Pick) → best ≡ Some b → b.at < at)
     → (b : Pick) → better now best at t turn ≡ Some b → b.at < at + 1
 better_before now at t turn best before b e =
     elim (better_is now at t turn best b e) [
@@ -88,35 +97,50 @@ record IsFirst (pick : Pick) (at : ℕ) (t : Track) : Type 0 where
   worked : pick.worked ≤ t.worked
   less : at < pick.at → pick.worked < t.worked
 
-first_here : (policy : RestartPolicy) (poll now : ℕ) (front : Option ℕ) (at : ℕ) (best : Option Pick) (t : Track) (ts : List Track) (pick : Pick)
-    → ((b : Pick) → best ≡ Some b → b.at < at) → (want : Want) → turn_of policy poll front at t ≡ Some want → want.from ≤ now
-    → chosen_from policy poll now front (at + 1) (better now best at t (turn_of policy poll front at t)) ts ≡ Some pick → IsFirst pick at t
+first_here : (policy : RestartPolicy) (poll now : ℕ) (front : Option ℕ) (at : ℕ) (best : Option Pick)
+    (t : Track) (ts : List Track) (pick : Pick)
+    → ((b : Pick) → best ≡ Some b → b.at < at) → (want : Want) → turn_of policy poll front at t ≡ Some want
+    → want.from ≤ now
+    → chosen_from policy poll now front (at + 1) (better now best at t (turn_of policy poll front at t)) ts
+    ≡ Some pick → IsFirst pick at t
 first_here policy poll now front at best t ts pick before want turn due e =
     let n : IsNoLater now at t best want = no_later now at t best want due in
-    let step : better now best at t (turn_of policy poll front at t) ≡ Some n.pick = ap (better now best at t) turn ∙ n.is in
-    let behind : IsBehind n.pick pick = best_behind policy poll now front (at + 1) n.pick ts pick (ap (λ (o : Option Pick). chosen_from policy poll now front (at + 1) o ts) (sym step) ∙ e) in
+    let step : better now best at t (turn_of policy poll front at t) ≡ Some n.pick =
+    ap (better now best at t) turn ∙ n.is in
+    let behind : IsBehind n.pick pick = best_behind policy poll now front (at + 1) n.pick ts pick
+    (ap (λ (o : Option Pick). chosen_from policy poll now front (at + 1) o ts) (sym step) ∙ e) in
     elim behind [
       | inl same ↦ record {
         worked = omega (arith, ap (λ (p : Pick). p.worked) same, n.worked);
         less = λ after. absurd (omega (arith, after, ap (λ (p : Pick). p.at) same, n.place before));
       }
-      | inr lower ↦ record { worked = omega (arith, lower, n.worked); less = λ _. omega (arith, lower, n.worked) }
+      | inr lower ↦ record {
+        worked = omega (arith, lower, n.worked);
+        less = λ _.
+            omega (arith, lower, n.worked);
+      }
     ]
 
-first_from : (policy : RestartPolicy) (poll now : ℕ) (front : Option ℕ) (at : ℕ) (best : Option Pick) (ts : List Track) (pick : Pick)
+first_from : (policy : RestartPolicy) (poll now : ℕ) (front : Option ℕ) (at : ℕ) (best : Option Pick)
+    (ts : List Track) (pick : Pick)
     → ((b : Pick) → best ≡ Some b → b.at < at) → chosen_from policy poll now front at best ts ≡ Some pick
-    → (off place : ℕ) (t : Track) → place ≡ at + off → slice_get ts off ≡ Some t → (want : Want) → turn_of policy poll front place t ≡ Some want → want.from ≤ now
+    → (off place : ℕ) (t : Track) → place ≡ at + off → slice_get ts off ≡ Some t → (want : Want)
+    → turn_of policy poll front place t ≡ Some want → want.from ≤ now
     → IsFirst pick place t
 first_from policy poll now front at best [] pick before e off place t p here want turn due = absurd cc
 first_from policy poll now front at best (u ∷ ts) pick before e zero place t p here want turn due =
     let same : u ≡ t = cc in
     let at_is : place ≡ at = omega (arith, p) in
-    rw at_is (rw (← same) (first_here policy poll now front at best u ts pick before want (rw (same, ← at_is) turn) due e))
+    rw at_is (rw (← same) (first_here policy poll now front at best u ts pick before want
+    (rw (same, ← at_is) turn) due e))
 first_from policy poll now front at best (u ∷ ts) pick before e (suc off) place t p here want turn due =
     first_from policy poll now front (at + 1) (better now best at u (turn_of policy poll front at u)) ts pick
-    (better_before now at u (turn_of policy poll front at u) best before) e off place t (omega (arith, p)) here want turn due
+    (better_before now at u (turn_of policy poll front at u) best before) e off place t
+    (omega (arith, p)) here want turn due
 
-pub waited_longest : (policy : RestartPolicy) (poll now : ℕ) (tracks : List Track) (pick : Pick) → chosen policy poll now tracks ≡ Some pick → WaitedLongest policy poll now tracks pick
+pub waited_longest : (policy : RestartPolicy) (poll now : ℕ) (tracks : List Track) (pick : Pick)
+    → chosen policy poll now tracks ≡ Some pick → WaitedLongest policy poll now tracks pick
 waited_longest policy poll now tracks pick e at track here due =
-    let first : IsFirst pick at track = first_from policy poll now (front_of policy tracks) 0 None tracks pick (λ b n. absurd cc) e at at track (omega arith) here due.0 due.1 due.2 in
+    let first : IsFirst pick at track = first_from policy poll now (front_of policy tracks) 0 None tracks pick
+    (λ b n. absurd cc) e at at track (omega arith) here due.0 due.1 due.2 in
     (first.worked, first.less)

@@ -47,7 +47,8 @@ pub record Follows (policy : RestartPolicy) (track : Track) (k now : ℕ) : Type
   pub ready : ready_at track.runs ≤ now
 
 -- an attempt at a container is made
-pub record Creation (kept : Kept) (now : ℕ) (key : Key) (image : List ℕ) (profile : SeccompProfile) : Type 0 where
+pub record Creation (kept : Kept) (now : ℕ) (key : Key) (image : List ℕ)
+    (profile : SeccompProfile) : Type 0 where
   pub place : ℕ
   pub track : Track
   pub container : Container
@@ -59,7 +60,8 @@ pub record Creation (kept : Kept) (now : ℕ) (key : Key) (image : List ℕ) (pr
   pub its_profile : profile ≡ choice_of kept.pod.profile container kept.settings.seccomp_default
   pub in_turn : is_in_turn (front_of kept.pod.policy kept.tracks) place track ≡ true
   -- the init containers, for one of them those in front of it, have succeeded
-  pub in_order : (at : ℕ) (t : Track) → slice_get kept.tracks at ≡ Some t → t.init ≡ true → (track.init ≡ true → at < place) → EndedWell kept.pod.policy t
+  pub in_order : (at : ℕ) (t : Track) → slice_get kept.tracks at ≡ Some t → t.init ≡ true
+      → (track.init ≡ true → at < place) → EndedWell kept.pod.policy t
   -- the first attempt is made where none was, any other one behind the one before
   pub first : key.container.attempt ≡ 0 → track.stage ≡ stage.Absent
   pub follows : (k : ℕ) → key.container.attempt ≡ k + 1 → Follows kept.pod.policy track k now
@@ -108,15 +110,18 @@ WaitedLongest policy poll now tracks pick =
 
 -- a creation is of the attempt whose number is that of the container's runs so far
 abbrev pub IsNumbered : List ℕ → Track → Call → Type 0
-IsNumbered name track call = (key : Key) (image : List ℕ) (profile : SeccompProfile) → call ≡ CreateContainer key image profile
+IsNumbered name track call = (key : Key) (image : List ℕ) (profile : SeccompProfile)
+    → call ≡ CreateContainer key image profile
     → key.container.name ≡ name → key.container.attempt ≡ length track.runs
 
 -- whichever container it is of
 abbrev pub IsNumberedIn : List Container → List Track → Call → Type 0
-IsNumberedIn containers tracks call = (at : ℕ) (track : Track) (container : Container) → slice_get tracks at ≡ Some track
+IsNumberedIn containers tracks call = (at : ℕ) (track : Track) (container : Container)
+    → slice_get tracks at ≡ Some track
     → slice_get containers at ≡ Some container → IsNumbered container.name track call
 
 -- each of the pod's creations was so when its claim ended
 abbrev pub AreNumbered : Settings → Pod → List Claimed → Type 0
 AreNumbered settings pod [] = Unit {0}
-AreNumbered settings pod (c ∷ cs) = IsNumberedIn pod.containers.all (read_off pod settings cs).tracks c.request.call × AreNumbered settings pod cs
+AreNumbered settings pod (c ∷ cs) = IsNumberedIn pod.containers.all
+    (read_off pod settings cs).tracks c.request.call × AreNumbered settings pod cs

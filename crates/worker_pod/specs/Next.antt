@@ -9,7 +9,9 @@ use Rattle.manifest.specs.declared.containers.Container.{Container}
 use Rattle.manifest.specs.declared.pods.Pod.{Pod}
 use Rattle.profile_pick.specs.Choice.{choice_of}
 use Rattle.cri_msgs.specs.declared.calls.Call.{Call}
-use Rattle.cri_msgs.specs.declared.calls.Call.TheVariants.{RunPodSandbox, StopPodSandbox, RemovePodSandbox, CreateContainer, StartContainer, RemoveContainer, ContainerStatus, ContainerStatuses}
+use Rattle.cri_msgs.specs.declared.calls.Call.TheVariants.{RunPodSandbox, StopPodSandbox, RemovePodSandbox}
+use Rattle.cri_msgs.specs.declared.calls.Call.TheVariants.{CreateContainer, StartContainer, RemoveContainer}
+use Rattle.cri_msgs.specs.declared.calls.Call.TheVariants.{ContainerStatus, ContainerStatuses}
 use Rattle.cri_msgs.specs.declared.calls.Request.{Request}
 use Rattle.cri_msgs.specs.declared.keys.Key.{Key}
 use Rattle.cri_msgs.specs.declared.version.Version.{Version}
@@ -54,13 +56,18 @@ due_by kept duty.Nothing = None
 due_by kept duty.RunSandbox = Some kept.rest
 due_by kept duty.StopSandbox = Some kept.rest
 due_by kept duty.RemoveSandbox = Some kept.rest
-due_by kept duty.Containers = option_map (λ moment. max moment kept.rest) (soonest kept.pod.policy kept.settings.poll kept.tracks)
+due_by kept duty.Containers = option_map (λ moment. max moment kept.rest)
+    (soonest kept.pod.policy kept.settings.poll kept.tracks)
 
 abbrev pub due_of : Kept → Option ℕ
 due_of kept = due_by kept (duty_of kept)
 
 abbrev pub key_in : Pod → Container → ℕ → Key
-key_in pod container attempt = record { uid = pod.uid; container = record { name = container.name; attempt = attempt } }
+key_in pod container attempt = record {
+  uid = pod.uid;
+  container =
+      record { name = container.name; attempt = attempt };
+}
 
 -- the call that asks for a container's status; that of version 2 asks for those of the whole pod
 abbrev pub look_by : Version → Key → Call
@@ -69,14 +76,16 @@ look_by V2 key = ContainerStatuses key.uid
 
 -- the call by which the work on the container is done
 abbrev pub call_of : Pod → Settings → Container → Work → Call
-call_of pod settings c (Create attempt) = CreateContainer (key_in pod c attempt) c.image (choice_of pod.profile c settings.seccomp_default)
+call_of pod settings c (Create attempt) =
+    CreateContainer (key_in pod c attempt) c.image (choice_of pod.profile c settings.seccomp_default)
 call_of pod settings c (Start attempt) = StartContainer (key_in pod c attempt)
 call_of pod settings c (Look attempt) = look_by settings.version (key_in pod c attempt)
 call_of pod settings c (Clear attempt) = RemoveContainer (key_in pod c attempt)
 
 abbrev pub call_by : Pod → Settings → Option Pick → Option Call
 call_by pod settings None = None
-call_by pod settings (Some pick) = option_map (λ c. call_of pod settings c pick.work) (slice_get pod.containers.all pick.at)
+call_by pod settings (Some pick) = option_map (λ c. call_of pod settings c pick.work)
+    (slice_get pod.containers.all pick.at)
 
 abbrev pub next_by : Kept → ℕ → Duty → Option Call
 next_by kept now duty.Nothing = None

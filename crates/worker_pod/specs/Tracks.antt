@@ -1,6 +1,7 @@
 -- What the end of a claim makes of a pod's containers: this project's own. docs/SEMANTICS.md, "The agent:
 -- one pod".
-use Rattle.std.specs.Prelude.{ℕ, ◌≤◌, ◌==◌, Bool, false, ◌||◌, if◌then◌else◌, List, [], ◌∷◌, ◌++◌, Option, Some, None}
+use Rattle.std.specs.Prelude.{ℕ, ◌≤◌, ◌==◌, Bool, false, ◌||◌, if◌then◌else◌, List, [], ◌∷◌, ◌++◌, Option}
+use Rattle.std.specs.Prelude.{Some, None}
 use Rattle.std.specs.List.{AllByRecursion}
 use Rattle.std.specs.Option.{is_some}
 use Rattle.std.specs.Str.{bytes_eq}
@@ -10,7 +11,10 @@ use Rattle.lifecycle.specs.declared.track.Stage.TheVariants as stage
 use Rattle.lifecycle.specs.declared.track.Track.{Track}
 use Rattle.manifest.specs.declared.containers.Container.{Container}
 use Rattle.cri_msgs.specs.declared.calls.Call.{Call}
-use Rattle.cri_msgs.specs.declared.calls.Call.TheVariants.{RunPodSandbox, StopPodSandbox, RemovePodSandbox, CreateContainer, StartContainer, StopContainer, RemoveContainer, ContainerStatus, ListContainers, ContainerStatuses}
+use Rattle.cri_msgs.specs.declared.calls.Call.TheVariants.{RunPodSandbox, StopPodSandbox, RemovePodSandbox}
+use Rattle.cri_msgs.specs.declared.calls.Call.TheVariants.{CreateContainer, StartContainer, StopContainer}
+use Rattle.cri_msgs.specs.declared.calls.Call.TheVariants.{RemoveContainer, ContainerStatus, ListContainers}
+use Rattle.cri_msgs.specs.declared.calls.Call.TheVariants.{ContainerStatuses}
 use Rattle.cri_msgs.specs.declared.calls.Request.{Request}
 use Rattle.cri_msgs.specs.declared.keys.Key.{Key}
 use Rattle.worker_pod.specs.declared.news.News.{News}
@@ -27,7 +31,8 @@ abbrev pub made_at : ℕ → Stage → Stage
 made_at of s = stage.Made of
 
 abbrev pub started_at : ℕ → ℕ → Stage → Stage
-started_at now of (stage.Made attempt) = if attempt == of then stage.Running attempt now None else stage.Made attempt
+started_at now of (stage.Made attempt) = if attempt == of then stage.Running attempt now None
+    else stage.Made attempt
 started_at now of s = s
 
 -- its status was told, and it has not exited

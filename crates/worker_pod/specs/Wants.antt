@@ -1,6 +1,7 @@
 -- Which container of a pod is worked on next, and what is done: this project's own, over the order of init
 -- containers and restarts of Kubernetes 1.27, pod lifecycle. docs/SEMANTICS.md, "The agent: one pod".
-use Rattle.std.specs.Prelude.{ℕ, ◌+◌, ◌==◌, nat_le, nat_lt, min, Bool, true, not, ◌&&◌, if◌then◌else◌, List, [], ◌∷◌, Option, Some, None, position}
+use Rattle.std.specs.Prelude.{ℕ, ◌+◌, ◌==◌, nat_le, nat_lt, min, Bool, true, not, ◌&&◌, if◌then◌else◌, List}
+use Rattle.std.specs.Prelude.{[], ◌∷◌, Option, Some, None, position}
 use Rattle.std.specs.Option.{option_map}
 use Rattle.lifecycle.specs.BackOff.{Run, last_of, later, ready_at}
 use Rattle.lifecycle.specs.Restart.{may_restart}
@@ -24,7 +25,8 @@ look_from poll (Some polled) = later polled poll
 abbrev pub again_behind : RestartPolicy → Track → ℕ → Option Run → Option ℕ
 again_behind policy track attempt None = None
 again_behind policy track attempt (Some run) =
-    if may_restart policy track.init run.code && nat_lt attempt LAST_ATTEMPT then Some (ready_at track.runs) else None
+    if may_restart policy track.init run.code && nat_lt attempt LAST_ATTEMPT then Some (ready_at track.runs)
+    else None
 
 abbrev pub again : RestartPolicy → Track → ℕ → Option ℕ
 again policy track attempt = again_behind policy track attempt (last_of track.runs)
@@ -36,9 +38,12 @@ wanted work from = record { from = from; work = work }
 abbrev pub want_in : RestartPolicy → ℕ → Track → Stage → Option Want
 want_in policy poll track stage.Absent = Some (record { from = 0; work = Create 0 })
 want_in policy poll track (stage.Made attempt) = Some (record { from = 0; work = Start attempt })
-want_in policy poll track (stage.Running attempt started polled) = Some (record { from = look_from poll polled; work = Look attempt })
-want_in policy poll track (stage.Exited attempt) = option_map (wanted (Clear attempt)) (again policy track attempt)
-want_in policy poll track (stage.Removed attempt) = option_map (wanted (Create (attempt + 1))) (again policy track attempt)
+want_in policy poll track (stage.Running attempt started polled) =
+    Some (record { from = look_from poll polled; work = Look attempt })
+want_in policy poll track (stage.Exited attempt) =
+    option_map (wanted (Clear attempt)) (again policy track attempt)
+want_in policy poll track (stage.Removed attempt) =
+    option_map (wanted (Create (attempt + 1))) (again policy track attempt)
 
 abbrev pub want_of : RestartPolicy → ℕ → Track → Option Want
 want_of policy poll track = want_in policy poll track track.stage

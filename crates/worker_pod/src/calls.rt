@@ -40,7 +40,8 @@ fn profile_of(
     settings: Settings,
 ) -> Result<SeccompProfile, AllocError>
     requires { slice_get pod.now.containers.all at ≡ Some container.now }
-    ensures { IfOk result (λ profile. profile ≡ choice_of pod.now.profile container.now settings.seccomp_default) }
+    ensures { IfOk result (λ profile. profile
+        ≡ choice_of pod.now.profile container.now settings.seccomp_default) }
 {
     owned(alloc, pick(pod, at, settings.seccomp_default))
 }

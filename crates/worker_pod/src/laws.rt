@@ -1,4 +1,5 @@
-ghost use Rattle.std.specs.Prelude.{◌≡◌, ◌+◌, ◌^◌, ℕ, false, List, [], ◌∷◌, Some, None, slice_get, length, nat_lt};
+ghost use Rattle.std.specs.Prelude.{◌≡◌, ◌+◌, ◌^◌, ℕ, false, List, [], ◌∷◌, Some, None, slice_get, length};
+ghost use Rattle.std.specs.Prelude.{nat_lt};
 ghost use Rattle.std.specs.Option.{is_some};
 ghost use Rattle.lifecycle.specs.BackOff.{Run};
 ghost use Rattle.lifecycle.specs.declared.policy.RestartPolicy.{RestartPolicy};
@@ -14,7 +15,8 @@ ghost use Rattle.worker_pod.specs.declared.settings.TheConstants.{LAST_ATTEMPT, 
 ghost use Rattle.worker_pod.specs.declared.wants.Pick.{Pick};
 ghost use Rattle.worker_pod.specs.declared.wants.Work.TheVariants.{Create};
 ghost use Rattle.cri_msgs.specs.Calls.{uid_of};
-ghost use Rattle.worker_pod.specs.Laws.{AreNumbered, AreOf, Creation, IsNumberedIn, Told, WaitedLongest, WasTold};
+ghost use Rattle.worker_pod.specs.Laws.{AreNumbered, AreOf, Creation, IsNumberedIn, Told, WaitedLongest};
+ghost use Rattle.worker_pod.specs.Laws.{WasTold};
 ghost use Rattle.worker_pod.specs.Next.{due_of, has_come, next_of};
 ghost use Rattle.worker_pod.specs.Past.{Claimed, Kept, Past, held_of, read_off};
 ghost use Rattle.worker_pod.specs.Wants.{chosen, want_of};
@@ -23,7 +25,8 @@ ghost use Rattle.worker_pod.specs.Wants.{chosen, want_of};
 /// and, behind an attempt that ended, where another may be and not before its back-off is over.
 pub fn creations_follow()
     ensures { (kept : Kept) (now : ℕ) (key : Key) (image : List ℕ) (profile : SeccompProfile)
-        → next_of kept now ≡ Some (Call.CreateContainer key image profile) → Creation kept now key image profile }
+        → next_of kept now ≡ Some (Call.CreateContainer key image profile)
+        → Creation kept now key image profile }
 {}
 
 /// Each run that is held was told by a reply to a claim of that container's attempt.
@@ -36,16 +39,19 @@ pub fn runs_were_told()
 
 /// A pod's creations are numbered by the runs of their containers.
 pub fn creations_are_numbered()
-    ensures { (settings : Settings) (past : Past) (now : ℕ) (call : Call) → AreOf past.pod.uid past.claims → AreNumbered settings past.pod past.claims
+    ensures { (settings : Settings) (past : Past) (now : ℕ) (call : Call) → AreOf past.pod.uid past.claims
+        → AreNumbered settings past.pod past.claims
         → next_of (held_of settings past) now ≡ Some call
         → IsNumberedIn past.pod.containers.all (read_off past.pod settings past.claims).tracks call }
 {}
 
 /// Where creations are, the run at each place, from 0, was told of the attempt of that number.
 pub fn runs_are_numbered()
-    ensures { (settings : Settings) (pod : Pod) (claims : List Claimed) → AreOf pod.uid claims → AreNumbered settings pod claims
+    ensures { (settings : Settings) (pod : Pod) (claims : List Claimed) → AreOf pod.uid claims
+        → AreNumbered settings pod claims
         → (at : ℕ) (track : Track) (container : Container)
-        → slice_get (read_off pod settings claims).tracks at ≡ Some track → slice_get pod.containers.all at ≡ Some container
+        → slice_get (read_off pod settings claims).tracks at ≡ Some track
+        → slice_get pod.containers.all at ≡ Some container
         → (k : ℕ) (run : Run) → slice_get track.runs k ≡ Some run → Told pod.uid claims container.name k run }
 {}
 
@@ -54,7 +60,8 @@ pub fn containers_have_tracks()
     ensures count { (settings : Settings) (pod : Pod) (claims : List Claimed)
         → length (read_off pod settings claims).tracks ≡ length pod.containers.all }
     ensures inits { (settings : Settings) (pod : Pod) (claims : List Claimed) (at : ℕ) (track : Track)
-        → slice_get (read_off pod settings claims).tracks at ≡ Some track → track.init ≡ nat_lt at pod.containers.inits }
+        → slice_get (read_off pod settings claims).tracks at ≡ Some track
+        → track.init ≡ nat_lt at pod.containers.inits }
 {}
 
 /// Behind the last attempt at a container there is no other; behind the one before it there is.
@@ -85,7 +92,8 @@ pub fn longest_waits_first()
 
 /// A pod's requests are about the pod.
 pub fn calls_are_of_the_pod()
-    ensures { (kept : Kept) (now : ℕ) (call : Call) → next_of kept now ≡ Some call → uid_of call ≡ kept.pod.uid }
+    ensures { (kept : Kept) (now : ℕ) (call : Call) → next_of kept now ≡ Some call
+        → uid_of call ≡ kept.pod.uid }
 {}
 
 /// What the constants of this crate are.

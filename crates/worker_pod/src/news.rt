@@ -1,5 +1,7 @@
 ghost use Rattle.std.specs.Prelude.{◌≡◌, find, option_copied};
-ghost use Rattle.worker_pod.specs.News.{answer_tells, answer_tells_of, cell_tells, done_tells, heard, is_cell_of, is_lost, list_tells, made_tells, state_tells, status_tells, statuses_tell, statuses_tell_of, told, told_of};
+ghost use Rattle.worker_pod.specs.News.{answer_tells, answer_tells_of, cell_tells, done_tells, heard};
+ghost use Rattle.worker_pod.specs.News.{is_cell_of, is_lost, list_tells, made_tells, state_tells};
+ghost use Rattle.worker_pod.specs.News.{status_tells, statuses_tell, statuses_tell_of, told, told_of};
 
 use crate::settings::Outcome;
 use cri_msgs::{Answer, Call, ListedStatus, Request, State, Statuses};

@@ -1,7 +1,10 @@
-ghost use Rattle.std.specs.Prelude.{◌≡◌, ◌≤◌, IfOk, Ok, OnOk, OnErr, IsOk, Some, None, true, false, option_map};
+ghost use Rattle.std.specs.Prelude.{◌≡◌, ◌≤◌, IfOk, Ok, OnOk, OnErr, IsOk, Some, None, true, false};
+ghost use Rattle.std.specs.Prelude.{option_map};
 ghost use Rattle.worker_pod.specs.News.{told};
-ghost use Rattle.worker_pod.specs.Next.{due_by, due_of, duty_of, is_gone, next_by, next_of, numbered, phase_in};
-ghost use Rattle.worker_pod.specs.Past.{Past, StandsFor, admitted, after, as_deleted, records_exit, rest_at, start, with_claim, with_deleted};
+ghost use Rattle.worker_pod.specs.Next.{due_by, due_of, duty_of, is_gone, next_by, next_of, numbered};
+ghost use Rattle.worker_pod.specs.Next.{phase_in};
+ghost use Rattle.worker_pod.specs.Past.{Past, StandsFor, admitted, after, as_deleted, records_exit, rest_at};
+ghost use Rattle.worker_pod.specs.Past.{start, with_claim, with_deleted};
 ghost use Rattle.worker_pod.specs.Wants.{chosen};
 
 use crate::calls::call_by;
@@ -225,7 +228,8 @@ impl PodState {
         requires { self.old.latest ≤ now }
         ensures ok { OnOk result (self.new ≡ after now request.now outcome self.old) }
         ensures past { OnOk result ((past : Past) → StandsFor self.old past
-            → StandsFor self.new (with_claim past (record { moment = now; request = request.now; outcome = outcome }))) }
+            → StandsFor self.new (with_claim past
+            (record { moment = now; request = request.now; outcome = outcome }))) }
         ensures err { OnErr result (self.new ≡ self.old) }
 
         // Only the records of exits take memory.

@@ -1,7 +1,10 @@
-ghost use Rattle.std.specs.Prelude.{◌≡◌, ◌<◌, ◌≤◌, ◌++◌, ◌∷◌, [], IfOk, OnOk, OnErr, true, length, map, option_map, vec_len, vec_capacity};
+ghost use Rattle.std.specs.Prelude.{◌≡◌, ◌<◌, ◌≤◌, ◌++◌, ◌∷◌, [], IfOk, OnOk, OnErr, true, length, map};
+ghost use Rattle.std.specs.Prelude.{option_map, vec_len, vec_capacity};
 ghost use Rattle.std.specs.Option.{option_copied};
 ghost use Rattle.worker_pod.specs.Past.{fresh_tracks};
-ghost use Rattle.worker_pod.specs.Tracks.{AllStartedBy, StartedBy, fresh, named_in, number_after, records_in, run_after, run_at, running_in, stage_after, stage_at, tracks_after, worked_in};
+ghost use Rattle.worker_pod.specs.Tracks.{AllStartedBy, StartedBy, fresh, named_in, number_after, records_in};
+ghost use Rattle.worker_pod.specs.Tracks.{run_after, run_at, running_in, stage_after, stage_at, tracks_after};
+ghost use Rattle.worker_pod.specs.Tracks.{worked_in};
 
 use crate::news::{News, told_of};
 use crate::settings::Outcome;

@@ -1,5 +1,6 @@
 ghost use Rattle.std.specs.Prelude.{◌≡◌};
-ghost use Rattle.worker_pod.specs.Wants.{better, chosen, front_of, is_in_turn, is_longer, sooner, soonest, turn_of};
+ghost use Rattle.worker_pod.specs.Wants.{better, chosen, front_of, is_in_turn, is_longer, sooner, soonest};
+ghost use Rattle.worker_pod.specs.Wants.{turn_of};
 
 use crate::wants::{Pick, Want, want_of};
 use lifecycle::{RestartPolicy, Track};

@@ -48,14 +48,16 @@ pub record IsReached (kept : KeptWorld) : Type 0 where
   pub stands : StandsFor kept (world_now settings baseline links)
 
 -- the reply at this place of the bag was given to this request
-pub record WasGiven (given : List Exchange) (which : ℕ) (claim : Option Request) (reply : Reply) : Type 0 where
+pub record WasGiven (given : List Exchange) (which : ℕ) (claim : Option Request)
+    (reply : Reply) : Type 0 where
   pub exchange : Exchange
   pub here : slice_get given which ≡ Some exchange
   pub its_request : claim ≡ Some exchange.request
   pub its_reply : reply ≡ exchange.reply
 
 abbrev pub LacksReply : List Exchange → ℕ → Option Request → WorldFault → Type 0
-LacksReply given which claim fault = ((fault ≡ NoSuchReply) × ((reply : Reply) → ¬ WasGiven given which claim reply))
+LacksReply given which claim fault = ((fault ≡ NoSuchReply)
+    × ((reply : Reply) → ¬ WasGiven given which claim reply))
     ⊎ ((fault ≡ Memory) × ((reply : Reply) × WasGiven given which claim reply))
 
 abbrev pub LacksRequest : List Request → ℕ → WorldFault → Type 0

@@ -1,5 +1,6 @@
--- What holds in every run of the world, whatever is served again, lost, late or never served: this project's own,
--- over the order of init containers and restarts of Kubernetes 1.27, pod lifecycle. docs/SEMANTICS.md, "The world".
+-- What holds in every run of the world, whatever is served again, lost, late or never served: this project's
+-- own, over the order of init containers and restarts of Kubernetes 1.27, pod lifecycle. docs/SEMANTICS.md,
+-- "The world".
 use Rattle.std.specs.Prelude.{◌≡◌, ℕ, ◌+◌, ◌<◌, Bool, true, List, Option, Some, slice_get}
 use Rattle.bpf_code.specs.declared.insn.Insn.{Insn}
 use Rattle.lifecycle.specs.BackOff.{Run}
@@ -24,7 +25,8 @@ use Rattle.registry.specs.Runtime.{In, slot_of}
 use Rattle.worker_pod.specs.declared.settings.Settings.{Settings}
 use Rattle.worker_pod.specs.Laws.{key_named}
 use Rattle.worker_pod.specs.Past.{read_off}
-use Rattle.worker_core.specs.Laws.{Admits, Gives, Happened, NodeLaws, NodeLink, NodeLinkLaws, is_init, node_now}
+use Rattle.worker_core.specs.Laws.{Admits, Gives, Happened, NodeLaws, NodeLink, NodeLinkLaws, is_init}
+use Rattle.worker_core.specs.Laws.{node_now}
 use Rattle.worker_core.specs.Nodes.{OnNode}
 use Rattle.world.specs.World.{WorldLink, node_link, node_part, runtime_link, runtime_part, world_now}
 
@@ -50,9 +52,11 @@ pub record IsContainer (pod : Pod) (name : List ℕ) (place : ℕ) (container : 
 abbrev pub profile_of : Settings → Pod → Container → SeccompProfile
 profile_of settings pod container = choice_of pod.profile container settings.seccomp_default
 
--- A cell was made as the manifest of its uid says: from the container's image and the profile that is chosen for it, and
--- from what the files gave when it was made. So its filters are the node's own and that of the profile.
-pub record IsFromManifest (settings : Settings) (baseline : Option (List Insn)) (ls : List WorldLink) (key : Key) (making : Making) : Type 0 where
+-- A cell was made as the manifest of its uid says: from the container's image and the profile that is chosen
+-- for it, and from what the files gave when it was made. So its filters are the node's own and that of the
+-- profile.
+pub record IsFromManifest (settings : Settings) (baseline : Option (List Insn)) (ls : List WorldLink)
+    (key : Key) (making : Making) : Type 0 where
   pub pod : Pod
   pub is_pod : IsPodOf ls key.uid pod
   pub place : ℕ
@@ -62,8 +66,10 @@ pub record IsFromManifest (settings : Settings) (baseline : Option (List Insn)) 
   pub id : ℕ
   pub link : Link
   pub among : In link (runtime_part ls)
-  pub created : link.event ≡ Served (CreateContainer key container.image (profile_of settings pod container)) files (answers.Container id)
-  pub from : IsMadeFrom baseline id key.container container.image (profile_of settings pod container) files making
+  pub created : link.event ≡ Served (CreateContainer key container.image (profile_of settings pod container))
+      files (answers.Container id)
+  pub from : IsMadeFrom baseline id key.container container.image (profile_of settings pod container) files
+      making
 
 -- attempt k ended, with a code behind which another may be
 pub record HasEndedBefore (ls : List WorldLink) (pod : Pod) (place : ℕ) (key : Key) (k : ℕ) : Type 0 where
@@ -76,8 +82,8 @@ pub record HasSucceeded (ls : List WorldLink) (uid name : List ℕ) : Type 0 whe
   pub attempt : ℕ
   pub ended : EndedWith ls (key_named uid name attempt) 0
 
--- An attempt comes in its turn: behind the end of the attempt before it, and of all init containers, for an init
--- container of those in front of it.
+-- An attempt comes in its turn: behind the end of the attempt before it, and of all init containers, for an
+-- init container of those in front of it.
 pub record IsInTurn (ls : List WorldLink) (key : Key) : Type 0 where
   pub pod : Pod
   pub is_pod : IsPodOf ls key.uid pod
@@ -85,26 +91,30 @@ pub record IsInTurn (ls : List WorldLink) (key : Key) : Type 0 where
   pub container : Container
   pub is_container : IsContainer pod key.container.name place container
   pub again : (k : ℕ) → key.container.attempt ≡ k + 1 → HasEndedBefore ls pod place key k
-  pub inits : (at : ℕ) (other : Container) → slice_get pod.containers.all at ≡ Some other → is_init pod at ≡ true
+  pub inits : (at : ℕ) (other : Container) → slice_get pod.containers.all at ≡ Some other
+      → is_init pod at ≡ true
       → (is_init pod place ≡ true → at < place) → HasSucceeded ls key.uid other.name
 
 -- at any moment
-pub record WorldLaws (settings : Settings) (baseline : Option (List Insn)) (ls : List WorldLink) : Type 0 where
-  -- The runtime's part is a run of a runtime, and the node's of a node: what a container performs, that its record
-  -- follows its script, and who holds which pod.
+pub record WorldLaws (settings : Settings) (baseline : Option (List Insn))
+    (ls : List WorldLink) : Type 0 where
+  -- The runtime's part is a run of a runtime, and the node's of a node: what a container performs, that its
+  -- record follows its script, and who holds which pod.
   pub runtime : RunLaws baseline (runtime_part ls)
   pub runtime_is : now baseline (runtime_part ls) ≡ (world_now settings baseline ls).runtime
   pub node : NodeLaws settings (node_part ls)
   pub node_is : node_now settings (node_part ls) ≡ (world_now settings baseline ls).node
   -- the filters of a cell's start are those that the manifest asks for which was admitted under its uid
-  pub from_manifest : (key : Key) (cell : Cell) → Seen (runtime_part ls) key cell → IsFromManifest settings baseline ls key cell.making
-  -- the run at each place, from 0, that the node holds of a container is that of the attempt of this number: the
-  -- attempt's cell ended with the run's code
+  pub from_manifest : (key : Key) (cell : Cell) → Seen (runtime_part ls) key cell
+      → IsFromManifest settings baseline ls key cell.making
+  -- the run at each place, from 0, that the node holds of a container is that of the attempt of this number:
+  -- the attempt's cell ended with the run's code
   pub codes : (at : ℕ) (p : OnNode) → slice_get (world_now settings baseline ls).node.pods at ≡ Some p
       → (place : ℕ) (track : Track) (container : Container)
       → slice_get (read_off p.past.pod settings p.past.claims).tracks place ≡ Some track
       → slice_get p.past.pod.containers.all place ≡ Some container
-      → (k : ℕ) (run : Run) → slice_get track.runs k ≡ Some run → EndedWith ls (key_named p.past.pod.uid container.name k) run.code
+      → (k : ℕ) (run : Run) → slice_get track.runs k ≡ Some run
+      → EndedWith ls (key_named p.past.pod.uid container.name k) run.code
 
 -- the cell of an attempt is made
 pub record MakesCell (l : WorldLink) (key : Key) : Type 0 where
@@ -118,6 +128,8 @@ pub record WorldLinkLaws (l : WorldLink) (before : List WorldLink) : Type 0 wher
   -- a uid is admitted once, a number is used once, and the back-off is kept
   pub node : (link : NodeLink) → node_link l ≡ Some link → NodeLinkLaws link (node_part before)
   -- an attempt is asked for, and made, behind all that had to end first
-  pub asked : (link : NodeLink) (worker : ℕ) (uid : List ℕ) (request : Request) → node_link l ≡ Some link → Gives worker uid request link
-      → (key : Key) (image : List ℕ) (profile : SeccompProfile) → request.call ≡ CreateContainer key image profile → IsInTurn before key
+  pub asked : (link : NodeLink) (worker : ℕ) (uid : List ℕ) (request : Request) → node_link l ≡ Some link
+      → Gives worker uid request link
+      → (key : Key) (image : List ℕ) (profile : SeccompProfile)
+      → request.call ≡ CreateContainer key image profile → IsInTurn before key
   pub made : (key : Key) → MakesCell l key → IsInTurn before key

@@ -34,7 +34,12 @@ pub record WorldState : Type 0 where
 
 -- no pod was admitted, nothing was sent, and no container was made
 abbrev pub empty_world : Settings → Option (List Insn) → WorldState
-empty_world settings baseline = record { node = empty_node settings; runtime = empty baseline; sent = []; given = [] }
+empty_world settings baseline = record {
+  node = empty_node settings;
+  runtime = empty baseline;
+  sent = [];
+  given = [];
+}
 
 -- What happened, and what came of it:
 --   the agent acted by itself, and answered;
@@ -80,7 +85,8 @@ pub record Acts (old : WorldState) (act : Act) (answer : Answer) (new : WorldSta
   pub given : new.given ≡ old.given
 
 -- any request of the bag may be served, again and in any order
-pub record Serving (old : WorldState) (which : ℕ) (request : Request) (files : FileAnswers) (reply : Reply) (new : WorldState) : Type 0 where
+pub record Serving (old : WorldState) (which : ℕ) (request : Request) (files : FileAnswers) (reply : Reply)
+    (new : WorldState) : Type 0 where
   pub was_sent : slice_get old.sent which ≡ Some request
   pub runtime : Serves old.runtime request.call files reply.answer new.runtime
   pub number : reply.id ≡ request.id
@@ -89,7 +95,8 @@ pub record Serving (old : WorldState) (which : ℕ) (request : Request) (files :
   pub sent : new.sent ≡ old.sent
 
 -- any reply that was ever given to the request that the worker holds may be reported
-pub record Reporting (old : WorldState) (worker which : ℕ) (exchange : Exchange) (answer : Answer) (new : WorldState) : Type 0 where
+pub record Reporting (old : WorldState) (worker which : ℕ) (exchange : Exchange) (answer : Answer)
+    (new : WorldState) : Type 0 where
   pub was_given : slice_get old.given which ≡ Some exchange
   pub uid : List ℕ
   pub held : Holds old.node worker uid exchange.request
@@ -132,26 +139,37 @@ world_now settings baseline (l ∷ ls) = l.new
 -- a run is a list of links, the newest first, from the empty world on
 abbrev pub IsWorldRun : Settings → Option (List Insn) → List WorldLink → Type 0
 IsWorldRun settings baseline [] = ⊤
-IsWorldRun settings baseline (l ∷ ls) = (l.old ≡ world_now settings baseline ls) × WorldStep l.old l.event l.new × IsWorldRun settings baseline ls
+IsWorldRun settings baseline (l ∷ ls) = (l.old ≡ world_now settings baseline ls)
+    × WorldStep l.old l.event l.new × IsWorldRun settings baseline ls
 
 -- the part of it that is the node's, if any
 abbrev pub node_event : NodeState → Event → NodeState → Option NodeLink
-node_event old (Acted act answer) new = Some (record { old = old; event = agent_event act; answer = answer; new = new })
+node_event old (Acted act answer) new =
+    Some (record { old = old; event = agent_event act; answer = answer; new = new })
 node_event old (Served which request files reply) new = None
 node_event old (Reported worker which exchange answer) new =
-    Some (record { old = old; event = agent.Report worker (told.Replied exchange.reply); answer = answer; new = new })
-node_event old (Lost worker answer) new = Some (record { old = old; event = agent.Report worker told.Lost; answer = answer; new = new })
+    Some (record {
+      old = old;
+      event = agent.Report worker (told.Replied exchange.reply);
+      answer = answer;
+      new = new;
+    })
+node_event old (Lost worker answer) new =
+    Some (record { old = old; event = agent.Report worker told.Lost; answer = answer; new = new })
 node_event old (Stepped id did) new = None
 node_event old (Killed id code) new = None
 
 -- and the part that is the runtime's
 abbrev pub runtime_event : Runtime → Event → Runtime → Option Link
 runtime_event old (Acted act answer) new = None
-runtime_event old (Served which request files reply) new = Some (record { old = old; event = cells.Served request.call files reply.answer; new = new })
+runtime_event old (Served which request files reply) new =
+    Some (record { old = old; event = cells.Served request.call files reply.answer; new = new })
 runtime_event old (Reported worker which exchange answer) new = None
 runtime_event old (Lost worker answer) new = None
-runtime_event old (Stepped id did) new = Some (record { old = old; event = cells.Stepped id (Some did); new = new })
-runtime_event old (Killed id code) new = Some (record { old = old; event = cells.Killed id code (Some (tt {0})); new = new })
+runtime_event old (Stepped id did) new =
+    Some (record { old = old; event = cells.Stepped id (Some did); new = new })
+runtime_event old (Killed id code) new =
+    Some (record { old = old; event = cells.Killed id code (Some (tt {0})); new = new })
 
 abbrev pub node_link : WorldLink → Option NodeLink
 node_link l = node_event l.old.node l.event l.new.node

@@ -1,4 +1,5 @@
-ghost use Rattle.std.specs.Prelude.{◌≡◌, ◌<◌, ◌++◌, ◌∷◌, [], Some, IfOk, IfErr, slice_get, vec_len, vec_capacity, option_copied};
+ghost use Rattle.std.specs.Prelude.{◌≡◌, ◌<◌, ◌++◌, ◌∷◌, [], Some, IfOk, IfErr, slice_get, vec_len};
+ghost use Rattle.std.specs.Prelude.{vec_capacity, option_copied};
 ghost use Rattle.world.specs.Kept.{LacksReply, LacksRequest, WasGiven};
 ghost use Rattle.world.specs.World.{sent_by};
 

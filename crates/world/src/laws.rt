@@ -13,7 +13,8 @@ ghost use Rattle.world.specs.World.{IsWorldRun, WorldLink};
 pub fn every_run()
     ensures run { (settings : Settings) (baseline : Option (List Insn)) (ls : List WorldLink)
         → IsWorldRun settings baseline ls → WorldLaws settings baseline ls }
-    ensures link { (settings : Settings) (baseline : Option (List Insn)) (l : WorldLink) (before : List WorldLink)
+    ensures link { (settings : Settings) (baseline : Option (List Insn)) (l : WorldLink)
+        (before : List WorldLink)
         → IsWorldRun settings baseline (l ∷ before) → WorldLinkLaws l before }
 {
     runtime_laws::every_run();

@@ -1,6 +1,7 @@
 ghost use Rattle.std.specs.Prelude.{◌≡◌, IfErr, OnErr, OnOk};
 ghost use Rattle.world.specs.declared.events.Act.TheVariants as act;
-ghost use Rattle.world.specs.declared.events.WorldEvent.TheVariants.{Agent, Serve, Report, Lose, StepCell, KillCell};
+ghost use Rattle.world.specs.declared.events.WorldEvent.TheVariants.{Agent, Serve, Report, Lose, StepCell};
+ghost use Rattle.world.specs.declared.events.WorldEvent.TheVariants.{KillCell};
 ghost use Rattle.world.specs.Kept.{Comes, IsCause, IsClaim, IsReached, StandsFor};
 ghost use Rattle.world.specs.World.{WorldState, empty_world};
 
@@ -30,10 +31,21 @@ impl Model for World {
 
     ghost Value = { KeptWorld };
 
-    ghost view = { λ w. record { node = w.node; runtime = w.runtime; sent = w.sent.items; given = w.given.items } };
+    ghost view = { λ w. record {
+      node = w.node;
+      runtime = w.runtime;
+      sent = w.sent.items;
+      given =
+          w.given.items;
+    } };
 
     // What is kept stands for the end of a run, so that the laws of every run hold of it.
-    ghost invariant = { λ w. IsReached (record { node = w.node; runtime = w.runtime; sent = w.sent.items; given = w.given.items }) };
+    ghost invariant = { λ w. IsReached (record {
+      node = w.node;
+      runtime = w.runtime;
+      sent = w.sent.items;
+      given = w.given.items;
+    }) };
 }
 
 impl World {
@@ -82,11 +94,12 @@ impl World {
         self.given.as_slice()
     }
 
-    /// Takes a step, if the event can happen. What the agent or the runtime refuse are answers of theirs, and no
-    /// faults. A fault changes nothing.
+    /// Takes a step, if the event can happen. What the agent or the runtime refuse are answers of theirs, and
+    /// no faults. A fault changes nothing.
     pub fn step(&mut self, event: WorldEvent) -> Result<(), WorldFault>
         // It is a step of every world that what was kept stands for.
-        ensures step { OnOk result ((world : WorldState) → StandsFor self.old world → Comes world event self.new) }
+        ensures step { OnOk result ((world : WorldState) → StandsFor self.old world
+            → Comes world event self.new) }
         ensures same { OnErr result (self.new ≡ self.old) }
         ensures cause { IfErr result (λ fault. IsCause self.old event fault) }
     {
@@ -104,7 +117,8 @@ impl World {
     }
 
     fn act(&mut self, act: Act) -> Result<(), WorldFault>
-        ensures step { OnOk result ((world : WorldState) → StandsFor self.old world → Comes world (Agent act) self.new) }
+        ensures step { OnOk result ((world : WorldState) → StandsFor self.old world
+            → Comes world (Agent act) self.new) }
         ensures same { OnErr result (self.new ≡ self.old) }
         ensures cause { IfErr result (λ fault. IsCause self.old (Agent act) fault) }
     {
@@ -118,7 +132,8 @@ impl World {
 
     // Room for the request comes first.
     fn claim(&mut self, worker: u32) -> Result<(), WorldFault>
-        ensures step { OnOk result ((world : WorldState) → StandsFor self.old world → Comes world (Agent (act.Claim worker)) self.new) }
+        ensures step { OnOk result ((world : WorldState) → StandsFor self.old world
+            → Comes world (Agent (act.Claim worker)) self.new) }
         ensures same { OnErr result (self.new ≡ self.old) }
         ensures cause { IfErr result (λ fault. fault ≡ WorldFault.Memory) }
     {
@@ -138,7 +153,8 @@ impl World {
 
     // Room for the exchange comes first.
     fn serve(&mut self, which: usize, files: FileAnswers) -> Result<(), WorldFault>
-        ensures step { OnOk result ((world : WorldState) → StandsFor self.old world → Comes world (Serve which files) self.new) }
+        ensures step { OnOk result ((world : WorldState) → StandsFor self.old world
+            → Comes world (Serve which files) self.new) }
         ensures same { OnErr result (self.new ≡ self.old) }
         ensures cause { IfErr result (λ fault. IsCause self.old (Serve which files) fault) }
     {
@@ -151,7 +167,8 @@ impl World {
     }
 
     fn report(&mut self, worker: u32, which: usize) -> Result<(), WorldFault>
-        ensures step { OnOk result ((world : WorldState) → StandsFor self.old world → Comes world (Report worker which) self.new) }
+        ensures step { OnOk result ((world : WorldState) → StandsFor self.old world
+            → Comes world (Report worker which) self.new) }
         ensures same { OnErr result (self.new ≡ self.old) }
         ensures cause { IfErr result (λ fault. IsCause self.old (Report worker which) fault) }
     {
@@ -173,7 +190,8 @@ impl World {
     }
 
     fn step_cell(&mut self, id: u64) -> Result<(), WorldFault>
-        ensures step { OnOk result ((world : WorldState) → StandsFor self.old world → Comes world (StepCell id) self.new) }
+        ensures step { OnOk result ((world : WorldState) → StandsFor self.old world
+            → Comes world (StepCell id) self.new) }
         ensures same { OnErr result (self.new ≡ self.old) }
         ensures cause { IfErr result (λ fault. IsCause self.old (StepCell id) fault) }
     {
@@ -185,7 +203,8 @@ impl World {
     }
 
     fn kill_cell(&mut self, id: u64, code: u8) -> Result<(), WorldFault>
-        ensures step { OnOk result ((world : WorldState) → StandsFor self.old world → Comes world (KillCell id code) self.new) }
+        ensures step { OnOk result ((world : WorldState) → StandsFor self.old world
+            → Comes world (KillCell id code) self.new) }
         ensures same { OnErr result (self.new ≡ self.old) }
         ensures cause { IfErr result (λ fault. IsCause self.old (KillCell id code) fault) }
     {

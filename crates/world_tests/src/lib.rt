@@ -1,5 +1,5 @@
-//! Tests of the world: worked rows as lists of events, and drawn lists of which plain code checks what was recorded.
-//! They stand beside it, so that its proof is made once.
+//! Tests of the world: worked rows as lists of events, and drawn lists of which plain code checks what was
+//! recorded. They stand beside it, so that its proof is made once.
 #![tactic(auto)]
 
 #[cfg(test)]

@@ -1,4 +1,5 @@
-// Drawn whole numbers, the same in every run: a linear congruence modulo 2 ^ 64, of which the upper half is taken.
+// Drawn whole numbers, the same in every run: a linear congruence modulo 2 ^ 64, of which the upper half is
+// taken.
 #[derive(Clone, Copy)]
 pub(crate) struct Numbers {
     state: u64,

@@ -4,7 +4,8 @@ use Rattle.bpf_compare.proofs.comparer.compare.Goals.{in-Agrees, in-Differs+in_d
 
 pub loop-preserved-in-Splits : goal.loop-preserved-in-Splits
 loop-preserved-in-Splits c = λ sure call is.
-    rw c.in_ok-push-in-Splits.ensures.items (splits _ _ call c.loop.path c.advance.new.self c.in-Splits.other c.loop.waiting.items
+    rw c.in_ok-push-in-Splits.ensures.items
+    (splits _ _ call c.loop.path c.advance.new.self c.in-Splits.other c.loop.waiting.items
     (rw c.in-Splits.is at (c.in_ok-advance.ensures call (is_call _ call is))) (c.loop.invariant sure call is))
 
 pub loop-preserved : goal.loop-preserved
@@ -20,9 +21,11 @@ loop-preserved c = λ sure call is.
     ]
 
 pub returns-in-None : goal.returns-in-None
-returns-in-None c = says c.args.scope c.args.first.now c.args.second.now _ _ c.ending.ensures.told c.ending.ensures.none (λ sure call is.
+returns-in-None c = says c.args.scope c.args.first.now c.args.second.now _ _ c.ending.ensures.told
+    c.ending.ensures.none (λ sure call is.
     let none = no_doubt c.match-branch-2.ended c.loop.doubt c.or-doubt.result c.or-doubt.ensures sure in
-    let empty = emptied c.loop.waiting.items c.pop.new.self.items _ c.in-None.ensures.cases.0 c.in-None.ensures.items c.in-None.ensures.rest in
+    let empty = emptied c.loop.waiting.items c.pop.new.self.items _ c.in-None.ensures.cases.0
+    c.in-None.ensures.items c.in-None.ensures.rest in
     elim c.match-branch-2.branch [
       | in-Agrees w ↦
           done _ _ call c.loop.path

@@ -5,4 +5,5 @@ use Rattle.bpf_compare.specs.Paths.{IsHeld}
 use Rattle.bpf_compare.proofs.comparer.compare.Given as goal
 
 abbrev pub invariant-loop : goal.invariant-loop
-invariant-loop l = l.doubt ≡ None → (call : SysCall) → IsOf l.scope call → IsHeld l.first l.second call l.path l.waiting.items
+invariant-loop l = l.doubt ≡ None → (call : SysCall) → IsOf l.scope call
+    → IsHeld l.first l.second call l.path l.waiting.items

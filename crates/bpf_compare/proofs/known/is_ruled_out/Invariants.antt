@@ -5,4 +5,5 @@ use Rattle.bpf_compare.specs.Known.{Avoids, IsIn, number_at}
 use Rattle.bpf_compare.proofs.known.is_ruled_out.Given as goal
 
 abbrev pub invariant-loop-number : goal.invariant-loop-number
-invariant-loop-number l = (call : SysCall) → All (Avoids call) l.excluded → IsIn l.range (number_at call l.word.place) → l.number ≤ number_at call l.word.place
+invariant-loop-number l = (call : SysCall) → All (Avoids call) l.excluded
+    → IsIn l.range (number_at call l.word.place) → l.number ≤ number_at call l.word.place

@@ -8,7 +8,9 @@ pub returns-clause-state : goal.returns-clause-state
 returns-clause-state c = Reaches-unique
 
 pub returns-clause-value : goal.returns-clause-value
-returns-clause-value c = λ code call value other steps count one two. (Runs-unique code call value other steps count one two).0
+returns-clause-value c = λ code call value other steps count one two.
+    (Runs-unique code call value other steps count one two).0
 
 pub returns-clause-steps : goal.returns-clause-steps
-returns-clause-steps c = λ code call value other steps count one two. (Runs-unique code call value other steps count one two).1
+returns-clause-steps c = λ code call value other steps count one two.
+    (Runs-unique code call value other steps count one two).1

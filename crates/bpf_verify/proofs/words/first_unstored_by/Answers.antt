@@ -9,13 +9,15 @@ use Rattle.bpf_verify.proofs.Rules.{goes_below}
 use Rattle.bpf_verify.proofs.Stored.{tells_start, tells_more, finds_set, misses_clear}
 use Rattle.bpf_verify.proofs.words.first_unstored_by.Goals as goal
 
-keeps : (code : List Insn) (at : ℕ) (d : Insn) → AllKeepRules code → at < length code → KeepsNumber (get_or code at d).op (get_or code at d).k
+keeps : (code : List Insn) (at : ℕ) (d : Insn) → AllKeepRules code → at < length code
+    → KeepsNumber (get_or code at d).op (get_or code at d).k
 keeps code at d rules within = (rules at (get_or code at d) (slice_get-get_or code at d within)).number
 
 pub loop-at-init : goal.loop-at-init
 loop-at-init c = record {
   told = tells_start c.args.code.now _ (get_or-set_at c.args.masks.now 0 0 0 0 refl (omega arith))
-      (λ p later within. get_or-set_other c.args.masks.now 0 p 0 0 (λ first. omega (arith, first, later)) ∙ c.requires.set p (omega (arith, within, length-set {A = ℕ})));
+      (λ p later within. get_or-set_other c.args.masks.now 0 p 0 0 (λ first. omega (arith, first, later))
+      ∙ c.requires.set p (omega (arith, within, length-set {A = ℕ})));
   found = λ earlier other below. absurd (omega (arith, below));
 }
 
@@ -43,10 +45,16 @@ loop-at-preserved c =
     let within : c.loop-at.at < length c.loop-at.masks = omega (arith, length-set {A = ℕ}) in
     record {
       told = rw (c.pass_on.ensures, c.after.ensures)
-          (tells_more c.args.code.now c.loop-at.at _ c.loop-at.masks c.loop-at.invariant.told (slice_get-get_or c.args.code.now c.loop-at.at _ c.loop-at-test.true) within);
-      found = places_read (FindsWord c.args.code.now) c.args.code.now c.loop-at.at no_insn c.loop-at.invariant.found c.loop-at-test.true
-          (finds_set c.args.code.now c.loop-at.at (get_or c.args.code.now c.loop-at.at no_insn) c.loop-at.masks c.loop-at.invariant.told within (keeps c.args.code.now c.loop-at.at no_insn c.requires.rules c.loop-at-test.true) (c.if-not-finds_word.ensures.found refl));
+          (tells_more c.args.code.now c.loop-at.at _ c.loop-at.masks c.loop-at.invariant.told
+          (slice_get-get_or c.args.code.now c.loop-at.at _ c.loop-at-test.true) within);
+      found = places_read (FindsWord c.args.code.now) c.args.code.now c.loop-at.at no_insn
+          c.loop-at.invariant.found c.loop-at-test.true
+          (finds_set c.args.code.now c.loop-at.at (get_or c.args.code.now c.loop-at.at no_insn)
+          c.loop-at.masks c.loop-at.invariant.told within
+          (keeps c.args.code.now c.loop-at.at no_insn c.requires.rules c.loop-at-test.true)
+          (c.if-not-finds_word.ensures.found refl));
     }
 
 pub returns-clause-fine : goal.returns-clause-fine
-returns-clause-fine c = places_all (FindsWord c.args.code.now) c.args.code.now c.loop-at.at c.loop-at.invariant.found c.loop-at-test.false
+returns-clause-fine c = places_all (FindsWord c.args.code.now) c.args.code.now c.loop-at.at
+    c.loop-at.invariant.found c.loop-at-test.false

@@ -4,4 +4,5 @@ use Rattle.call_names.specs.Tests.{IsNumberTest}
 use Rattle.call_names.proofs.comparing.tests_by.Given as goal
 
 abbrev pub invariant-loop-at : goal.invariant-loop-at
-invariant-loop-at l = (length l.tests.items ≡ l.at) × ((k : ℕ) → get_or l.tests.items k false ≡ true → IsNumberTest l.code k)
+invariant-loop-at l = (length l.tests.items ≡ l.at)
+    × ((k : ℕ) → get_or l.tests.items k false ≡ true → IsNumberTest l.code k)

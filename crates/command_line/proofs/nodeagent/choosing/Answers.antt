@@ -5,4 +5,6 @@ use Rattle.command_line.specs.Arguments.{flag_rule}
 use Rattle.command_line.proofs.nodeagent.choosing.Goals as goal
 
 pub returns : goal.returns
-returns c = IfOk-weaker c.with_flag-2.result _ _ (λ m h. h ∙ ap (λ (a : App). with_rule a (flag_rule (codes "seccomp-default"))) (c.in_ok-command.ensures)) c.with_flag-2.ensures
+returns c = IfOk-weaker c.with_flag-2.result _ _ (λ m h. h
+    ∙ ap (λ (a : App). with_rule a (flag_rule (codes "seccomp-default"))) (c.in_ok-command.ensures))
+    c.with_flag-2.ensures

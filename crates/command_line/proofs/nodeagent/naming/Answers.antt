@@ -5,4 +5,6 @@ use Rattle.command_line.specs.Arguments.{words_rule}
 use Rattle.command_line.proofs.nodeagent.naming.Goals as goal
 
 pub returns : goal.returns
-returns c = IfOk-weaker c.with_words.result _ _ (λ m h. h ∙ ap (λ (a : App). with_rule a (words_rule (codes "MANIFEST"))) (c.in_ok-command.ensures)) c.with_words.ensures
+returns c = IfOk-weaker c.with_words.result _ _ (λ m h. h
+    ∙ ap (λ (a : App). with_rule a (words_rule (codes "MANIFEST"))) (c.in_ok-command.ensures))
+    c.with_words.ensures

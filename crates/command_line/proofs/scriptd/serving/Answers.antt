@@ -6,4 +6,6 @@ use Rattle.command_line.specs.Scriptd.{folders}
 use Rattle.command_line.proofs.scriptd.serving.Goals as goal
 
 pub returns : goal.returns
-returns c = IfOk-weaker c.with_option.result _ _ (λ m h. h ∙ ap (λ (a : App). with_rule a (option_rule (codes "baseline"))) (c.in_ok-command-2.ensures ∙ ap folders (c.in_ok-command.ensures))) c.with_option.ensures
+returns c = IfOk-weaker c.with_option.result _ _ (λ m h. h
+    ∙ ap (λ (a : App). with_rule a (option_rule (codes "baseline"))) (c.in_ok-command-2.ensures
+    ∙ ap folders (c.in_ok-command.ensures))) c.with_option.ensures

@@ -13,8 +13,10 @@ use Rattle.compile.proofs.chain.+test_all.Goals as goal
 
 pub returns-then-from-conds-clause-gives : goal.returns-then-from-conds-clause-gives
 returns-then-from-conds-clause-gives t c = λ call value most is_call gives.
-    GivesAlways-more c.args.code.now call c.args.hit value most (most + 6 * (length c.args.conds.now - c.args.from))
-    (by_test c.args.code.now call _ _ c.args.hit c.args.miss value most (all_past c.args.conds.now call c.args.from (omega arith)) gives) (omega arith)
+    GivesAlways-more c.args.code.now call c.args.hit value most
+    (most + 6 * (length c.args.conds.now - c.args.from))
+    (by_test c.args.code.now call _ _ c.args.hit c.args.miss value most
+    (all_past c.args.conds.now call c.args.from (omega arith)) gives) (omega arith)
 
 pub returns-clause-gives : goal.returns-clause-gives
 returns-clause-gives t c =
@@ -23,10 +25,13 @@ returns-clause-gives t c =
     let new : List Insn = c.test_condition.new.code in
     let left : ℕ = length c.args.conds.now - (c.args.from + 1) in
     let Given : ℕ → Type 0 = λ at. (call : SysCall) (value most : ℕ) → IsCall call
-    → GivesAlways old call (if all_of (drop c.args.from c.args.conds.now) call then c.args.hit else c.args.miss) value most
+    → GivesAlways old call (if all_of (drop c.args.from c.args.conds.now) call then c.args.hit
+    else c.args.miss) value most
     → GivesAlways new call at value (most + 6 * (length c.args.conds.now - c.args.from)) in
     front_is Given new c.test_condition.result c.test_condition.ensures.at
     (on_ok_weaker c.test_condition.result (λ tests call value most is_call gives.
-    all_give old mid new call c.args.conds.now c.args.from c.args.hit c.in_ok-rest.rest c.args.miss value most (most + 6 * left) (most + 6 * (length c.args.conds.now - c.args.from))
+    all_give old mid new call c.args.conds.now c.args.from c.args.hit c.in_ok-rest.rest c.args.miss value most
+    (most + 6 * left) (most + 6 * (length c.args.conds.now - c.args.from))
     (omega arith) c.in_ok-rest.ensures.keeps (omega arith) (omega arith)
-    (λ g. c.in_ok-rest.ensures.gives call value most is_call g) (λ g. tests call value (most + 6 * left) is_call g) gives) c.test_condition.ensures.gives)
+    (λ g. c.in_ok-rest.ensures.gives call value most is_call g)
+    (λ g. tests call value (most + 6 * left) is_call g) gives) c.test_condition.ensures.gives)

@@ -8,20 +8,37 @@ use Rattle.compile.proofs.chain.check_of.Goals as goal
 
 pub returns-in-Some-clause-check : goal.returns-in-Some-clause-check
 returns-in-Some-clause-check c = λ call other most some gives.
-    let known : Known = record { index = c.args.index; high = c.args.high; value = c.args.value; check = c.in-Some.check } in
-    check_shared c.args.code.now call c.args.chain.known known c.args.chain.place other most c.in-Some.ensures.same gives
+    let known : Known = record {
+      index = c.args.index;
+      high = c.args.high;
+      value = c.args.value;
+      check =
+          c.in-Some.check;
+    } in
+    check_shared c.args.code.now call c.args.chain.known known c.args.chain.place other most
+    c.in-Some.ensures.same gives
 
 pub returns-in-Some-clause-miss : goal.returns-in-Some-clause-miss
 returns-in-Some-clause-miss c = λ call other most gives.
-    let known : Known = record { index = c.args.index; high = c.args.high; value = c.args.value; check = c.in-Some.check } in
-    miss_shared c.args.code.now call c.args.chain.known known c.args.chain.place other most c.in-Some.ensures.same gives
+    let known : Known = record {
+      index = c.args.index;
+      high = c.args.high;
+      value = c.args.value;
+      check =
+          c.in-Some.check;
+    } in
+    miss_shared c.args.code.now call c.args.chain.known known c.args.chain.place other most
+    c.in-Some.ensures.same gives
 
 pub returns-clause-check : goal.returns-clause-check
 returns-clause-check c = λ call other most some gives.
     let mid : List Insn = c.value.new.self in
     let holds = data_word call (20 + 8 * c.args.index) == c.args.high in
-    at_front c.test_word.new.code call c.in_ok-check.check (cond holds c.args.value other) (most + 2) c.in_ok-check.ensures.at
+    at_front c.test_word.new.code call c.in_ok-check.check (cond holds c.args.value other)
+    (most + 2) c.in_ok-check.ensures.at
     (c.in_ok-check.ensures.gives call (cond holds c.args.value other) most
     (picks mid call holds c.in_ok-hit.hit c.in_ok-miss.miss c.args.value other most
-    (GivesAlways-more mid call c.in_ok-hit.hit c.args.value 1 most (λ a. c.in_ok-hit.ensures.gives call a) (omega arith))
-    (λ a. c.in_ok-hit.ensures.keeps call c.in_ok-miss.miss a other most (c.in_ok-miss.ensures.gives call other most gives a))))
+    (GivesAlways-more mid call c.in_ok-hit.hit c.args.value 1 most (λ a. c.in_ok-hit.ensures.gives call a)
+    (omega arith))
+    (λ a. c.in_ok-hit.ensures.keeps call c.in_ok-miss.miss a other most
+    (c.in_ok-miss.ensures.gives call other most gives a))))

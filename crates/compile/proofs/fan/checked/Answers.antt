@@ -10,7 +10,9 @@ use Rattle.compile.proofs.fan.checked.Goals as goal
 
 pub returns-then-value-plan-clause-gives : goal.returns-then-value-plan-clause-gives
 returns-then-value-plan-clause-gives c = λ call.
-    either_same c.value.new.self call (data_word call (20 + 8 * c.args.plan.now.index) == c.args.plan.now.high) c.in_ok-miss.miss c.args.value c.args.plan.now.beyond c.if-value-plan.true
+    either_same c.value.new.self call (data_word call
+    (20 + 8 * c.args.plan.now.index) == c.args.plan.now.high) c.in_ok-miss.miss c.args.value
+    c.args.plan.now.beyond c.if-value-plan.true
     (λ a. c.in_ok-miss.ensures.gives call a)
 
 pub returns-clause-gives : goal.returns-clause-gives
@@ -18,10 +20,13 @@ returns-clause-gives c =
     let mid : List Insn = c.value-2.new.self in
     let new : List Insn = c.test_word.new.code in
     let Given : ℕ → Type 0 = λ at. (call : SysCall)
-    → GivesAlways new call at (cond (data_word call (20 + 8 * c.args.plan.now.index) == c.args.plan.now.high) c.args.value c.args.plan.now.beyond) 3 in
+    → GivesAlways new call at (cond (data_word call (20 + 8 * c.args.plan.now.index) == c.args.plan.now.high)
+    c.args.value c.args.plan.now.beyond) 3 in
     front_is Given new c.test_word.result c.test_word.ensures.at
     (on_ok_weaker c.test_word.result (λ tests call.
     let holds = data_word call (20 + 8 * c.args.plan.now.index) == c.args.plan.now.high in
     tests call (cond holds c.args.value c.args.plan.now.beyond) 1
     (picks mid call holds c.in_ok-hit.hit c.in_ok-miss.miss c.args.value c.args.plan.now.beyond 1
-    (λ a. c.in_ok-hit.ensures.gives call a) (λ a. c.in_ok-hit.ensures.keeps call c.in_ok-miss.miss a c.args.plan.now.beyond 1 (c.in_ok-miss.ensures.gives call a)))) c.test_word.ensures.gives)
+    (λ a. c.in_ok-hit.ensures.gives call a)
+    (λ a. c.in_ok-hit.ensures.keeps call c.in_ok-miss.miss a c.args.plan.now.beyond 1
+    (c.in_ok-miss.ensures.gives call a)))) c.test_word.ensures.gives)

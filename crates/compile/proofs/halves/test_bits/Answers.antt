@@ -11,4 +11,5 @@ returns-clause-gives c =
     let word : ℕ = data_word call c.args.offset in
     let bits : ℕ = bit_and word c.args.mask in
     gives_more c.load.new.self call (length c.load.new.self - 1) a value (most + 1 + 1 + 1) (most + 3)
-    (loads call a value (most + 1 + 1) (c.in_ok-mask.ensures.gives call word value (most + 1) (c.in_ok-jump.ensures.gives call bits value most (gives bits)))) (omega arith)) c.load.ensures.gives
+    (loads call a value (most + 1 + 1) (c.in_ok-mask.ensures.gives call word value (most + 1)
+    (c.in_ok-jump.ensures.gives call bits value most (gives bits)))) (omega arith)) c.load.ensures.gives

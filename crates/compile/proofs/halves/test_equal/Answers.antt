@@ -15,11 +15,15 @@ returns-clause-gives c =
     let low : ℕ = data_word call (16 + 8 * c.args.index) in
     let arg : ℕ = slice_index call.args c.args.index in
     let halves = equal_words arg c.args.with high low c.high-with_high.result c.low-with_low.result
-    (c.words.ensures.high call c.args.index is_call c.requires.index_in) (c.words.ensures.low call c.args.index is_call c.requires.index_in) c.high-with_high.ensures c.low-with_low.ensures in
+    (c.words.ensures.high call c.args.index is_call c.requires.index_in)
+    (c.words.ensures.low call c.args.index is_call c.requires.index_in) c.high-with_high.ensures
+    c.low-with_low.ensures in
     GivesAlways-more new call (length new - 1) value (most + 2 + 2) (most + 6)
     (tests call value (most + 2)
-    (both_give c.args.code.now mid call (high == c.high-with_high.result) (low == c.low-with_low.result) c.args.hit c.args.miss c.in_ok-rest.rest value most (most + 2)
+    (both_give c.args.code.now mid call (high == c.high-with_high.result)
+    (low == c.low-with_low.result) c.args.hit c.args.miss c.in_ok-rest.rest value most (most + 2)
     c.in_ok-rest.ensures.keeps (omega arith)
-    (λ g. at_front mid call c.in_ok-rest.rest value (most + 2) c.in_ok-rest.ensures.at (c.in_ok-rest.ensures.gives call value most g))
+    (λ g. at_front mid call c.in_ok-rest.rest value (most + 2) c.in_ok-rest.ensures.at
+    (c.in_ok-rest.ensures.gives call value most g))
     (by_test c.args.code.now call _ _ c.args.hit c.args.miss value most halves gives)))
     (omega arith)) c.test_word-2.ensures.gives

@@ -13,8 +13,10 @@ returns-then-is_from-clause-gives c =
     let new : List Insn = c.test_word.new.code in
     let high : ℕ = data_word call (20 + 8 * c.args.index) in
     let arg : ℕ = slice_index call.args c.args.index in
-    let halves = from_word c.args.test arg c.args.with high c.high-with_high.result c.low-with_low.result (c.if-is_from.ensures refl)
-    (c.words.ensures.high call c.args.index is_call c.requires.index_in) c.high-with_high.ensures c.low-with_low.ensures c.if-with_low-eq0.true in
+    let halves = from_word c.args.test arg c.args.with high c.high-with_high.result c.low-with_low.result
+    (c.if-is_from.ensures refl)
+    (c.words.ensures.high call c.args.index is_call c.requires.index_in) c.high-with_high.ensures
+    c.low-with_low.ensures c.if-with_low-eq0.true in
     GivesAlways-more new call (length new - 1) value (most + 2) (most + 6)
     (tests call value most (by_test c.args.code.now call _ _ c.args.hit c.args.miss value most halves gives))
     (omega arith)) c.test_word.ensures.gives
@@ -27,12 +29,18 @@ returns-clause-gives c =
     let high : ℕ = data_word call (20 + 8 * c.args.index) in
     let low : ℕ = data_word call (16 + 8 * c.args.index) in
     let arg : ℕ = slice_index call.args c.args.index in
-    let halves = order_words c.args.test arg c.args.with high low c.high-with_high.result c.low-with_low.result c.requires.order
-    (c.words.ensures.high call c.args.index is_call c.requires.index_in) (c.words.ensures.low call c.args.index is_call c.requires.index_in) c.high-with_high.ensures c.low-with_low.ensures in
+    let halves = order_words c.args.test arg c.args.with high low c.high-with_high.result
+    c.low-with_low.result c.requires.order
+    (c.words.ensures.high call c.args.index is_call c.requires.index_in)
+    (c.words.ensures.low call c.args.index is_call c.requires.index_in) c.high-with_high.ensures
+    c.low-with_low.ensures in
     GivesAlways-more new call (length new - 1) value (most + 2 + 3) (most + 6)
     (tests call value (most + 2)
-    (either_gives c.args.code.now mid call (nat_lt c.high-with_high.result high) (high == c.high-with_high.result) (holds_of c.args.test c.low-with_low.result low) c.args.hit c.args.miss c.in_ok-rest.rest value most (most + 2)
+    (either_gives c.args.code.now mid call (nat_lt c.high-with_high.result high)
+    (high == c.high-with_high.result) (holds_of c.args.test c.low-with_low.result low) c.args.hit
+    c.args.miss c.in_ok-rest.rest value most (most + 2)
     c.in_ok-rest.ensures.keeps (omega arith)
-    (λ g. at_front mid call c.in_ok-rest.rest value (most + 2) c.in_ok-rest.ensures.at (c.in_ok-rest.ensures.gives call value most g))
+    (λ g. at_front mid call c.in_ok-rest.rest value (most + 2) c.in_ok-rest.ensures.at
+    (c.in_ok-rest.ensures.gives call value most g))
     (by_test c.args.code.now call _ _ c.args.hit c.args.miss value most halves gives)))
     (omega arith)) c.test_order.ensures.gives

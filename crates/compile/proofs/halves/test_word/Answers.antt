@@ -8,4 +8,6 @@ pub returns-clause-gives : goal.returns-clause-gives
 returns-clause-gives c =
     on_ok_weaker c.load.result (λ loads call value most gives a.
     let word : ℕ = data_word call c.args.offset in
-    gives_more c.load.new.self call (length c.load.new.self - 1) a value (most + 1 + 1) (most + 2) (loads call a value (most + 1) (c.in_ok-jump.ensures.gives call word value most (gives word))) (omega arith)) c.load.ensures.gives
+    gives_more c.load.new.self call (length c.load.new.self - 1) a value (most + 1 + 1) (most + 2)
+    (loads call a value (most + 1) (c.in_ok-jump.ensures.gives call word value most (gives word)))
+    (omega arith)) c.load.ensures.gives

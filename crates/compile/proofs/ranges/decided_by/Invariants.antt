@@ -8,4 +8,5 @@ use Rattle.compile.proofs.ranges.decided_by.Given as goal
 abbrev pub invariant-loop-entry : goal.invariant-loop-entry
 invariant-loop-entry l =
     (named (drop l.entry-index l.entries) l.nr ≡ named l.entries l.nr)
-    × ((call : SysCall) → decision_of (drop l.entry-index l.entries) l.default l.nr call ≡ decision_of l.entries l.default l.nr call)
+    × ((call : SysCall) → decision_of (drop l.entry-index l.entries) l.default l.nr call
+    ≡ decision_of l.entries l.default l.nr call)

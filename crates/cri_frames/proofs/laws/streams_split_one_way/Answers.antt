@@ -8,4 +8,5 @@ returns-clause-some c = λ stream fits. some_split (length stream + 1) stream (o
 
 pub returns-clause-only : goal.returns-clause-only
 returns-clause-only c = λ stream frames others rest other one two.
-    one_split frames others rest other (sym one.whole ∙ two.whole) one.each two.each one.begins_none two.begins_none
+    one_split frames others rest other (sym one.whole ∙ two.whole) one.each two.each one.begins_none
+    two.begins_none

@@ -7,4 +7,5 @@ use Rattle.cri_msgs.specs.Written.{listed_tree}
 use Rattle.cri_msgs.proofs.reply_writer.listed_trees.Given as goal
 
 abbrev pub invariant-loop-listed : goal.invariant-loop-listed
-invariant-loop-listed l = (map view l.trees.items ≡ map listed_tree (take l.listed-index l.list)) × AllByRecursion FitsListed (take l.listed-index l.list)
+invariant-loop-listed l = (map view l.trees.items ≡ map listed_tree (take l.listed-index l.list))
+    × AllByRecursion FitsListed (take l.listed-index l.list)

@@ -7,4 +7,5 @@ use Rattle.cri_msgs.specs.Written.{listed_status_tree}
 use Rattle.cri_msgs.proofs.reply_writer.status_trees.Given as goal
 
 abbrev pub invariant-loop-listed : goal.invariant-loop-listed
-invariant-loop-listed l = (map view l.trees.items ≡ map listed_status_tree (take l.listed-index l.list)) × AllByRecursion FitsListedStatus (take l.listed-index l.list)
+invariant-loop-listed l = (map view l.trees.items ≡ map listed_status_tree (take l.listed-index l.list))
+    × AllByRecursion FitsListedStatus (take l.listed-index l.list)

@@ -6,4 +6,6 @@ use Rattle.cri_msgs.proofs.tells.exit_among.Goals as goal
 
 pub returns-then-eq-clause-silent : goal.returns-then-eq-clause-silent
 returns-then-eq-clause-silent c =
-    silent_pair (c.args.uid.now ≡ c.args.key.now.uid) (λ code. Any (IsExitOf c.args.key.now.container code) c.args.list.now) c.exit_listed.result (rw (← c.as_slice.ensures.value) c.exit_listed.ensures.silent)
+    silent_pair (c.args.uid.now ≡ c.args.key.now.uid) (λ code.
+    Any (IsExitOf c.args.key.now.container code) c.args.list.now) c.exit_listed.result
+    (rw (← c.as_slice.ensures.value) c.exit_listed.ensures.silent)

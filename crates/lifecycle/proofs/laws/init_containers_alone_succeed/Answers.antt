@@ -7,6 +7,8 @@ use Rattle.lifecycle.proofs.laws.init_containers_alone_succeed.Goals as goal
 
 pub returns : goal.returns
 returns c policy lost tracks inits none =
-    let finished : are_finished policy tracks ≡ true = all_either (λ (t : Track). t.init) (is_finished policy) tracks inits in
-    let succeeded : are_succeeded policy tracks ≡ true = all_either (λ (t : Track). t.init) (is_succeeded policy) tracks inits in
+    let finished : are_finished policy tracks ≡ true =
+    all_either (λ (t : Track). t.init) (is_finished policy) tracks inits in
+    let succeeded : are_succeeded policy tracks ≡ true =
+    all_either (λ (t : Track). t.init) (is_succeeded policy) tracks inits in
     rw (none, finished, succeeded) refl

@@ -11,7 +11,8 @@ returns-in-Ok-clause-first c room code fault is short first enough =
 
 pub returns-in-Err-clause-first : goal.returns-in-Err-clause-first
 returns-in-Err-clause-first c room code fault is short first enough =
-    let not_memory : c.in-Err.refusal ≢ Code Memory = λ e. enough (c.number-in-Err.ensures ∙ ap number_of (c.status_of.ensures ∙ ap status_of e)) in
+    let not_memory : c.in-Err.refusal ≢ Code Memory = λ e.
+    enough (c.number-in-Err.ensures ∙ ap number_of (c.status_of.ensures ∙ ap status_of e)) in
     let told = c.in-Err.ensures.first code fault is short first (λ e. not_memory (cc)) in
     let same : c.in-Err.refusal ≡ Filter fault = cc in
     c.number-in-Err.ensures ∙ ap number_of (c.status_of.ensures ∙ ap status_of same)

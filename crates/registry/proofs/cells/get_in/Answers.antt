@@ -10,6 +10,7 @@ returns-in-None c = c.in-None.ensures.none
 pub returns-in-Some : goal.returns-in-Some
 returns-in-Some c =
     let stands = c.in-Some.ensures.found c.index-cells-at.result in (
-      subst (λ (cell : Cell). In cell c.args.cells.now) (sym c.index-cells-at.is) (at_in c.args.cells.now c.in-Some.at c.index-cells-at.result stands.0),
+      subst (λ (cell : Cell). In cell c.args.cells.now) (sym c.index-cells-at.is)
+          (at_in c.args.cells.now c.in-Some.at c.index-cells-at.result stands.0),
       ap id_of c.index-cells-at.is ∙ stands.1,
     )

@@ -7,5 +7,6 @@ pub loop-cell-preserved : goal.loop-cell-preserved
 loop-cell-preserved c =
     let inside : c.loop-cell.cell-index < length c.loop-cell.cell-items =
     subst (λ n. c.loop-cell.cell-index < n) (sym c.loop-cell.auto.cell-items) c.loop-cell-test.true in
-    map_next (killed c.args.code) c.args.cells.now.items c.loop-cell.cell-items c.loop-cell.cell-index c.kill.new.self c.cell-item.result
+    map_next (killed c.args.code) c.args.cells.now.items c.loop-cell.cell-items c.loop-cell.cell-index
+    c.kill.new.self c.cell-item.result
     c.loop-cell.invariant inside c.kill.ensures

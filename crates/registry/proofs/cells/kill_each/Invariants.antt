@@ -4,4 +4,5 @@ use Rattle.registry.proofs.cells.kill_each.Given as goal
 
 -- so far the cells in front have ended
 abbrev pub invariant-loop-cell : goal.invariant-loop-cell
-invariant-loop-cell l = l.cell-items ≡ map (killed l.code) (take l.cell-index l.fn.cells.items) ++ drop l.cell-index l.fn.cells.items
+invariant-loop-cell l = l.cell-items ≡ map (killed l.code) (take l.cell-index l.fn.cells.items)
+    ++ drop l.cell-index l.fn.cells.items

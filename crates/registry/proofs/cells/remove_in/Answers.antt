@@ -10,19 +10,23 @@ pub returns-in-None-clause-cells : goal.returns-in-None-clause-cells
 returns-in-None-clause-cells c =
     let test = is_of c.args.container.now in
     let cells = c.args.cells.now.items in
-    sym (undropped test cells (found_none test cells (ap (position test) (sym c.as_slice.ensures.value) ∙ sym c.place_of.ensures ∙ c.in-None.is)))
+    sym (undropped test cells (found_none test cells (ap (position test) (sym c.as_slice.ensures.value)
+    ∙ sym c.place_of.ensures ∙ c.in-None.is)))
 
 pub returns-in-None-clause-id : goal.returns-in-None-clause-id
 returns-in-None-clause-id c =
     let test = is_of c.args.container.now in
     let cells = c.args.cells.now.items in
-    sym (ap (option_map id_of) (lost test cells (found_none test cells (ap (position test) (sym c.as_slice.ensures.value) ∙ sym c.place_of.ensures ∙ c.in-None.is))))
+    sym (ap (option_map id_of) (lost test cells
+    (found_none test cells (ap (position test) (sym c.as_slice.ensures.value) ∙ sym c.place_of.ensures
+    ∙ c.in-None.is))))
 
 pub returns-in-Some-clause-cells : goal.returns-in-Some-clause-cells
 returns-in-Some-clause-cells c =
     let test = is_of c.args.container.now in
     let cells = c.args.cells.now.items in
-    let at = found_at test cells c.in-Some.at (ap (position test) (sym c.as_slice.ensures.value) ∙ sym c.place_of.ensures ∙ c.in-Some.is) in
+    let at = found_at test cells c.in-Some.at (ap (position test) (sym c.as_slice.ensures.value)
+    ∙ sym c.place_of.ensures ∙ c.in-Some.is) in
     c.remove-cell.ensures.items ∙ subst (λ i. remove cells i ≡ drop_first test cells) at (dropped test cells)
 
 pub returns-in-Some-clause-id : goal.returns-in-Some-clause-id
@@ -32,7 +36,8 @@ returns-in-Some-clause-id c =
     let is = ap (position test) (sym c.as_slice.ensures.value) ∙ sym c.place_of.ensures ∙ c.in-Some.is in
     let at = found_at test cells c.in-Some.at is in
     let inside = (position-Some test cells c.in-Some.at c.remove-cell.result is).0 in
-    let stands = slice_get-get_or cells c.in-Some.at c.remove-cell.result inside ∙ ap Some (sym c.remove-cell.ensures.value) in
+    let stands = slice_get-get_or cells c.in-Some.at c.remove-cell.result inside
+    ∙ ap Some (sym c.remove-cell.ensures.value) in
     let first = sym (found test cells) ∙ ap (slice_get cells) at ∙ stands in
     sym (ap (option_map id_of) first ∙ ap (λ label. Some label.id) (sym c.label.ensures))
 

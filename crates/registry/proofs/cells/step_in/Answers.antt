@@ -5,23 +5,32 @@ use Rattle.registry.proofs.Places.{ids_at, moves_at, named_at}
 use Rattle.registry.proofs.cells.step_in.Goals as goal
 
 pub returns-in-None-clause-moves : goal.returns-in-None-clause-moves
-returns-in-None-clause-moves c =
-    (subst (λ (cells : List Cell). HasNoneIn cells c.args.id) c.as_slice.ensures.value c.in-None.ensures.none, refl)
+returns-in-None-clause-moves c = (
+  subst (λ (cells : List Cell). HasNoneIn cells c.args.id) c.as_slice.ensures.value c.in-None.ensures.none,
+  refl,
+)
 
 pub returns-in-Some-clause-moves : goal.returns-in-Some-clause-moves
 returns-in-Some-clause-moves c =
     let cells = c.args.cells.now.items in
-    let is = subst (λ (cells : List Cell). IsAtPlace cells c.in-Some.at c.args.id) c.as_slice.ensures.value c.in-Some.ensures.found in
-    moves_at cells c.args.id c.in-Some.at (λ cell later. Steps cell c.step.result later) c.step.new.self c.index_mut.result.now is
-    (subst (λ (cell : Cell). Steps cell c.step.result c.step.new.self) c.index_mut.ensures.value c.step.ensures.step)
+    let is = subst (λ (cells : List Cell). IsAtPlace cells c.in-Some.at c.args.id) c.as_slice.ensures.value
+    c.in-Some.ensures.found in
+    moves_at cells c.args.id c.in-Some.at (λ cell later. Steps cell c.step.result later) c.step.new.self
+    c.index_mut.result.now is
+    (subst (λ (cell : Cell). Steps cell c.step.result c.step.new.self) c.index_mut.ensures.value
+    c.step.ensures.step)
 
 pub returns-in-Some-clause-named : goal.returns-in-Some-clause-named
 returns-in-Some-clause-named c = λ named.
     let cells = c.args.cells.now.items in
-    let is = subst (λ (cells : List Cell). IsAtPlace cells c.in-Some.at c.args.id) c.as_slice.ensures.value c.in-Some.ensures.found in
+    let is = subst (λ (cells : List Cell). IsAtPlace cells c.in-Some.at c.args.id) c.as_slice.ensures.value
+    c.in-Some.ensures.found in
     let inside = (is c.index_mut.result.now).0 in
-    named_at cells c.in-Some.at c.step.new.self c.index_mut.result.now inside (c.step.ensures.making ∙ ap (λ (cell : Cell). cell.making) c.index_mut.ensures.value) named
+    named_at cells c.in-Some.at c.step.new.self c.index_mut.result.now inside (c.step.ensures.making
+    ∙ ap (λ (cell : Cell). cell.making) c.index_mut.ensures.value) named
 
 pub returns-in-Some-clause-ids : goal.returns-in-Some-clause-ids
-returns-in-Some-clause-ids c = ids_at c.args.cells.now.items c.in-Some.at c.step.new.self c.index_mut.result.now
-    (ap (λ (making : Making). making.label.id) (c.step.ensures.making ∙ ap (λ (cell : Cell). cell.making) c.index_mut.ensures.value))
+returns-in-Some-clause-ids c = ids_at c.args.cells.now.items c.in-Some.at c.step.new.self
+    c.index_mut.result.now
+    (ap (λ (making : Making). making.label.id) (c.step.ensures.making
+    ∙ ap (λ (cell : Cell). cell.making) c.index_mut.ensures.value))

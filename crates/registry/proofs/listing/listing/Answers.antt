@@ -15,7 +15,11 @@ total = search (comparing, rules)
 pub returns : goal.returns
 returns c = record {
   all = subst (λ items. IsPermutation (map listed c.args.cells.now) items) (sym c.new.ensures)
-      (subst (λ items. IsPermutation items c.sort_unstable_by.new.self.items) c.in_ok-items.ensures c.sort_unstable_by.ensures.permutation);
-  ordered = subst (IsSortedByKey (λ (item : ListedContainer). item.container) container_cmp) (sym c.new.ensures)
-      (c.sort_unstable_by.ensures.sorted (λ a b. is_lt (container_cmp a.container b.container)) (ranks_by total (λ (item : ListedContainer). item.container)) (answers_always _ _ _ (λ f a r g k. search rules)));
+      (subst (λ items. IsPermutation items c.sort_unstable_by.new.self.items) c.in_ok-items.ensures
+      c.sort_unstable_by.ensures.permutation);
+  ordered = subst (IsSortedByKey (λ (item : ListedContainer). item.container) container_cmp)
+      (sym c.new.ensures)
+      (c.sort_unstable_by.ensures.sorted (λ a b. is_lt (container_cmp a.container b.container))
+      (ranks_by total (λ (item : ListedContainer). item.container))
+      (answers_always _ _ _ (λ f a r g k. search rules)));
 }

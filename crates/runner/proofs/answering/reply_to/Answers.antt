@@ -8,13 +8,15 @@ use Rattle.cri_msgs.specs.declared.replies.Answer.TheVariants.{Refused}
 use Rattle.cri_msgs.specs.Requests.{number_of}
 use Rattle.runner.proofs.answering.reply_to.Goals as goal
 
-none_read : (fault : MessageFault) (number : ℕ) (request : Request) → fault ≡ NoMessage number → (fault ≢ Memory → ◌≡◌ {A = Result Request MessageFault} (Ok request) (Err fault)) → ⊥
+none_read : (fault : MessageFault) (number : ℕ) (request : Request) → fault ≡ NoMessage number
+    → (fault ≢ Memory → ◌≡◌ {A = Result Request MessageFault} (Ok request) (Err fault)) → ⊥
 none_read fault number request is read =
     let told : fault ≢ Memory = λ memory. cc in
     let same : ◌≡◌ {A = Result Request MessageFault} (Ok request) (Err fault) = read told in
     cc
 
-told_number : (fault : MessageFault) (number other : ℕ) → fault ≡ NoMessage number → (fault ≢ Memory → fault ≡ NoMessage other) → number ≡ other
+told_number : (fault : MessageFault) (number other : ℕ) → fault ≡ NoMessage number
+    → (fault ≢ Memory → fault ≡ NoMessage other) → number ≡ other
 told_number fault number other is told =
     let no_memory : fault ≢ Memory = λ memory. cc in
     let same : fault ≡ NoMessage other = told no_memory in
@@ -23,7 +25,8 @@ told_number fault number other is told =
 pub returns-in-Err-NoMessage-clause-reply : goal.returns-in-Err-NoMessage-clause-reply
 returns-in-Err-NoMessage-clause-reply g c =
     let at = c.in-Err-NoMessage in
-    let same : at.id ≡ number_of c.args.text.now = told_number at.field-0 at.id (number_of c.args.text.now) at.field-0-is at.ensures.refused in
+    let same : at.id ≡ number_of c.args.text.now =
+    told_number at.field-0 at.id (number_of c.args.text.now) at.field-0-is at.ensures.refused in
     inr (
       λ request says. none_read at.field-0 at.id request at.field-0-is (at.ensures.only request says),
       ap (λ (id : ℕ). record { id = id; answer = Refused InvalidArgument }) same,

@@ -9,7 +9,8 @@ loop-visit-preserved-then-went_on g c =
     let one : Asked = record { above = c.loop-visit.last; visit = Some c.in-Some.visit } in
     record {
       asked = one ∷ so.asked;
-      are = visits_more _ _ c.loop-visit.last c.in-Some.visit so.asked so.last (of_share _ _ _ _ one so.runner so.runners c.in-Some.ensures.may) so.are;
+      are = visits_more _ _ c.loop-visit.last c.in-Some.visit so.asked so.last
+          (of_share _ _ _ _ one so.runner so.runners c.in-Some.ensures.may) so.are;
       last = refl;
       went = still _ _ _ c.if-went_on.true so.went;
       runner = c.in-Some.ensures.runner ∙ so.runner;
@@ -23,7 +24,8 @@ loop-visit-preserved g c =
     let one : Asked = record { above = c.loop-visit.last; visit = Some c.in-Some.visit } in
     record {
       asked = one ∷ so.asked;
-      are = visits_more _ _ c.loop-visit.last c.in-Some.visit so.asked so.last (of_share _ _ _ _ one so.runner so.runners c.in-Some.ensures.may) so.are;
+      are = visits_more _ _ c.loop-visit.last c.in-Some.visit so.asked so.last
+          (of_share _ _ _ _ one so.runner so.runners c.in-Some.ensures.may) so.are;
       last = refl;
       went = now _ _ _ c.if-went_on.false so.went;
       runner = c.in-Some.ensures.runner ∙ so.runner;

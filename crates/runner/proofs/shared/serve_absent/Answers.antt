@@ -9,6 +9,11 @@ returns-clause-may c = record {
   cells = c.new-none.result;
   cells' = c.serve_lent.new.cells;
   bound = c.requires;
-  lends = record { row = c.serve_lent.ensures.row; spares = c.serve_lent.ensures.spares; keeps = c.serve_lent.ensures.keeps };
+  lends = record {
+    row = c.serve_lent.ensures.row;
+    spares = c.serve_lent.ensures.spares;
+    keeps =
+        c.serve_lent.ensures.keeps;
+  };
   number = c.serve_lent.ensures.number;
 }

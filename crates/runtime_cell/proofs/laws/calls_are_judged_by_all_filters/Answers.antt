@@ -8,4 +8,5 @@ pub returns-clause-added : goal.returns-clause-added
 returns-clause-added c = added
 
 pub returns-clause-start_binds : goal.returns-clause-start_binds
-returns-clause-start_binds c = λ cell. c.added_filters_widen_nothing.ensures.performs cell.making.stack cell.added
+returns-clause-start_binds c = λ cell. c.added_filters_widen_nothing.ensures.performs cell.making.stack
+    cell.added

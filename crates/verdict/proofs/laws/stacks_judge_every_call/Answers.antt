@@ -11,7 +11,8 @@ pub returns-clause-every : goal.returns-clause-every
 returns-clause-every c = λ stack sound.
     let allow : Verdict = record { action = Allow; ret_data = 0 } in
     let judged : (call : SysCall) → (verdict : Verdict) × IsJudged stack call verdict = λ call.
-    judged_on c.sound_code_runs.ensures.run c.ranks_are_an_order.ensures.below [] stack call allow sound ([], tt, of_none refl refl) in
+    judged_on c.sound_code_runs.ensures.run c.ranks_are_an_order.ensures.below [] stack call allow sound
+    ([], tt, of_none refl refl) in
     (λ call. (judged call).0, λ call. (judged call).1)
 
 pub returns-clause-one : goal.returns-clause-one

@@ -5,4 +5,5 @@ use Rattle.worker_core.proofs.slots.left.Goals as goal
 
 pub returns-then-is_gone_at-clause-by : goal.returns-then-is_gone_at-clause-by
 returns-then-is_gone_at-clause-by c = λ now by.
-    subst (AllEndedBy now) (sym c.remove.ensures.items) (ended_by_remove now c.args.slots.now.items c.args.place by)
+    subst (AllEndedBy now) (sym c.remove.ensures.items)
+    (ended_by_remove now c.args.slots.now.items c.args.place by)

@@ -31,8 +31,11 @@ pub returns-else-same-clause-err : goal.returns-else-same-clause-err
 returns-else-same-clause-err c = inl (
   refl,
   λ reply was.
-      let exchange_is : was.exchange ≡ c.in-Some.exchange.now = same_some _ _ (sym was.here ∙ sym c.exchange_at.ensures ∙ ap option_copied c.in-Some.is) in
-      let claim_is : c.in-Some-claim.claim.now ≡ was.exchange.request = same_some _ _ (sym (ap option_copied c.in-Some-claim.is) ∙ was.its_request) in
-      let same : false ≡ true = c.if-same.ensures.1 (sym (claim_is ∙ ap (λ (x : Exchange). x.request) exchange_is)) in
+      let exchange_is : was.exchange ≡ c.in-Some.exchange.now =
+      same_some _ _ (sym was.here ∙ sym c.exchange_at.ensures ∙ ap option_copied c.in-Some.is) in
+      let claim_is : c.in-Some-claim.claim.now ≡ was.exchange.request =
+      same_some _ _ (sym (ap option_copied c.in-Some-claim.is) ∙ was.its_request) in
+      let same : false ≡ true = c.if-same.ensures.1
+      (sym (claim_is ∙ ap (λ (x : Exchange). x.request) exchange_is)) in
       cc,
 )

@@ -7,6 +7,8 @@ use Rattle.cri_frames.proofs.feed.Feed.has_failed.Goals as goal
 pub returns : goal.returns
 returns c =
     let kept = c.self.invariant in (
-      λ failed. subst HasBadRest c.self.view_is (has_bad_rest _ _ kept.each kept.begins_none (kept.failed_is.0 failed)),
-      λ bad. kept.failed_is.1 (bad_rest c.self.inside.done.items c.self.inside.part.items kept.each kept.begins_none (subst HasBadRest (sym c.self.view_is) bad)),
+      λ failed. subst HasBadRest c.self.view_is
+          (has_bad_rest _ _ kept.each kept.begins_none (kept.failed_is.0 failed)),
+      λ bad. kept.failed_is.1 (bad_rest c.self.inside.done.items c.self.inside.part.items kept.each
+          kept.begins_none (subst HasBadRest (sym c.self.view_is) bad)),
     )

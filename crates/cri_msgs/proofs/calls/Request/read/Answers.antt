@@ -8,4 +8,5 @@ pub returns-clause-found : goal.returns-clause-found
 returns-clause-found c = found c.args.version c.args.bytes.now c.reading.result c.reading.ensures
 
 pub returns-clause-only : goal.returns-clause-only
-returns-clause-only c = λ request is. subst (Gives Memory (λ x. x) c.reading.result) (only c.args.version c.args.bytes.now request is) c.reading.ensures
+returns-clause-only c = λ request is. subst (Gives Memory (λ x. x) c.reading.result)
+    (only c.args.version c.args.bytes.now request is) c.reading.ensures

@@ -7,5 +7,12 @@ use Rattle.registry.proofs.Named.{named_fewer}
 use Rattle.registry.proofs.cells.Cells.pop.Goals as goal
 
 pub invariant_of-self : goal.invariant_of-self
-invariant_of-self c = subst (λ (cells : List Cell). (length cells ≤ MAX_CELLS) × AreNamed cells) (sym c.pop_in.ensures)
-    (omega (arith, length-take (length c.self.inside.cells.items - 1) c.self.inside.cells.items, c.self.invariant.0), named_fewer c.self.inside.cells.items c.self.invariant.1)
+invariant_of-self c = subst (λ (cells : List Cell). (length cells ≤ MAX_CELLS) × AreNamed cells)
+    (sym c.pop_in.ensures) (
+      omega (
+        arith,
+        length-take (length c.self.inside.cells.items - 1) c.self.inside.cells.items,
+        c.self.invariant.0,
+      ),
+      named_fewer c.self.inside.cells.items c.self.invariant.1,
+    )

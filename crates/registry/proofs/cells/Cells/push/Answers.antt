@@ -8,8 +8,14 @@ use Rattle.registry.proofs.cells.Cells.push.Goals as goal
 pub invariant_of-self : goal.invariant_of-self
 invariant_of-self c = elim c.push_in.ensures.grows [
   | inl more ↦ subst (λ (cells : List Cell). (length cells ≤ MAX_CELLS) × AreNamed cells) (sym more) (
-    omega (arith, length-append c.self.inside.cells.items (c.args.cell ∷ []), ap length c.self.view_is, c.requires.few),
+    omega (
+      arith,
+      length-append c.self.inside.cells.items (c.args.cell ∷ []),
+      ap length c.self.view_is,
+      c.requires.few,
+    ),
     named_more c.self.inside.cells.items c.args.cell c.self.invariant.1 c.requires.named,
   )
-  | inr same ↦ subst (λ (cells : List Cell). (length cells ≤ MAX_CELLS) × AreNamed cells) (sym same) c.self.invariant
+  | inr same ↦ subst (λ (cells : List Cell). (length cells ≤ MAX_CELLS) × AreNamed cells)
+      (sym same) c.self.invariant
 ]

@@ -9,12 +9,21 @@ use Rattle.registry.proofs.Removing.{keeps_dropped, spares_dropped}
 use Rattle.registry.proofs.registry.Registry.remove.Goals as goal
 
 abbrev after : goal.After-remove-in-Some → Registry
-after c = record { alloc = c.args.self.now.alloc; baseline = c.args.self.now.baseline; uids = c.args.self.now.uids; homes = c.remove-in-Some.new.self; made = c.args.self.now.made }
+after c = record {
+  alloc = c.args.self.now.alloc;
+  baseline = c.args.self.now.baseline;
+  uids =
+      c.args.self.now.uids;
+  homes = c.remove-in-Some.new.self;
+  made = c.args.self.now.made;
+}
 
 pub returns-in-Some-clause-spares : goal.returns-in-Some-clause-spares
 returns-in-Some-clause-spares c = record {
   known = λ u other. refl;
-  home = spares_dropped c.args.self.now (after c) c.args.key.now.uid (is_of c.args.key.now.container) c.args.cells.now c.in-Some.id (sym c.in-Some.ensures.id) refl c.remove-in-Some.ensures;
+  home = spares_dropped c.args.self.now (after c) c.args.key.now.uid
+      (is_of c.args.key.now.container) c.args.cells.now c.in-Some.id
+      (sym c.in-Some.ensures.id) refl c.remove-in-Some.ensures;
   baseline = refl;
   made = omega arith;
 }
@@ -22,7 +31,10 @@ returns-in-Some-clause-spares c = record {
 pub returns-in-Some-clause-keeps : goal.returns-in-Some-clause-keeps
 returns-in-Some-clause-keeps c =
     let test = is_of c.args.key.now.container in
-    let live = subst (λ u. stage_of (known_in c.args.self.now.uids u) ≡ stage.Live c.in-Live.ready) c.as_str.ensures.value (sym c.in-Live.ensures) in
-    subst (λ (cells : List Cell). Keeps c.args.self.now (after c) c.args.key.now.uid c.args.cells.now cells) (sym c.in-Some.ensures.cells)
-    (keeps_dropped c.args.self.now (after c) c.args.key.now.uid test c.args.cells.now c.in-Some.id (sym c.in-Some.ensures.id) refl c.remove-in-Some.ensures
+    let live = subst (λ u. stage_of (known_in c.args.self.now.uids u) ≡ stage.Live c.in-Live.ready)
+    c.as_str.ensures.value (sym c.in-Live.ensures) in
+    subst (λ (cells : List Cell). Keeps c.args.self.now (after c) c.args.key.now.uid c.args.cells.now cells)
+    (sym c.in-Some.ensures.cells)
+    (keeps_dropped c.args.self.now (after c) c.args.key.now.uid test c.args.cells.now c.in-Some.id
+    (sym c.in-Some.ensures.id) refl c.remove-in-Some.ensures
     (λ _. subst (λ s. IsEmptyIn s (drop_first test c.args.cells.now)) (sym live) tt))

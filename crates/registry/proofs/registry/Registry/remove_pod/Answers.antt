@@ -11,23 +11,38 @@ use Rattle.registry.proofs.Agreeing.{keeps_none, removed_none, spares_others}
 use Rattle.registry.proofs.registry.Registry.remove_pod.Goals as goal
 
 abbrev after : goal.After-hand_over → Registry
-after c = record { alloc = c.args.self.now.alloc; baseline = c.args.self.now.baseline; uids = c.end.new.self; homes = c.forget.new.self; made = c.args.self.now.made }
+after c = record {
+  alloc = c.args.self.now.alloc;
+  baseline = c.args.self.now.baseline;
+  uids = c.end.new.self;
+  homes = c.forget.new.self;
+  made = c.args.self.now.made;
+}
 
-forgotten : (c : goal.After-hand_over) → (i : ℕ) → home_in c.forget.new.self i ≡ cond (list_any (λ cell. id_of cell == i) c.args.cells.now) None (home_in c.args.self.now.homes i)
-forgotten c i = c.forget.ensures i ∙ ap (λ (cells : List Cell). cond (list_any (λ cell. id_of cell == i) cells) None (home_in c.args.self.now.homes i)) c.as_slice.ensures.value
+forgotten : (c : goal.After-hand_over) → (i : ℕ)
+    → home_in c.forget.new.self i ≡ cond (list_any (λ cell. id_of cell == i) c.args.cells.now) None
+    (home_in c.args.self.now.homes i)
+forgotten c i = c.forget.ensures i ∙ ap (λ (cells : List Cell).
+    cond (list_any (λ cell. id_of cell == i) cells) None (home_in c.args.self.now.homes i))
+    c.as_slice.ensures.value
 
 pub returns-in-Live-clause-keeps : goal.returns-in-Live-clause-keeps
 returns-in-Live-clause-keeps c =
     let new : Registry = after c in
-    let here = subst (λ u. known_in c.end.new.self u ≡ option_map dead (known_in c.args.self.now.uids u)) c.as_str-in-Live.ensures.value c.end.ensures.here in
-    let live = subst (λ u. stage_of (known_in c.args.self.now.uids u) ≡ stage.Live c.in-Live.ready) c.as_str.ensures.value (sym c.stage.ensures ∙ c.in-Live.is) in
-    subst (λ (cells : List Cell). Keeps c.args.self.now new c.args.uid.now c.args.cells.now cells) (sym c.hand_over.ensures.here)
+    let here = subst (λ u. known_in c.end.new.self u ≡ option_map dead (known_in c.args.self.now.uids u))
+    c.as_str-in-Live.ensures.value c.end.ensures.here in
+    let live = subst (λ u. stage_of (known_in c.args.self.now.uids u) ≡ stage.Live c.in-Live.ready)
+    c.as_str.ensures.value (sym c.stage.ensures ∙ c.in-Live.is) in
+    subst (λ (cells : List Cell). Keeps c.args.self.now new c.args.uid.now c.args.cells.now cells)
+    (sym c.hand_over.ensures.here)
     (keeps_none c.args.self.now new c.args.uid.now c.args.cells.now refl (forgotten c)
-    (subst (λ k. IsEmptyIn (stage_of k) []) (sym here) (removed_none (known_in c.args.self.now.uids c.args.uid.now) c.in-Live.ready live)))
+    (subst (λ k. IsEmptyIn (stage_of k) []) (sym here)
+    (removed_none (known_in c.args.self.now.uids c.args.uid.now) c.in-Live.ready live)))
 
 pub returns-in-Live-clause-spares : goal.returns-in-Live-clause-spares
 returns-in-Live-clause-spares c = record {
-  known = subst (λ uid. (u : List ℕ) → u ≢ uid → known_in c.end.new.self u ≡ known_in c.args.self.now.uids u) c.as_str-in-Live.ensures.value c.end.ensures.others;
+  known = subst (λ uid. (u : List ℕ) → u ≢ uid → known_in c.end.new.self u ≡ known_in c.args.self.now.uids u)
+      c.as_str-in-Live.ensures.value c.end.ensures.others;
   home = spares_others c.args.self.now (after c) c.args.uid.now c.args.cells.now refl (forgotten c);
   baseline = refl;
   made = omega arith;

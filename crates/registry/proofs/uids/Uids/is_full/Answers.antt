@@ -10,7 +10,9 @@ pub returns : goal.returns
 returns c =
     let entries = c.self.inside.map.entries in (
       (λ so. subst (λ es. IsFull (λ uid. stage_of (known_in es uid))) c.self.view_is
-          (full entries c.len.ensures.ordered (subst (λ n. MAX_UIDS ≤ n) c.len.ensures.len (leb-true MAX_UIDS c.len.result so)))),
+          (full entries c.len.ensures.ordered
+          (subst (λ n. MAX_UIDS ≤ n) c.len.ensures.len (leb-true MAX_UIDS c.len.result so)))),
       (λ is. le-leb MAX_UIDS c.len.result (subst (λ n. MAX_UIDS ≤ n) (sym c.len.ensures.len)
-          (not_fuller entries (subst (λ es. IsFull (λ uid. stage_of (known_in es uid))) (sym c.self.view_is) is)))),
+          (not_fuller entries (subst (λ es. IsFull (λ uid. stage_of (known_in es uid)))
+          (sym c.self.view_is) is)))),
     )

@@ -5,4 +5,5 @@ use Rattle.registry.proofs.Sames.{same_any}
 use Rattle.registry.proofs.used.Used.has.Goals as goal
 
 pub returns : goal.returns
-returns c = c.contains.ensures ∙ same_any c.args.container.now c.self.inside.set.keys ∙ ap (list_any (is_same c.args.container.now)) c.self.view_is
+returns c = c.contains.ensures ∙ same_any c.args.container.now c.self.inside.set.keys
+    ∙ ap (list_any (is_same c.args.container.now)) c.self.view_is

@@ -14,6 +14,8 @@ returns g c = λ files.
       cells = c.deref-3.result.now;
       cells' = c.deref-3.result.now;
       bound = held.1;
-      lends = lends_there held.0 c.args.request.now.call files held.3 c.deref-3.result.now c.in_ok-answer.answer (subst (λ uid. stages_in held.0 uid ≡ Live held.3) c.uid_of.ensures held.4) c.in_ok-answer.ensures;
+      lends = lends_there held.0 c.args.request.now.call files held.3 c.deref-3.result.now
+          c.in_ok-answer.answer (subst (λ uid. stages_in held.0 uid ≡ Live held.3) c.uid_of.ensures held.4)
+          c.in_ok-answer.ensures;
       number = refl;
     }

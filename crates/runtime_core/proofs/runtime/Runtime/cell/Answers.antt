@@ -5,4 +5,5 @@ use Rattle.runtime_core.specs.Steps.{Reads}
 use Rattle.runtime_core.proofs.runtime.Runtime.cell.Goals as goal
 
 pub returns : goal.returns
-returns c = subst (λ (held : Held). Reads (stands_for held) c.args.id (option_copied c.cell.result)) c.self.view_is c.cell.ensures
+returns c = subst (λ (held : Held). Reads (stands_for held) c.args.id (option_copied c.cell.result))
+    c.self.view_is c.cell.ensures

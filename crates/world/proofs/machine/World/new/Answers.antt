@@ -7,5 +7,10 @@ invariant_of-result c = record {
   baseline = c.args.baseline;
   links = [];
   run = tt;
-  stands = record { node = c.new.ensures.empty; runtime = c.new-2.ensures; sent = c.new-3.ensures.items; given = c.new-4.ensures.items };
+  stands = record {
+    node = c.new.ensures.empty;
+    runtime = c.new-2.ensures;
+    sent = c.new-3.ensures.items;
+    given = c.new-4.ensures.items;
+  };
 }
