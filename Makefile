@@ -80,6 +80,7 @@ bench: lib
 	@$(CC) $(BENCH_FLAGS) -pthread bench/echo.c -o out/bench/echo
 	@tools/bench_calls.py out/bench/echo
 	@tools/bench_full.py
+	@tools/bench_node.py
 
 # What the running kernel does with drawn profiles, beside what the library says of COUNT calls.
 kernel: lib

@@ -40,8 +40,8 @@ static uint64_t next_random(void) {
 
 /* What is timed: each runs the filter on all calls. */
 static void by_motchidu(void) {
-    if (motchidu_run_all((const uint8_t *)code, len * sizeof *code, (const uint8_t *)calls, sizeof calls, values,
-                         CALLS, steps, CALLS) != MOTCHIDU_ACCEPTED)
+    if (motchidu_run_all((const uint8_t *)code, len * sizeof *code, (const uint8_t *)calls, sizeof calls,
+                         values, CALLS, steps, CALLS) != MOTCHIDU_ACCEPTED)
         abort();
 }
 
@@ -183,7 +183,8 @@ static void arithmetic_and_words(void) {
 int main(void) {
     /* Numbers all over the table and above it, arguments of any value. */
     for (size_t i = 0; i < CALLS; i++) {
-        calls[i] = (struct seccomp_data){(int)(next_random() % 340), AUDIT_ARCH_X86_64, next_random() >> 16, {0}};
+        calls[i] =
+            (struct seccomp_data){(int)(next_random() % 340), AUDIT_ARCH_X86_64, next_random() >> 16, {0}};
         for (int a = 0; a < 6; a++)
             calls[i].args[a] = next_random() >> (next_random() % 64);
         /* libpcap reads a word highest byte first. */

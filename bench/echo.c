@@ -97,7 +97,8 @@ int main(int count, char **words) {
       if (!call(words[2]))
         return fprintf(stderr, "call %ld failed\n", done), 1;
     clock_gettime(CLOCK_MONOTONIC, &to);
-    printf("%.0f\n", (double)calls / ((double)(to.tv_sec - from.tv_sec) + (double)(to.tv_nsec - from.tv_nsec) / 1e9));
+    printf("%.0f\n",
+           (double)calls / ((double)(to.tv_sec - from.tv_sec) + (double)(to.tv_nsec - from.tv_nsec) / 1e9));
     return 0;
   }
   return fprintf(stderr, "usage: echo serve PATH | echo call PATH COUNT\n"), 2;

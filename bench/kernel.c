@@ -53,7 +53,8 @@ static uint64_t number(void) {
 }
 
 static const char *action(unsigned *data) {
-    static const char *const names[] = {"ALLOW", "LOG", "ERRNO", "ERRNO", "TRACE", "TRAP", "KILL", "KILL_PROCESS"};
+    static const char *const names[] = {"ALLOW", "LOG",  "ERRNO", "ERRNO",
+                                        "TRACE", "TRAP", "KILL",  "KILL_PROCESS"};
     uint64_t at = below(sizeof names / sizeof *names);
     *data = at == 2 || at == 3 ? below(MAX_ERRNO + 1) : at == 4 ? below(65536) : 0;
     return names[at];
@@ -73,19 +74,24 @@ static size_t profile(char *to, size_t room) {
     static const char *const ops[] = {"NE", "LT", "LE", "EQ", "GE", "GT", "MASKED_EQ"};
     size_t n = snprintf(to, room, "{");
     n += put_action(to + n, room - n, "defaultAction", "defaultErrnoRet");
-    n += snprintf(to + n, room - n, ",\"syscalls\":[{\"names\":[\"exit_group\",\"rt_sigreturn\"],\"action\":\"SCMP_ACT_ALLOW\"}");
+    n += snprintf(
+        to + n, room - n,
+        ",\"syscalls\":[{\"names\":[\"exit_group\",\"rt_sigreturn\"],\"action\":\"SCMP_ACT_ALLOW\"}");
     for (uint64_t entries = 1 + below(12); entries > 0; entries--) {
         n += snprintf(to + n, room - n, ",{\"names\":[");
         for (uint64_t names = 1 + below(3), first = names; names > 0; names--)
-            n += snprintf(to + n, room - n, "%s\"%s\"", names == first ? "" : ",", harmless[below(HARMLESS)].name);
+            n += snprintf(to + n, room - n, "%s\"%s\"", names == first ? "" : ",",
+                          harmless[below(HARMLESS)].name);
         n += snprintf(to + n, room - n, "],");
         n += put_action(to + n, room - n, "action", "errnoRet");
         n += snprintf(to + n, room - n, ",\"args\":[");
         int first = 1;
         for (int index = 0; index < 6; index++)
             if (below(4) == 0) {
-                n += snprintf(to + n, room - n, "%s{\"index\":%d,\"op\":\"SCMP_CMP_%s\",\"value\":%llu,\"valueTwo\":%llu}", first ? "" : ",",
-                              index, ops[below(7)], (unsigned long long)number(), (unsigned long long)number());
+                n += snprintf(to + n, room - n,
+                              "%s{\"index\":%d,\"op\":\"SCMP_CMP_%s\",\"value\":%llu,\"valueTwo\":%llu}",
+                              first ? "" : ",", index, ops[below(7)], (unsigned long long)number(),
+                              (unsigned long long)number());
                 first = 0;
             }
         n += snprintf(to + n, room - n, "]}");
@@ -102,16 +108,20 @@ static void on_sigsys(int signal, siginfo_t *info, void *context) {
 }
 
 static long call_of(const struct seccomp_data *call) {
-    register long r10 __asm__("r10") = (long)call->args[3], r8 __asm__("r8") = (long)call->args[4], r9 __asm__("r9") = (long)call->args[5];
+    register long r10 __asm__("r10") = (long)call->args[3], r8 __asm__("r8") = (long)call->args[4],
+                      r9 __asm__("r9") = (long)call->args[5];
     long result;
-    __asm__ volatile("syscall" : "=a"(result)
-                     : "a"((long)call->nr), "D"(call->args[0]), "S"(call->args[1]), "d"(call->args[2]), "r"(r10), "r"(r8), "r"(r9)
+    __asm__ volatile("syscall"
+                     : "=a"(result)
+                     : "a"((long)call->nr), "D"(call->args[0]), "S"(call->args[1]), "d"(call->args[2]),
+                       "r"(r10), "r"(r8), "r"(r9)
                      : "rcx", "r11", "memory");
     return result;
 }
 
 /* Makes the calls in a child under the filter, and says how the child ended. */
-static int made_by_child(const uint8_t *filter, size_t length, const struct seccomp_data *calls, int count, struct seen *seen, long *plain) {
+static int made_by_child(const uint8_t *filter, size_t length, const struct seccomp_data *calls, int count,
+                         struct seen *seen, long *plain) {
     pid_t child = fork();
     if (child == 0) {
         struct sock_fprog program = {.len = length / 8, .filter = (struct sock_filter *)filter};
@@ -119,7 +129,8 @@ static int made_by_child(const uint8_t *filter, size_t length, const struct secc
         sigaction(SIGSYS, &trap, NULL);
         for (int i = 0; i < HARMLESS; i++)
             plain[i] = syscall(harmless[i].nr);
-        if (prctl(PR_SET_NO_NEW_PRIVS, 1, 0, 0, 0) || syscall(SYS_seccomp, SECCOMP_SET_MODE_FILTER, 0, &program))
+        if (prctl(PR_SET_NO_NEW_PRIVS, 1, 0, 0, 0) ||
+            syscall(SYS_seccomp, SECCOMP_SET_MODE_FILTER, 0, &program))
             _exit(77);
         for (int i = 0; i < count; i++) {
             here = &seen[i];
@@ -141,7 +152,8 @@ static long plain_of(uint32_t nr, const long *plain) {
 }
 
 /* Whether what was seen of a call is what the value says. */
-static int is_as_said(uint32_t value, const struct seccomp_data *call, const struct seen *seen, const long *plain) {
+static int is_as_said(uint32_t value, const struct seccomp_data *call, const struct seen *seen,
+                      const long *plain) {
     long data = value & 0xffff;
     switch (value & 0xffff0000) {
     case SECCOMP_RET_ALLOW:
@@ -154,7 +166,8 @@ static int is_as_said(uint32_t value, const struct seccomp_data *call, const str
 }
 
 static int kills(uint32_t value) {
-    return (value & 0xffff0000) == SECCOMP_RET_KILL_PROCESS || (value & 0xffff0000) == SECCOMP_RET_KILL_THREAD;
+    return (value & 0xffff0000) == SECCOMP_RET_KILL_PROCESS ||
+           (value & 0xffff0000) == SECCOMP_RET_KILL_THREAD;
 }
 
 int main(int argc, char **argv) {
@@ -163,13 +176,16 @@ int main(int argc, char **argv) {
         fprintf(stderr, "usage: kernel COUNT\n");
         return 2;
     }
-    struct seen *seen = mmap(NULL, CALLS * sizeof *seen, PROT_READ | PROT_WRITE, MAP_SHARED | MAP_ANONYMOUS, -1, 0);
-    long *plain = mmap(NULL, HARMLESS * sizeof *plain, PROT_READ | PROT_WRITE, MAP_SHARED | MAP_ANONYMOUS, -1, 0);
+    struct seen *seen =
+        mmap(NULL, CALLS * sizeof *seen, PROT_READ | PROT_WRITE, MAP_SHARED | MAP_ANONYMOUS, -1, 0);
+    long *plain =
+        mmap(NULL, HARMLESS * sizeof *plain, PROT_READ | PROT_WRITE, MAP_SHARED | MAP_ANONYMOUS, -1, 0);
     while (compared < count) {
         static char text[262144];
         static uint8_t filter[32768] __attribute__((aligned(8)));
         size_t length = 0;
-        uint32_t status = motchidu_compile((uint8_t *)text, profile(text, sizeof text), filter, sizeof filter, &length);
+        uint32_t status =
+            motchidu_compile((uint8_t *)text, profile(text, sizeof text), filter, sizeof filter, &length);
         if (status != MOTCHIDU_ACCEPTED) {
             printf("refused %u: %s\n", status, text);
             return 1;
@@ -178,12 +194,14 @@ int main(int argc, char **argv) {
         struct seccomp_data calls[CALLS] = {0}, living[CALLS], killed[CALLS];
         uint32_t values[CALLS], steps[CALLS], said[CALLS];
         for (int i = 0; i < CALLS; i++) {
-            calls[i].nr = below(32) ? harmless[below(HARMLESS)].nr : 0x40000000 | harmless[below(HARMLESS)].nr;
+            calls[i].nr =
+                below(32) ? harmless[below(HARMLESS)].nr : 0x40000000 | harmless[below(HARMLESS)].nr;
             calls[i].arch = AUDIT_ARCH_X86_64;
             for (int a = 0; a < 6; a++)
                 calls[i].args[a] = number();
         }
-        status = motchidu_run_all(filter, length, (uint8_t *)calls, sizeof calls, values, CALLS, steps, CALLS);
+        status =
+            motchidu_run_all(filter, length, (uint8_t *)calls, sizeof calls, values, CALLS, steps, CALLS);
         if (status != MOTCHIDU_ACCEPTED)
             return 1;
         int lives = 0, dies = 0;
@@ -201,7 +219,8 @@ int main(int argc, char **argv) {
         for (int i = 0; i < lives; i++, compared++)
             if (ended != 0 || !is_as_said(said[i], &living[i], &seen[i], plain)) {
                 differ++;
-                printf("nr %u: said %08x, came to %ld%s\n%s\n", living[i].nr, said[i], seen[i].result, seen[i].trapped ? ", trapped" : "", text);
+                printf("nr %u: said %08x, came to %ld%s\n%s\n", living[i].nr, said[i], seen[i].result,
+                       seen[i].trapped ? ", trapped" : "", text);
             }
         for (int i = 0; i < dies && i < KILLS; i++, compared++) {
             memset(seen, 0, sizeof *seen);

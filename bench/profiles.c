@@ -37,12 +37,13 @@ static void add(const char *name, unsigned error, int test, uint64_t value) {
 
 /* The names that RuntimeDefault does not let through, or not always. */
 static const char held_back[] =
-    " acct add_key bpf clock_settime clone clone3 create_module delete_module fanotify_init finit_module fsconfig fsmount"
-    " fsopen fspick get_kernel_syms get_mempolicy init_module io_uring_enter io_uring_register io_uring_setup ioperm iopl"
-    " kcmp kexec_file_load kexec_load keyctl lookup_dcookie mbind mount move_mount move_pages name_to_handle_at nfsservctl"
-    " open_by_handle_at open_tree perf_event_open personality pidfd_getfd pivot_root process_vm_readv process_vm_writev"
-    " ptrace query_module quotactl reboot request_key set_mempolicy setdomainname sethostname setns settimeofday swapoff"
-    " swapon sysfs syslog umount2 unshare uselib userfaultfd ustat vhangup _sysctl ";
+    " acct add_key bpf clock_settime clone clone3 create_module delete_module fanotify_init finit_module"
+    " fsconfig fsmount fsopen fspick get_kernel_syms get_mempolicy init_module io_uring_enter"
+    " io_uring_register io_uring_setup ioperm iopl kcmp kexec_file_load kexec_load keyctl lookup_dcookie"
+    " mbind mount move_mount move_pages name_to_handle_at nfsservctl open_by_handle_at open_tree"
+    " perf_event_open personality pidfd_getfd pivot_root process_vm_readv process_vm_writev ptrace"
+    " query_module quotactl reboot request_key set_mempolicy setdomainname sethostname setns settimeofday"
+    " swapoff swapon sysfs syslog umount2 unshare uselib userfaultfd ustat vhangup _sysctl ";
 
 static void runtime_default(void) {
     static const uint64_t personas[] = {0, 8, 131072, 131080, 4294967295};
@@ -84,9 +85,12 @@ static size_t json(char *to) {
         if (rule->error)
             at += sprintf(at, "\"errnoRet\":%u,", rule->error);
         if (rule->test == EQUAL)
-            at += sprintf(at, "\"args\":[{\"index\":0,\"op\":\"SCMP_CMP_EQ\",\"value\":%llu}],", (unsigned long long)rule->value);
+            at += sprintf(at, "\"args\":[{\"index\":0,\"op\":\"SCMP_CMP_EQ\",\"value\":%llu}],",
+                          (unsigned long long)rule->value);
         if (rule->test == MASKED)
-            at += sprintf(at, "\"args\":[{\"index\":0,\"op\":\"SCMP_CMP_MASKED_EQ\",\"value\":%llu,\"valueTwo\":0}],", (unsigned long long)rule->value);
+            at += sprintf(
+                at, "\"args\":[{\"index\":0,\"op\":\"SCMP_CMP_MASKED_EQ\",\"value\":%llu,\"valueTwo\":0}],",
+                (unsigned long long)rule->value);
         at += sprintf(at, "\"names\":[\"%s\"]}", rule->name);
     }
     return at + sprintf(at, "]}") - to;
@@ -114,7 +118,8 @@ static size_t by_seccomp(uint8_t *filter, int tree) {
         const struct rule *rule = &rules[i];
         int nr = seccomp_syscall_resolve_name(rule->name);
         uint32_t action = rule->error ? SCMP_ACT_ERRNO(rule->error) : SCMP_ACT_ALLOW;
-        struct scmp_arg_cmp test = rule->test == EQUAL ? SCMP_A0(SCMP_CMP_EQ, rule->value) : SCMP_A0(SCMP_CMP_MASKED_EQ, rule->value, 0);
+        struct scmp_arg_cmp test = rule->test == EQUAL ? SCMP_A0(SCMP_CMP_EQ, rule->value)
+                                                       : SCMP_A0(SCMP_CMP_MASKED_EQ, rule->value, 0);
         if (nr >= 0 && seccomp_rule_add_array(context, action, nr, rule->test != ALWAYS, &test))
             exit(1);
     }
@@ -156,7 +161,8 @@ static void row(const char *profile, const char *compiler, int how) {
     size_t length = compiled(filter, how);
     for (int i = 0; i < NUMBERS; i++)
         calls[i] = (struct seccomp_data){.nr = i, .arch = AUDIT_ARCH_X86_64};
-    uint32_t status = motchidu_run_all(filter, length, (uint8_t *)calls, sizeof calls, values, NUMBERS, steps, NUMBERS);
+    uint32_t status =
+        motchidu_run_all(filter, length, (uint8_t *)calls, sizeof calls, values, NUMBERS, steps, NUMBERS);
     if (status != MOTCHIDU_ACCEPTED) {
         printf("| %s | %s | %zu | refused %u |\n", profile, compiler, length / 8, status);
         return;
@@ -173,7 +179,8 @@ static void row(const char *profile, const char *compiler, int how) {
         times[i] = now() - before;
     }
     qsort(times, ROUNDS, sizeof *times, by_size);
-    printf("| %s | %s | %zu | %u | %.1f | %.0f us |\n", profile, compiler, length / 8, most, sum / NUMBERS, times[ROUNDS / 2]);
+    printf("| %s | %s | %zu | %u | %.1f | %.0f us |\n", profile, compiler, length / 8, most, sum / NUMBERS,
+           times[ROUNDS / 2]);
 }
 
 static void rows(const char *profile) {
@@ -198,7 +205,8 @@ static void file_row(const char *path) {
 }
 
 int main(int argc, char **argv) {
-    printf("| profile | compiler | instructions | executed at most | on average | to compile |\n|---|---|---|---|---|---|\n");
+    printf("| profile | compiler | instructions | executed at most | on average | to compile "
+           "|\n|---|---|---|---|---|---|\n");
     runtime_default();
     rows("RuntimeDefault");
     static const int counts[] = {10, 100, 341};

@@ -50,7 +50,8 @@ def installed(folder, programs):
 
 
 def environment(prefix):
-    """What a new shell has, and what README's lines of `export` set, where make install's PREFIX is this one."""
+    """What a new shell has, and what README's lines of `export` set where make install's PREFIX is this
+    one."""
     new = {"HOME": os.path.dirname(prefix), "PATH": "/usr/local/bin:/usr/bin:/bin", "LC_ALL": "C.UTF-8"}
     lines = "\n".join(line for line in text_of("README.md").splitlines() if line.startswith("export "))
     set_by = ["sh", "-c", f"{lines}\nexec env -0"]
@@ -237,7 +238,8 @@ def told_in_page(plain, option):
 
 def check_numbers(program, said, plain, prefix):
     for option, (limits, default) in told_in_help(said).items():
-        check(f"{program}.1 tells of {option} what --help does", told_in_page(plain, option), (limits, default))
+        told = told_in_page(plain, option)
+        check(f"{program}.1 tells of {option} what --help does", told, (limits, default))
         if limits:
             check_ends(program, option, *map(int, limits), prefix)
 
@@ -270,8 +272,9 @@ def runs(command, how):
 
 
 def check_examples(prefix, program, room):
-    part = text_of(f"man/{program}.1").replace("\\-", "-").partition("\n.SH EXAMPLES\n")[2].partition("\n.SH ")[0]
-    examples = [line for block in re.findall(r"^\.nf\n(.*?)^\.fi$", part, re.M | re.S) for line in block.splitlines()]
+    page = text_of(f"man/{program}.1").replace("\\-", "-")
+    part = page.partition("\n.SH EXAMPLES\n")[2].partition("\n.SH ")[0]
+    examples = "".join(re.findall(r"^\.nf\n(.*?)^\.fi$", part, re.M | re.S)).splitlines()
     check(f"{program}.1 has two examples", len(examples) >= 2)
     how = {"cwd": f"{room}/examples", "env": environment(prefix)}
     for example in examples:

@@ -1,7 +1,8 @@
 #!/usr/bin/env python3
-"""bench_calls.py ECHO: times scriptd and nodeagent. Calls a second over a Unix socket (connect, request, reply) beside
-those of the plain server ECHO with the same frames, how long nodes of 10, 50 and 110 pods take to settle, and with how
-many requests a full node does, by either version of the messages. The programs are crates/NAME/out/NAME, or those in the folder BIN names.
+"""bench_calls.py ECHO: times scriptd and nodeagent. Calls a second over a Unix socket (connect, request, reply)
+beside those of the plain server ECHO with the same frames, how long nodes of 10, 50 and 110 pods take to
+settle, and with how many requests a full node does, by either version of the messages. The programs are
+crates/NAME/out/NAME, or those in the folder BIN names.
 """
 import json
 import os
@@ -52,7 +53,8 @@ def pods_of(folder, pods, containers, calls):
     names = []
     for at in range(pods):
         listed = [{"name": f"c{place}", "image": "some.s"} for place in range(containers)]
-        pod = {"apiVersion": "v1", "kind": "Pod", "metadata": {"name": f"p{at}"}, "spec": {"restartPolicy": "Never", "containers": listed}}
+        spec = {"restartPolicy": "Never", "containers": listed}
+        pod = {"apiVersion": "v1", "kind": "Pod", "metadata": {"name": f"p{at}"}, "spec": spec}
         names.append(f"{folder}/p{at}.json")
         with open(names[-1], "w", encoding="utf-8") as it:
             json.dump(pod, it)
@@ -74,22 +76,27 @@ def seconds(words):
 
 def settle(folder, pods):
     took = seconds(agent(folder, "--settle", *pods_of(folder, pods, CONTAINERS, 1)))
-    print(f"{pods} pods of {CONTAINERS} containers settle in {took:.3f} s, {took / pods * 1000:.2f} ms a pod", flush=True)
+    a_pod = took / pods * 1000
+    print(f"{pods} pods of {CONTAINERS} containers settle in {took:.3f} s, {a_pod:.2f} ms a pod", flush=True)
 
 
 def requests(words):
     """How many requests were made: each is a line on standard error."""
-    return len(subprocess.run([*words, "--verbose"], stdout=subprocess.DEVNULL, stderr=subprocess.PIPE, check=False).stderr.splitlines())
+    how = {"stdout": subprocess.DEVNULL, "stderr": subprocess.PIPE}
+    return len(subprocess.run([*words, "--verbose"], check=False, **how).stderr.splitlines())
 
 
 def versions(folder):
-    """A full node by either version of the messages: settled with the clock counted, and looked after by the machine's."""
+    """A full node by either version of the messages: settled with the clock counted, and looked after by the
+    machine's."""
     for cri in ("1", "2"):
         words = agent(folder, "--cri", cri, "--settle", *pods_of(folder, 110, 16, 1))
-        print(f"110 pods of 16 containers settle by --cri {cri} with {requests(words)} requests, in {seconds(words):.3f} s", flush=True)
+        made, took = requests(words), seconds(words)
+        print(f"110 pods of 16 containers settle by --cri {cri} with {made} requests, in {took:.3f} s", flush=True)
     for cri in ("1", "2"):
         words = agent(folder, "--cri", cri, "--until", UNTIL, *pods_of(folder, 110, 16, 4095))
-        print(f"110 pods of 16 containers are looked after for {UNTIL} s by --cri {cri} with {requests(words)} requests", flush=True)
+        done = f"looked after for {UNTIL} s by --cri {cri} with {requests(words)} requests"
+        print(f"110 pods of 16 containers are {done}", flush=True)
 
 
 def main():

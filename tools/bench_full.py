@@ -1,8 +1,8 @@
 #!/usr/bin/env python3
-"""bench_full.py [CALLS [REMOVALS]]: times a full sandbox of scriptd, whose containers have made so many calls each: the
-statuses of its 1,024 containers, its removal, and meanwhile the status of a container of another sandbox, beside
-clients that ask for nothing but the statuses of the full one. The program is crates/scriptd/out/scriptd, or that in
-the folder BIN names.
+"""bench_full.py [CALLS [REMOVALS]]: times a full sandbox of scriptd, whose containers have made so many calls
+each: the statuses of its 1,024 containers, its removal, and meanwhile the status of a container of another
+sandbox, beside clients that ask for nothing but the statuses of the full one. The program is
+crates/scriptd/out/scriptd, or that in the folder BIN names.
 """
 import json
 import os
@@ -52,7 +52,8 @@ class Client:
 
 def served(path, folder):
     program = f"{os.environ['BIN']}/scriptd" if "BIN" in os.environ else f"{ROOT}/crates/scriptd/out/scriptd"
-    ran = subprocess.Popen([program, "--socket", path, "--scripts", folder], stdout=subprocess.DEVNULL, stderr=subprocess.DEVNULL)
+    quiet = {"stdout": subprocess.DEVNULL, "stderr": subprocess.DEVNULL}
+    ran = subprocess.Popen([program, "--socket", path, "--scripts", folder], **quiet)
     while not os.path.exists(path):
         time.sleep(0.01)
     time.sleep(0.1)

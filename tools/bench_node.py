@@ -1,9 +1,9 @@
 #!/usr/bin/env python3
-"""bench_node.py [SECONDS [COUNTED]]: a node of 110 pods with 4 containers each that end and are restarted for ever, by
-the machine's clock for so many seconds (60), and then by a virtual clock to such a moment (86,400): how many calls
-there are, the memory of the process behind a tenth of the time and at the end, and what a call takes of the
-processor in the first and in the last tenth. The program is crates/nodeagent/out/nodeagent, or that in the folder
-BIN names.
+"""bench_node.py [SECONDS [COUNTED]]: a node of 110 pods with 4 containers each that end and are restarted for
+ever, by the machine's clock for so many seconds (60), and then by a virtual clock to such a moment (86,400):
+how many calls there are, the memory of the process behind a tenth of the time and at the end, and what a call
+takes of the processor in the first and in the last tenth. The program is crates/nodeagent/out/nodeagent, or
+that in the folder BIN names.
 """
 import json
 import os
@@ -21,7 +21,8 @@ SCRIPT = {"steps": [{"call": "getpid"}, {"call": "write"}, {"exit": 1}]}
 
 
 def pods(folder):
-    """Manifests of a node of pods whose containers fail each time, and so are started again after a back-off."""
+    """Manifests of a node of pods whose containers fail each time, and so are started again after a
+    back-off."""
     with open(f"{folder}/fails.s", "w", encoding="utf-8") as it:
         json.dump(SCRIPT, it)
     names = []
@@ -58,10 +59,11 @@ class Seen:
 
 
 def looked_after(folder, words, end):
-    """Runs the agent, and looks at it at its start, when a tenth and nine tenths of its time passed, and at the
-    last call."""
-    ran = subprocess.Popen([PROGRAM, "--socket", "s", "--with-runtime", "--verbose", "--until", str(end), *words],
-                           cwd=folder, stdout=subprocess.DEVNULL, stderr=subprocess.PIPE, text=True)
+    """Runs the agent, and looks at it at its start, when a tenth and nine tenths of its time passed, and at
+    the last call."""
+    line = [PROGRAM, "--socket", "s", "--with-runtime", "--verbose", "--until", str(end), *words]
+    how = {"cwd": folder, "stdout": subprocess.DEVNULL, "stderr": subprocess.PIPE, "text": True}
+    ran = subprocess.Popen(line, **how)
     seen, calls, last = [Seen(ran.pid, 0)], 0, None
     for line in ran.stderr:
         told = re.match(r"moment (\d+) s ", line)
@@ -88,9 +90,10 @@ def main():
             begun = time.monotonic()
             first, tenth, ninth, last = looked_after(folder, [*words, *names], end)
             took = time.monotonic() - begun
-            print(f"{PODS} pods of {CONTAINERS} containers for {end} s by {clock} ({took:.0f} s): {last.calls} calls, "
-                  f"{tenth.memory} KiB behind a tenth, {last.memory} KiB at the end, {tenth.a_call(first):.0f} us of the "
-                  f"processor a call in the first tenth, {last.a_call(ninth):.0f} in the last", flush=True)
+            print(f"{PODS} pods of {CONTAINERS} containers for {end} s by {clock}, {took:.0f} s: {last.calls} "
+                  f"calls, {tenth.memory} KiB behind a tenth, {last.memory} KiB at the end, "
+                  f"{tenth.a_call(first):.0f} us of the processor a call in the first tenth, "
+                  f"{last.a_call(ninth):.0f} in the last", flush=True)
 
 
 main()

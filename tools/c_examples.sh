@@ -21,7 +21,8 @@ if { lacks "$cc" || lacks pkg-config; } && [ "$(id -u)" = 0 ] && ! lacks apt-get
   apt-get update -qq && apt-get install -y -qq gcc libc6-dev pkg-config > /dev/null
 fi
 if lacks "$cc" || lacks pkg-config; then
-  echo "examples/c: there is no $cc or no pkg-config: install them, as by apt-get install gcc libc6-dev pkg-config"
+  echo "examples/c: there is no $cc or no pkg-config: install them," \
+    "as by apt-get install gcc libc6-dev pkg-config"
   echo "0 passed, 1 failed"
   exit 1
 fi
@@ -36,7 +37,8 @@ build() { # NAME [FLAG]..
 read -ra shared < <(PKG_CONFIG_PATH=$library pkg-config --cflags --libs motchidu)
 shared+=("-Wl,-rpath,$PWD/$library")
 
-build judge "${shared[@]}" && "$out/judge" examples/x86_64_only.bpf > "$out/judge.stdout" && diff examples/c/judge.stdout "$out/judge.stdout"
+build judge "${shared[@]}" && "$out/judge" examples/x86_64_only.bpf > "$out/judge.stdout" \
+  && diff examples/c/judge.stdout "$out/judge.stdout"
 count c/judge $?
 
 build every_status -I$library $library/libmotchidu.a -Wl,--wrap=malloc && "$out/every_status"
@@ -47,10 +49,12 @@ count c/every_status $?
 if lacks objcopy; then
   echo "examples/c/two_libraries: skipped, there is no objcopy"
 else
-  renamed=$(sed -n -E 's/^enum motchidu_status motchidu_([a-z_]+)\(.*/--redefine-sym motchidu_\1=other_\1/p' include/motchidu.h)
+  rename='s/^enum motchidu_status motchidu_([a-z_]+)\(.*/--redefine-sym motchidu_\1=other_\1/p'
+  renamed=$(sed -n -E "$rename" include/motchidu.h)
   # shellcheck disable=SC2086
   objcopy $renamed $library/libmotchidu.a "$out/libother.a" \
-    && build two_libraries -I$library $library/libmotchidu.a -Wl,--whole-archive "$out/libother.a" -Wl,--no-whole-archive \
+    && build two_libraries -I$library $library/libmotchidu.a \
+      -Wl,--whole-archive "$out/libother.a" -Wl,--no-whole-archive \
     && "$out/two_libraries"
   count c/two_libraries $?
 fi

@@ -9,14 +9,16 @@ if [ -z "$header" ]; then
   echo "call table: skipped, this machine has no asm/unistd_64.h"
   exit 0
 fi
-sed -n '/static NAMES/,/^\];/p' crates/sys_table/src/table.rt | sed '1d;s://.*::' | grep -o '"[^"]*"' | tr -d '"' |
-  awk '{ if ($0 != "") print NR - 1, $0 }' | sort > "${TMPDIR:-/tmp}/call_table.$$"
-awk '$1 == "#define" && $2 ~ /^__NR_/ { print $3, substr($2, 6) }' "$header" | sort > "${TMPDIR:-/tmp}/call_header.$$"
-trap 'rm -f "${TMPDIR:-/tmp}"/call_{table,header}.$$' EXIT
-wrong=$(comm -23 "${TMPDIR:-/tmp}/call_table.$$" "${TMPDIR:-/tmp}/call_header.$$")
+parts=$(mktemp -d)
+trap 'rm -rf "$parts"' EXIT
+sed -n '/static NAMES/,/^\];/p' crates/sys_table/src/table.rt | sed '1d;s://.*::' | grep -o '"[^"]*"' |
+  tr -d '"' | awk '{ if ($0 != "") print NR - 1, $0 }' | sort > "$parts/table"
+awk '$1 == "#define" && $2 ~ /^__NR_/ { print $3, substr($2, 6) }' "$header" | sort > "$parts/header"
+wrong=$(comm -23 "$parts/table" "$parts/header")
 if [ -n "$wrong" ]; then
   echo "call table: not as in $header:"
   echo "$wrong"
   exit 1
 fi
-echo "call table: $(wc -l < "${TMPDIR:-/tmp}/call_table.$$") names as in $header, which has $(comm -13 "${TMPDIR:-/tmp}/call_table.$$" "${TMPDIR:-/tmp}/call_header.$$" | wc -l) more"
+more=$(comm -13 "$parts/table" "$parts/header" | wc -l)
+echo "call table: $(wc -l < "$parts/table") names as in $header, which has $more more"

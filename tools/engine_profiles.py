@@ -71,7 +71,7 @@ def entries(text):
 
 
 def containerd(source):
-    """Its profile has entries for all, a switch over architectures with entries for some, and behind that entries
+    """Its profile has entries for all, a switch over architectures with entries for some, and then entries
     for containers without capabilities, in a switch over architectures whose default is x86-64's too."""
     source = source[source.index("func DefaultProfile"):]
     places = [it.start() for it in re.finditer(r"switch \w+\.GOARCH", source)]

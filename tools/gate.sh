@@ -33,7 +33,8 @@ part "rt ci" tools/gate_times.py out/gate_times rt ci
 part "C examples" c_examples
 part "cases" tests/run
 # In one line, so that it stands near the end of what a log keeps.
-echo "processor seconds of proofs, tests, edits: $(tools/gate_times.py out/gate_times | awk 'NR > 1 && NF == 5 { printf "%s %s %s %s; ", $1, $2, $3, $4 }')"
+columns='NR > 1 && NF == 5 { printf "%s %s %s %s; ", $1, $2, $3, $4 }'
+echo "processor seconds of proofs, tests, edits: $(tools/gate_times.py out/gate_times | awk "$columns")"
 echo -n "$failures"
 echo "$all_passed passed, $all_failed failed"
 [ $all_failed = 0 ]

@@ -13,17 +13,20 @@ parts=$(mktemp -d)
 trap 'rm -rf "$parts"' EXIT
 mkdir -p "$folder"
 echo 'SECTIONS { .text : SUBALIGN(64) { *(.text .text.*) } }' > "$parts/layout"
-"$kit/toolchain/bin/ld.lld" -r -T "$parts/layout" --whole-archive "$archive" "$kit/c/liblibc_c.a" -o "$parts/motchidu.o"
+"$kit/toolchain/bin/ld.lld" -r -T "$parts/layout" --whole-archive "$archive" "$kit/c/liblibc_c.a" \
+  -o "$parts/motchidu.o"
 # Or a program could not link the library beside another that brings the same few lines.
 if command -v objcopy > /dev/null; then
   objcopy --wildcard --keep-global-symbol='motchidu_*' "$parts/motchidu.o"
 else
-  echo "$folder: there is no objcopy, so libmotchidu.a shows names beside the header's: rattle_alloc and two more"
+  echo "$folder: there is no objcopy, so libmotchidu.a shows names beside the header's:" \
+    "rattle_alloc and two more"
 fi
 rm -f "$folder"/libmotchidu.*
 "$kit/toolchain/bin/llvm-ar" rcsD "$folder/libmotchidu.a" "$parts/motchidu.o"
 echo '{ global: motchidu_*; local: *; };' > "$parts/exports"
-"$kit/toolchain/bin/ld.lld" -shared -soname libmotchidu.so.0 --version-script "$parts/exports" -z now -z relro \
+"$kit/toolchain/bin/ld.lld" -shared -soname libmotchidu.so.0 --version-script "$parts/exports" \
+  -z now -z relro \
   "$parts/motchidu.o" -o "$folder/libmotchidu.so.0"
 ln -sf libmotchidu.so.0 "$folder/libmotchidu.so"
 cp include/motchidu.h "$folder/"

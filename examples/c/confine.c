@@ -25,8 +25,10 @@ static void tell(const char *call, long result) {
 /* Installs the filter for this process and what it starts. No privilege is needed for that, once it can
  * gain none. */
 static int install(const uint8_t *filter, size_t length) {
-    struct sock_fprog program = {.len = length / sizeof(struct sock_filter), .filter = (struct sock_filter *)filter};
-    return prctl(PR_SET_NO_NEW_PRIVS, 1, 0, 0, 0) || syscall(SYS_seccomp, SECCOMP_SET_MODE_FILTER, 0, &program);
+    struct sock_fprog program = {.len = length / sizeof(struct sock_filter),
+                                 .filter = (struct sock_filter *)filter};
+    return prctl(PR_SET_NO_NEW_PRIVS, 1, 0, 0, 0) ||
+           syscall(SYS_seccomp, SECCOMP_SET_MODE_FILTER, 0, &program);
 }
 
 static int confined(const uint8_t *filter, size_t length) {

@@ -31,14 +31,17 @@ static const struct {
     {"half an instruction", MOTCHIDU_LENGTH, NOWHERE, 12, {LOAD_NR, ALLOW}},
     {"modulo", MOTCHIDU_BAD_CODE, 1, 24, {LOAD_NR, BPF_STMT(BPF_ALU | BPF_MOD | BPF_K, 3), ALLOW}},
     {"nothing", MOTCHIDU_EMPTY, NOWHERE, 0, {{0}}},
-    {"a load across two words", MOTCHIDU_BAD_OFFSET, 1, 24, {LOAD_NR, BPF_STMT(BPF_LD | BPF_W | BPF_ABS, 2), ALLOW}},
+    {"a load across two words", MOTCHIDU_BAD_OFFSET, 1, 24,
+     {LOAD_NR, BPF_STMT(BPF_LD | BPF_W | BPF_ABS, 2), ALLOW}},
     {"a jump out of the filter", MOTCHIDU_BAD_JUMP, 1, 24, {LOAD_NR, BPF_STMT(BPF_JMP | BPF_JA, 1), ALLOW}},
     {"scratch word 16", MOTCHIDU_BAD_WORD, 0, 16, {BPF_STMT(BPF_ST, 16), ALLOW}},
     {"a shift by 32", MOTCHIDU_BAD_SHIFT, 1, 24, {LOAD_NR, BPF_STMT(BPF_ALU | BPF_LSH | BPF_K, 32), ALLOW}},
-    {"a division by 0", MOTCHIDU_ZERO_DIVISOR, 1, 24, {LOAD_NR, BPF_STMT(BPF_ALU | BPF_DIV | BPF_K, 0), ALLOW}},
+    {"a division by 0", MOTCHIDU_ZERO_DIVISOR, 1, 24,
+     {LOAD_NR, BPF_STMT(BPF_ALU | BPF_DIV | BPF_K, 0), ALLOW}},
     {"no return", MOTCHIDU_NO_FINAL_RETURN, NOWHERE, 16, {ALLOW, LOAD_NR}},
     {"a word that one way didn't store", MOTCHIDU_UNSTORED, 2, 32,
-     {BPF_JUMP(BPF_JMP | BPF_JEQ | BPF_K, 0, 0, 1), BPF_STMT(BPF_ST, 3), BPF_STMT(BPF_LDX | BPF_MEM, 3), ALLOW}},
+     {BPF_JUMP(BPF_JMP | BPF_JEQ | BPF_K, 0, 0, 1), BPF_STMT(BPF_ST, 3), BPF_STMT(BPF_LDX | BPF_MEM, 3),
+      ALLOW}},
 };
 
 static int wrong;
@@ -56,10 +59,12 @@ static uint32_t verify(const void *code, size_t len, size_t *at) {
 }
 
 /* Runs a filter on two empty calls, where these lengths are told, and says whether anything was written. */
-static void expect_run(const char *name, const void *code, size_t len, size_t calls_len, size_t steps_len, uint32_t want) {
+static void expect_run(const char *name, const void *code, size_t len, size_t calls_len, size_t steps_len,
+                       uint32_t want) {
     static const struct seccomp_data calls[2];
     uint32_t values[2] = {NOWHERE, NOWHERE}, steps[2] = {NOWHERE, NOWHERE};
-    uint32_t status = motchidu_run_all(code, len, (const uint8_t *)calls, calls_len, values, 2, steps, steps_len);
+    uint32_t status =
+        motchidu_run_all(code, len, (const uint8_t *)calls, calls_len, values, 2, steps, steps_len);
     int is_kept = values[0] == NOWHERE && values[1] == NOWHERE && steps[0] == NOWHERE && steps[1] == NOWHERE;
     expect(name, status, 0, want, 0);
     if (is_kept == (want == MOTCHIDU_ACCEPTED)) {
@@ -92,7 +97,8 @@ static const struct {
 };
 
 /* Compiles a profile with this much room, and says whether room and length are as the answer has it. */
-static void expect_compiled(const char *name, const char *text, size_t text_len, size_t room, uint32_t want, size_t want_length) {
+static void expect_compiled(const char *name, const char *text, size_t text_len, size_t room, uint32_t want,
+                            size_t want_length) {
     static uint8_t filter[64];
     size_t length = NOWHERE, after = want == MOTCHIDU_ACCEPTED ? want_length : 0;
     memset(filter, 0xa5, sizeof filter);
@@ -113,27 +119,32 @@ static void expect_profiles(void) {
     static char large[262144 + 1], heavy[8192];
     for (size_t i = 0; i < sizeof profiles / sizeof *profiles; i++) {
         size_t length = profiles[i].want == MOTCHIDU_ACCEPTED ? 64 : NOWHERE;
-        expect_compiled(profiles[i].text, profiles[i].text, strlen(profiles[i].text), 64, profiles[i].want, length);
+        expect_compiled(profiles[i].text, profiles[i].text, strlen(profiles[i].text), 64, profiles[i].want,
+                        length);
     }
-    expect_compiled("room for all but a byte", profiles[0].text, strlen(profiles[0].text), 63, MOTCHIDU_NO_ROOM, 64);
+    expect_compiled("room for all but a byte", profiles[0].text, strlen(profiles[0].text), 63,
+                    MOTCHIDU_NO_ROOM, 64);
     expect_compiled("no room", profiles[0].text, strlen(profiles[0].text), 0, MOTCHIDU_NO_ROOM, 64);
     expect_compiled("no text", NULL, 0, 64, MOTCHIDU_NOT_JSON, NOWHERE);
     memset(large, ' ', sizeof large);
     expect_compiled("262,144 bytes", large, sizeof large - 1, 64, MOTCHIDU_NOT_JSON, NOWHERE);
     expect_compiled("262,145 bytes", large, sizeof large, 64, MOTCHIDU_TOO_LARGE, NOWHERE);
     /* 512 names weigh 7 and 8 each, 4,103 */
-    strcpy(heavy, "{\"defaultAction\":\"SCMP_ACT_ERRNO\",\"syscalls\":[{\"action\":\"SCMP_ACT_ALLOW\",\"names\":[\"read\"");
+    strcpy(heavy, "{\"defaultAction\":\"SCMP_ACT_ERRNO\",\"syscalls\":[{\"action\":\"SCMP_ACT_ALLOW\","
+                  "\"names\":[\"read\"");
     for (int i = 1; i < 512; i++)
         strcat(heavy, ",\"read\"");
     strcat(heavy, "]}]}");
     expect_compiled("512 names", heavy, strlen(heavy), 64, MOTCHIDU_TOO_HEAVY, NOWHERE);
     no_memory = 1;
-    expect_compiled("no memory for a profile", profiles[0].text, strlen(profiles[0].text), 64, MOTCHIDU_MEMORY, NOWHERE);
+    expect_compiled("no memory for a profile", profiles[0].text, strlen(profiles[0].text), 64,
+                    MOTCHIDU_MEMORY, NOWHERE);
     expect_compiled("no memory, too large", large, sizeof large, 64, MOTCHIDU_TOO_LARGE, NOWHERE);
     no_memory = 0;
 }
 
-static void expect_longest(const char *name, const void *code, size_t len, uint32_t want, uint32_t want_longest, size_t want_at) {
+static void expect_longest(const char *name, const void *code, size_t len, uint32_t want,
+                           uint32_t want_longest, size_t want_at) {
     uint32_t longest = NOWHERE;
     size_t at = NOWHERE;
     uint32_t status = motchidu_longest(code, len, &longest, &at);

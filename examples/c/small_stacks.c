@@ -55,7 +55,8 @@ static void *check_and_run(void *unused) {
     expect("verify", motchidu_verify(bytes, sizeof code, &at), MOTCHIDU_ACCEPTED);
     expect("longest", motchidu_longest(bytes, sizeof code, &longest, &at), MOTCHIDU_ACCEPTED);
     expect("the longest way", longest, LONGEST_FILTER);
-    expect("run_all", motchidu_run_all(bytes, sizeof code, (const uint8_t *)&call, 64, &value, 1, &steps, 1), MOTCHIDU_ACCEPTED);
+    expect("run_all", motchidu_run_all(bytes, sizeof code, (const uint8_t *)&call, 64, &value, 1, &steps, 1),
+           MOTCHIDU_ACCEPTED);
     expect("its value", value, SECCOMP_RET_ALLOW);
     expect("its steps", steps, LONGEST_FILTER);
     return unused;
@@ -65,7 +66,8 @@ static void in_a_thread(size_t stack, void *(*work)(void *)) {
     pthread_attr_t how;
     pthread_t thread;
     pthread_attr_init(&how);
-    if (pthread_attr_setstacksize(&how, stack) || pthread_create(&thread, &how, work, NULL) || pthread_join(thread, NULL)) {
+    if (pthread_attr_setstacksize(&how, stack) || pthread_create(&thread, &how, work, NULL) ||
+        pthread_join(thread, NULL)) {
         printf("no thread of %zu bytes\n", stack);
         wrong++;
     }

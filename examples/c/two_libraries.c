@@ -10,5 +10,6 @@ int main(void) {
     static const struct sock_filter code[] = {BPF_STMT(BPF_RET | BPF_K, SECCOMP_RET_ALLOW)};
     const uint8_t *bytes = (const uint8_t *)code;
     size_t at;
-    return motchidu_verify(bytes, sizeof code, &at) != MOTCHIDU_ACCEPTED || other_verify(bytes, sizeof code, &at) != MOTCHIDU_ACCEPTED;
+    return motchidu_verify(bytes, sizeof code, &at) != MOTCHIDU_ACCEPTED ||
+           other_verify(bytes, sizeof code, &at) != MOTCHIDU_ACCEPTED;
 }

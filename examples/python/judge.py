@@ -7,15 +7,17 @@ motchidu = ctypes.CDLL(sys.argv[1])
 profile = open(sys.argv[2], "rb").read()
 
 filter, length = ctypes.create_string_buffer(32768), ctypes.c_size_t()
-status = motchidu.motchidu_compile(profile, ctypes.c_size_t(len(profile)), filter, ctypes.c_size_t(32768), ctypes.byref(length))
+size, room = ctypes.c_size_t(len(profile)), ctypes.c_size_t(32768)
+status = motchidu.motchidu_compile(profile, size, filter, room, ctypes.byref(length))
 if status:
     sys.exit(f"refused {status}")
 
 # struct seccomp_data: number, architecture, instruction pointer, six arguments
-calls = b"".join(struct.pack("<IIQ6Q", nr, 0xC000003E, 0, *args) for nr, args in [(83, [0] * 6), (39, [0] * 6)])
+calls = b"".join(struct.pack("<IIQ6Q", nr, 0xC000003E, 0, *[0] * 6) for nr in (83, 39))
 values, steps = (ctypes.c_uint32 * 2)(), (ctypes.c_uint32 * 2)()
 two = ctypes.c_size_t(2)
-status = motchidu.motchidu_run_all(filter, length, calls, ctypes.c_size_t(len(calls)), values, two, steps, two)
+size = ctypes.c_size_t(len(calls))
+status = motchidu.motchidu_run_all(filter, length, calls, size, values, two, steps, two)
 for name, value in zip(["mkdir", "getpid"], values):
     print(f"{name}: {value:08x}")
 sys.exit(status)
