@@ -34,13 +34,11 @@ demo:
 	@echo "demo: seccheck, 1 of 2 programs"
 	@cd crates/seccheck && rt try --data x86_64_only.bpf=$(EXAMPLES)/x86_64_only.bpf \
 	  --data no_ptrace.bpf=$(EXAMPLES)/no_ptrace.bpf --data tries_ptrace.json=$(EXAMPLES)/tries_ptrace.json \
-	  --data adds_a_filter.json=$(EXAMPLES)/adds_a_filter.json --data no_ptrace.json=$(EXAMPLES)/no_ptrace.json --data two_profiles.json=$(EXAMPLES)/two_profiles.json \
+	  --data adds_a_filter.json=$(EXAMPLES)/adds_a_filter.json --data no_ptrace.json=$(EXAMPLES)/no_ptrace.json \
+	  --data two_profiles.json=$(EXAMPLES)/two_profiles.json \
 	  --cases $(EXAMPLES)/demo
-	@echo "demo: nodeagent, 2 of 2 programs: two pods over a socket; one container asks for ptrace under RuntimeDefault, one under a profile that lets it"
-	@cd crates/nodeagent && rt try --data confined_pod.json=$(EXAMPLES)/confined_pod.json \
-	  --data tracing_pod.json=$(EXAMPLES)/tracing_pod.json --data wants_ptrace.json=$(EXAMPLES)/wants_ptrace.json \
-	  --data lets_ptrace.json=$(EXAMPLES)/lets_ptrace.json \
-	  -- --socket node.sock --with-runtime --settle confined_pod.json tracing_pod.json
+	@echo "demo: nodeagent, 2 of 2 programs"
+	@tools/demo.py
 
 lib:
 	@cd crates/motchidu_c && rt lib

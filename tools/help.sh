@@ -13,13 +13,13 @@ make planted  tries all wrong bodies, also those that the gate leaves out; CRATE
 make cases    the cases of tests/ by the programs that make test built, or those in BIN=FOLDER; CASES=FILE..
               some of them. A minute or two
 make demo     a profile is compiled, a verified filter judges a call, scripts are played, pods are settled
-              over a socket, before any proof. Three minutes
+              over a socket, and come and go with the files of a folder, before any proof. Three minutes
 make install  proves the programs and the library for C and installs them, with their manual pages, to PREFIX
               (/usr/local). An hour of one core; make copy installs what is built already. At once
 make lib      the library for C and its header, proved, in out/c. Ten minutes of one core
 make bench    the machine and the compiler beside others, the runtime with few and many uids, calls over a
-              socket, a full sandbox, a full node; by what is built. ENGINES=FOLDER: profiles of engines whose packages lie
-              there. Ten minutes
+              socket, a full sandbox, a full node; by what is built. ENGINES=FOLDER: profiles of engines whose
+              packages lie there. A quarter of an hour
 make kernel   the running kernel beside the library on COUNT drawn calls. A minute
 make table    the table of calls beside the kernel's header on this machine. At once
 make clean    removes what is built and proved

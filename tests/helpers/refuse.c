@@ -5,7 +5,7 @@
  *
  * A request is one that the program's own code makes, by malloc and realloc; the C library's own are none.
  * What `make quick` builds has an allocator of its own, in which rt try counts requests: the variable
- * `calls` has how many there were, and the one whose number tools/quick.py gives (REFUSED_BY_TRY) is
+ * `calls` has how many there were, and the one whose number tools/tried.py gives (REFUSED_BY_TRY) is
  * refused. So the count is set to that less. */
 #define _GNU_SOURCE
 #include <elf.h>
