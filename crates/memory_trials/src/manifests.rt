@@ -1,7 +1,6 @@
 //! Reading and copying manifests.
 use crate::trial::{Came, Told, Trial, tried};
-use json_place::{Place, Step};
-use manifest::{Pod, PodFault, PodFaultAt};
+use manifest::{Pod, PodFault};
 use std::alloc::{AllocError, Global};
 
 /// What came of the call of this name, if it is one of these.
@@ -9,7 +8,6 @@ pub(crate) fn told(rt: &HostRuntime, name: &str) -> Option<Told> {
     let alloc = rt.alloc();
     match name {
         "manifest::read" => Some(tried(rt, Reads::new(alloc))),
-        "manifest::read_placed" => Some(tried(rt, Some(Places { alloc }))),
         "Pod::try_clone" => Some(tried(rt, Copies::new(alloc))),
         _ => None,
     }
@@ -49,47 +47,6 @@ impl Trial for Reads {
             Ok(pod) => Came::right_if(pod.same(&self.wanted)),
             Err(PodFault::Memory) => Came::Memory,
             Err(_) => Came::Wrong,
-        }
-    }
-}
-
-/// `manifest::read_placed`, of a pod whose second container has no image.
-#[derive(Drop)]
-struct Places {
-    alloc: Global,
-}
-
-const FAULTY: &str =
-    r#"{"apiVersion":"v1","kind":"Pod","metadata":{"name":"web","namespace":"shop","uid":"u-1"},
-"spec":{"containers":[{"name":"main","image":"main.json"},{"name":"side"}]}}"#;
-
-fn is_second_image(place: &Place) -> bool {
-    match place.steps() {
-        [
-            Step::Member(spec),
-            Step::Member(containers),
-            Step::Item(1),
-            Step::Member(image),
-        ] => *spec == "spec" && *containers == "containers" && *image == "image",
-        _ => false,
-    }
-}
-
-impl Trial for Places {
-    type Answer = Result<Pod, PodFaultAt>;
-
-    fn call(&mut self) -> Result<Pod, PodFaultAt> {
-        manifest::read_placed(self.alloc, FAULTY.as_bytes())
-    }
-
-    fn came(&mut self, answer: &Result<Pod, PodFaultAt>) -> Came {
-        match answer {
-            Ok(_) => Came::Wrong,
-            Err(found) => match found.fault {
-                PodFault::Memory => Came::Memory,
-                PodFault::Missing => Came::right_if(is_second_image(&found.place)),
-                _ => Came::Wrong,
-            },
         }
     }
 }
