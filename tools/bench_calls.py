@@ -1,7 +1,7 @@
 #!/usr/bin/env python3
-"""bench_calls.py ECHO: times scriptd and nodeagent. Calls a second over a Unix socket (connect, request, reply)
-beside those of the plain server ECHO with the same frames, how long nodes of 10, 50 and 110 pods take to
-settle, and with how many requests a full node does, by either version of the messages. The programs are
+"""bench_calls.py ECHO: times scriptd and nodeagent. Calls a second over a Unix socket (connect, request,
+reply) beside those of the plain server ECHO with the same frames, how long nodes of 10, 50 and 110 pods take
+to settle, and with how many requests a full node does, by either version of the messages. The programs are
 crates/NAME/out/NAME, or those in the folder BIN names.
 """
 import json
@@ -92,7 +92,8 @@ def versions(folder):
     for cri in ("1", "2"):
         words = agent(folder, "--cri", cri, "--settle", *pods_of(folder, 110, 16, 1))
         made, took = requests(words), seconds(words)
-        print(f"110 pods of 16 containers settle by --cri {cri} with {made} requests, in {took:.3f} s", flush=True)
+        print(f"110 pods of 16 containers settle by --cri {cri} with {made} requests, in {took:.3f} s",
+              flush=True)
     for cri in ("1", "2"):
         words = agent(folder, "--cri", cri, "--until", UNTIL, *pods_of(folder, 110, 16, 4095))
         done = f"looked after for {UNTIL} s by --cri {cri} with {requests(words)} requests"

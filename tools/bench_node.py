@@ -90,8 +90,8 @@ def main():
             begun = time.monotonic()
             first, tenth, ninth, last = looked_after(folder, [*words, *names], end)
             took = time.monotonic() - begun
-            print(f"{PODS} pods of {CONTAINERS} containers for {end} s by {clock}, {took:.0f} s: {last.calls} "
-                  f"calls, {tenth.memory} KiB behind a tenth, {last.memory} KiB at the end, "
+            print(f"{PODS} pods of {CONTAINERS} containers for {end} s by {clock}, {took:.0f} s: "
+                  f"{last.calls} calls, {tenth.memory} KiB behind a tenth, {last.memory} KiB at the end, "
                   f"{tenth.a_call(first):.0f} us of the processor a call in the first tenth, "
                   f"{last.a_call(ninth):.0f} in the last", flush=True)
 

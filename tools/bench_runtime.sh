@@ -1,7 +1,7 @@
 #!/bin/bash
 # Times the runtime by the program in bench/runtime, which is proved and run as one more crate of a copy: its
-# answer differs from run to run, so it is none of the crates whose output the gate compares. Its ending is not
-# .rt because the gate refuses such a file outside a crate.
+# answer differs from run to run, so it is none of the crates whose output the gate compares. Its ending is
+# not .rt because the gate refuses such a file outside a crate.
 set -eu
 cd "$(dirname "$0")/.."
 copy=$(mktemp -d)

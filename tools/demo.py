@@ -1,6 +1,6 @@
 #!/usr/bin/env python3
-"""The second half of make demo: nodeagent, compiled with checks at run time in the place of proofs, settles two
-pods over a socket, and then looks after a folder into which a manifest is put and from which it is taken.
+"""The second half of make demo: nodeagent, compiled with checks at run time in the place of proofs, settles
+two pods over a socket, and then looks after a folder into which a manifest is put and from which it is taken.
 """
 import os
 import shutil
@@ -63,8 +63,8 @@ def main():
             raise SystemExit(f"{said}demo: nodeagent is not built")
         env = {**os.environ, "PATH": f"{folder}/bin:{os.environ['PATH']}"}
         room = shutil.copytree(f"{ROOT}/examples", f"{folder}/examples")
-        print("demo: two pods over a socket; a container asks for ptrace under RuntimeDefault, and one under a "
-              "profile that lets it", flush=True)
+        print("demo: two pods over a socket; a container asks for ptrace under RuntimeDefault, and one under "
+              "a profile that lets it", flush=True)
         if settled(room, env):
             raise SystemExit("demo: the pods did not settle")
         print("demo: a folder of pods: a manifest is put into it, and taken out of it", flush=True)
