@@ -91,11 +91,15 @@ fn failures_change_nothing(rt: HostRuntime) -> Result<(), Fail> {
 }
 
 // The first attempt begins where its script can be read: at once, or behind the rest of a refusal. The others
-// come behind their back-off.
+// come behind their back-off. One worker reads the first pod's script first.
 #[test]
 fn runs_are_recorded_behind_back_off(rt: HostRuntime) -> Result<(), Fail> {
     for (scripts, wanted) in [(0, [0, 10, 30]), (1, [10, 20, 40])] {
-        let trial = Trial { scripts, ..PLAIN };
+        let trial = Trial {
+            workers: 1,
+            scripts,
+            ..PLAIN
+        };
         let left = tried(&rt, rt.alloc(), trial)?;
         assert_eq!(rt; left.text.as_str(), SETTLED);
         assert_eq!(rt; left.recorded.as_slice(), wanted.as_slice());
