@@ -68,12 +68,16 @@ bench: lib
 	@mkdir -p out/bench
 	@$(CC) $(BENCH_FLAGS) -Wa,-mbranches-within-32B-boundaries -c bench/plain.c -o out/bench/plain.o
 	@pcap=$$(printf '#if __has_include(<pcap/bpf.h>)\n-lpcap\n#endif\n' | $(CC) -E -P -x c -); \
-	  $(CC) $(BENCH_FLAGS) -Iout/c bench/bench.c bench/pcap.c out/bench/plain.o out/c/libmotchidu.a $$pcap -o out/bench/bench
+	  $(CC) $(BENCH_FLAGS) -Iout/c bench/bench.c bench/pcap.c out/bench/plain.o out/c/libmotchidu.a \
+	    $$pcap -o out/bench/bench
 	@out/bench/bench
 	@tools/call_names.sh > out/bench/names.h
 	@seccomp=$$(printf '#if __has_include(<seccomp.h>)\n-lseccomp\n#endif\n' | $(CC) -E -P -x c -); \
-	  $(CC) $(BENCH_FLAGS) -Iout/c -Iout/bench bench/profiles.c out/c/libmotchidu.a $$seccomp -o out/bench/profiles
+	  for program in profiles drawn costs; do $(CC) $(BENCH_FLAGS) -Iout/c -Iout/bench bench/$$program.c \
+	    out/c/libmotchidu.a $$seccomp -o out/bench/$$program || exit 1; done
 	@out/bench/profiles $$(tools/engine_profiles.py out/bench/engines $(ENGINES))
+	@out/bench/drawn
+	@out/bench/costs
 	@tools/bench_runtime.sh
 	@$(CC) $(BENCH_FLAGS) -pthread bench/echo.c -o out/bench/echo
 	@tools/bench_calls.py out/bench/echo

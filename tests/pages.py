@@ -232,8 +232,8 @@ def told_in_page(plain, option):
     part = re.search(rf"^\.(?:BI|B) {option}\b.*\n((?:(?!\.TP|\.SH).*\n)*)", plain, re.M)
     text = " ".join(part[1].split()) if part else ""
     limits = re.search(r"(\d+) (?:to|or) (\d+)", text)
-    default = re.search(r"(?:By default|\.B --settle) (\d+|the folder)", text)
-    return limits and limits.groups(), default and default[1].replace("the folder", ".")
+    default = re.search(r"(?:By default|\.B --settle) (\d+|the working directory)", text)
+    return limits and limits.groups(), default and default[1].replace("the working directory", ".")
 
 
 def check_numbers(program, said, plain, prefix):

@@ -1,5 +1,6 @@
 -- What nodeagent does with its line, and how it ends: this project's own. docs/SEMANTICS.md, "Programs".
-use Rattle.std.specs.Prelude.{ℕ, ◌==◌, if◌then◌else◌, List, [], ◌++◌, codes, Option, Some, None, unwrap_or}
+use Rattle.std.specs.Prelude.{ℕ, ◌==◌, Bool, true, false, if◌then◌else◌, List, [], ◌++◌, codes, Option, Some}
+use Rattle.std.specs.Prelude.{None, unwrap_or}
 use Rattle.std.specs.Fmt.{decimal}
 use Rattle.command_line.specs.declared.nodeagent.NodeagentLine.{NodeagentLine}
 use Rattle.cri_msgs.specs.declared.version.Version.{Version}
@@ -7,6 +8,8 @@ use Rattle.cri_msgs.specs.declared.version.Version.TheVariants.{V1, V2}
 use Rattle.node_watch.specs.declared.forms.Form.{Form}
 use Rattle.node_watch.specs.declared.forms.Form.TheVariants.{Text, Json}
 use Rattle.node_watch.specs.declared.reasons.Reason.{Reason}
+use Rattle.runtime_server.specs.declared.site.Tells.{Tells}
+use Rattle.runtime_server.specs.declared.site.Tells.TheVariants as tells
 use Rattle.runtime_server.specs.declared.stops.ServerStop.TheVariants.{Memory}
 use Rattle.worker_core.specs.Kept.{KeptNode}
 use Rattle.worker_crew.specs.declared.observer.Observed.{Observed}
@@ -32,9 +35,15 @@ settings_for line = record {
   version = version_for line;
 }
 
+-- what a runtime beside the agent tells
+abbrev pub told_beside : Bool → Tells
+told_beside true = tells.WrongFiles
+told_beside false = tells.Nothing
+
 -- with --settle the time is counted, for an hour where nothing else is said; else it is the machine's
 abbrev pub pace_for : NodeagentLine → Pace
-pace_for line = if line.settle then Counted (unwrap_or line.numbers.until 3600) else Machine line.numbers.until
+pace_for line = if line.settle then Counted (unwrap_or line.numbers.until 3600)
+    else Machine line.numbers.until
 
 -- the status of a run that nothing stopped
 abbrev pub status_at : Ended → Option ℕ
@@ -49,14 +58,16 @@ form_for line = if line.json then Json else Text
 
 -- what is kept beside the history: why containers wait, or what changes of them
 abbrev pub observed_for : NodeagentLine → Observed
-observed_for line = if line.watch then observed.Changes (form_for line) else if line.reasons then observed.Reasons else observed.Nothing
+observed_for line = if line.watch then observed.Changes (form_for line) else if line.reasons
+    then observed.Reasons else observed.Nothing
 
 abbrev pub reasons_for : NodeagentLine → List Reason → List Reason
 reasons_for line reasons = if line.reasons then reasons else []
 
 -- what is printed behind it
 abbrev pub text_at : NodeagentLine → List Reason → KeptNode → List ℕ
-text_at line reasons node = if line.settle then told_table (form_for line) (reasons_for line reasons) node else []
+text_at line reasons node = if line.settle then told_table (form_for line) (reasons_for line reasons) node
+    else []
 
 -- why a run was stopped; memory may lack for the text, too
 abbrev pub stop_at : Ended → AgentStop

@@ -44,7 +44,9 @@ trouble_text Lost = codes "lost"
 -- which call came to nothing, how, and since when
 abbrev pub reason_text : Form → Reason → List ℕ
 reason_text Text reason =
-    codes " " ++ (call_name reason.call ++ (codes " " ++ (trouble_text reason.trouble ++ (codes " since " ++ (decimal reason.since ++ codes " s")))))
+    codes " " ++ (call_name reason.call ++
+    (codes " " ++ (trouble_text reason.trouble
+    ++ (codes " since " ++ (decimal reason.since ++ codes " s")))))
 reason_text Json reason =
     codes ",\"call\":\"" ++ (call_name reason.call ++ (codes "\",\"came\":\"" ++ (trouble_text reason.trouble
     ++ (codes "\",\"since\":" ++ decimal reason.since))))
@@ -62,7 +64,8 @@ restarts_of track = started_of track - 1
 -- name, state, code and restarts
 abbrev pub state_words : List ℕ → ContainerState → ℕ → List ℕ
 state_words name state restarts =
-    codes "  " ++ (name ++ (codes " " ++ (state_name state ++ (codes " " ++ (code_text state ++ (codes " " ++ decimal restarts))))))
+    codes "  " ++ (name ++ (codes " " ++ (state_name state
+    ++ (codes " " ++ (code_text state ++ (codes " " ++ decimal restarts))))))
 
 -- the same as members of an object
 abbrev pub uid_member : List ℕ → List ℕ
@@ -73,26 +76,32 @@ name_member name = codes ",\"container\":\"" ++ (name ++ codes "\"")
 
 abbrev pub state_members : ContainerState → ℕ → List ℕ
 state_members state restarts =
-    codes ",\"state\":\"" ++ (state_name state ++ (codes "\",\"code\":" ++ (code_value state ++ (codes ",\"restarts\":" ++ decimal restarts))))
+    codes ",\"state\":\"" ++ (state_name state
+    ++ (codes "\",\"code\":" ++ (code_value state ++ (codes ",\"restarts\":" ++ decimal restarts))))
 
 -- a container's state, and why it waits
 abbrev pub state_line : Form → List ℕ → List ℕ → ContainerState → ℕ → Option Reason → List ℕ
-state_line Text uid name state restarts reason = state_words name state restarts ++ (why_text Text state reason ++ codes "\n")
+state_line Text uid name state restarts reason =
+    state_words name state restarts ++ (why_text Text state reason ++ codes "\n")
 state_line Json uid name state restarts reason =
-    uid_member uid ++ (name_member name ++ (state_members state restarts ++ (why_text Json state reason ++ codes "}\n")))
+    uid_member uid ++ (name_member name ++
+    (state_members state restarts ++ (why_text Json state reason ++ codes "}\n")))
 
 abbrev pub container_line : Form → List Reason → List ℕ → RestartPolicy → Container × Track → List ℕ
 container_line form reasons uid policy (container, track) =
-    state_line form uid container.name (state_of policy track) (restarts_of track) (reason_for uid container.name reasons)
+    state_line form uid container.name (state_of policy track) (restarts_of track)
+    (reason_for uid container.name reasons)
 
 -- uid and phase
 abbrev pub pod_line : Form → Pod → Phase → List ℕ
 pod_line Text pod phase = codes "POD " ++ (pod.uid ++ (codes " " ++ (phase_name phase ++ codes "\n")))
-pod_line Json pod phase = codes "{\"pod\":\"" ++ (pod.uid ++ (codes "\",\"phase\":\"" ++ (phase_name phase ++ codes "\"}\n")))
+pod_line Json pod phase = codes "{\"pod\":\""
+    ++ (pod.uid ++ (codes "\",\"phase\":\"" ++ (phase_name phase ++ codes "\"}\n")))
 
 abbrev pub pod_lines : Form → List Reason → Pod → List Track → Phase → List ℕ
 pod_lines form reasons pod tracks phase =
-    pod_line form pod phase ++ flat_map (container_line form reasons pod.uid pod.policy) (zip pod.containers.all tracks)
+    pod_line form pod phase ++ flat_map (container_line form reasons pod.uid pod.policy)
+    (zip pod.containers.all tracks)
 
 abbrev pub slot_lines : Form → List Reason → Slot → List ℕ
 slot_lines form reasons slot = pod_lines form reasons slot.state.pod slot.state.tracks (phase_in slot.state)

@@ -6,8 +6,8 @@ use std::thread;
 use std::time::{Clock, Duration};
 use worker_crew::Counterpart;
 
-/// The runtime of a run of pods, with what is open to it: in this process, with so many runners, or one of which
-/// nothing is known.
+/// The runtime of a run of pods, with what is open to it: in this process, with so many runners, or one of
+/// which nothing is known.
 #[derive(Clone, Copy)]
 pub(crate) enum RuntimeBehind<'r, 'o, 'e, B: Baseline, R: Wait> {
     Own(&'r R, &'o Connections, &'e Engine<B>, u32),

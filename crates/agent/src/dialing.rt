@@ -1,5 +1,5 @@
-//! The connection of one call: it is made, written to and read within one span of time, however slow whoever is
-//! behind it may be.
+//! The connection of one call: it is made, written to and read within one span of time, however slow whoever
+//! is behind it may be.
 
 use runtime_server::Connections;
 use std::io::{self, ErrorKind, Read, Write};
@@ -38,8 +38,8 @@ impl Deadline {
     }
 }
 
-/// A connection to the socket at this path. Where the listener's queue is full, a place in it is waited for up to
-/// the deadline, or until calls are ended.
+/// A connection to the socket at this path. Where the listener's queue is full, a place in it is waited for
+/// up to the deadline, or until calls are ended.
 pub(crate) fn connect<R: Wait + Clock>(
     rt: &R,
     system: &HostRuntime,

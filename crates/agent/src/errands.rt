@@ -1,5 +1,5 @@
-//! What worker 0 of an agent does beside telling the time: the pods of a folder come and go, changes are printed, and
-//! at the end of a run its pods are taken away, as far as the command line asks for it.
+//! What worker 0 of an agent does beside telling the time: the pods of a folder come and go, changes are
+//! printed, and at the end of a run its pods are taken away, as far as the command line asks for it.
 ghost use Rattle.std.specs.Prelude.{◌≡◌, IfSome};
 ghost use Rattle.node_lock.specs.Books.{worker_of};
 

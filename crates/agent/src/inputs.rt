@@ -1,7 +1,10 @@
 //! The manifests that the command line names, and those of a folder.
 
+ghost use Rattle.std.specs.Prelude.{IfErr};
+ghost use Rattle.agent.specs.Stops.{IsOfText};
+
 use crate::stops::AgentStop;
-use checker::{text_spot, yaml_hint};
+use fault_notes::manifest_note;
 use manifest::{Pod, PodFault};
 use pod_folder::{gives_uid, uid_for};
 use runtime_server::{ServerStop, bytes_at};
@@ -9,20 +12,20 @@ use std::alloc::Global;
 use std::rt;
 
 /// The pod of a manifest's bytes.
-pub(crate) fn pod_of<'a>(alloc: Global, path: &'a str, bytes: &[u8]) -> Result<Pod, AgentStop<'a>> {
-    match manifest::read(alloc, bytes) {
+pub(crate) fn pod_of<'a>(alloc: Global, path: &'a str, bytes: &[u8]) -> Result<Pod, AgentStop<'a>>
+    ensures { IfErr result (IsOfText path.now bytes.now) }
+{
+    match manifest::read_placed(alloc, bytes) {
         Ok(pod) => Ok(pod),
-        Err(PodFault::Memory) => Err(AgentStop::Server(ServerStop::Memory)),
-        Err(PodFault::NotJson) => {
-            let spot = text_spot(alloc, bytes);
-            Err(AgentStop::NoJson(path, spot, yaml_hint(bytes)))
-        }
-        Err(fault) => Err(AgentStop::Manifest(path, fault)),
+        Err(found) => match found.fault {
+            PodFault::Memory => Err(AgentStop::Server(ServerStop::Memory)),
+            _ => Err(AgentStop::Text(path, manifest_note(alloc, bytes, &found)?)),
+        },
     }
 }
 
-/// The pod of a manifest, and whether the manifest gives its uid. One that it does not give ends with the name of the
-/// run.
+/// The pod of a manifest, and whether the manifest gives its uid. One that it does not give ends with the
+/// name of the run.
 pub(crate) fn pod_at<'a, R: rt::Files + AllocGlobal>(
     rt: &R,
     path: &'a str,

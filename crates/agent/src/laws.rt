@@ -1,5 +1,6 @@
 ghost use Rattle.std.specs.Prelude.{◌≡◌};
-ghost use Rattle.agent.specs.declared.limits.TheConstants.{LAST_CALLS, LOOKS, MAX_WORKERS, PATIENCE, POLL, RUNNERS, SETTLE_UNTIL};
+ghost use Rattle.agent.specs.declared.limits.TheConstants.{LAST_CALLS, LOOKS, MAX_WORKERS, PATIENCE, POLL};
+ghost use Rattle.agent.specs.declared.limits.TheConstants.{RUNNERS, SETTLE_UNTIL};
 ghost use Rattle.agent.specs.declared.dialing.TheConstants.{QUEUE_REST};
 
 /// What the constants of this crate are.

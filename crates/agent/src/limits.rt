@@ -10,7 +10,8 @@ pub(crate) const SETTLE_UNTIL: u64 = 3_600;
 /// How many seconds lie between two looks at a container that runs, by the machine's clock.
 pub(crate) const POLL: u64 = 1;
 
-/// How many seconds a call may take, from its connection to the last byte of its reply: behind that it is lost.
+/// How many seconds a call may take, from its connection to the last byte of its reply: behind that it is
+/// lost.
 pub(crate) const PATIENCE: u64 = 120;
 
 /// How many milliseconds a call that is under way has where the agent ends.

@@ -1,6 +1,8 @@
-ghost use Rattle.std.specs.Prelude.{◌≡◌, ◌<◌, ◌≤◌, Some, None, IfErr, IfOk, IfSome, min, string_bytes, vec_len};
+ghost use Rattle.std.specs.Prelude.{◌≡◌, ◌<◌, ◌≤◌, Some, None, IfErr, IfOk, IfSome, min, string_bytes};
+ghost use Rattle.std.specs.Prelude.{vec_len};
 ghost use Rattle.std.specs.List.{AllByRecursion};
-ghost use Rattle.agent.specs.Lines.{form_for, observed_for, pace_for, settings_for, status_at, stop_at, text_at, version_for};
+ghost use Rattle.agent.specs.Lines.{form_for, observed_for, pace_for, settings_for, status_at, stop_at};
+ghost use Rattle.agent.specs.Lines.{text_at, told_beside, version_for};
 ghost use Rattle.node_lock.specs.declared.limits.TheConstants.{MAX_ENTRIES, PARTS};
 
 use crate::counterpart::RuntimeBehind;
@@ -23,7 +25,7 @@ use node_watch::{Form, Reasons};
 use pod_folder::Naming;
 use runner::Baseline;
 use runtime_server::{
-    Address, Connections, ServerStop, Site, Stream, Teller, accept_all, baseline_at,
+    Address, Connections, ServerStop, Site, Stream, Teller, Tells, accept_all, baseline_at,
     look_at_folders, socket_stop, start_runners,
 };
 use std::alloc::{AllocError, Global};
@@ -200,6 +202,7 @@ fn run_line<'a, L: Ledger + Send + Sync, R: Threads + Wait + Clock + Copy + Send
             system,
             line,
             baseline,
+            &tellers,
             &shared,
             &calls,
             coordinator,
@@ -269,6 +272,14 @@ impl Tellers {
         let lines = teller_if(rt, system, is_told, Stream::Error)?;
         let changes = teller_if(rt, system, line.watch, Stream::Output)?;
         Ok(Tellers { lines, changes })
+    }
+
+    // The one that writes lines on standard error, if there is one.
+    fn of_lines(&self) -> Result<Option<Arc<Teller, Global>>, AllocError> {
+        match &self.lines {
+            Some(teller) => Ok(Some(Arc::try_clone(teller)?)),
+            None => Ok(None),
+        }
     }
 
     // Waits until all is written.
@@ -382,7 +393,8 @@ fn peers<'r, 'p, 'c, 'a, L: Ledger, R: Wait>(
 ) -> Result<Vec<SocketPeer<'r, 'p, 'c, 'a, L, R>>, AllocError>
     ensures few { IfOk result (λ peers. vec_len peers < PARTS) }
     ensures count { IfOk result (λ peers. vec_len peers ≡ min line.now.numbers.workers 64) }
-    ensures each { IfOk result (λ peers. AllByRecursion (λ peer. (peer.path.now ≡ line.now.socket.now) × (peer.version ≡ version_for line.now)) peers.items) }
+    ensures each { IfOk result (λ peers. AllByRecursion (λ peer. (peer.path.now ≡ line.now.socket.now)
+        × (peer.version ≡ version_for line.now)) peers.items) }
 {
     let mut peers = Vec::new(system.alloc());
     for _ in 0..line.numbers.workers.min(MAX_WORKERS) {
@@ -437,17 +449,22 @@ fn run_crew<L: Ledger + Send + Sync, B: Baseline + Send + Sync, R: Threads + Wai
     Ok(Left { ended, table })
 }
 
-// The calls of a runtime beside the agent are told by the agent.
+// The calls of a runtime beside the agent are told by the agent. The runtime tells which file is wrong.
 fn address_of<'a>(line: &NodeagentLine<'a>) -> Address<'a>
     ensures socket { result.socket ≡ line.now.socket }
     ensures scripts { result.scripts ≡ line.now.scripts }
     ensures profiles { result.profiles ≡ line.now.profiles }
+    ensures tells { result.tells ≡ told_beside line.now.verbose }
 {
     Address {
         socket: line.socket,
         scripts: line.scripts,
         profiles: line.profiles,
-        verbose: false,
+        tells: if line.verbose {
+            Tells::WrongFiles
+        } else {
+            Tells::Nothing
+        },
     }
 }
 
@@ -462,6 +479,7 @@ fn run_beside<
     system: &HostRuntime,
     line: &NodeagentLine<'a>,
     baseline: Option<Filter>,
+    tellers: &Tellers,
     shared: &Shared<L>,
     calls: &Calls<'_, L, R>,
     coordinator: Coordinator<L>,
@@ -471,7 +489,8 @@ fn run_beside<
     requires whole { L.parts ≡ PARTS }
     requires own { baseline ≡ B.filter }
 {
-    let site = match Site::<B>::open(rt, system, address_of(line), baseline) {
+    let teller = tellers.of_lines()?;
+    let site = match Site::<B>::open(rt, system, address_of(line), baseline, teller) {
         Ok(site) => site,
         Err(fault) => return Err(AgentStop::Server(socket_stop(line.socket, fault))),
     };
@@ -568,7 +587,8 @@ fn run_end<'a, L: Ledger>(
     note: String,
 ) -> Result<RunEnd, AgentStop<'a>>
     ensures status { IfOk result (λ end. status_at ended ≡ Some end.status) }
-    ensures text { before ≡ None → IfOk result (λ end. string_bytes end.text ≡ text_at line.now reasons.now book.now.node) }
+    ensures text { before ≡ None → IfOk result
+        (λ end. string_bytes end.text ≡ text_at line.now reasons.now book.now.node) }
     ensures before { IfSome before (λ table. IfOk result (λ end. end.text ≡ table)) }
     ensures stop { IfErr result (λ stop. stop ≡ stop_at ended) }
 {

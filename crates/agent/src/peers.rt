@@ -39,8 +39,8 @@ fn not_connected(error: &io::Error) -> Why {
     }
 }
 
-/// The runtime behind the socket at a path. Each call has a connection of its own. What it lends has a lifetime each,
-/// as it comes from different places.
+/// The runtime behind the socket at a path. Each call has a connection of its own. What it lends has a
+/// lifetime each, as it comes from different places.
 #[derive(Drop)]
 pub(crate) struct SocketPeer<'r, 'p, 'c, 'a, L: Ledger, R: Wait> {
     pub(crate) rt: &'r R,

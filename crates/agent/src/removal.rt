@@ -54,7 +54,8 @@ impl Removal {
         table
     }
 
-    /// The run has come to this end at this moment. With what it ends at last; none where pods are to leave first.
+    /// The run has come to this end at this moment. With what it ends at last; none where pods are to leave
+    /// first.
     pub(crate) fn at_end<L: Ledger, R: Wait, T: NodeTeller>(
         &mut self,
         rt: &R,

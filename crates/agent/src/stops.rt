@@ -1,4 +1,3 @@
-use checker::{Hint, Spot};
 use command_line::LineFault;
 use manifest::PodFault;
 use runtime_server::{ServerStop, Told};
@@ -11,10 +10,10 @@ pub(crate) enum AgentStop<'a> {
     /// What may stop a program that serves a runtime, too: its line, its baseline, a file, the socket, what
     /// can't be written, and memory.
     Server(ServerStop<'a>),
+    /// A manifest is refused, for what stands in it: where, and why.
+    Text(&'a str, String),
     /// A manifest is refused.
     Manifest(&'a str, PodFault),
-    /// A manifest is no JSON: from where on, and what is said besides.
-    NoJson(&'a str, Spot, Hint),
     /// The node does not admit the pod of a manifest.
     Pod(&'a str, worker_core::NodeRefusal),
     /// The name of the run can't be a part of a uid.
@@ -33,7 +32,7 @@ impl AgentStop<'_> {
     {
         match self {
             AgentStop::Server(stop) => stop.status(),
-            AgentStop::Manifest(_, _) | AgentStop::NoJson(_, _, _) | AgentStop::Pod(_, _) => 1,
+            AgentStop::Text(_, _) | AgentStop::Manifest(_, _) | AgentStop::Pod(_, _) => 1,
             AgentStop::RunName(_) => 2,
             AgentStop::HistoryFull => 4,
         }
@@ -56,10 +55,7 @@ impl fmt::Display for AgentStop<'_> {
                 f,
             ),
             AgentStop::Manifest(path, fault) => writeln!(f, "nodeagent: {path}: {fault}"),
-            AgentStop::NoJson(path, spot, hint) => writeln!(
-                f,
-                "nodeagent: {path}{spot}: NotJson{hint}"
-            ),
+            AgentStop::Text(path, told) => writeln!(f, "nodeagent: {path}{told}"),
             AgentStop::Pod(path, refusal) => writeln!(f, "nodeagent: {path}: {refusal}"),
             AgentStop::RunName(name) => writeln!(f, "nodeagent: {name}: BadName"),
             AgentStop::HistoryFull => writeln!(f, "nodeagent: HistoryFull"),

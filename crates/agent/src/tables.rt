@@ -1,5 +1,7 @@
 ghost use Rattle.std.specs.Prelude.{◌≡◌, ◌++◌, [], IfOk, OnOk, option_copied, string_bytes};
-ghost use Rattle.agent.specs.Table.{container_line, name_member, pod_line, pod_lines, reason_text, restarts_of, state_line, state_members, state_words, table_text, told_table, trouble_text, uid_member, why_text};
+ghost use Rattle.agent.specs.Table.{container_line, name_member, pod_line, pod_lines, reason_text};
+ghost use Rattle.agent.specs.Table.{restarts_of, state_line, state_members, state_words, table_text};
+ghost use Rattle.agent.specs.Table.{told_table, trouble_text, uid_member, why_text};
 ghost use Rattle.node_watch.specs.declared.forms.Form.TheVariants as form;
 
 use lifecycle::{ContainerState, Phase, Track};
@@ -43,7 +45,8 @@ fn add_pod(
     tracks: &[Track],
     phase: Phase,
 ) -> Result<(), AllocError>
-    ensures { OnOk result (string_bytes text.new ≡ string_bytes text.old ++ pod_lines form reasons.now pod.now tracks.now phase) }
+    ensures { OnOk result (string_bytes text.new ≡ string_bytes text.old
+        ++ pod_lines form reasons.now pod.now tracks.now phase) }
 {
     add_phase(text, form, pod, phase)?;
     for (container, track) in pod.containers.as_slice().iter().zip(tracks) {
@@ -71,7 +74,8 @@ fn add_container(
     container: &Container,
     track: &Track,
 ) -> Result<(), AllocError>
-    ensures { OnOk result (string_bytes text.new ≡ string_bytes text.old ++ container_line form reasons.now pod.now.uid pod.now.policy (container.now, track.now)) }
+    ensures { OnOk result (string_bytes text.new ≡ string_bytes text.old
+        ++ container_line form reasons.now pod.now.uid pod.now.policy (container.now, track.now)) }
 {
     let (uid, name) = (&pod.uid, &container.name);
     let state = track.state(pod.policy);
@@ -89,7 +93,8 @@ fn add_words(
     restarts: usize,
     reason: Option<&Reason>,
 ) -> Result<(), AllocError>
-    ensures { OnOk result (string_bytes text.new ≡ string_bytes text.old ++ state_line form.Text [] name.now state restarts (option_copied reason.entry)) }
+    ensures { OnOk result (string_bytes text.new ≡ string_bytes text.old
+        ++ state_line form.Text [] name.now state restarts (option_copied reason.entry)) }
 {
     add_state(text, name, state, restarts)?;
     add_why(text, Form::Text, state, reason)?;
@@ -104,7 +109,8 @@ fn add_object(
     restarts: usize,
     reason: Option<&Reason>,
 ) -> Result<(), AllocError>
-    ensures { OnOk result (string_bytes text.new ≡ string_bytes text.old ++ state_line form.Json uid.now name.now state restarts (option_copied reason.entry)) }
+    ensures { OnOk result (string_bytes text.new ≡ string_bytes text.old
+        ++ state_line form.Json uid.now name.now state restarts (option_copied reason.entry)) }
 {
     add_uid(text, uid)?;
     add_name(text, name)?;
@@ -119,7 +125,8 @@ fn add_state(
     state: ContainerState,
     restarts: usize,
 ) -> Result<(), AllocError>
-    ensures { OnOk result (string_bytes text.new ≡ string_bytes text.old ++ state_words name.now state restarts) }
+    ensures { OnOk result (string_bytes text.new ≡ string_bytes text.old
+        ++ state_words name.now state restarts) }
 {
     let name = name.as_str();
     match state {
@@ -171,7 +178,8 @@ fn add_why(
     state: ContainerState,
     reason: Option<&Reason>,
 ) -> Result<(), AllocError>
-    ensures { OnOk result (string_bytes text.new ≡ string_bytes text.old ++ why_text form state (option_copied reason.entry)) }
+    ensures { OnOk result (string_bytes text.new ≡ string_bytes text.old
+        ++ why_text form state (option_copied reason.entry)) }
 {
     match (state, reason) {
         (ContainerState::Terminated(_), _) | (_, None) => Ok(()),

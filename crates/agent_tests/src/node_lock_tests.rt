@@ -47,7 +47,8 @@ fn rooms(rt: HostRuntime) -> Result<(), Fail> {
         (
             3,
             "Aa c1 t1 a2 a1 a1",
-            "Aa: 1 done; c1: 2 request 1; t1: 7 HistoryFull; a2: 7 HistoryFull; a1: 3 done; a1: 7 HistoryFull; ",
+            "Aa: 1 done; c1: 2 request 1; t1: 7 HistoryFull; a2: 7 HistoryFull; a1: 3 done; \
+             a1: 7 HistoryFull; ",
         ),
         (
             2,

@@ -8,7 +8,8 @@ const ALONE: &str =
     "\"restartPolicy\":\"Never\",\"containers\":[{\"name\":\"main\",\"image\":\"m.json\"}]";
 
 const THREE: &str =
-    "\"containers\":[{\"name\":\"x\",\"image\":\"m\"},{\"name\":\"y\",\"image\":\"m\"},{\"name\":\"z\",\"image\":\"m\"}]";
+    "\"containers\":[{\"name\":\"x\",\"image\":\"m\"},{\"name\":\"y\",\"image\":\"m\"},{\"name\":\"z\",\
+     \"image\":\"m\"}]";
 
 fn played(alloc: Global, words: &str) -> Result<String, PodFault> {
     let mut play = begun(alloc);
@@ -24,13 +25,13 @@ fn events(rt: HostRuntime) -> Result<(), Fail> {
         // A pod whose sandbox was lost is not worked on for ten seconds, and a late reply counts as lost.
         (
             "Aa c1 c2 l2 l1 c1 t9 c1",
-            "Aa: done; c1: default.a 1 1 run default.a; c2: nothing; l2: NotYours; l1: done; c1: nothing; t9: done; \
-             c1: nothing; 0 held, due 10, default.a Unknown",
+            "Aa: done; c1: default.a 1 1 run default.a; c2: nothing; l2: NotYours; l1: done; c1: nothing; \
+             t9: done; c1: nothing; 0 held, due 10, default.a Unknown",
         ),
         (
             "Aa c1 l1 t10 c1 o1",
-            "Aa: done; c1: default.a 1 1 run default.a; l1: done; t10: done; c1: default.a 2 2 run default.a; o1: done; \
-             0 held, due 20, default.a Unknown",
+            "Aa: done; c1: default.a 1 1 run default.a; l1: done; t10: done; \
+             c1: default.a 2 2 run default.a; o1: done; 0 held, due 20, default.a Unknown",
         ),
         // The clock does not go back.
         (
@@ -45,28 +46,32 @@ fn events(rt: HostRuntime) -> Result<(), Fail> {
         // A worker holds one pod at most, and a pod is held by one worker at most.
         (
             "Aa Ab c1 c1 c2 c3 a1 c3",
-            "Aa: done; Ab: done; c1: default.a 1 1 run default.a; c1: NotYours; c2: default.b 2 2 run default.b; c3: nothing; \
-             a1: done; c3: nothing; 1 held, due 10, default.a Unknown, default.b Pending",
+            "Aa: done; Ab: done; c1: default.a 1 1 run default.a; c1: NotYours; \
+             c2: default.b 2 2 run default.b; c3: nothing; a1: done; c3: nothing; \
+             1 held, due 10, default.a Unknown, default.b Pending",
         ),
         ("Da", "Da: NoSuchPod; 0 held"),
         // A pod is deleted before the first claim, and leaves once its removal was answered.
         (
             "Aa Da Da c1 d1 c1 r1 t10 c1 d1 Da Aa",
-            "Aa: done; Da: done; Da: done; c1: default.a 1 1 stop default.a; d1: done; c1: default.a 2 2 remove default.a; \
-             r1: done; t10: done; c1: default.a 3 3 remove default.a; d1: done; Da: NoSuchPod; Aa: KnownUid; 0 held",
+            "Aa: done; Da: done; Da: done; c1: default.a 1 1 stop default.a; d1: done; \
+             c1: default.a 2 2 remove default.a; r1: done; t10: done; c1: default.a 3 3 remove default.a; \
+             d1: done; Da: NoSuchPod; Aa: KnownUid; 0 held",
         ),
         // It is deleted while it is held, and the claim counts.
         (
             "Aa c1 Da d1 c1 l1",
-            "Aa: done; c1: default.a 1 1 run default.a; Da: done; d1: done; c1: default.a 2 2 stop default.a; l1: done; \
-             0 held, due 10, default.a Unknown",
+            "Aa: done; c1: default.a 1 1 run default.a; Da: done; d1: done; \
+             c1: default.a 2 2 stop default.a; l1: done; 0 held, due 10, default.a Unknown",
         ),
         // It is deleted behind its success.
         (
             "Aa c1 d1 c1 d1 c1 d1 c1 e1 c1 Da c1 d1 c1 d1",
-            "Aa: done; c1: default.a 1 1 run default.a; d1: done; c1: default.a 2 2 create default.a main 0; d1: done; \
-             c1: default.a 3 3 start default.a main 0; d1: done; c1: default.a 4 4 look default.a main 0; e1: done; c1: nothing; \
-             Da: done; c1: default.a 5 5 stop default.a; d1: done; c1: default.a 6 6 remove default.a; d1: done; 0 held",
+            "Aa: done; c1: default.a 1 1 run default.a; d1: done; \
+             c1: default.a 2 2 create default.a main 0; d1: done; c1: default.a 3 3 start default.a main 0; \
+             d1: done; c1: default.a 4 4 look default.a main 0; e1: done; c1: nothing; Da: done; \
+             c1: default.a 5 5 stop default.a; d1: done; c1: default.a 6 6 remove default.a; d1: done; \
+             0 held",
         ),
     ];
     for (words, want) in rows {
@@ -77,12 +82,13 @@ fn events(rt: HostRuntime) -> Result<(), Fail> {
 }
 
 const TWELVE: &str =
-    "c1: default.a 1 1 run default.a; d1: done; c1: default.b 2 2 run default.b; d1: done; c1: default.c 3 3 run default.c; d1: done; \
-    c1: default.a 4 4 create default.a x 0; d1: done; c1: default.b 5 5 create default.b x 0; d1: done; \
-    c1: default.c 6 6 create default.c x 0; d1: done; c1: default.a 7 7 create default.a y 0; d1: done; \
-    c1: default.b 8 8 create default.b y 0; d1: done; c1: default.c 9 9 create default.c y 0; d1: done; \
-    c1: default.a 10 10 create default.a z 0; d1: done; c1: default.b 11 11 create default.b z 0; d1: done; \
-    c1: default.c 12 12 create default.c z 0; d1: done; ";
+    "c1: default.a 1 1 run default.a; d1: done; c1: default.b 2 2 run default.b; d1: done; \
+    c1: default.c 3 3 run default.c; d1: done; c1: default.a 4 4 create default.a x 0; d1: done; \
+    c1: default.b 5 5 create default.b x 0; d1: done; c1: default.c 6 6 create default.c x 0; d1: done; \
+    c1: default.a 7 7 create default.a y 0; d1: done; c1: default.b 8 8 create default.b y 0; d1: done; \
+    c1: default.c 9 9 create default.c y 0; d1: done; c1: default.a 10 10 create default.a z 0; d1: done; \
+    c1: default.b 11 11 create default.b z 0; d1: done; c1: default.c 12 12 create default.c z 0; d1: done; \
+    ";
 
 // Of three pods with three containers the one that was worked on longest ago is given, and in it the
 // container.
@@ -122,8 +128,9 @@ fn held_pods_wait(rt: HostRuntime) -> Result<(), Fail> {
     let text = play.plays("Aa Ab Ac c1 c2 c3 d2 c2 d3 d2 c2 d1 c3 d2 c1", THREE)?;
     assert_eq!(rt;
         text.as_str(),
-        "Aa: done; Ab: done; Ac: done; c1: default.a 1 1 run default.a; c2: default.b 2 2 run default.b; c3: default.c 3 3 run default.c; \
-         d2: done; c2: default.b 4 4 create default.b x 0; d3: done; d2: done; c2: default.c 5 5 create default.c x 0; d1: done; \
+        "Aa: done; Ab: done; Ac: done; c1: default.a 1 1 run default.a; c2: default.b 2 2 run default.b; \
+         c3: default.c 3 3 run default.c; d2: done; c2: default.b 4 4 create default.b x 0; d3: done; \
+         d2: done; c2: default.c 5 5 create default.c x 0; d1: done; \
          c3: default.a 6 6 create default.a x 0; d2: done; c1: default.b 7 7 create default.b y 0; "
     );
     Ok(())
@@ -151,8 +158,9 @@ fn full_of_pods(rt: HostRuntime) -> Result<(), Fail> {
     assert_eq!(rt;
         text.as_str(),
         "Ap110: Full; Ap1: KnownUid; Dp1: done; Ap110: Full; c1: default.p0 1 1 run default.p0; l1: done; \
-         c1: default.p1 2 2 stop default.p1; d1: done; c1: default.p2 3 3 run default.p2; c2: default.p3 4 4 run default.p3; d1: done; \
-         t10: done; c1: default.p4 5 5 run default.p4; d1: done; c3: default.p5 6 6 run default.p5; Ap110: Full; Ap1: KnownUid; "
+         c1: default.p1 2 2 stop default.p1; d1: done; c1: default.p2 3 3 run default.p2; \
+         c2: default.p3 4 4 run default.p3; d1: done; t10: done; c1: default.p4 5 5 run default.p4; \
+         d1: done; c3: default.p5 6 6 run default.p5; Ap110: Full; Ap1: KnownUid; "
     );
     Ok(())
 }

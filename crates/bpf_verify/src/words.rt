@@ -55,7 +55,8 @@ fn first_unstored_by(code: &[Insn], masks: &mut [u16]) -> Option<usize>
 fn finds_word(mask: u16, insn: &Insn) -> bool
     requires { KeepsNumber insn.now.op insn.now.k }
     ensures found { IsTrue result → scratch_of insn.now.op ≡ Scratch.Loads → bit_at mask insn.now.k ≡ 1 }
-    ensures missed { OnFalse result ((scratch_of insn.now.op ≡ Scratch.Loads) × (bit_at mask insn.now.k ≡ 0)) }
+    ensures missed { OnFalse result
+        ((scratch_of insn.now.op ≡ Scratch.Loads) × (bit_at mask insn.now.k ≡ 0)) }
 {
     match insn.op.scratch() {
         Scratch::Loads => mask >> insn.k & 1 == 1,

@@ -1,9 +1,13 @@
 pub mod ArrowText
+pub mod BadWords
 pub mod CallWords
 pub mod Compared
 pub mod LineText
+pub mod LintText
+pub mod ListObjects
 pub mod NoteText
-pub mod PlaceNoteText
+pub mod Objects
+pub mod PartObjects
 pub mod PickText
 pub mod PickedText
 pub mod ProfileLines

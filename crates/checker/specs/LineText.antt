@@ -12,12 +12,15 @@ abbrev pub outcome_text : Bool → List ℕ
 outcome_text true = codes "performed"
 outcome_text false = codes "denied"
 
--- its step's place, the call by its number or name, the verdict's action and data, and whether it was performed
+-- its step's place, the call by its number or name, the verdict's action and data, and whether it was
+-- performed
 abbrev pub entry_text : Naming → ℕ → JudgedCall → List ℕ
 entry_text naming place entry =
-    decimal place ++ codes " " ++ call_text naming entry.call.nr ++ codes " " ++ name_of entry.verdict.action ++ codes " "
+    decimal place ++ codes " " ++ call_text naming entry.call.nr ++ codes " " ++ name_of entry.verdict.action
+    ++ codes " "
     ++ decimal entry.verdict.ret_data ++ codes " " ++ outcome_text entry.performed
 
 -- a line for each judged call, and one for the end
 abbrev pub record_text : Naming → Outcome → List ℕ
-record_text naming outcome = lines_text (entry_text naming) 0 outcome.entries ++ codes "exit " ++ decimal outcome.code ++ codes "\n"
+record_text naming outcome = lines_text (entry_text naming) 0 outcome.entries ++ codes "exit "
+    ++ decimal outcome.code ++ codes "\n"

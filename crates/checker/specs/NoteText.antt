@@ -1,6 +1,6 @@
 -- What is told on standard error of a file that is refused, this project's own: docs/SEMANTICS.md,
 -- "Programs".
-use Rattle.std.specs.Prelude.{ℕ, List, [], ◌++◌, Bool, true, false, codes, Option, Some, None}
+use Rattle.std.specs.Prelude.{ℕ, List, [], ◌++◌, codes, Option, Some, None}
 use Rattle.std.specs.Fmt.{decimal}
 use Rattle.bpf_code.specs.Text.{text_of}
 use Rattle.bpf_code.specs.declared.fault.CodeFault.TheVariants as code
@@ -11,14 +11,14 @@ use Rattle.bpf_verify.specs.declared.refusal.Refusal.TheVariants.{Code, Filter}
 use Rattle.compile.specs.FaultText.{fault_text as compile_fault_text}
 use Rattle.manifest.specs.Faults.{fault_text as pod_fault_text}
 use Rattle.oci_profile.specs.Faults.{fault_text as profile_fault_text}
+use Rattle.profile_template.specs.Faults.{fault_text as template_fault_text}
 use Rattle.script.specs.FaultText.{fault_text as script_fault_text}
 use Rattle.verdict.specs.FaultText.{fault_text as stack_fault_text}
-use Rattle.checker.specs.declared.notes.Hint.{Hint}
 use Rattle.checker.specs.declared.notes.Named.{Named}
 use Rattle.checker.specs.declared.notes.Named.TheVariants as named
 use Rattle.checker.specs.declared.notes.Note.{Note}
 use Rattle.checker.specs.declared.notes.Spot.{Spot}
-use Rattle.checker.specs.declared.notes.Spot.TheVariants.{Whole, At, Text}
+use Rattle.checker.specs.declared.notes.Spot.TheVariants.{Whole, At}
 
 -- a filter's fault without its place
 abbrev pub refusal_name : Refusal → List ℕ
@@ -50,23 +50,15 @@ refusal_spot _ = Whole
 abbrev pub named_text : Named → List ℕ
 named_text (named.Filter refusal) = refusal_name refusal
 named_text (named.Profile found) = profile_fault_text found
+named_text (named.Template found) = template_fault_text found
 named_text (named.Compile found) = compile_fault_text found
 named_text (named.Manifest found) = pod_fault_text found
 named_text (named.Script found) = script_fault_text found
 named_text (named.Stack found) = stack_fault_text found
 
--- behind the fault of a text that is no JSON
-abbrev pub yaml_text : Bool → List ℕ
-yaml_text true = codes " (JSON is wanted, and no YAML)"
-yaml_text false = []
-
-abbrev pub hint_text : Hint → List ℕ
-hint_text hint = yaml_text hint.is_yaml
-
 abbrev pub spot_text : Spot → List ℕ
 spot_text Whole = []
 spot_text (At place) = codes ": " ++ decimal place
-spot_text (Text line column) = codes ": line " ++ (decimal line ++ (codes ", column " ++ decimal column))
 
 -- what stands there, if it is an instruction
 abbrev pub shown_text : Option Insn → List ℕ
@@ -76,4 +68,5 @@ shown_text (Some insn) = codes ": " ++ (text_of insn ++ codes "\n")
 -- the file, the place in it, the fault's name, and what stands there
 abbrev pub note_text : Note → List ℕ
 note_text note =
-    codes "seccheck: " ++ (note.path.now ++ (spot_text note.spot ++ (codes ": " ++ (named_text note.fault ++ (hint_text note.hint ++ shown_text note.insn)))))
+    codes "seccheck: " ++ (note.path.now ++
+    (spot_text note.spot ++ (codes ": " ++ (named_text note.fault ++ shown_text note.insn))))

@@ -9,4 +9,5 @@ use Rattle.checker.specs.Texts.{comment_text}
 
 abbrev pub shown_text : Shown → List ℕ
 shown_text shown =
-    decimal shown.place ++ codes ": " ++ text_of shown.insn ++ arrow_text shown.arrow ++ comment_text shown.comment.is_number_test shown.comment.nr
+    decimal shown.place ++ codes ": " ++ text_of shown.insn ++ arrow_text shown.arrow
+    ++ comment_text shown.comment.is_number_test shown.comment.nr

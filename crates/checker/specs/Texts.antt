@@ -1,5 +1,6 @@
 -- What is printed of a filter, this project's own: docs/SEMANTICS.md, "Programs".
-use Rattle.std.specs.Prelude.{ℕ, ◌+◌, ◌-◌, List, [], ◌∷◌, ◌++◌, length, replicate, slice_index_or, codes, Bool, true, false, Option, Some, None}
+use Rattle.std.specs.Prelude.{ℕ, ◌+◌, ◌-◌, List, [], ◌∷◌, ◌++◌, length, replicate, slice_index_or, codes}
+use Rattle.std.specs.Prelude.{Bool, true, false, Option, Some, None}
 use Rattle.std.specs.Fmt.{decimal, digits}
 use Rattle.action.specs.Verdict.{name_of}
 use Rattle.bpf_code.specs.declared.insn.Insn.{Insn}
@@ -35,7 +36,8 @@ longest_text most = codes "longest " ++ decimal most ++ codes "\n"
 -- the places that an instruction may go to, if it is a jump: where its test holds, and where it fails
 abbrev pub arrow_text : Flow → ℕ → Insn → List ℕ
 arrow_text Jumps place insn = codes " -> " ++ decimal (place + 1 + insn.k)
-arrow_text Branches place insn = codes " -> " ++ decimal (place + 1 + insn.jt) ++ codes ", " ++ decimal (place + 1 + insn.jf)
+arrow_text Branches place insn = codes " -> " ++ decimal (place + 1 + insn.jt) ++ codes ", "
+    ++ decimal (place + 1 + insn.jf)
 arrow_text Returns place insn = []
 arrow_text Continues place insn = []
 

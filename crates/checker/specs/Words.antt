@@ -17,7 +17,8 @@ words_in id found = unwrap_or (option_map raw_values (matched_of found id)) []
 
 -- the call of `run` and `explain`
 abbrev pub call_in : Found → Result SysCall (List ℕ)
-call_in found = call_of (word_in (codes "CALL") found) (words_in (codes "ARG") found) (first_value found (codes "arch")) (first_value found (codes "ip"))
+call_in found = call_of (word_in (codes "CALL") found) (words_in (codes "ARG") found)
+    (first_value found (codes "arch")) (first_value found (codes "ip"))
 
 -- the attempt of `play`, from 0
 abbrev pub attempt_in : Found → Result ℕ (List ℕ)

@@ -5,10 +5,11 @@ ghost use Rattle.command_line.specs.Words.{told};
 use call_data::{NATIVE_ARCH, SysCall};
 use command_line::{number_or, word_of, word_or};
 
-// Each answers, where a word writes no number of its range, nor names a call where one may be named, that word.
+// Each answers, where a word writes no number of its range, nor names a call where one may be named, that
+// word.
 
-/// The call that these words write: its number or name, its arguments, of which there may be fewer than six, and
-/// its architecture and address, which may be left out.
+/// The call that these words write: its number or name, its arguments, of which there may be fewer than six,
+/// and its architecture and address, which may be left out.
 #[tactic(auto, unfolding(crate::specs::CallWords::call_of))]
 pub(crate) fn call<'w>(
     nr: &'w str,
@@ -17,7 +18,8 @@ pub(crate) fn call<'w>(
     ip: Option<&'w str>,
 ) -> Result<SysCall, &'w str>
     ensures { told result
-        ≡ call_of nr.now (map (λ w. w.now) args.now) (option_map (λ w. w.now) arch.entry) (option_map (λ w. w.now) ip.entry) }
+        ≡ call_of nr.now (map (λ w. w.now) args.now) (option_map (λ w. w.now) arch.entry)
+        (option_map (λ w. w.now) ip.entry) }
 {
     let nr = call_number(nr)?;
     let args = arguments(args)?;

@@ -1,11 +1,13 @@
 //! What `seccheck compare` reads and prints.
-ghost use Rattle.std.specs.Prelude.{◌≡◌, ◌<◌, IfOk, IfSome, length, not, position, string_bytes};
-ghost use Rattle.checker.specs.Compared.{begins_object, begins_yaml, is_letter, is_space, is_yaml_start, reason_of, same_text, told_of};
+ghost use Rattle.std.specs.Prelude.{◌≡◌, IfOk, string_bytes};
+ghost use Rattle.fault_notes.specs.Starts.{begins_object};
+ghost use Rattle.checker.specs.Compared.{reason_of, same_text, told_of};
 
 use crate::stop::Stop;
 use action::Verdict;
 use bpf_compare::{Comparison, Doubt, Scope};
 use call_data::SysCall;
+use fault_notes::begins_object;
 use std::alloc::{AllocError, Global};
 use std::fmt;
 
@@ -17,46 +19,7 @@ pub(crate) const BUDGET: u64 = 100_000_000;
 pub(crate) fn is_profile(bytes: &[u8]) -> bool
     ensures { result ≡ begins_object bytes.now }
 {
-    match begin(bytes) {
-        Some(first) => bytes[first] == b'{',
-        None => false,
-    }
-}
-
-/// Whether a text begins as YAML does: its first byte that is no white space is a letter, `-`, `#` or `%`.
-pub fn begins_yaml(bytes: &[u8]) -> bool
-    ensures { result ≡ begins_yaml bytes.now }
-{
-    match begin(bytes) {
-        Some(first) => is_yaml_start(bytes[first]),
-        None => false,
-    }
-}
-
-fn is_yaml_start(byte: u8) -> bool
-    ensures { result ≡ is_yaml_start byte }
-{
-    is_letter(byte) || byte == b'-' || byte == b'#' || byte == b'%'
-}
-
-fn is_letter(byte: u8) -> bool
-    ensures { result ≡ is_letter byte }
-{
-    (b'A' <= byte && byte <= b'Z') || (b'a' <= byte && byte <= b'z')
-}
-
-/// Where the first byte is that is no white space.
-fn begin(bytes: &[u8]) -> Option<usize>
-    ensures first { result ≡ position (λ byte. not (is_space byte)) bytes.now }
-    ensures inside { IfSome result (λ at. at < length bytes.now) }
-{
-    bytes.iter().position(|byte| !is_space(*byte))
-}
-
-fn is_space(byte: u8) -> bool
-    ensures { result ≡ is_space byte }
-{
-    byte == b' ' || byte == b'\t' || byte == b'\n' || byte == b'\r'
+    begins_object(bytes)
 }
 
 /// A value that a filter returns, as it is printed: `7fff0000 ALLOW 0`.

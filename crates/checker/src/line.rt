@@ -62,7 +62,8 @@ impl fmt::Display for Line {
     }
 }
 
-fn outcome(performed: bool) -> &'static str
+/// Whether a judged call was performed, as a word.
+pub(crate) fn outcome(performed: bool) -> &'static str
     ensures { result.now ≡ outcome_text performed }
 {
     if performed { "performed" } else { "denied" }

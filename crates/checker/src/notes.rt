@@ -1,31 +1,26 @@
 //! What helps a person who sees that a file is refused: which file, where in it, and what stands there.
 ghost use Rattle.std.specs.Prelude.{◌≡◌};
-ghost use Rattle.checker.specs.Compared.{begins_yaml};
 ghost use Rattle.checker.specs.NoteText.{refusal_name, refusal_spot};
 
-use crate::compared::begins_yaml;
-use crate::place_notes::tell_place;
 use crate::stop::Stop;
 use bpf_code::{CodeFault, Insn};
 use bpf_verify::{Fault, Refusal};
+use fault_notes::{manifest_note, profile_note, script_note, template_note};
 use manifest::PodFault;
 use node_io::{MAX_FILE_BYTES, read_file};
-use oci_profile::{ProfileFault, ProfileFaultAt};
+use oci_profile::ProfileFault;
+use profile_template::TemplateFault;
 use script::ScriptFault;
-use serde_json::Value;
-use std::alloc::Global;
 use std::io::Write;
 use std::{fmt, rt};
 
 /// Where in a file something stands.
-#[derive(Clone, Copy, Debug, PartialEq, Eq)]
-pub enum Spot {
+#[derive(Clone, Copy)]
+pub(crate) enum Spot {
     /// Nowhere that could be told.
     Whole,
     /// The instruction at this place, from 0.
     At(usize),
-    /// This line and this column of a text, from 1.
-    Text(usize, usize),
 }
 
 /// What is told of a refused file on standard error: `seccheck: f.bpf: 4: BadJump: ja 9`.
@@ -34,14 +29,7 @@ pub(crate) struct Note<'a> {
     path: &'a str,
     spot: Spot,
     fault: Named,
-    hint: Hint,
     insn: Option<Insn>,
-}
-
-/// What is said besides of a text that is no JSON: that it begins as YAML, if it does.
-#[derive(Clone, Copy, Debug, PartialEq, Eq)]
-pub struct Hint {
-    pub is_yaml: bool,
 }
 
 /// The fault that a file is refused for, by its name.
@@ -49,6 +37,7 @@ pub struct Hint {
 pub(crate) enum Named {
     Filter(Refusal),
     Profile(ProfileFault),
+    Template(TemplateFault),
     Compile(compile::CompileFault),
     Manifest(PodFault),
     Script(ScriptFault),
@@ -65,22 +54,6 @@ impl fmt::Display for Spot {
         match self {
             Spot::Whole => Ok(()),
             Spot::At(place) => write!(f, ": {place}"),
-            Spot::Text(line, column) => write!(f, ": line {line}, column {column}"),
-        }
-    }
-}
-
-impl fmt::Display for Hint {
-    ghost use Rattle.std.specs.Prelude.{Some};
-    ghost use Rattle.checker.specs.NoteText.{hint_text};
-
-    ghost output = { λ hint. Some (hint_text hint) };
-
-    fn fmt<W: fmt::Write>(&self, f: &mut fmt::Formatter<W>) -> fmt::Result {
-        if self.is_yaml {
-            f.write_str(" (JSON is wanted, and no YAML)")
-        } else {
-            Ok(())
         }
     }
 }
@@ -95,6 +68,7 @@ impl fmt::Display for Named {
         match self {
             Named::Filter(refusal) => f.write_str(refusal_name(*refusal)),
             Named::Profile(fault) => write!(f, "{fault}"),
+            Named::Template(fault) => write!(f, "{fault}"),
             Named::Compile(fault) => write!(f, "{fault}"),
             Named::Manifest(fault) => write!(f, "{fault}"),
             Named::Script(fault) => write!(f, "{fault}"),
@@ -110,10 +84,10 @@ impl fmt::Display for Note<'_> {
     ghost output = { λ note. Some (note_text note) };
 
     fn fmt<W: fmt::Write>(&self, f: &mut fmt::Formatter<W>) -> fmt::Result {
-        let (path, spot, fault, hint) = (self.path, self.spot, self.fault, self.hint);
+        let (path, spot, fault) = (self.path, self.spot, self.fault);
         match self.insn {
-            Some(insn) => writeln!(f, "seccheck: {path}{spot}: {fault}{hint}: {insn}"),
-            None => writeln!(f, "seccheck: {path}{spot}: {fault}{hint}"),
+            Some(insn) => writeln!(f, "seccheck: {path}{spot}: {fault}: {insn}"),
+            None => writeln!(f, "seccheck: {path}{spot}: {fault}"),
         }
     }
 }
@@ -162,46 +136,63 @@ pub(crate) fn tell_note<R: rt::Files + AllocGlobal, E: Write>(
     stop: &Stop<'_>,
     err: &mut E,
 ) {
-    match stop {
-        Stop::Profile(path, found) if has_place(found) => {
-            tell_place(rt, path, &found.place, Named::Profile(found.fault), err);
-        }
-        Stop::Manifest(path, found) if found.fault != PodFault::NotJson => {
-            tell_place(rt, path, &found.place, Named::Manifest(found.fault), err);
-        }
-        _ => {
-            if let Some(note) = note_of(rt, stop) {
-                let _ = write!(err, "{note}");
-            }
-        }
+    if let Some((path, told)) = text_note(rt, stop) {
+        let _ = writeln!(err, "seccheck: {path}{told}");
+    } else if let Some(note) = note_of(rt, stop) {
+        let _ = write!(err, "{note}");
     }
 }
 
-// A text that is too large is not read for what stands in it.
-fn has_place(found: &ProfileFaultAt) -> bool {
-    found.fault != ProfileFault::NotJson && found.fault != ProfileFault::TooLarge
+// The file of a text that is refused, and what is told of it.
+fn text_note<'a, R: rt::Files + AllocGlobal>(rt: &R, stop: &Stop<'a>) -> Option<(&'a str, String)> {
+    let alloc = rt.alloc();
+    match stop {
+        Stop::Profile(path, found) => {
+            let note = profile_note(alloc, &bytes_again(rt, path)?, found).ok()?;
+            Some((path, note))
+        }
+        Stop::Template(path, found) => {
+            let note = template_note(alloc, &bytes_again(rt, path)?, found).ok()?;
+            Some((path, note))
+        }
+        Stop::Manifest(path, found) => {
+            let note = manifest_note(alloc, &bytes_again(rt, path)?, found).ok()?;
+            Some((path, note))
+        }
+        Stop::Script(path, found) => {
+            let note = script_note(alloc, &bytes_again(rt, path)?, found).ok()?;
+            Some((path, note))
+        }
+        _ => None,
+    }
 }
 
+fn bytes_again<R: rt::Files + AllocGlobal>(rt: &R, path: &str) -> Option<Vec<u8>> {
+    read_file(rt, path, MAX_FILE_BYTES).ok()
+}
+
+// The file of a stop, and the fault's name, and of a filter the place and what stands there.
 fn note_of<'a, R: rt::Files + AllocGlobal>(rt: &R, stop: &Stop<'a>) -> Option<Note<'a>> {
     match stop {
         Stop::Refused(path, refusal) | Stop::StackFilter(path, refusal) => {
             Some(filter_note(rt, path, *refusal))
         }
-        Stop::Profile(path, found) => {
-            let is_text = found.fault == ProfileFault::NotJson;
-            Some(text_note(rt, path, Named::Profile(found.fault), is_text))
-        }
-        Stop::Compile(path, fault) => Some(text_note(rt, path, Named::Compile(*fault), false)),
-        Stop::Manifest(path, found) => {
-            let is_text = found.fault == PodFault::NotJson;
-            Some(text_note(rt, path, Named::Manifest(found.fault), is_text))
-        }
-        Stop::Script(path, fault) => {
-            let is_text = *fault == ScriptFault::NotJson;
-            Some(text_note(rt, path, Named::Script(*fault), is_text))
-        }
-        Stop::Stack(path, fault) => Some(text_note(rt, path, Named::Stack(*fault), false)),
+        Stop::Profile(path, found) => Some(file_note(path, Named::Profile(found.fault))),
+        Stop::Template(path, found) => Some(file_note(path, Named::Template(found.fault))),
+        Stop::Compile(path, fault) => Some(file_note(path, Named::Compile(*fault))),
+        Stop::Manifest(path, found) => Some(file_note(path, Named::Manifest(found.fault))),
+        Stop::Script(path, found) => Some(file_note(path, Named::Script(found.fault))),
+        Stop::Stack(path, fault) => Some(file_note(path, Named::Stack(*fault))),
         _ => None,
+    }
+}
+
+fn file_note(path: &str, fault: Named) -> Note<'_> {
+    Note {
+        path,
+        spot: Spot::Whole,
+        fault,
+        insn: None,
     }
 }
 
@@ -213,13 +204,12 @@ fn filter_note<'a, R: rt::Files + AllocGlobal>(
     let spot = refusal_spot(refusal);
     let insn = match spot {
         Spot::At(place) => insn_at(rt, path, place),
-        Spot::Whole | Spot::Text(_, _) => None,
+        Spot::Whole => None,
     };
     Note {
         path,
         spot,
         fault: Named::Filter(refusal),
-        hint: Hint { is_yaml: false },
         insn,
     }
 }
@@ -230,49 +220,4 @@ fn insn_at<R: rt::Files + AllocGlobal>(rt: &R, path: &str, place: usize) -> Opti
     let from = place.checked_mul(8)?;
     let own = bytes.get(from..from.checked_add(8)?)?;
     bpf_code::read(rt.alloc(), own).ok()?.first().copied()
-}
-
-fn text_note<'a, R: rt::Files + AllocGlobal>(
-    rt: &R,
-    path: &'a str,
-    fault: Named,
-    is_text: bool,
-) -> Note<'a> {
-    let (spot, hint) = if is_text {
-        json_note(rt, path)
-    } else {
-        (Spot::Whole, Hint { is_yaml: false })
-    };
-    Note {
-        path,
-        spot,
-        fault,
-        hint,
-        insn: None,
-    }
-}
-
-// Of a file that is no JSON.
-fn json_note<R: rt::Files + AllocGlobal>(rt: &R, path: &str) -> (Spot, Hint) {
-    match read_file(rt, path, MAX_FILE_BYTES) {
-        Ok(bytes) => (text_spot(rt.alloc(), &bytes), yaml_hint(&bytes)),
-        Err(_) => (Spot::Whole, Hint { is_yaml: false }),
-    }
-}
-
-/// What is said besides of a text that is no JSON.
-pub fn yaml_hint(bytes: &[u8]) -> Hint
-    ensures { result.is_yaml ≡ begins_yaml bytes.now }
-{
-    Hint {
-        is_yaml: begins_yaml(bytes),
-    }
-}
-
-/// Where a text ceases to be JSON, by its parser.
-pub fn text_spot(alloc: Global, bytes: &[u8]) -> Spot {
-    match Value::from_slice(alloc, bytes) {
-        Err(error) if error.line() > 0 => Spot::Text(error.line(), error.column()),
-        _ => Spot::Whole,
-    }
 }

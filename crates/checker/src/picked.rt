@@ -48,7 +48,8 @@ pub(crate) fn picked_lines(
 
 /// A container with what it gets.
 fn named<'p>(container: &'p Container, choice: Choice<'p>) -> Picked<'p>
-    ensures { line_text result ≡ container.now.name ++ (codes " " ++ profile_text (choice_seen choice.entry)) }
+    ensures { line_text result ≡ container.now.name
+        ++ (codes " " ++ profile_text (choice_seen choice.entry)) }
 {
     let name = container.name.as_str();
     match choice {

@@ -2,10 +2,11 @@
 ghost use Rattle.std.specs.Prelude.{IfOk, string_bytes};
 ghost use Rattle.checker.specs.ProfileLines.{IsDefaultLine};
 
+use crate::form::Form;
 use crate::seccheck::bytes_at;
 use crate::stop::{Stop, profile_stop};
 use call_data::SysCall;
-use explain::{explain, explanation_lines};
+use explain::{explain, explanation_lines, explanation_objects};
 use profile_text::default_text;
 use std::alloc::{AllocError, Global};
 use std::rt;
@@ -15,13 +16,17 @@ pub(crate) fn explain_text<'a, R: rt::Files + AllocGlobal>(
     rt: &R,
     path: &'a str,
     call: SysCall,
+    form: Form,
 ) -> Result<String, Stop<'a>> {
     let bytes = bytes_at(rt, path)?;
     let profile = oci_profile::read_placed(rt.alloc(), &bytes).map_err(|found| profile_stop(
         path, found,
     ))?;
     let explanation = explain(rt.alloc(), &profile, &call)?;
-    Ok(explanation_lines(rt.alloc(), &explanation)?)
+    Ok(match form {
+        Form::Text => explanation_lines(rt.alloc(), &explanation)?,
+        Form::Json => explanation_objects(rt.alloc(), &explanation)?,
+    })
 }
 
 /// RuntimeDefault as a profile's text, in one line.

@@ -1,41 +1,64 @@
 use crate::compared::{BUDGET, is_profile, same_line, same_or_stop};
 use crate::file::{is_same_file, write_file};
+use crate::form::Form;
 use crate::judging::judge;
 use crate::line::{accepted, compiled, judged_line, longest, outcome_lines};
+use crate::linting::{beside, lint_told};
+use crate::list_objects::{code_objects, picked_objects, record_objects};
 use crate::notes::tell_note;
+use crate::objects::{
+    AnswerObject, accepted_object, compiled_object, judged_object, longest_object, same_object,
+};
 use crate::picked::picked_lines;
-use crate::playing::play;
+use crate::playing::{Outcome, play};
 use crate::profiles::{default_line, explain_text};
+use crate::resolving::{resolve_text, settings_of};
 use crate::show::code_lines;
 use crate::stop::{
     Stop, compile_stop, filter_stop, manifest_stop, profile_stop, script_stop, stack_filter_stop,
     stack_stop, stop_at,
 };
+use crate::told::Told;
 use crate::words::{attempt_at, call_at, command, word_at};
 use bpf_compare::{Scope, compare};
 use bpf_verify::{Filter, Refusal, filter_of};
 use call_data::SysCall;
 use call_names::{Naming, number_tests};
+use clap::ArgMatches;
 use clap::error::ErrorKind;
 use compile::compile;
 use node_io::{Cause, MAX_FILE_BYTES, read_file};
+use oci_profile::Profile;
+use std::alloc::{AllocError, Global};
 use std::io::Write;
 use std::rt;
 use verdict::Stack;
 
-/// The program `seccheck`: compiles and explains profiles, looks at filters, runs and compares them, plays scripts under
-/// them, and picks the profiles of pods. `words` are the command line's, the program's name first. The answer
-/// is the program's status: 0 done, 1 input refused, 2 command line refused, 3 file fault, 4 out of memory.
-/// What can't be written counts as a file fault.
+/// The program `seccheck`: compiles, lints, resolves and explains profiles, looks at filters, runs and
+/// compares them, plays scripts under them, and picks the profiles of pods. `words` are the command line's,
+/// the program's name first. The answer is the program's status: 0 done, 1 input refused, 2 command line
+/// refused, 3 file fault, 4 out of memory. What can't be written counts as a file fault.
 pub fn seccheck_run<R: rt::Files + AllocGlobal, O: Write, E: Write>(
     rt: &R,
     words: &[String],
     out: &mut O,
     err: &mut E,
 ) -> u8 {
-    let stop = match text_of(rt, words) {
-        Ok(text) => match out.write_all(text.as_bytes()) {
-            Ok(()) => return 0,
+    let (name, matches) = match asked(rt, words) {
+        Ok(asked) => asked,
+        Err(stop) => return tell(&stop, err),
+    };
+    let form = if matches.get_flag("json") {
+        Form::Json
+    } else {
+        Form::Text
+    };
+    let stop = match told_of(rt, name, &matches, form) {
+        Ok(told) => match out.write_all(told.text.as_bytes()) {
+            Ok(()) => {
+                let _ = err.write_all(told.aside.as_bytes());
+                return told.status;
+            }
             Err(error) => Stop::Unwritten(Cause::of(&error)),
         },
         Err(stop) => stop,
@@ -43,7 +66,11 @@ pub fn seccheck_run<R: rt::Files + AllocGlobal, O: Write, E: Write>(
     if !stop.is_answer() {
         return tell(&stop, err);
     }
-    if let Err(error) = write!(out, "{stop}") {
+    let written = match form {
+        Form::Text => write!(out, "{stop}"),
+        Form::Json => write!(out, "{}", AnswerObject(&stop)),
+    };
+    if let Err(error) = written {
         return tell(&Stop::Unwritten(Cause::of(&error)), err);
     }
     tell_note(rt, &stop, err);
@@ -56,52 +83,16 @@ fn tell<E: Write>(stop: &Stop, err: &mut E) -> u8 {
     stop.status()
 }
 
-/// What the program prints where nothing stops it.
-fn text_of<'a, R: rt::Files + AllocGlobal>(
+/// The command that the words name, and its own words.
+fn asked<'a, R: rt::Files + AllocGlobal>(
     rt: &R,
     words: &'a [String],
-) -> Result<String, Stop<'a>> {
+) -> Result<(&'a str, ArgMatches<'a>), Stop<'a>> {
     let mut command = command(rt.alloc())?;
-    let matches = command.try_get_matches_from_mut(words)?;
-    match matches.subcommand() {
-        Some(("run", matches)) => {
-            let call = call_at(matches).map_err(Stop::BadNumber)?;
-            run_text(rt, word_at(matches, "FILTER"), call)
-        }
-        Some(("explain", matches)) => {
-            let call = call_at(matches).map_err(Stop::BadNumber)?;
-            explain_text(rt, word_at(matches, "PROFILE"), call)
-        }
-        Some(("default", _)) => Ok(default_line(rt.alloc())?),
-        Some(("compile", matches)) => {
-            compile_text(rt, word_at(matches, "PROFILE"), word_at(matches, "OUT"))
-        }
-        Some(("verify", matches)) => verify_text(rt, word_at(matches, "FILTER")),
-        Some(("budget", matches)) => budget_text(rt, word_at(matches, "FILTER")),
-        Some(("show", matches)) => show_text(rt, word_at(matches, "FILTER")),
-        Some(("compare", matches)) => {
-            let scope = if matches.get_flag("native") {
-                Scope::NativeCalls
-            } else {
-                Scope::EveryCall
-            };
-            compare_text(rt, word_at(matches, "A"), word_at(matches, "B"), scope)
-        }
-        Some(("play", matches)) => {
-            let attempt = attempt_at(matches).map_err(Stop::BadNumber)?;
-            let filters = matches.get_strs("FILTER").unwrap_or(&[]);
-            let naming = if matches.get_flag("names") {
-                Naming::Name
-            } else {
-                Naming::Number
-            };
-            play_text(rt, word_at(matches, "SCRIPT"), filters, attempt, naming)
-        }
-        Some(("pick", matches)) => {
-            let seccomp_default = matches.get_flag("seccomp-default");
-            pick_text(rt, word_at(matches, "MANIFEST"), seccomp_default)
-        }
-        _ => Err(
+    let mut matches = command.try_get_matches_from_mut(words)?;
+    match matches.remove_subcommand() {
+        Some(asked) => Ok(asked),
+        None => Err(
             command
                 .error(ErrorKind::MissingSubcommand, "a subcommand is required")?
                 .into(),
@@ -109,42 +100,150 @@ fn text_of<'a, R: rt::Files + AllocGlobal>(
     }
 }
 
-/// That the profile was compiled and its filter written. The file is opened once there is a filter.
-fn compile_text<'a, R: rt::Files + AllocGlobal>(
+/// What the program tells where nothing stops it.
+fn told_of<'a, R: rt::Files + AllocGlobal>(
+    rt: &R,
+    name: &str,
+    matches: &ArgMatches<'a>,
+    form: Form,
+) -> Result<Told, Stop<'a>> {
+    match name {
+        "resolve" => {
+            let caps = matches.get_strs("cap").unwrap_or(&[]);
+            let (arch, kernel) = (matches.get_str("arch"), matches.get_str("kernel"));
+            let settings = settings_of(caps, arch, kernel).map_err(|(word, fault)| Stop::BadWord(
+                word, fault,
+            ))?;
+            resolve_text(rt, word_at(matches, "TEMPLATE"), &settings)
+        }
+        "compile" => {
+            let (path, out) = (word_at(matches, "PROFILE"), word_at(matches, "OUT"));
+            compile_told(rt, path, out, form)
+        }
+        "lint" => lint_told(rt, word_at(matches, "PROFILE")),
+        _ => Ok(Told::plain(rt.alloc(), text_of(rt, name, matches, form)?)),
+    }
+}
+
+/// What a command prints that tells nothing beside it.
+fn text_of<'a, R: rt::Files + AllocGlobal>(
+    rt: &R,
+    name: &str,
+    matches: &ArgMatches<'a>,
+    form: Form,
+) -> Result<String, Stop<'a>> {
+    match name {
+        "run" => {
+            let call = call_at(matches).map_err(Stop::BadNumber)?;
+            run_text(rt, word_at(matches, "FILTER"), call, form)
+        }
+        "explain" => {
+            let call = call_at(matches).map_err(Stop::BadNumber)?;
+            explain_text(rt, word_at(matches, "PROFILE"), call, form)
+        }
+        "default" => Ok(default_line(rt.alloc())?),
+        "verify" => verify_text(rt, word_at(matches, "FILTER"), form),
+        "budget" => budget_text(rt, word_at(matches, "FILTER"), form),
+        "show" => show_text(rt, word_at(matches, "FILTER"), form),
+        "compare" => {
+            let scope = if matches.get_flag("native") {
+                Scope::NativeCalls
+            } else {
+                Scope::EveryCall
+            };
+            compare_text(
+                rt,
+                word_at(matches, "A"),
+                word_at(matches, "B"),
+                scope,
+                form,
+            )
+        }
+        "play" => {
+            let attempt = attempt_at(matches).map_err(Stop::BadNumber)?;
+            let filters = matches.get_strs("FILTER").unwrap_or(&[]);
+            let naming = if matches.get_flag("names") {
+                Naming::Name
+            } else {
+                Naming::Number
+            };
+            let played = played_at(rt, word_at(matches, "SCRIPT"), filters, attempt)?;
+            Ok(record_text(rt.alloc(), &played, naming, form)?)
+        }
+        _ => {
+            let seccomp_default = matches.get_flag("seccomp-default");
+            pick_text(rt, word_at(matches, "MANIFEST"), seccomp_default, form)
+        }
+    }
+}
+
+/// That the profile was compiled and its filter written, and beside it how much `lint` tells of it. The file
+/// is opened once there is a filter.
+fn compile_told<'a, R: rt::Files + AllocGlobal>(
     rt: &R,
     path: &'a str,
     out: &'a str,
-) -> Result<String, Stop<'a>> {
-    let filter = profile_filter(rt, path, &bytes_at(rt, path)?)?;
-    let code = bpf_code::write(rt.alloc(), filter.insns())?;
+    form: Form,
+) -> Result<Told, Stop<'a>> {
+    let alloc = rt.alloc();
+    let bytes = bytes_at(rt, path)?;
+    let profile = profile_of(alloc, path, &bytes)?;
+    let filter = compile(alloc, &profile).map_err(|fault| compile_stop(path, fault))?;
+    let aside = beside(alloc, path, &bytes, &profile)?;
+    let code = bpf_code::write(alloc, filter.insns())?;
     if is_same_file(rt, path, out) {
         return Err(Stop::SameFile(out));
     }
     write_file(rt, out, &code).map_err(|fault| stop_at(out, fault))?;
-    Ok(compiled(rt.alloc(), filter.len())?)
+    let text = match form {
+        Form::Text => compiled(alloc, filter.len())?,
+        Form::Json => compiled_object(alloc, filter.len())?,
+    };
+    Ok(Told::with_aside(text, aside))
 }
 
 /// How many instructions a run of the filter takes at most.
-fn budget_text<'a, R: rt::Files + AllocGlobal>(rt: &R, path: &'a str) -> Result<String, Stop<'a>> {
+fn budget_text<'a, R: rt::Files + AllocGlobal>(
+    rt: &R,
+    path: &'a str,
+    form: Form,
+) -> Result<String, Stop<'a>> {
     let filter = filter_at(rt, path)?;
-    Ok(longest(rt.alloc(), filter.longest())?)
+    Ok(match form {
+        Form::Text => longest(rt.alloc(), filter.longest())?,
+        Form::Json => longest_object(rt.alloc(), filter.longest())?,
+    })
 }
 
 /// That the filter is accepted.
-fn verify_text<'a, R: rt::Files + AllocGlobal>(rt: &R, path: &'a str) -> Result<String, Stop<'a>> {
+fn verify_text<'a, R: rt::Files + AllocGlobal>(
+    rt: &R,
+    path: &'a str,
+    form: Form,
+) -> Result<String, Stop<'a>> {
     let filter = filter_at(rt, path)?;
-    Ok(accepted(rt.alloc(), filter.len())?)
+    Ok(match form {
+        Form::Text => accepted(rt.alloc(), filter.len())?,
+        Form::Json => accepted_object(rt.alloc(), filter.len())?,
+    })
 }
 
 /// The instructions of a file that is a list of them.
-fn show_text<'a, R: rt::Files + AllocGlobal>(rt: &R, path: &'a str) -> Result<String, Stop<'a>> {
+fn show_text<'a, R: rt::Files + AllocGlobal>(
+    rt: &R,
+    path: &'a str,
+    form: Form,
+) -> Result<String, Stop<'a>> {
     let bytes = bytes_at(rt, path)?;
     let code = bpf_code::read(rt.alloc(), &bytes).map_err(|fault| filter_stop(
         path,
         Refusal::Code(fault),
     ))?;
     let number_tests = number_tests(rt.alloc(), &code)?;
-    Ok(code_lines(rt.alloc(), &code, number_tests.as_slice())?)
+    Ok(match form {
+        Form::Text => code_lines(rt.alloc(), &code, number_tests.as_slice())?,
+        Form::Json => code_objects(rt.alloc(), &code, number_tests.as_slice())?,
+    })
 }
 
 /// What the filter says of the call.
@@ -152,9 +251,14 @@ fn run_text<'a, R: rt::Files + AllocGlobal>(
     rt: &R,
     path: &'a str,
     call: SysCall,
+    form: Form,
 ) -> Result<String, Stop<'a>> {
     let filter = filter_at(rt, path)?;
-    Ok(judged_line(rt.alloc(), &judge(&filter, &call))?)
+    let judged = judge(&filter, &call);
+    Ok(match form {
+        Form::Text => judged_line(rt.alloc(), &judged)?,
+        Form::Json => judged_object(rt.alloc(), &judged)?,
+    })
 }
 
 /// That the filters of two files are the same on the calls that are asked about.
@@ -163,26 +267,41 @@ fn compare_text<'a, R: rt::Files + AllocGlobal>(
     first: &'a str,
     second: &'a str,
     scope: Scope,
+    form: Form,
 ) -> Result<String, Stop<'a>> {
     let first = filter_or_profile_at(rt, first)?;
     let second = filter_or_profile_at(rt, second)?;
     same_or_stop(compare(rt.alloc(), &first, &second, scope, BUDGET)?)?;
-    Ok(same_line(rt.alloc(), scope)?)
+    Ok(match form {
+        Form::Text => same_line(rt.alloc(), scope)?,
+        Form::Json => same_object(rt.alloc(), scope)?,
+    })
 }
 
-/// The record of a script that is played under the filters, and the code with which it ends.
-fn play_text<'a, R: rt::Files + AllocGlobal>(
+/// What came of a script that is played under the filters.
+fn played_at<'a, R: rt::Files + AllocGlobal>(
     rt: &R,
     path: &'a str,
     filters: &[&'a str],
     attempt: u32,
-    naming: Naming,
-) -> Result<String, Stop<'a>> {
+) -> Result<Outcome, Stop<'a>> {
     let bytes = bytes_at(rt, path)?;
-    let script = script::read(rt.alloc(), &bytes).map_err(|fault| script_stop(path, fault))?;
+    let script = script::read_placed(rt.alloc(), &bytes).map_err(|found| script_stop(path, found))?;
     let stack = stack_at(rt, filters)?;
-    let outcome = play(rt.alloc(), script, stack, attempt)?;
-    Ok(outcome_lines(rt.alloc(), &outcome, naming)?)
+    Ok(play(rt.alloc(), script, stack, attempt)?)
+}
+
+/// The record of a script that was played, and the code with which it ended.
+fn record_text(
+    alloc: Global,
+    outcome: &Outcome,
+    naming: Naming,
+    form: Form,
+) -> Result<String, AllocError> {
+    match form {
+        Form::Text => outcome_lines(alloc, outcome, naming),
+        Form::Json => record_objects(alloc, outcome, naming),
+    }
 }
 
 /// The profile of each container of a pod.
@@ -190,12 +309,16 @@ fn pick_text<'a, R: rt::Files + AllocGlobal>(
     rt: &R,
     path: &'a str,
     seccomp_default: bool,
+    form: Form,
 ) -> Result<String, Stop<'a>> {
     let bytes = bytes_at(rt, path)?;
     let pod = manifest::read_placed(rt.alloc(), &bytes).map_err(|found| manifest_stop(
         path, found,
     ))?;
-    Ok(picked_lines(rt.alloc(), &pod, seccomp_default)?)
+    Ok(match form {
+        Form::Text => picked_lines(rt.alloc(), &pod, seccomp_default)?,
+        Form::Json => picked_objects(rt.alloc(), &pod, seccomp_default)?,
+    })
 }
 
 /// The stack of the filters in these files, the oldest one first. Each is read, judged and added before
@@ -240,10 +363,13 @@ fn profile_filter<'a, R: rt::Files + AllocGlobal>(
     bytes: &[u8],
 ) -> Result<Filter, Stop<'a>> {
     let alloc = rt.alloc();
-    let profile = oci_profile::read_placed(alloc, bytes).map_err(|found| profile_stop(
-        path, found,
-    ))?;
+    let profile = profile_of(alloc, path, bytes)?;
     compile(alloc, &profile).map_err(|fault| compile_stop(path, fault))
+}
+
+/// The profile that these bytes of a file are.
+fn profile_of<'a>(alloc: Global, path: &'a str, bytes: &[u8]) -> Result<Profile, Stop<'a>> {
+    oci_profile::read_placed(alloc, bytes).map_err(|found| profile_stop(path, found))
 }
 
 /// The bytes of a file.

@@ -2,6 +2,8 @@ ghost use Rattle.std.specs.Prelude.{◌≡◌, ◌+◌, ◌<◌, ◌≤◌, IfOk
 ghost use Rattle.bpf_code.specs.declared.limits.TheConstants.{MAX_INSNS};
 ghost use Rattle.bpf_code.specs.Flow.{flow_of};
 ghost use Rattle.checker.specs.ArrowText.{arrow_of};
+ghost use Rattle.checker.specs.ListObjects.{commented_object};
+ghost use Rattle.checker.specs.PartObjects.{shown_object};
 ghost use Rattle.checker.specs.ShownText.{shown_text};
 ghost use Rattle.checker.specs.Texts.{code_text, commented_text};
 
@@ -11,7 +13,7 @@ use std::fmt;
 
 /// Where an instruction may go.
 #[derive(Clone, Copy)]
-enum Arrow {
+pub(crate) enum Arrow {
     /// To this place.
     To(u64),
     /// To the one place where the test holds, to the other where it fails.
@@ -37,9 +39,9 @@ impl fmt::Display for Arrow {
 
 /// The name of a call that an instruction asks about, behind it.
 #[derive(Clone, Copy)]
-struct Comment {
-    is_number_test: bool,
-    nr: u32,
+pub(crate) struct Comment {
+    pub(crate) is_number_test: bool,
+    pub(crate) nr: u32,
 }
 
 impl fmt::Display for Comment {
@@ -61,11 +63,11 @@ impl fmt::Display for Comment {
 
 /// An instruction as it is shown, with its place in front, and where it may go and a call's name behind it.
 #[derive(Clone, Copy)]
-struct Shown {
-    place: usize,
-    insn: Insn,
-    arrow: Arrow,
-    comment: Comment,
+pub(crate) struct Shown {
+    pub(crate) place: usize,
+    pub(crate) insn: Insn,
+    pub(crate) arrow: Arrow,
+    pub(crate) comment: Comment,
 }
 
 impl fmt::Display for Shown {
@@ -100,9 +102,10 @@ pub(crate) fn code_lines(
     Ok(text)
 }
 
-fn shown_at(place: usize, insn: Insn, is_number_test: bool) -> Shown
+pub(crate) fn shown_at(place: usize, insn: Insn, is_number_test: bool) -> Shown
     requires { place < MAX_INSNS }
-    ensures { shown_text result ≡ commented_text is_number_test place insn }
+    ensures text { shown_text result ≡ commented_text is_number_test place insn }
+    ensures object { shown_object result ≡ commented_object is_number_test place insn }
 {
     Shown {
         place,

@@ -1,5 +1,8 @@
-ghost use Rattle.checker.specs.Stops.{IsOfCompileFault, IsOfFile, IsOfPodFault, IsOfProfileFault, IsOfRefusal, IsOfScriptFault, IsOfStackFault, IsOfStackRefusal};
+ghost use Rattle.checker.specs.Stops.{IsOfCompileFault, IsOfFile, IsOfPodFault, IsOfProfileFault};
+ghost use Rattle.checker.specs.Stops.{IsOfRefusal, IsOfScriptFault, IsOfStackFault, IsOfStackRefusal};
+ghost use Rattle.checker.specs.Stops.{IsOfTemplateFault};
 
+use crate::bad_words::WordFault;
 use crate::compared::{Difference, reason};
 use bpf_code::CodeFault;
 use bpf_compare::Doubt;
@@ -8,7 +11,8 @@ use compile::CompileFault;
 use manifest::{PodFault, PodFaultAt};
 use node_io::{Cause, CausedFault, FileFault};
 use oci_profile::{ProfileFault, ProfileFaultAt};
-use script::ScriptFault;
+use profile_template::{TemplateFault, TemplateFaultAt};
+use script::{ScriptFault, ScriptFaultAt};
 use std::alloc::{AllocError, AllocFailed};
 use std::fmt;
 use verdict::StackFault;
@@ -20,12 +24,14 @@ pub(crate) enum Stop<'a> {
     Refused(&'a str, Refusal),
     /// The profile in this file is refused.
     Profile(&'a str, ProfileFaultAt),
+    /// The template in this file is refused.
+    Template(&'a str, TemplateFaultAt),
     /// The profile in this file is not compiled.
     Compile(&'a str, CompileFault),
     /// The manifest in this file is refused.
     Manifest(&'a str, PodFaultAt),
     /// The script in this file is refused.
-    Script(&'a str, ScriptFault),
+    Script(&'a str, ScriptFaultAt),
     /// A filter of a stack, in this file, is refused.
     StackFilter(&'a str, Refusal),
     /// A stack does not take the filter in this file.
@@ -38,6 +44,8 @@ pub(crate) enum Stop<'a> {
     CommandLine(clap::Error),
     /// A word of the command line is no number of its range.
     BadNumber(&'a str),
+    /// A word of the command line is none of those that may stand there.
+    BadWord(&'a str, WordFault),
     /// A file can't be read or written.
     File(&'a str, CausedFault),
     /// What is to be written is the file that was read.
@@ -58,10 +66,11 @@ impl Stop<'_> {
     {
         match self {
             Stop::Refused(_, _) | Stop::Profile(_, _) | Stop::Compile(_, _) => 1,
+            Stop::Template(_, _) => 1,
             Stop::Manifest(_, _) | Stop::Script(_, _) => 1,
             Stop::StackFilter(_, _) | Stop::Stack(_, _) => 1,
             Stop::Differ(_) | Stop::Undecided(_) => 1,
-            Stop::CommandLine(_) | Stop::BadNumber(_) => 2,
+            Stop::CommandLine(_) | Stop::BadNumber(_) | Stop::BadWord(_, _) => 2,
             Stop::File(_, _) | Stop::SameFile(_) | Stop::Unwritten(_) => 3,
             Stop::Memory => 4,
         }
@@ -76,6 +85,7 @@ impl Stop<'_> {
             self,
             Stop::Refused(_, _)
                 | Stop::Profile(_, _)
+                | Stop::Template(_, _)
                 | Stop::Compile(_, _)
                 | Stop::Manifest(_, _)
                 | Stop::Script(_, _)
@@ -97,15 +107,17 @@ impl fmt::Display for Stop<'_> {
         match self {
             Stop::Refused(_, refusal) => writeln!(f, "refused {refusal}"),
             Stop::Profile(_, found) => writeln!(f, "refused {}", found.fault),
+            Stop::Template(_, found) => writeln!(f, "refused {}", found.fault),
             Stop::Compile(_, fault) => writeln!(f, "refused {fault}"),
             Stop::Manifest(_, found) => writeln!(f, "refused {}", found.fault),
-            Stop::Script(_, fault) => writeln!(f, "refused script {fault}"),
+            Stop::Script(_, found) => writeln!(f, "refused script {}", found.fault),
             Stop::StackFilter(_, refusal) => writeln!(f, "refused filter {refusal}"),
             Stop::Stack(_, fault) => writeln!(f, "refused filter {fault}"),
             Stop::Differ(difference) => writeln!(f, "{difference}"),
             Stop::Undecided(doubt) => writeln!(f, "undecided: {}", reason(*doubt)),
             Stop::CommandLine(error) => write!(f, "{error}"),
             Stop::BadNumber(word) => writeln!(f, "seccheck: {word}: BadNumber"),
+            Stop::BadWord(word, fault) => writeln!(f, "seccheck: {word}: {fault}"),
             Stop::File(path, fault) => writeln!(f, "seccheck: {path}: {fault}"),
             Stop::SameFile(path) => writeln!(f, "seccheck: {path}: Failed (the profile itself)"),
             Stop::Unwritten(cause) => writeln!(f, "seccheck: standard output: Failed ({cause})"),
@@ -199,6 +211,16 @@ pub(crate) fn profile_stop(path: &str, found: ProfileFaultAt) -> Stop<'_>
     }
 }
 
+/// Why a template stops the program.
+pub(crate) fn template_stop(path: &str, found: TemplateFaultAt) -> Stop<'_>
+    ensures { IsOfTemplateFault path.now found result }
+{
+    match found.fault {
+        TemplateFault::Profile(ProfileFault::Memory) => Stop::Memory,
+        _ => Stop::Template(path, found),
+    }
+}
+
 /// Why the compiler stops the program.
 pub(crate) fn compile_stop(path: &str, fault: CompileFault) -> Stop<'_>
     ensures { IsOfCompileFault path.now fault result }
@@ -220,11 +242,11 @@ pub(crate) fn manifest_stop(path: &str, found: PodFaultAt) -> Stop<'_>
 }
 
 /// Why a script stops the program.
-pub(crate) fn script_stop(path: &str, fault: ScriptFault) -> Stop<'_>
-    ensures { IsOfScriptFault path.now fault result }
+pub(crate) fn script_stop(path: &str, found: ScriptFaultAt) -> Stop<'_>
+    ensures { IsOfScriptFault path.now found result }
 {
-    match fault {
+    match found.fault {
         ScriptFault::Memory => Stop::Memory,
-        _ => Stop::Script(path, fault),
+        _ => Stop::Script(path, found),
     }
 }

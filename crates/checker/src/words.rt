@@ -22,6 +22,8 @@ pub(crate) fn command<'a>(alloc: Global) -> Result<Command<'a>, AllocError> {
         .subcommand(Command::new(alloc, "default").about(
             "Prints the profile that RuntimeDefault is, as JSON",
         ))?
+        .subcommand(lint(alloc)?)?
+        .subcommand(resolve(alloc)?)?
         .subcommand(of_filter(alloc, "verify", "Says whether a filter is sound")?)?
         .subcommand(of_filter(
             alloc,
@@ -48,7 +50,39 @@ fn compile<'a>(alloc: Global) -> Result<Command<'a>, AllocError> {
             "PROFILE",
             "a profile, the JSON of OCI's linux.seccomp",
         ))?
-        .arg(given(alloc, "OUT", "the filter file to write"))
+        .arg(given(alloc, "OUT", "the filter file to write"))?
+        .arg(json(alloc))
+}
+
+fn lint<'a>(alloc: Global) -> Result<Command<'a>, AllocError> {
+    Command::new(alloc, "lint")
+        .about("Says what of a seccomp profile decides nothing, or may not be meant")
+        .arg(given(alloc, "PROFILE", "a profile"))
+}
+
+fn resolve<'a>(alloc: Global) -> Result<Command<'a>, AllocError> {
+    Command::new(alloc, "resolve")
+        .about("Prints the plain profile that a template of container engines comes to")
+        .arg(given(
+            alloc,
+            "TEMPLATE",
+            "a template, as Docker and podman keep theirs",
+        ))?
+        .arg(option(alloc, "cap", "CAP", "a capability of the container").action(
+            ArgAction::Append,
+        ))?
+        .arg(option(
+            alloc,
+            "arch",
+            "ARCH",
+            "its architecture, amd64 where none is named",
+        ))?
+        .arg(option(
+            alloc,
+            "kernel",
+            "V",
+            "the kernel's version, the newest where none is named",
+        ))
 }
 
 /// A command on one filter.
@@ -59,7 +93,8 @@ fn of_filter<'a>(
 ) -> Result<Command<'a>, AllocError> {
     Command::new(alloc, name)
         .about(about)
-        .arg(given(alloc, "FILTER", "a filter file"))
+        .arg(given(alloc, "FILTER", "a filter file"))?
+        .arg(json(alloc))
 }
 
 fn run<'a>(alloc: Global) -> Result<Command<'a>, AllocError> {
@@ -90,7 +125,8 @@ fn of_call<'a>(alloc: Global, command: Command<'a>) -> Result<Command<'a>, Alloc
                 .help("its arguments, the rest are 0"),
         )?
         .arg(option(alloc, "arch", "A", "its architecture"))?
-        .arg(option(alloc, "ip", "I", "its instruction pointer"))
+        .arg(option(alloc, "ip", "I", "its instruction pointer"))?
+        .arg(json(alloc))
 }
 
 fn compare<'a>(alloc: Global) -> Result<Command<'a>, AllocError> {
@@ -103,7 +139,8 @@ fn compare<'a>(alloc: Global) -> Result<Command<'a>, AllocError> {
                 .long("native")
                 .action(ArgAction::SetTrue)
                 .help("asks of the calls of x86-64 alone, without those of x32"),
-        )
+        )?
+        .arg(json(alloc))
 }
 
 fn play<'a>(alloc: Global) -> Result<Command<'a>, AllocError> {
@@ -121,7 +158,8 @@ fn play<'a>(alloc: Global) -> Result<Command<'a>, AllocError> {
                 .long("names")
                 .action(ArgAction::SetTrue)
                 .help("tells calls by their names"),
-        )
+        )?
+        .arg(json(alloc))
 }
 
 fn pick<'a>(alloc: Global) -> Result<Command<'a>, AllocError> {
@@ -133,7 +171,16 @@ fn pick<'a>(alloc: Global) -> Result<Command<'a>, AllocError> {
                 .long("seccomp-default")
                 .action(ArgAction::SetTrue)
                 .help("on a node whose seccomp default is on"),
-        )
+        )?
+        .arg(json(alloc))
+}
+
+/// Has the answer written as JSON.
+fn json<'a>(alloc: Global) -> Arg<'a> {
+    Arg::new(alloc, "json")
+        .long("json")
+        .action(ArgAction::SetTrue)
+        .help("prints the answer as a JSON object a line")
 }
 
 /// A word that has to be there.

@@ -164,7 +164,7 @@ fn settling<'a>(alloc: Global, command: Command<'a>) -> Result<Command<'a>, Allo
         alloc,
         command,
         "settle",
-        "counts moments instead of waiting for them, and ends once every pod is over",
+        "uses a virtual clock instead of waiting, and ends once every pod is over",
     )?;
     with_option(
         alloc,

@@ -1,5 +1,6 @@
 -- What a container is made from, this project's own: docs/SEMANTICS.md, "The runtime".
-use Rattle.std.specs.Prelude.{◌≡◌, ◌⊎◌, ℕ, ◌<◌, List, [], ◌∷◌, ◌++◌, option_to_list, Option, Some, None, Result, Ok, Err}
+use Rattle.std.specs.Prelude.{◌≡◌, ◌⊎◌, ℕ, ◌<◌, List, [], ◌∷◌, ◌++◌, option_to_list, Option, Some, None}
+use Rattle.std.specs.Prelude.{Result, Ok, Err}
 use Rattle.bpf_code.specs.declared.insn.Insn.{Insn}
 use Rattle.bpf_code.specs.declared.limits.TheConstants.{MAX_INSNS}
 use Rattle.verdict.specs.Stack.{AllSound}
@@ -40,7 +41,8 @@ IsScriptIn (Ok bytes) script = ReadsScript bytes script
 -- why there is no script
 abbrev pub LacksScript : Result (List ℕ) Refusal → Refusal → Type 0
 LacksScript (Err why) refusal = refusal ≡ why
-LacksScript (Ok bytes) refusal = ((script : List Step) → ReadsScript bytes script → ⊥) × (refusal ≡ InvalidArgument)
+LacksScript (Ok bytes) refusal = ((script : List Step) → ReadsScript bytes script → ⊥)
+    × (refusal ≡ InvalidArgument)
 
 abbrev pub IsProfileIn : Result (List ℕ) Refusal → Profile → Type 0
 IsProfileIn (Err refusal) profile = ⊥
@@ -56,7 +58,8 @@ IsProfileFor (Localhost path) file (Some profile) = IsProfileIn file profile
 -- why there is no profile that can be compiled
 abbrev pub LacksIn : Result (List ℕ) Refusal → Refusal → Type 0
 LacksIn (Err why) refusal = refusal ≡ why
-LacksIn (Ok bytes) refusal = ((profile : Profile) → ReadsProfile bytes profile → MAX_INSNS < weight profile) × (refusal ≡ InvalidArgument)
+LacksIn (Ok bytes) refusal = ((profile : Profile) → ReadsProfile bytes profile → MAX_INSNS < weight profile)
+    × (refusal ≡ InvalidArgument)
 
 abbrev pub LacksProfile : SeccompProfile → Result (List ℕ) Refusal → Refusal → Type 0
 LacksProfile Unconfined file refusal = ⊥
@@ -66,7 +69,8 @@ LacksProfile (Localhost path) file refusal = LacksIn file refusal
 -- the filters of the start: the node's own, then that of the profile
 abbrev pub HasFilters : List (List Insn) → Option Profile → List (List Insn) → Type 0
 HasFilters older None stack = stack ≡ older
-HasFilters older (Some profile) stack = (code : List Insn) × (stack ≡ older ++ code ∷ []) × GivesMeaning code profile
+HasFilters older (Some profile) stack = (code : List Insn) × (stack ≡ older ++ code ∷ [])
+    × GivesMeaning code profile
 
 abbrev pub path_of : SeccompProfile → Option (List ℕ)
 path_of RuntimeDefault = None
@@ -83,10 +87,17 @@ abbrev pub choice_of : Making → SeccompProfile
 choice_of making = choice_by making.label.path making.profile
 
 abbrev pub label_for : ℕ → ContainerMetadata → List ℕ → SeccompProfile → Label
-label_for id container image choice = record { id = id; name = container.name; attempt = container.attempt; image = image; path = path_of choice }
+label_for id container image choice = record {
+  id = id;
+  name = container.name;
+  attempt = container.attempt;
+  image = image;
+  path = path_of choice;
+}
 
 -- what a cell is made from
-pub record IsMadeFrom (baseline : Option (List Insn)) (id : ℕ) (container : ContainerMetadata) (image : List ℕ) (choice : SeccompProfile)
+pub record IsMadeFrom (baseline : Option (List Insn)) (id : ℕ) (container : ContainerMetadata)
+    (image : List ℕ) (choice : SeccompProfile)
     (files : FileAnswers) (making : Making) : Type 0 where
   pub label : making.label ≡ label_for id container image choice
   pub script : IsScriptIn (bytes_in files.script) making.script
@@ -94,7 +105,8 @@ pub record IsMadeFrom (baseline : Option (List Insn)) (id : ℕ) (container : Co
   pub filters : HasFilters (option_to_list baseline) making.profile making.stack
 
 -- a cell that was not started, made from these, which follows its script
-pub record IsMade (baseline : Option (List Insn)) (id : ℕ) (container : ContainerMetadata) (image : List ℕ) (choice : SeccompProfile)
+pub record IsMade (baseline : Option (List Insn)) (id : ℕ) (container : ContainerMetadata) (image : List ℕ)
+    (choice : SeccompProfile)
     (files : FileAnswers) (cell : Cell) : Type 0 where
   pub from : IsMadeFrom baseline id container image choice files cell.making
   pub fresh : cell ≡ fresh cell.making Created
@@ -102,7 +114,8 @@ pub record IsMade (baseline : Option (List Insn)) (id : ℕ) (container : Contai
   pub sound : AllSound cell.making.stack
 
 -- a cell of these parts
-pub record IsCellOf (older : List (List Insn)) (script : List Step) (profile : Option Profile) (label : Label) (cell : Cell) : Type 0 where
+pub record IsCellOf (older : List (List Insn)) (script : List Step) (profile : Option Profile) (label : Label)
+    (cell : Cell) : Type 0 where
   pub has_label : cell.making.label ≡ label
   pub has_script : cell.making.script ≡ script
   pub has_profile : cell.making.profile ≡ profile
@@ -114,7 +127,8 @@ pub record IsCellOf (older : List (List Insn)) (script : List Step) (profile : O
 -- why no cell is made: the script's file comes first
 abbrev pub Lacks : SeccompProfile → FileAnswers → Refusal → Type 0
 Lacks choice files refusal = LacksScript (bytes_in files.script) refusal
-    ⊎ ((script : List Step) × IsScriptIn (bytes_in files.script) script × LacksProfile choice (bytes_in files.profile) refusal)
+    ⊎ ((script : List Step) × IsScriptIn (bytes_in files.script) script
+    × LacksProfile choice (bytes_in files.profile) refusal)
 
 -- the script's file was read
 abbrev pub WasRead : FileAnswers → Type 0

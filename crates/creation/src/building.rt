@@ -1,5 +1,6 @@
 //! What a container is made from: its files, its filters, its name.
-ghost use Rattle.std.specs.Prelude.{◌≡◌, ◌≢◌, ◌⊎◌, ◌+◌, ◌<◌, ◌++◌, ℕ, List, [], ◌∷◌, Ok, Err, IfOk, IfErr, IfSome, IsSome, OnOk, Some, option_map, option_to_list};
+ghost use Rattle.std.specs.Prelude.{◌≡◌, ◌≢◌, ◌⊎◌, ◌+◌, ◌<◌, ◌++◌, ℕ, List, [], ◌∷◌, Ok, Err, IfOk, IfErr};
+ghost use Rattle.std.specs.Prelude.{IfSome, IsSome, OnOk, Some, option_map, option_to_list};
 ghost use Rattle.bpf_code.specs.declared.limits.TheConstants.{MAX_INSNS};
 ghost use Rattle.oci_profile.specs.declared.profile.Profile.{Profile};
 ghost use Rattle.oci_profile.specs.Meaning.{weight};
@@ -11,7 +12,9 @@ ghost use Rattle.oci_profile.specs.declared.faults.ProfileFault.{ProfileFault};
 ghost use Rattle.cri_msgs.specs.declared.refusals.Refusal.{Refusal};
 ghost use Rattle.runtime_cell.specs.Cell.{FollowsScript, GivesMeaning};
 ghost use Rattle.verdict.specs.Stack.{AllSound};
-ghost use Rattle.creation.specs.Files.{IsCellOf, IsMade, IsProfileFor, IsProfileIn, IsScriptIn, Lacks, LacksIn, LacksProfile, LacksScript, WasRead, bytes_in, label_for, path_of, refusal_of};
+ghost use Rattle.creation.specs.Files.{IsCellOf, IsMade, IsProfileFor, IsProfileIn, IsScriptIn, Lacks};
+ghost use Rattle.creation.specs.Files.{LacksIn, LacksProfile, LacksScript, WasRead, bytes_in, label_for};
+ghost use Rattle.creation.specs.Files.{path_of, refusal_of};
 
 use crate::files::{Contents, FileAnswers};
 use bpf_verify::Filter;
@@ -47,7 +50,8 @@ fn bytes_in(answer: &Option<Result<Contents, FileFault>>) -> Result<&[u8], Refus
 }
 
 fn script_refusal(fault: ScriptFault) -> Refusal
-    ensures { (result ≡ Refusal.Memory) ⊎ ((fault ≢ ScriptFault.Memory) × (result ≡ Refusal.InvalidArgument)) }
+    ensures { (result ≡ Refusal.Memory)
+        ⊎ ((fault ≢ ScriptFault.Memory) × (result ≡ Refusal.InvalidArgument)) }
 {
     if fault == ScriptFault::Memory {
         Refusal::Memory
@@ -57,7 +61,8 @@ fn script_refusal(fault: ScriptFault) -> Refusal
 }
 
 fn profile_refusal(fault: ProfileFault) -> Refusal
-    ensures { (result ≡ Refusal.Memory) ⊎ ((fault ≢ ProfileFault.Memory) × (result ≡ Refusal.InvalidArgument)) }
+    ensures { (result ≡ Refusal.Memory)
+        ⊎ ((fault ≢ ProfileFault.Memory) × (result ≡ Refusal.InvalidArgument)) }
 {
     if fault == ProfileFault::Memory {
         Refusal::Memory
@@ -68,7 +73,8 @@ fn profile_refusal(fault: ProfileFault) -> Refusal
 
 fn script_in(alloc: Global, bytes: &[u8]) -> Result<Script, Refusal>
     ensures found { IfOk result (λ script. ReadsScript bytes.now script) }
-    ensures refused { IfErr result (λ refusal. (refusal ≡ Refusal.Memory) ⊎ LacksScript (Ok bytes.now) refusal) }
+    ensures refused { IfErr result (λ refusal.
+        (refusal ≡ Refusal.Memory) ⊎ LacksScript (Ok bytes.now) refusal) }
 {
     match script::read(alloc, bytes) {
         Ok(script) => Ok(script),
@@ -99,7 +105,8 @@ fn compiled(alloc: Global, profile: Profile) -> Result<Built, Refusal>
     // Told whether there is memory or not.
     ensures told { MAX_INSNS < weight profile → result ≡ Err Refusal.InvalidArgument }
     ensures made { IfOk result (λ made. (made.profile ≡ profile) × GivesMeaning made.filter profile) }
-    ensures refused { IfErr result (λ refusal. (refusal ≡ Refusal.Memory) ⊎ ((refusal ≡ Refusal.InvalidArgument) × (MAX_INSNS < weight profile))) }
+    ensures refused { IfErr result (λ refusal.
+        (refusal ≡ Refusal.Memory) ⊎ ((refusal ≡ Refusal.InvalidArgument) × (MAX_INSNS < weight profile))) }
 {
     match compile(alloc, &profile) {
         Ok(filter) => Ok(Built { profile, filter }),
@@ -110,9 +117,11 @@ fn compiled(alloc: Global, profile: Profile) -> Result<Built, Refusal>
 
 fn profile_in(alloc: Global, bytes: &[u8]) -> Result<Profile, Refusal>
     ensures found { IfOk result (λ profile. ReadsProfile bytes.now profile) }
-    ensures one { IfOk result (λ profile. (other : Profile) → ReadsProfile bytes.now other → other ≡ profile) }
+    ensures one { IfOk result (λ profile. (other : Profile) → ReadsProfile bytes.now other
+        → other ≡ profile) }
     ensures refused { IfErr result (λ refusal. (refusal ≡ Refusal.Memory)
-        ⊎ (((profile : Profile) → ReadsProfile bytes.now profile → ⊥) × (refusal ≡ Refusal.InvalidArgument))) }
+        ⊎ (((profile : Profile) → ReadsProfile bytes.now profile → ⊥)
+        × (refusal ≡ Refusal.InvalidArgument))) }
 {
     match oci_profile::read(alloc, bytes) {
         Ok(profile) => Ok(profile),
@@ -126,9 +135,11 @@ fn own(
     choice: &SeccompProfile,
     answer: &Option<Result<Contents, FileFault>>,
 ) -> Result<Option<Built>, Refusal>
-    ensures found { IfOk result (λ own. IsProfileFor choice.now (bytes_in answer.now) (option_map (λ b. b.profile) own)) }
+    ensures found { IfOk result (λ own. IsProfileFor choice.now (bytes_in answer.now)
+        (option_map (λ b. b.profile) own)) }
     ensures means { IfOk result (λ own. IfSome own (λ b. GivesMeaning b.filter b.profile)) }
-    ensures refused { IfErr result (λ refusal. (refusal ≡ Refusal.Memory) ⊎ LacksProfile choice.now (bytes_in answer.now) refusal) }
+    ensures refused { IfErr result (λ refusal.
+        (refusal ≡ Refusal.Memory) ⊎ LacksProfile choice.now (bytes_in answer.now) refusal) }
 {
     match choice {
         SeccompProfile::Unconfined => Ok(None),
@@ -159,7 +170,8 @@ fn file_own(
     ensures found { IfOk result (λ own. IfSome own (λ b. IsProfileIn (bytes_in answer.now) b.profile)) }
     ensures some { IfOk result (λ own. IsSome own) }
     ensures means { IfOk result (λ own. IfSome own (λ b. GivesMeaning b.filter b.profile)) }
-    ensures refused { IfErr result (λ refusal. (refusal ≡ Refusal.Memory) ⊎ LacksIn (bytes_in answer.now) refusal) }
+    ensures refused { IfErr result (λ refusal.
+        (refusal ≡ Refusal.Memory) ⊎ LacksIn (bytes_in answer.now) refusal) }
 {
     match bytes_in(answer) {
         Ok(bytes) => own_in(alloc, bytes),
@@ -189,7 +201,8 @@ fn stack_of(
     baseline: Option<&Filter>,
     own: Option<Filter>,
 ) -> Result<Stack, AllocError>
-    ensures { IfOk result (λ stack. stack.filters ≡ option_to_list (option_map (λ f. f.now) baseline.entry) ++ option_to_list own) }
+    ensures { IfOk result (λ stack. stack.filters ≡ option_to_list (option_map (λ f. f.now) baseline.entry)
+        ++ option_to_list own) }
 {
     let mut stack = Stack::new(alloc);
     if let Some(filter) = baseline {
@@ -256,8 +269,10 @@ pub fn built_cell(
     choice: &SeccompProfile,
     files: &FileAnswers,
 ) -> Result<Cell, Refusal>
-    ensures made { IfOk result (λ cell. IsMade baseline.now id container.now image.now choice.now files.now cell) }
-    ensures refused { IfErr result (λ refusal. Lacks choice.now files.now refusal ⊎ (WasRead files.now × (refusal ≡ Refusal.Memory))) }
+    ensures made { IfOk result (λ cell. IsMade baseline.now id container.now image.now choice.now files.now
+        cell) }
+    ensures refused { IfErr result (λ refusal.
+        Lacks choice.now files.now refusal ⊎ (WasRead files.now × (refusal ≡ Refusal.Memory))) }
 {
     let script = script_of(alloc, &files.script)?;
     let own = own(alloc, choice, &files.profile)?;
@@ -279,7 +294,8 @@ fn cell_of(
     choice: &SeccompProfile,
 ) -> Result<Cell, AllocError>
     requires means { IfSome own (λ b. GivesMeaning b.filter b.profile) }
-    ensures { IfOk result (λ cell. IsCellOf (option_to_list baseline.now) script (option_map (λ b. b.profile) own) (label_for id container.now image.now choice.now) cell) }
+    ensures { IfOk result (λ cell. IsCellOf (option_to_list baseline.now) script
+        (option_map (λ b. b.profile) own) (label_for id container.now image.now choice.now) cell) }
 {
     let label = label_of(alloc, id, container, image, choice)?;
     match own {

@@ -145,7 +145,8 @@ fn statuses_tree(alloc: Global, list: &Statuses) -> Result<Value, AllocError>
 }
 
 fn list_tree(alloc: Global, key: &str, trees: Vec<Value>) -> Result<Value, AllocError>
-    ensures { IfOk result (λ v. view v ≡ object (member key.now (array (items_view trees.items)) no_members)) }
+    ensures { IfOk result (λ v. view v
+        ≡ object (member key.now (array (items_view trees.items)) no_members)) }
 {
     let object = Object::new(alloc).with(key, Value::Array(trees))?;
     Ok(object.done())

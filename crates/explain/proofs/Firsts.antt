@@ -1,5 +1,6 @@
 -- What the first entry that applies decides is what all of them together decide.
-use Rattle.std.proofs.Common.{◌≡◌, ℕ, zero, suc, ◌<◌, ◌≤◌, List, [], ◌∷◌, ◌&&◌, length, Bool, true, false, Some, refl, ◌∙◌, arith}
+use Rattle.std.proofs.Common.{◌≡◌, ℕ, zero, suc, ◌<◌, ◌≤◌, List, [], ◌∷◌, ◌&&◌, length, Bool, true, false}
+use Rattle.std.proofs.Common.{Some, refl, ◌∙◌, arith}
 use Rattle.std.specs.Prelude.{slice_get}
 use Rattle.std.proofs.lemmas.Option.{slice_get_within}
 use Rattle.call_data.specs.declared.sys_call.SysCall.{SysCall}
@@ -9,19 +10,25 @@ use Rattle.oci_profile.specs.Meaning.{decision_of}
 use Rattle.explain.specs.Explained.{AppliesFirst, NoneApplies, applies}
 
 -- an entry that does not apply leaves the decision to those behind it
-passed : (entry : Entry) (entries : List Entry) (default : Decision) (call : SysCall) → applies call entry ≡ false → decision_of (entry ∷ entries) default call.nr call ≡ decision_of entries default call.nr call
+passed : (entry : Entry) (entries : List Entry) (default : Decision) (call : SysCall)
+    → applies call entry ≡ false → decision_of (entry ∷ entries) default call.nr call
+    ≡ decision_of entries default call.nr call
 passed entry entries default call fails = rw fails refl
 
-pub none_means : (entries : List Entry) (default : Decision) (call : SysCall) → NoneApplies entries call → decision_of entries default call.nr call ≡ default
+pub none_means : (entries : List Entry) (default : Decision) (call : SysCall) → NoneApplies entries call
+    → decision_of entries default call.nr call ≡ default
 none_means [] default call none = refl
 none_means (entry ∷ entries) default call none =
-    passed entry entries default call (none 0 entry refl) ∙ none_means entries default call (λ k other there. none (suc k) other there)
+    passed entry entries default call (none 0 entry refl)
+    ∙ none_means entries default call (λ k other there. none (suc k) other there)
 
 both : (a b : Bool) → a ≡ true → b ≡ true → (a && b) ≡ true
 both true b h g = g
 both false b h g = absurd cc
 
-pub first_means : (entries : List Entry) (default : Decision) (call : SysCall) (place : ℕ) (decision : Decision) → AppliesFirst entries call place decision → decision_of entries default call.nr call ≡ decision
+pub first_means : (entries : List Entry) (default : Decision) (call : SysCall) (place : ℕ)
+    (decision : Decision) → AppliesFirst entries call place decision
+    → decision_of entries default call.nr call ≡ decision
 first_means [] default call place decision first = absurd cc
 first_means (here ∷ entries) default call zero decision first =
     let same : here ≡ first.entry = cc (first.there) in
@@ -38,5 +45,7 @@ first_means (here ∷ entries) default call (suc place) decision first =
     })
 
 -- what decides is one of the list
-pub within : (entries : List Entry) (call : SysCall) (place : ℕ) (decision : Decision) → AppliesFirst entries call place decision → place ≤ length entries
-within entries call place decision first = let h : place < length entries = slice_get_within entries place first.entry first.there in omega arith
+pub within : (entries : List Entry) (call : SysCall) (place : ℕ) (decision : Decision)
+    → AppliesFirst entries call place decision → place ≤ length entries
+within entries call place decision first = let h : place < length entries =
+    slice_get_within entries place first.entry first.there in omega arith

@@ -1,7 +1,8 @@
 -- What decides a call under a profile, and what is passed over before it: OCI runtime-spec 1.1, config-linux,
--- seccomp. This project's own are the order of the entries, and what is said of other architectures and of the
--- x32 interface: docs/SEMANTICS.md, "Profiles".
-use Rattle.std.specs.Prelude.{◌≡◌, ◌≢◌, ◌<◌, ◌≤◌, ℕ, Bool, true, false, not, ◌&&◌, if◌then◌else◌, List, find, filter_map, length, slice_get, slice_index, take, Option, Some, None}
+-- seccomp. This project's own are the order of the entries, and what is said of other architectures and of
+-- the x32 interface: docs/SEMANTICS.md, "Profiles".
+use Rattle.std.specs.Prelude.{◌≡◌, ◌≢◌, ◌<◌, ◌≤◌, ℕ, Bool, true, false, not, ◌&&◌, if◌then◌else◌, List, find}
+use Rattle.std.specs.Prelude.{filter_map, length, slice_get, slice_index, take, Option, Some, None}
 use Rattle.std.specs.List.{enumerate_from}
 use Rattle.call_data.specs.declared.sys_call.SysCall.{SysCall}
 use Rattle.oci_profile.specs.declared.conditions.Cond.{Cond}
@@ -23,17 +24,20 @@ abbrev pub first_failing : SysCall → Entry → Option Cond
 first_failing call entry = find (λ cond. not (holds_on cond call)) entry.conds
 
 -- the entry at this place is the first that applies, and has this decision
-pub record AppliesFirst (entries : List Entry) (call : SysCall) (place : ℕ) (decision : Decision) : Type 0 where
+pub record AppliesFirst (entries : List Entry) (call : SysCall) (place : ℕ)
+    (decision : Decision) : Type 0 where
   pub entry : Entry
   pub there : slice_get entries place ≡ Some entry
   pub named : names entry call.nr ≡ true
   pub holds : all_hold entry call ≡ true
   pub decides : entry.decision ≡ decision
-  pub before : (k : ℕ) (other : Entry) → k < place → slice_get entries k ≡ Some other → applies call other ≡ false
+  pub before : (k : ℕ) (other : Entry) → k < place → slice_get entries k ≡ Some other
+      → applies call other ≡ false
 
 -- no entry applies
 abbrev pub NoneApplies : List Entry → SysCall → Type 0
-NoneApplies entries call = (k : ℕ) (other : Entry) → slice_get entries k ≡ Some other → applies call other ≡ false
+NoneApplies entries call = (k : ℕ) (other : Entry) → slice_get entries k ≡ Some other
+    → applies call other ≡ false
 
 -- 0xc000003e is AUDIT_ARCH_X86_64 of linux/audit.h, 0x40000000 the bit of x32 of asm/unistd.h
 abbrev pub IsJudged : SysCall → Type 0
@@ -42,9 +46,12 @@ IsJudged call = (call.arch ≡ 0xc000003e) × (call.nr < 0x40000000)
 -- the decision is this one's
 abbrev pub Decides : Profile → SysCall → Decider → Decision → Type 0
 Decides profile call by.Architecture decision = (call.arch ≢ 0xc000003e) × (decision ≡ KillProcess)
-Decides profile call by.X32Bit decision = (call.arch ≡ 0xc000003e) × (0x40000000 ≤ call.nr) × (decision ≡ KillProcess)
-Decides profile call (by.Entry place) decision = IsJudged call × AppliesFirst profile.entries call place decision
-Decides profile call by.Default decision = IsJudged call × NoneApplies profile.entries call × (decision ≡ profile.default)
+Decides profile call by.X32Bit decision = (call.arch ≡ 0xc000003e) × (0x40000000 ≤ call.nr)
+    × (decision ≡ KillProcess)
+Decides profile call (by.Entry place) decision = IsJudged call
+    × AppliesFirst profile.entries call place decision
+Decides profile call by.Default decision = IsJudged call × NoneApplies profile.entries call
+    × (decision ≡ profile.default)
 
 -- an entry that decides is one of the list
 abbrev pub IsWithin : List Entry → Decider → Type 0
@@ -56,7 +63,8 @@ IsWithin entries by.Default = Unit {0}
 -- what is told of an entry: nothing where it does not name the number
 abbrev pub failing_at : SysCall → ℕ → Option Cond → Option PassedOver
 failing_at call place None = None
-failing_at call place (Some cond) = Some (record { place = place; cond = cond; argument = slice_index call.args cond.index })
+failing_at call place (Some cond) = Some
+    (record { place = place; cond = cond; argument = slice_index call.args cond.index })
 
 abbrev pub told : SysCall → ℕ × Entry → Option PassedOver
 told call at = if names at.1 call.nr then failing_at call at.0 (first_failing call at.1) else None

@@ -1,2 +1,3 @@
 pub mod Explained
+pub mod Objects
 pub mod Text

@@ -3,7 +3,8 @@ use Rattle.std.specs.Prelude.{ℕ, List, [], ◌∷◌, ◌++◌, codes}
 use Rattle.std.specs.Fmt.{decimal}
 use Rattle.action.specs.Verdict.{name_of}
 use Rattle.oci_profile.specs.declared.conditions.Op.{Op}
-use Rattle.oci_profile.specs.declared.conditions.Op.TheVariants.{NotEqual, Less, LessOrEqual, Equal, GreaterOrEqual, Greater, MaskedEqual}
+use Rattle.oci_profile.specs.declared.conditions.Op.TheVariants.{NotEqual, Less, LessOrEqual, Equal}
+use Rattle.oci_profile.specs.declared.conditions.Op.TheVariants.{GreaterOrEqual, Greater, MaskedEqual}
 use Rattle.oci_profile.specs.declared.decision.Decision.{Decision}
 use Rattle.oci_profile.specs.Decision.{verdict_of}
 use Rattle.explain.specs.declared.explanation.Decider.{Decider}
@@ -28,8 +29,10 @@ masked_text _ two = []
 -- an entry's place, the argument that was looked at, and what its condition wants of it
 abbrev pub passed_text : PassedOver → List ℕ
 passed_text passed =
-    codes "not syscalls[" ++ (decimal passed.place ++ (codes "]: args[" ++ (decimal passed.cond.index ++ (codes "] is "
-    ++ (decimal passed.argument ++ (codes ", wanted " ++ (op_text passed.cond.op ++ (codes " " ++ (decimal passed.cond.value
+    codes "not syscalls[" ++ (decimal passed.place
+    ++ (codes "]: args[" ++ (decimal passed.cond.index ++ (codes "] is "
+    ++ (decimal passed.argument ++ (codes ", wanted "
+    ++ (op_text passed.cond.op ++ (codes " " ++ (decimal passed.cond.value
     ++ masked_text passed.cond.op passed.cond.value_two)))))))))
 
 abbrev pub decider_text : Decider → List ℕ
@@ -41,7 +44,8 @@ decider_text Default = codes "defaultAction"
 -- the action and its data, and what decides
 abbrev pub decided_text : Decision → Decider → List ℕ
 decided_text decision decider =
-    name_of (verdict_of decision).action ++ (codes " " ++ (decimal (verdict_of decision).ret_data ++ (codes " by " ++ decider_text decider)))
+    name_of (verdict_of decision).action ++
+    (codes " " ++ (decimal (verdict_of decision).ret_data ++ (codes " by " ++ decider_text decider)))
 
 -- one line an entry
 abbrev pub passed_lines : List PassedOver → List ℕ

@@ -6,7 +6,7 @@ use call_data::SysCall;
 use oci_profile::{Cond, Entry, Op};
 
 /// Whether the entry names the call's number and all its conditions hold.
-pub(crate) fn applies(entry: &Entry, call: &SysCall) -> bool
+pub fn applies(entry: &Entry, call: &SysCall) -> bool
     ensures { result ≡ applies call.now entry.now }
 {
     entry.names(call.nr) && is_met(entry, call)

@@ -2,7 +2,8 @@ ghost use Rattle.std.specs.Prelude.{◌≡◌, IfNone, IfOk, IfSome, filter_map}
 ghost use Rattle.std.specs.List.{enumerate_from};
 ghost use Rattle.oci_profile.specs.Decision.{value_of};
 ghost use Rattle.oci_profile.specs.Meaning.{meaning};
-ghost use Rattle.explain.specs.Explained.{AppliesFirst, Decides, IsWithin, NoneApplies, before, passed_over, told};
+ghost use Rattle.explain.specs.Explained.{AppliesFirst, Decides, IsWithin, NoneApplies, before, passed_over};
+ghost use Rattle.explain.specs.Explained.{told};
 
 use crate::conditions::{applies, first_failing};
 use crate::explanation::{Decider, Explanation, PassedOver};

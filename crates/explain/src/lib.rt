@@ -2,15 +2,18 @@
 //! 1.1, config-linux, seccomp, where the first entry that names the number and whose conditions all hold
 //! decides.
 //!
-//! What an explanation says stands in `specs/Explained.antt`, and the lines that are printed of it in
-//! `specs/Text.antt`.
+//! What an explanation says stands in `specs/Explained.antt`, the lines that are printed of it in
+//! `specs/Text.antt`, and the same as objects of JSON in `specs/Objects.antt`.
 #![tactic(auto)]
 
 mod conditions;
 mod explainer;
 mod explanation;
 mod lines;
+mod objects;
 
+pub use conditions::applies;
 pub use explainer::explain;
 pub use explanation::{Decider, Explanation, PassedOver};
 pub use lines::explanation_lines;
+pub use objects::explanation_objects;

@@ -29,7 +29,7 @@ impl fmt::Display for PassedOver {
 }
 
 /// The operator's name of OCI, without its prefix `SCMP_CMP_`.
-fn op_text(op: Op) -> &'static str
+pub(crate) fn op_text(op: Op) -> &'static str
     ensures { result.now ≡ op_text op }
 {
     match op {

@@ -1,3 +1,4 @@
 pub mod Fitting
 pub mod Odd
 pub mod PlacedFields
+pub mod SameReading

@@ -1,5 +1,6 @@
 -- Fields of an object as `json_tree` reads them, and where a fault of one is: this project's own.
-use Rattle.std.specs.Prelude.{◌≡◌, ◌≢◌, ℕ, List, [], ◌∷◌, is_some, not, position, option_and_then, Option, Some, None, Result, Ok, Err}
+use Rattle.std.specs.Prelude.{◌≡◌, ◌≢◌, ℕ, List, [], ◌∷◌, is_some, not, position, option_and_then, Option}
+use Rattle.std.specs.Prelude.{Some, None, Result, Ok, Err}
 use Rattle.serde_json.specs.Data.{Data}
 use Rattle.serde_json.specs.Find.{get}
 use Rattle.json_tree.specs.declared.faults.FieldFault.{FieldFault}
@@ -28,18 +29,23 @@ item_place (Some index) = Item index ∷ []
 -- in a list that is to have items of one kind, the first that is not; in what is no list, nothing
 abbrev pub odd_item : {A : Type 0} → (Data → Option A) → Option Data → List Part
 odd_item kind None = []
-odd_item kind (Some tree) = item_place (option_and_then (position (λ item. not (is_some (kind item)))) (list tree))
+odd_item kind (Some tree) = item_place (option_and_then (position (λ item. not (is_some (kind item))))
+    (list tree))
 
 abbrev pub list_fault : {A : Type 0} → (Data → Option A) → List ℕ → Data → FieldFault → FieldFaultAt
 list_fault kind key tree fault = record { fault = fault; place = Member key ∷ odd_item kind (get key tree) }
 
 -- a list that has to be there, as `list_kind` reads it, with items of one kind
-unfoldable pub required_each : {A B : Type 0} → (Data → Option A) → (Data → Option B) → List ℕ → Data → Result B FieldFaultAt
-required_each kind list_kind key tree = as_fault (list_fault kind key tree) (plain.required list_kind key tree)
+unfoldable pub required_each : {A B : Type 0} → (Data → Option A) → (Data → Option B) → List ℕ → Data
+    → Result B FieldFaultAt
+required_each kind list_kind key tree =
+    as_fault (list_fault kind key tree) (plain.required list_kind key tree)
 
 -- one that may be left out, also as null
-unfoldable pub optional_each : {A B : Type 0} → (Data → Option A) → (Data → Option B) → List ℕ → Data → Result (Option B) FieldFaultAt
-optional_each kind list_kind key tree = as_fault (list_fault kind key tree) (plain.optional list_kind key tree)
+unfoldable pub optional_each : {A B : Type 0} → (Data → Option A) → (Data → Option B) → List ℕ → Data
+    → Result (Option B) FieldFaultAt
+optional_each kind list_kind key tree =
+    as_fault (list_fault kind key tree) (plain.optional list_kind key tree)
 
 -- A call gives this reading, memory aside: `memory` is what is wrong where a growth was refused, wherever.
 abbrev pub GivesAt : {X Y E F : Type 0} → (E → F) → F → (X → Y) → Result X E → Result Y E → Type 0

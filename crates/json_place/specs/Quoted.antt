@@ -1,6 +1,7 @@
 -- A text as it is shown to a person: characters escaped as in JSON (RFC 8259, section 7), and where it is
 -- cut, this project's own.
-use Rattle.std.specs.Prelude.{ℕ, ◌-◌, ◌==◌, List, [], ◌∷◌, ◌++◌, length, replicate, false, chars, codes, encode_utf8, nat_le, if◌then◌else◌}
+use Rattle.std.specs.Prelude.{ℕ, ◌-◌, ◌==◌, List, [], ◌∷◌, ◌++◌, length, replicate, false, chars, codes}
+use Rattle.std.specs.Prelude.{encode_utf8, nat_le, if◌then◌else◌}
 use Rattle.std.specs.Fmt.{digits}
 use Rattle.std.specs.Char.{is_control, len_utf8}
 use Rattle.json_place.specs.declared.quoted.TheConstants.{MAX_SHOWN}
@@ -22,7 +23,8 @@ escaped c =
 -- those of the characters that fit into the bytes that are left, and the end: behind a cut it is marked
 abbrev pub fitting : ℕ → List ℕ → List ℕ
 fitting room [] = codes "\""
-fitting room (c ∷ cs) = if nat_le (len_utf8 c) room then escaped c ++ fitting (room - len_utf8 c) cs else codes "\".."
+fitting room (c ∷ cs) = if nat_le (len_utf8 c) room then escaped c ++ fitting (room - len_utf8 c) cs
+    else codes "\".."
 
 abbrev pub quoted_text : List ℕ → List ℕ
 quoted_text text = codes "\"" ++ fitting MAX_SHOWN (chars text)

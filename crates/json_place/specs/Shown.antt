@@ -30,5 +30,6 @@ shown_text (Other number) = None
 abbrev pub IsShown : Data → Option shown.Shown → Type 0
 IsShown tree (Some (Text words)) = text tree ≡ Some words.now
 IsShown tree (Some (Whole number)) = whole tree ≡ Some number
-IsShown tree (Some (Other number)) = (text tree ≡ None) × (whole tree ≡ None) × (as_number tree ≡ Some (number_view number.now))
+IsShown tree (Some (Other number)) = (text tree ≡ None) × (whole tree ≡ None)
+    × (as_number tree ≡ Some (number_view number.now))
 IsShown tree None = (text tree ≡ None) × (as_number tree ≡ None)

@@ -114,7 +114,8 @@ pub fn optional_list<'v>(
     tree: &'v Value,
     key: &'static str,
 ) -> Result<Option<&'v [Value]>, FieldFaultAt>
-    ensures { as_read (option_map (λ items. map view items.now)) result ≡ optional kind.list key.now (view tree.now) }
+    ensures { as_read (option_map (λ items. map view items.now)) result
+        ≡ optional kind.list key.now (view tree.now) }
 {
     json_tree::optional_list(tree, key).map_err(|fault| FieldFaultAt::of_member(key, fault))
 }

@@ -4,7 +4,8 @@ ghost use Rattle.json_place.specs.declared.fields.FieldFaultAt.{FieldFaultAt};
 ghost use Rattle.json_tree.specs.declared.faults.FieldFault.{FieldFault};
 ghost use Rattle.json_tree.specs.Reading.{as_read};
 ghost use Rattle.json_tree.specs.Tree as kind;
-ghost use Rattle.json_place.specs.Fields.{GivesAt, item_place, list_fault, odd_item, optional_each, required_each};
+ghost use Rattle.json_place.specs.Fields.{GivesAt, item_place, list_fault, odd_item, optional_each};
+ghost use Rattle.json_place.specs.Fields.{required_each};
 
 use crate::fields::FieldFaultAt;
 use crate::place::{Place, Step};
@@ -48,7 +49,8 @@ pub fn required_wholes(
 ) -> Result<Vec<u64>, FieldFaultAt>
     ensures value { GivesAt (λ e. e.fault) FieldFault.Memory (λ v. v.items) result
         (required_each kind.whole kind.wholes key.now (view tree.now)) }
-    ensures told { (e : FieldFaultAt) → required_each kind.whole kind.wholes key.now (view tree.now) ≡ Err e → result ≡ Err e }
+    ensures told { (e : FieldFaultAt) → required_each kind.whole kind.wholes key.now (view tree.now) ≡ Err e
+        → result ≡ Err e }
 {
     json_tree::required_wholes(alloc, tree, key).map_err(|fault| whole_fault(tree, key, fault))
 }

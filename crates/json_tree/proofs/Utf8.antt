@@ -15,4 +15,8 @@ told bytes tree utf8 is = rw (is_utf8-from_IsUtf8 bytes utf8) is
 pub untold : (bytes : List ℕ) → (IsUtf8 bytes → read bytes ≡ None) → tree_of bytes ≡ None
 unfolding tree_of
 untold bytes refused =
-    elim (is_utf8 bytes) as (λ b. is_utf8 bytes ≡ b → cond b (read bytes) None ≡ None) [ true ↦ λ e. refused (IsUtf8-from_is_utf8 bytes e) | false ↦ λ e. refl ] refl
+    elim (is_utf8 bytes) as (λ b. is_utf8 bytes ≡ b → cond b (read bytes) None ≡ None) [
+      | true ↦ λ e.
+          refused (IsUtf8-from_is_utf8 bytes e)
+      | false ↦ λ e. refl
+    ] refl

@@ -85,6 +85,7 @@ pub not_there : (key : List ℕ) (tree : Data) → member key tree ≡ None → 
 unfolding has
 not_there key tree h = rw h refl
 
-pub is_there : (key : List ℕ) (tree found : Data) → get key tree ≡ Some found → value found ≡ Some found → has key tree ≡ true
+pub is_there : (key : List ℕ) (tree found : Data) → get key tree ≡ Some found → value found ≡ Some found
+    → has key tree ≡ true
 unfolding has member
 is_there key tree found is h = rw (is, h) refl

@@ -1,6 +1,7 @@
 -- What a reader asks of a JSON tree (RFC 8259): of the tree that `serde_json` reads of a text.
 -- A kind says what a tree is, if it is that: `Data → Option A`.
-use Rattle.std.specs.Prelude.{ℕ, ◌^◌, List, [], ◌∷◌, Bool, nat_lt, if◌then◌else◌, is_some, Option, Some, None, option_map, option_and_then}
+use Rattle.std.specs.Prelude.{ℕ, ◌^◌, List, [], ◌∷◌, Bool, nat_lt, if◌then◌else◌, is_some, Option, Some, None}
+use Rattle.std.specs.Prelude.{option_map, option_and_then}
 use Rattle.std.specs.Str.{is_utf8}
 use Rattle.serde_json.specs.Data as json
 use Rattle.serde_json.specs.Data.{Data, Items}

@@ -61,7 +61,8 @@ pub fn optional_text<'v>(tree: &'v Value, key: &str) -> Result<Option<&'v str>, 
 /// The items of the list of a field that may be left out, also as null.
 #[tactic(auto, unfolding(crate::specs::Reading::optional))]
 pub fn optional_list<'v>(tree: &'v Value, key: &str) -> Result<Option<&'v [Value]>, FieldFault>
-    ensures { as_read (option_map (λ items. map view items.now)) result ≡ optional kind.list key.now (view tree.now) }
+    ensures { as_read (option_map (λ items. map view items.now)) result
+        ≡ optional kind.list key.now (view tree.now) }
 {
     match member(tree, key) {
         Some(found) => list(found).map(Some).ok_or(FieldFault::WrongType),
@@ -89,7 +90,8 @@ pub fn optional_wholes(
 ) -> Result<Option<Vec<u64>>, FieldFault>
     ensures value { Gives FieldFault.Memory (option_map (λ v. v.items)) result
         (optional kind.wholes key.now (view tree.now)) }
-    ensures told { (fault : FieldFault) → optional kind.wholes key.now (view tree.now) ≡ Err fault → result ≡ Err fault }
+    ensures told { (fault : FieldFault) → optional kind.wholes key.now (view tree.now) ≡ Err fault
+        → result ≡ Err fault }
 {
     match member(tree, key) {
         Some(found) => wholes(alloc, found)?.map(Some).ok_or(FieldFault::WrongType),

@@ -62,8 +62,10 @@ pub fn required_object<'v>(tree: &'v Value, key: &str) -> Result<&'v Value, Fiel
 /// The whole numbers of the list of a field that has to be there.
 #[tactic(auto, unfolding(crate::specs::Reading::required))]
 pub fn required_wholes(alloc: Global, tree: &Value, key: &str) -> Result<Vec<u64>, FieldFault>
-    ensures value { Gives FieldFault.Memory (λ v. v.items) result (required kind.wholes key.now (view tree.now)) }
-    ensures told { (fault : FieldFault) → required kind.wholes key.now (view tree.now) ≡ Err fault → result ≡ Err fault }
+    ensures value { Gives FieldFault.Memory (λ v. v.items) result
+        (required kind.wholes key.now (view tree.now)) }
+    ensures told { (fault : FieldFault) → required kind.wholes key.now (view tree.now) ≡ Err fault
+        → result ≡ Err fault }
 {
     let found = tree.get(key).ok_or(FieldFault::Missing)?;
     wholes(alloc, found)?.ok_or(FieldFault::WrongType)

@@ -3,4 +3,3 @@ pub mod Distinct
 pub mod Found
 pub mod FoundPod
 pub mod Only
-pub mod Answered

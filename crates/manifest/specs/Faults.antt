@@ -11,7 +11,8 @@ use Rattle.json_place.specs.Places.{within}
 use Rattle.json_place.specs.declared.fields.FieldFaultAt.{FieldFaultAt}
 use Rattle.manifest.specs.declared.faults.PodFault.{PodFault}
 use Rattle.manifest.specs.declared.placed.PodFaultAt.{PodFaultAt}
-use Rattle.manifest.specs.declared.faults.PodFault.TheVariants.{NotJson, Missing, WrongType, BadName, RepeatedName, BadProfile, TooMany, Memory}
+use Rattle.manifest.specs.declared.faults.PodFault.TheVariants.{NotJson, Missing, WrongType, BadName}
+use Rattle.manifest.specs.declared.faults.PodFault.TheVariants.{RepeatedName, BadProfile, TooMany, Memory}
 
 abbrev pub fault_of_field : FieldFault → PodFault
 fault_of_field field.Missing = Missing

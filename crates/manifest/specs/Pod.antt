@@ -1,7 +1,8 @@
--- Manifests of pods as JSON trees: Kubernetes 1.27, API reference, `Pod` v1, the fields that this project runs.
--- Which tree is which pod, field by field; nothing here knows of an order in which the fields are read. This
--- project's own are the uid of a pod that has none, that an image is a descending path, and the limits.
-use Rattle.std.specs.Prelude.{◌≡◌, ℕ, List, [], ◌++◌, length, codes, Bool, false, IsTrue, Option, Some, None, unwrap_or}
+-- Manifests of pods as JSON trees: Kubernetes 1.27, API reference, `Pod` v1, the fields that this project
+-- runs. Which tree is which pod, field by field; nothing here knows of an order in which the fields are read.
+-- This project's own are the uid of a pod that has none, that an image is a descending path, and the limits.
+use Rattle.std.specs.Prelude.{◌≡◌, ℕ, List, [], ◌++◌, length, codes, Bool, false, IsTrue, Option, Some, None}
+use Rattle.std.specs.Prelude.{unwrap_or}
 use Rattle.serde_json.specs.Data.{Data}
 use Rattle.json_tree.specs.Tree.{tree_of, flag, list, object, text, whole}
 use Rattle.json_tree.specs.Reading.{HasField, MayHaveField, Both}
@@ -47,7 +48,8 @@ pub record HasGrace (spec : Data) (grace : ℕ) : Type 0 where
 -- the type and the path that the profile has
 abbrev pub IsWritten : SeccompProfile → List ℕ → Option (List ℕ) → Type 0
 IsWritten RuntimeDefault name path = (name ≡ codes "RuntimeDefault") × (path ≡ None)
-IsWritten (Localhost file) name path = (name ≡ codes "Localhost") × (path ≡ Some file) × IsTrue (is_descending file)
+IsWritten (Localhost file) name path = (name ≡ codes "Localhost") × (path ≡ Some file)
+    × IsTrue (is_descending file)
 IsWritten Unconfined name path = (name ≡ codes "Unconfined") × (path ≡ None)
 
 -- a "seccompProfile"

@@ -1,12 +1,14 @@
 -- Which fault of a manifest is found first: docs/SEMANTICS.md, "Manifests", has the order. Each definition
 -- says what is read of a tree, its faults in that order, each with the place that it has in the tree.
-use Rattle.std.specs.Prelude.{ℕ, ◌==◌, ◌+◌, ◌-◌, List, [], length, codes, Bool, false, not, nat_lt, if◌then◌else◌, Option, Some, None, option_map, unwrap_or, Result, Ok, Err, ⊤}
+use Rattle.std.specs.Prelude.{ℕ, ◌==◌, ◌+◌, ◌-◌, List, [], length, codes, Bool, false, not, nat_lt}
+use Rattle.std.specs.Prelude.{if◌then◌else◌, Option, Some, None, option_map, unwrap_or, Result, Ok, Err, ⊤}
 use Rattle.std.specs.List.{list_any}
 use Rattle.std.specs.Result.{result_err}
 use Rattle.std.specs.Str.{bytes_eq}
 use Rattle.serde_json.specs.Data.{Data}
 use Rattle.json_tree.specs.Tree.{flag, list, object, text, whole}
-use Rattle.json_tree.specs.Reading.{◌>>=◌, ◌>>◌, refuse_if, or_else, if_there, in_order_after, as_fault, document as document_of}
+use Rattle.json_tree.specs.Reading.{◌>>=◌, ◌>>◌, refuse_if, or_else, if_there, in_order_after, as_fault}
+use Rattle.json_tree.specs.Reading.{document as document_of}
 use Rattle.json_place.specs.declared.fields.FieldFaultAt.{FieldFaultAt}
 use Rattle.json_place.specs.Parts.{Member, Item}
 use Rattle.json_place.specs.Fields.{GivesAt, required, optional}
@@ -15,7 +17,8 @@ use Rattle.lifecycle.specs.declared.policy.RestartPolicy.TheVariants.{Always, On
 use Rattle.manifest.specs.declared.containers.Container.{Container}
 use Rattle.manifest.specs.declared.containers.TheConstants.{MAX_CONTAINERS}
 use Rattle.manifest.specs.declared.faults.PodFault.{PodFault}
-use Rattle.manifest.specs.declared.faults.PodFault.TheVariants.{Missing, WrongType, BadName, RepeatedName, BadProfile, TooMany, Memory}
+use Rattle.manifest.specs.declared.faults.PodFault.TheVariants.{Missing, WrongType, BadName, RepeatedName}
+use Rattle.manifest.specs.declared.faults.PodFault.TheVariants.{BadProfile, TooMany, Memory}
 use Rattle.manifest.specs.declared.placed.PodFaultAt.{PodFaultAt}
 use Rattle.manifest.specs.declared.pods.Pod.{Pod}
 use Rattle.manifest.specs.declared.profiles.SeccompProfile.{SeccompProfile}
@@ -98,7 +101,8 @@ without_path profile (Some path) = Err (fault_at (codes "localhostProfile") BadP
 -- the type that takes one
 abbrev pub with_path : Option (List ℕ) → Result SeccompProfile PodFaultAt
 with_path None = Err (fault_at (codes "localhostProfile") BadProfile)
-with_path (Some path) = if is_descending path then Ok (Localhost path) else Err (fault_at (codes "localhostProfile") BadProfile)
+with_path (Some path) = if is_descending path then Ok (Localhost path)
+    else Err (fault_at (codes "localhostProfile") BadProfile)
 
 unfoldable pub profile_named : List ℕ → Option (List ℕ) → Result SeccompProfile PodFaultAt
 profile_named name path =
@@ -217,7 +221,8 @@ container_at others done item = under (Item (length done - others)) (container_o
 
 -- the containers of one list, behind those of another
 abbrev pub listed_of : List ℕ → List Container → List Data → Result (List Container) PodFaultAt
-listed_of key done items = under (Member (codes "spec")) (under (Member key) (in_order_after (container_at (length done)) done items))
+listed_of key done items = under (Member (codes "spec"))
+    (under (Member key) (in_order_after (container_at (length done)) done items))
 
 -- the containers of both lists, init ones first
 unfoldable pub containers_of : Lists → Result ContainerList PodFaultAt

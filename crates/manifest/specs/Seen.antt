@@ -23,7 +23,12 @@ abbrev pub lists_seen : ListsText → Lists
 lists_seen l = record { inits = map view l.inits.now; others = map view l.others.now }
 
 abbrev pub head_seen : HeadText → Head
-head_seen h = record { identity = identity_seen h.identity; terms = terms_seen h.terms; lists = lists_seen h.lists }
+head_seen h = record {
+  identity = identity_seen h.identity;
+  terms = terms_seen h.terms;
+  lists =
+      lists_seen h.lists;
+}
 
 abbrev pub context_seen : ContextText → Context
 context_seen c = record { privileged = c.privileged; profile = option_map profile_seen c.profile }

@@ -41,7 +41,8 @@ has_length_to most bytes = nat_le 1 (length bytes) && nat_le (length bytes) most
 
 -- begins and ends with a lower-case letter or a digit
 abbrev pub has_plain_ends : List ℕ → Bool
-has_plain_ends bytes = is_plain_byte (slice_index bytes 0) && is_plain_byte (slice_index bytes (length bytes - 1))
+has_plain_ends bytes = is_plain_byte (slice_index bytes 0)
+    && is_plain_byte (slice_index bytes (length bytes - 1))
 
 -- a pod's name
 unfoldable pub is_pod_name : List ℕ → Bool
@@ -66,4 +67,5 @@ has_zero bytes = list_any (λ byte. byte == 0) bytes
 
 -- a path that stays below the folder that it is relative to
 unfoldable pub is_descending : List ℕ → Bool
-is_descending bytes = has_length_to 1024 bytes && not (is_rooted bytes) && not (has_zero bytes) && not (climbs bytes)
+is_descending bytes = has_length_to 1024 bytes && not (is_rooted bytes) && not (has_zero bytes)
+    && not (climbs bytes)

@@ -2,7 +2,8 @@ ghost use Rattle.std.specs.Prelude.{◌≡◌, IfOk, IsTrue, Some, option_map};
 ghost use Rattle.serde_json.specs.View.{view};
 ghost use Rattle.json_tree.specs.Reading.{as_read, if_there};
 ghost use Rattle.manifest.specs.Profiles.{HasFitPath, profile_seen};
-ghost use Rattle.manifest.specs.Reading.{named_by, profile_in, profile_named, profile_of, profile_within, says, with_path, without_path};
+ghost use Rattle.manifest.specs.Reading.{named_by, profile_in, profile_named, profile_of, profile_within};
+ghost use Rattle.manifest.specs.Reading.{says, with_path, without_path};
 ghost use Rattle.manifest.specs.Texts as rule;
 
 use crate::faults::PodFault;
@@ -107,7 +108,8 @@ fn profile(tree: &Value) -> Result<ProfileText<'_>, PodFaultAt>
 
 #[tactic(auto, unfolding(crate::specs::Reading::profile_named))]
 fn named_profile<'v>(name: &str, path: Option<&'v str>) -> Result<ProfileText<'v>, PodFaultAt>
-    ensures value { as_read profile_seen result ≡ profile_named name.now (option_map (λ t. t.now) path.entry) }
+    ensures value { as_read profile_seen result
+        ≡ profile_named name.now (option_map (λ t. t.now) path.entry) }
     ensures fit { IfOk result (λ p. HasFitPath (Some p)) }
 {
     match name {

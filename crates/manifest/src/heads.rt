@@ -4,7 +4,9 @@ ghost use Rattle.serde_json.specs.View.{view};
 ghost use Rattle.json_tree.specs.Reading.{as_read, if_there};
 ghost use Rattle.manifest.specs.declared.containers.TheConstants.{MAX_CONTAINERS};
 ghost use Rattle.manifest.specs.Profiles.{HasFitPath, profile_seen};
-ghost use Rattle.manifest.specs.Reading.{checked_uid, grace_of, head_of, identity_of, inits_of, kind_of, lists_of, named_of, namespace_of, others_of, pod_profile_of, policy_named, policy_of, policy_there, terms_of, uid_of};
+ghost use Rattle.manifest.specs.Reading.{checked_uid, grace_of, head_of, identity_of, inits_of, kind_of};
+ghost use Rattle.manifest.specs.Reading.{lists_of, named_of, namespace_of, others_of, pod_profile_of};
+ghost use Rattle.manifest.specs.Reading.{policy_named, policy_of, policy_there, terms_of, uid_of};
 ghost use Rattle.manifest.specs.Seen.{head_seen, identity_seen, lists_seen, terms_seen};
 ghost use Rattle.manifest.specs.Texts as rule;
 

@@ -29,7 +29,8 @@ impl Model for Label {
 impl Label {
     /// The label of a text, if it may be one.
     pub fn new(alloc: Global, text: &str) -> Result<Option<Label>, AllocError>
-        ensures value { IfOk result (λ label. label ≡ (if rule.is_label text.now then Some text.now else None)) }
+        ensures value { IfOk result (λ label.
+            label ≡ (if rule.is_label text.now then Some text.now else None)) }
 
         // What may be none is told, whether there is memory or not.
         ensures told { rule.is_label text.now ≡ false → result ≡ Ok None }

@@ -29,7 +29,8 @@ impl Model for DescendingPath {
 impl DescendingPath {
     /// The path of a text, if it may be one.
     pub fn new(alloc: Global, text: &str) -> Result<Option<DescendingPath>, AllocError>
-        ensures value { IfOk result (λ path. path ≡ (if rule.is_descending text.now then Some text.now else None)) }
+        ensures value { IfOk result (λ path.
+            path ≡ (if rule.is_descending text.now then Some text.now else None)) }
 
         // What may be none is told, whether there is memory or not.
         ensures told { rule.is_descending text.now ≡ false → result ≡ Ok None }

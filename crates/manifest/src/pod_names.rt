@@ -29,7 +29,8 @@ impl Model for PodName {
 impl PodName {
     /// The name of a text, if it may be one.
     pub fn new(alloc: Global, text: &str) -> Result<Option<PodName>, AllocError>
-        ensures value { IfOk result (λ name. name ≡ (if rule.is_pod_name text.now then Some text.now else None)) }
+        ensures value { IfOk result (λ name.
+            name ≡ (if rule.is_pod_name text.now then Some text.now else None)) }
 
         // What may be none is told, whether there is memory or not.
         ensures told { rule.is_pod_name text.now ≡ false → result ≡ Ok None }

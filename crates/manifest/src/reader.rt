@@ -8,7 +8,9 @@ ghost use Rattle.manifest.specs.declared.pods.Pod.{Pod};
 ghost use Rattle.manifest.specs.Heads.{default_uid};
 ghost use Rattle.manifest.specs.Pod.{ReadsPod};
 ghost use Rattle.manifest.specs.Profiles.{HasFitPath};
-ghost use Rattle.manifest.specs.Reading.{Reads, container_at, container_of, containers_of, first_fault, first_fault_at, head_of, is_taken, listed_of, new_name_of, pod_from, pod_of, reading_of};
+ghost use Rattle.manifest.specs.Reading.{Reads, container_at, container_of, containers_of, first_fault};
+ghost use Rattle.manifest.specs.Reading.{first_fault_at, head_of, is_taken, listed_of, new_name_of, pod_from};
+ghost use Rattle.manifest.specs.Reading.{pod_of, reading_of};
 ghost use Rattle.manifest.specs.Seen.{head_seen, identity_seen, lists_seen};
 ghost use Rattle.manifest.specs.Texts as rule;
 

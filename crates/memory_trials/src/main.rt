@@ -4,10 +4,12 @@
 
 mod books;
 mod filters;
+mod folders;
 mod frames;
 mod judging;
 mod manifests;
 mod nodes;
+mod profile_uses;
 mod profiles;
 mod replies;
 mod requests;
@@ -15,6 +17,7 @@ mod scripts;
 mod serving;
 mod stacks;
 mod trial;
+mod watching;
 mod worlds;
 
 use crate::trial::Told;
@@ -64,7 +67,18 @@ fn of_texts(rt: &HostRuntime, name: &str) -> Option<Told> {
     if let Some(told) = replies::told(rt, name) {
         return Some(told);
     }
-    frames::told(rt, name)
+    if let Some(told) = frames::told(rt, name) {
+        return Some(told);
+    }
+    of_agents(rt, name)
+}
+
+/// The same of a call of what an agent tells of its pods, and of what brings them.
+fn of_agents(rt: &HostRuntime, name: &str) -> Option<Told> {
+    if let Some(told) = watching::told(rt, name) {
+        return Some(told);
+    }
+    folders::told(rt, name)
 }
 
 /// The same of a call of what judges calls.
@@ -79,6 +93,9 @@ fn of_filters(rt: &HostRuntime, name: &str) -> Option<Told> {
         return Some(told);
     }
     if let Some(told) = profiles::told(rt, name) {
+        return Some(told);
+    }
+    if let Some(told) = profile_uses::told(rt, name) {
         return Some(told);
     }
     scripts::told(rt, name)

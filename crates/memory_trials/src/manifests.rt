@@ -1,6 +1,6 @@
 //! Reading and copying manifests.
-use crate::trial::{Came, Told, Trial, tried};
-use manifest::{Pod, PodFault};
+use crate::trial::{Came, Told, Trial, is_at, tried};
+use manifest::{Pod, PodFault, PodFaultAt};
 use std::alloc::{AllocError, Global};
 
 /// What came of the call of this name, if it is one of these.
@@ -8,6 +8,7 @@ pub(crate) fn told(rt: &HostRuntime, name: &str) -> Option<Told> {
     let alloc = rt.alloc();
     match name {
         "manifest::read" => Some(tried(rt, Reads::new(alloc))),
+        "manifest::read_placed" => Some(tried(rt, Some(Places { alloc }))),
         "Pod::try_clone" => Some(tried(rt, Copies::new(alloc))),
         _ => None,
     }
@@ -16,9 +17,11 @@ pub(crate) fn told(rt: &HostRuntime, name: &str) -> Option<Told> {
 /// A manifest with a field of each kind.
 const POD: &str =
     r#"{"apiVersion":"v1","kind":"Pod","metadata":{"name":"web","namespace":"shop","uid":"u-1"},"spec":{
-"restartPolicy":"OnFailure","terminationGracePeriodSeconds":7,"securityContext":{"seccompProfile":{"type":"RuntimeDefault"}},
+"restartPolicy":"OnFailure","terminationGracePeriodSeconds":7,
+"securityContext":{"seccompProfile":{"type":"RuntimeDefault"}},
 "initContainers":[{"name":"setup","image":"setup.json"}],
-"containers":[{"name":"main","image":"main.json","securityContext":{"seccompProfile":{"type":"Localhost","localhostProfile":"main.profile.json"}}},
+"containers":[{"name":"main","image":"main.json","securityContext":{"seccompProfile":{"type":"Localhost",
+"localhostProfile":"main.profile.json"}}},
 {"name":"side","image":"side.json","securityContext":{"privileged":true}}]}}"#;
 
 /// `manifest::read`.
@@ -47,6 +50,37 @@ impl Trial for Reads {
             Ok(pod) => Came::right_if(pod.same(&self.wanted)),
             Err(PodFault::Memory) => Came::Memory,
             Err(_) => Came::Wrong,
+        }
+    }
+}
+
+/// `manifest::read_placed`, of a pod whose second container has no image.
+#[derive(Drop)]
+struct Places {
+    alloc: Global,
+}
+
+const FAULTY: &str =
+    r#"{"apiVersion":"v1","kind":"Pod","metadata":{"name":"web","namespace":"shop","uid":"u-1"},
+"spec":{"containers":[{"name":"main","image":"main.json"},{"name":"side"}]}}"#;
+
+impl Trial for Places {
+    type Answer = Result<Pod, PodFaultAt>;
+
+    fn call(&mut self) -> Result<Pod, PodFaultAt> {
+        manifest::read_placed(self.alloc, FAULTY.as_bytes())
+    }
+
+    fn came(&mut self, answer: &Result<Pod, PodFaultAt>) -> Came {
+        match answer {
+            Ok(_) => Came::Wrong,
+            Err(found) => match found.fault {
+                PodFault::Memory => Came::Memory,
+                PodFault::Missing => {
+                    Came::right_if(is_at(self.alloc, &found.place, "spec.containers[1].image"))
+                },
+                _ => Came::Wrong,
+            },
         }
     }
 }

@@ -1,8 +1,8 @@
 //! Reading scripts, and making the cells that play them.
 use crate::filters::{are_same, filter};
-use crate::trial::{Came, Told, Trial, tried};
+use crate::trial::{Came, Told, Trial, is_at, tried};
 use runtime_cell::{Cell, Did, State};
-use script::{Script, ScriptFault, Step};
+use script::{Script, ScriptFault, ScriptFaultAt, Step};
 use std::alloc::{AllocError, Global};
 use verdict::Stack;
 
@@ -11,6 +11,7 @@ pub(crate) fn told(rt: &HostRuntime, name: &str) -> Option<Told> {
     let alloc = rt.alloc();
     match name {
         "script::read" => Some(tried(rt, Reads::new(alloc))),
+        "script::read_placed" => Some(tried(rt, Some(Places { alloc }))),
         "Cell::playing" => Some(tried(rt, Plays::new(alloc))),
         "Cell::step" => Some(tried(rt, Lives::new(alloc))),
         _ => None,
@@ -20,7 +21,8 @@ pub(crate) fn told(rt: &HostRuntime, name: &str) -> Option<Told> {
 /// A script with a step of each kind.
 pub(crate) const SCRIPT: &str =
     r#"{"steps":[{"call":"getppid"},{"call":59,"args":[1,2,3],"ip":7,"onError":9},
-{"install":[[32,0,0,0],[21,0,1,39],[6,0,0,327693],[6,0,0,2147418112]],"onError":4},{"call":"getpid"},{"exitByAttempt":[1,0]},{"exit":3}]}"#;
+{"install":[[32,0,0,0],[21,0,1,39],[6,0,0,327693],[6,0,0,2147418112]],"onError":4},{"call":"getpid"},
+{"exitByAttempt":[1,0]},{"exit":3}]}"#;
 
 fn script(alloc: Global) -> Option<Script> {
     script::read(alloc, SCRIPT.as_bytes()).ok()
@@ -46,6 +48,35 @@ fn same_step(a: &Step, b: &Step) -> bool {
             },
         ) => are_same(filter, other) && *on_error == *or,
         _ => false,
+    }
+}
+
+/// `script::read_placed`, of a script whose second step has a bad argument.
+#[derive(Drop)]
+struct Places {
+    alloc: Global,
+}
+
+const FAULTY: &str = r#"{"steps":[{"call":"getpid"},{"call":"write","args":[1,"two"]}]}"#;
+
+impl Trial for Places {
+    type Answer = Result<Script, ScriptFaultAt>;
+
+    fn call(&mut self) -> Result<Script, ScriptFaultAt> {
+        script::read_placed(self.alloc, FAULTY.as_bytes())
+    }
+
+    fn came(&mut self, answer: &Result<Script, ScriptFaultAt>) -> Came {
+        match answer {
+            Ok(_) => Came::Wrong,
+            Err(found) => match found.fault {
+                ScriptFault::Memory => Came::Memory,
+                ScriptFault::WrongType => {
+                    Came::right_if(is_at(self.alloc, &found.place, "steps[1].args[1]"))
+                }
+                _ => Came::Wrong,
+            },
+        }
     }
 }
 

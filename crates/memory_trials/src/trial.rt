@@ -1,4 +1,6 @@
 //! How a call is tried whose requests for memory can be refused.
+use json_place::Place;
+use std::alloc::Global;
 use std::io::{self, Write};
 
 /// What came of a call.
@@ -96,4 +98,12 @@ fn behind<T: Trial>(trial: &mut T) -> Told {
 
 fn tell(rt: &HostRuntime, line: &str) -> io::Result<()> {
     rt.stderr().write_all(line.as_bytes())
+}
+
+/// Whether the place in a JSON text is this one.
+pub(crate) fn is_at(alloc: Global, place: &Place, wanted: &str) -> bool {
+    match format!(in alloc; "{place}") {
+        Ok(text) => text.as_str() == wanted,
+        Err(_) => false,
+    }
 }

@@ -21,7 +21,8 @@ pub(crate) fn told(rt: &HostRuntime, name: &str, event: &str) -> Option<Told> {
 /// was told and has not reported; worker 2 is to create that of `b`; nobody has claimed `d`.
 const BEFORE: &str =
     "admit a\nclaim 1\nserve 0\nreport 1 0\nclaim 1\nserve 1\nreport 1 1\nclaim 1\nserve 2\nreport 1 2\n\
-    step\nstep\nstep\nstep\nclaim 1\nserve 3\nadmit b\nclaim 2\nserve 4\nreport 2 4\nclaim 2\nadmit d\ntick 3";
+    step\nstep\nstep\nstep\nclaim 1\nserve 3\n\
+    admit b\nclaim 2\nserve 4\nreport 2 4\nclaim 2\nadmit d\ntick 3";
 
 /// An event, by its name and up to two numbers.
 fn event(alloc: Global, text: &str) -> Option<WorldEvent> {

@@ -6,13 +6,15 @@ use std::alloc::{AllocError, Global};
 const FRAMES: [&str; 9] = [
     "\0\0\0\x30{\"call\":\"RunPodSandbox\",\"id\":1,\"uid\":\"u1\",\"v\":1}",
     "\0\0\0\x16{\"id\":1,\"ok\":{},\"v\":1}",
-    "\0\0\0\x4c{\"attempt\":0,\"call\":\"ContainerStatus\",\"id\":2,\"name\":\"main\",\"uid\":\"u1\",\"v\":1}",
+    "\0\0\0\x4c{\"attempt\":0,\"call\":\"ContainerStatus\",\"id\":2,\"name\":\"main\",\"uid\":\"u1\",\
+     \"v\":1}",
     "\0\0\0\x4c{\"id\":2,\"ok\":{\"denied\":0,\"exit\":null,\"performed\":0,\"state\":\"CREATED\"},\"v\":1}",
     "\0\0\0\x02{}",
     "\x02\0\0\x30{\"call\":\"RunPodSandbox\",\"id\":1,\"uid\":\"u1\",\"v\":2}",
     "\x02\0\0\x16{\"id\":1,\"ok\":{},\"v\":2}",
     "\x02\0\0\x34{\"call\":\"ContainerStatuses\",\"id\":9,\"uid\":\"u1\",\"v\":2}",
-    "\x02\0\0\x75{\"id\":9,\"ok\":{\"statuses\":[{\"attempt\":0,\"denied\":0,\"exit\":null,\"name\":\"main\",\"performed\":0,\"state\":\"RUNNING\"}]},\"v\":2}",
+    "\x02\0\0\x75{\"id\":9,\"ok\":{\"statuses\":[{\"attempt\":0,\"denied\":0,\"exit\":null,\
+     \"name\":\"main\",\"performed\":0,\"state\":\"RUNNING\"}]},\"v\":2}",
 ];
 
 // Pushes a piece, and once more where a growth was refused, which leaves the feed as it was.

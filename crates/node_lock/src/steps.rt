@@ -77,7 +77,8 @@ fn taken(node: &mut Node, event: AgentEvent) -> Result<Answer, BookFault>
     ensures answer { IfOk result (λ answer. answer ≡ answer_of node.old event) }
     ensures node { OnOk result (node.new ≡ after_event node.old event) }
     ensures step { IfOk result (λ answer. IsStep node.old event answer node.new) }
-    ensures room { OnOk result (held_in node.new.slots + 1 ≤ held_in node.old.slots + room_for node.old event) }
+    ensures room { OnOk result
+        (held_in node.new.slots + 1 ≤ held_in node.old.slots + room_for node.old event) }
     ensures fault { OnErr result (result ≡ Err BookFault.Memory) }
     ensures only { OnErr result (is_abandon event ≡ false) }
     ensures err { OnErr result (node.new ≡ node.old) }

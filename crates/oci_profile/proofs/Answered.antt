@@ -1,5 +1,6 @@
 -- What a reading of a short text says of the text's first fault.
-use Rattle.std.proofs.Common.{◌≡◌, ◌≢◌, ℕ, ◌<◌, ◌≤◌, List, length, Some, None, Result, Ok, Err, refl, ap, subst, ◌∙◌}
+use Rattle.std.proofs.Common.{◌≡◌, ◌≢◌, ℕ, ◌<◌, ◌≤◌, List, length, Some, None, Result, Ok, Err, refl, ap}
+use Rattle.std.proofs.Common.{subst, ◌∙◌}
 use Rattle.std.specs.Prelude.{IfOk, IfErr}
 use Rattle.std.specs.Result.{result_err}
 use Rattle.std.proofs.lemmas.Bool.{lt-ltb, le-ltb}
@@ -11,7 +12,8 @@ use Rattle.oci_profile.specs.Faults.{fault_here}
 use Rattle.oci_profile.specs.Reading.{Reads, IsRefusedFor, first_fault_at, reading_of, short_of}
 use Rattle.oci_profile.proofs.Avoids.{Avoids, short_avoids}
 
-pub long_fault : (bytes : List ℕ) → MAX_PROFILE_BYTES < length bytes → first_fault_at bytes ≡ Some (fault_here TooLarge)
+pub long_fault : (bytes : List ℕ) → MAX_PROFILE_BYTES < length bytes
+    → first_fault_at bytes ≡ Some (fault_here TooLarge)
 unfolding reading_of
 long_fault bytes long = rw (lt-ltb MAX_PROFILE_BYTES (length bytes) long) refl
 
@@ -19,31 +21,21 @@ short_reading : (bytes : List ℕ) → length bytes ≤ MAX_PROFILE_BYTES → re
 unfolding reading_of
 short_reading bytes short = rw (le-ltb MAX_PROFILE_BYTES (length bytes) short) refl
 
-pub no_fault : (bytes : List ℕ) (result : Result Profile ProfileFaultAt) → length bytes ≤ MAX_PROFILE_BYTES → Reads (λ profile. profile) result (short_of bytes)
+pub no_fault : (bytes : List ℕ) (result : Result Profile ProfileFaultAt) → length bytes ≤ MAX_PROFILE_BYTES
+    → Reads (λ profile. profile) result (short_of bytes)
     → IfOk result (λ profile. first_fault_at bytes ≡ None)
 no_fault bytes (Ok profile) short h = ap result_err (short_reading bytes short ∙ h)
 no_fault bytes (Err fault) short h = tt
 
-pub first : (bytes : List ℕ) (result : Result Profile ProfileFaultAt) → length bytes ≤ MAX_PROFILE_BYTES → Reads (λ profile. profile) result (short_of bytes)
+pub first : (bytes : List ℕ) (result : Result Profile ProfileFaultAt) → length bytes ≤ MAX_PROFILE_BYTES
+    → Reads (λ profile. profile) result (short_of bytes)
     → IfErr result (λ found. found.fault ≢ Memory → first_fault_at bytes ≡ Some found)
 first bytes (Ok profile) short h = tt
 first bytes (Err fault) short h = λ not_memory. ap result_err (short_reading bytes short ∙ h not_memory)
 
-pub not_large : (bytes : List ℕ) (result : Result Profile ProfileFaultAt) → Reads (λ profile. profile) result (short_of bytes) → IsRefusedFor TooLarge result → ⊥
+pub not_large : (bytes : List ℕ) (result : Result Profile ProfileFaultAt)
+    → Reads (λ profile. profile) result (short_of bytes) → IsRefusedFor TooLarge result → ⊥
 not_large bytes (Ok profile) h large = large
 not_large bytes (Err found) h large =
     let not_memory : found.fault ≢ Memory = λ memory. cc in
     subst Avoids (h not_memory) (short_avoids bytes) large
-
-abbrev IsRead : {A E : Type 0} → A → Result A E → Type 0
-IsRead x r = r ≡ Ok x
-
--- what is read is the same, whether its faults have places or not
-pub same_value : {A E F : Type 0} (x y : A) → IsRead {A = A} {E = E} y (Ok x) → IsRead {A = A} {E = F} y (Ok x)
-same_value x y h =
-    let same : x ≡ y = cc in
-    ap Ok same
-
--- what is read is not refused
-pub not_refused : {A E F : Type 0} (x : A) (e : E) (f : F) → IsRead {A = A} {E = E} x (Err e) → IsRead {A = A} {E = F} x (Err f)
-not_refused x e f h = absurd cc

@@ -27,25 +27,39 @@ number_fits small name number h =
     let bytes = and_then_some number_of (text name) number h in
     small bytes.0 number bytes.2
 
-cons_fits : (here : Option ℕ) (numbers : List ℕ) → ((number : ℕ) → here ≡ Some number → number < NUMBER_LIMIT) → AreNumbers numbers → AreNumbers (cons_option here numbers)
+cons_fits : (here : Option ℕ) (numbers : List ℕ) → ((number : ℕ) → here ≡ Some number → number < NUMBER_LIMIT)
+    → AreNumbers numbers → AreNumbers (cons_option here numbers)
 cons_fits None numbers one rest = rest
-cons_fits (Some number) numbers one rest = All-cons (λ nr. nr < NUMBER_LIMIT) number numbers (one number refl) rest
+cons_fits (Some number) numbers one rest =
+    All-cons (λ nr. nr < NUMBER_LIMIT) number numbers (one number refl) rest
 
 pub one_number_fits : AreSmall → (name : List ℕ) → AreNumbers (cons_option (number_of name) [])
 one_number_fits small name = cons_fits (number_of name) [] (small name) (All-nil (λ nr. nr < NUMBER_LIMIT))
 
 pub numbers_fit : AreSmall → (names : List Data) → AreNumbers (filter_map number_named names)
 numbers_fit small [] = All-nil (λ nr. nr < NUMBER_LIMIT)
-numbers_fit small (name ∷ names) = cons_fits (number_named name) (filter_map number_named names) (number_fits small name) (numbers_fit small names)
+numbers_fit small (name ∷ names) = cons_fits (number_named name) (filter_map number_named names)
+    (number_fits small name) (numbers_fit small names)
 
-entry_fits : AreSmall → (default : Decision) (item : Data) (entry : Entry) → IsEntry default item entry → IsFit entry
-entry_fits small default item entry is = record { numbers_fit = subst AreNumbers (sym is.numbers_are) (numbers_fit small is.names); conds_fit = is.conds_fit }
+entry_fits : AreSmall → (default : Decision) (item : Data) (entry : Entry) → IsEntry default item entry
+    → IsFit entry
+entry_fits small default item entry is =
+    record {
+      numbers_fit = subst AreNumbers (sym is.numbers_are) (numbers_fit small is.names);
+      conds_fit =
+          is.conds_fit;
+    }
 
-each_fits : AreSmall → (default : Decision) (items : List Data) (entries : List Entry) → Both (IsEntry default) items entries → AreEntries entries
+each_fits : AreSmall → (default : Decision) (items : List Data) (entries : List Entry)
+    → Both (IsEntry default) items entries → AreEntries entries
 each_fits small default [] [] h = All-nil IsFit
 each_fits small default [] (entry ∷ entries) h = absurd h
 each_fits small default (item ∷ items) [] h = absurd h
-each_fits small default (item ∷ items) (entry ∷ entries) h = All-cons IsFit entry entries (entry_fits small default item entry h.0) (each_fits small default items entries h.1)
+each_fits small default (item ∷ items) (entry ∷ entries) h =
+    All-cons IsFit entry entries (entry_fits small default item entry h.0)
+    (each_fits small default items entries h.1)
 
-pub entries_fit : AreSmall → (default : Decision) (items : List Data) (entries : List Entry) → in_order_after (entry_at default) [] items ≡ Ok entries → AreEntries entries
-entries_fit small default items entries h = each_fits small default items entries (each_entry_found default items entries h)
+pub entries_fit : AreSmall → (default : Decision) (items : List Data) (entries : List Entry)
+    → in_order_after (entry_at default) [] items ≡ Ok entries → AreEntries entries
+entries_fit small default items entries h =
+    each_fits small default items entries (each_entry_found default items entries h)

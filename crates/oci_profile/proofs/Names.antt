@@ -1,5 +1,6 @@
 -- Whether the table has each of the names, and the first that it lacks.
-use Rattle.std.proofs.Common.{◌≡◌, ℕ, suc, ◌+◌, ◌≤◌, ◌&&◌, List, [], ◌∷◌, not, length, cond, ltb, Bool, true, false, Ok, Option, Some, None, refl, arith}
+use Rattle.std.proofs.Common.{◌≡◌, ℕ, suc, ◌+◌, ◌≤◌, ◌&&◌, List, [], ◌∷◌, not, length, cond, ltb, Bool, true}
+use Rattle.std.proofs.Common.{false, Ok, Option, Some, None, refl, arith}
 use Rattle.std.specs.Prelude.{is_some, position}
 use Rattle.std.specs.Bool.{⊤}
 use Rattle.std.specs.List.{prefix_len}
@@ -15,7 +16,8 @@ front names = prefix_len (λ name. not (not (is_some (number_named name)))) name
 front_all : (names : List Data) → are_known names ≡ true → front names ≡ length names
 front_all [] h = refl
 front_all (name ∷ names) h =
-    elim (is_some (number_named name)) as (λ b. (b && are_known names) ≡ true → cond (not (not b)) (1 + front names) 0 ≡ suc (length names)) [
+    elim (is_some (number_named name)) as (λ b. (b && are_known names) ≡ true
+    → cond (not (not b)) (1 + front names) 0 ≡ suc (length names)) [
       | true ↦ λ rest. omega (arith, front_all names rest)
       | false ↦ λ rest. absurd cc
     ] h
@@ -23,7 +25,8 @@ front_all (name ∷ names) h =
 all_front : (names : List Data) → length names ≤ front names → are_known names ≡ true
 all_front [] h = refl
 all_front (name ∷ names) h =
-    elim (is_some (number_named name)) as (λ b. suc (length names) ≤ cond (not (not b)) (1 + front names) 0 → (b && are_known names) ≡ true) [
+    elim (is_some (number_named name)) as (λ b. suc (length names) ≤ cond (not (not b)) (1 + front names) 0
+    → (b && are_known names) ≡ true) [
       | true ↦ λ rest. all_front names (omega (arith, rest))
       | false ↦ λ rest. absurd (omega (arith, rest))
     ] h
@@ -36,10 +39,18 @@ nowhere : (test : Bool) (n : ℕ) → cond test (Some n) None ≡ None → test 
 nowhere true n h = absurd cc
 nowhere false n h = refl
 
-pub known_when_needed : (needed : Bool) (names : List Data) (u : ⊤) → known_if needed names ≡ Ok u → needed ≡ true → are_known names ≡ true
-known_when_needed true names u h is = all_front names (ltb-false (front names) (length names) (nowhere (ltb (front names) (length names)) (front names) (refused_at (position (λ name. not (is_some (number_named name))) names) u h)))
+pub known_when_needed : (needed : Bool) (names : List Data) (u : ⊤) → known_if needed names ≡ Ok u
+    → needed ≡ true → are_known names ≡ true
+known_when_needed true names u h is = all_front names
+    (ltb-false (front names) (length names)
+    (nowhere (ltb (front names) (length names)) (front names)
+    (refused_at (position (λ name. not (is_some (number_named name))) names) u h)))
 known_when_needed false names u h is = absurd cc
 
-pub goes_on_where_known : (needed : Bool) (names : List Data) → (needed ≡ true → are_known names ≡ true) → known_if needed names ≡ Ok tt
-goes_on_where_known true names known = rw (front_all names (known refl), le-ltb (length names) (length names) (omega arith)) refl
+pub goes_on_where_known : (needed : Bool) (names : List Data) → (needed ≡ true → are_known names ≡ true)
+    → known_if needed names ≡ Ok tt
+goes_on_where_known true names known = rw (
+  front_all names (known refl),
+  le-ltb (length names) (length names) (omega arith),
+) refl
 goes_on_where_known false names known = refl

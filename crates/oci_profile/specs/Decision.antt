@@ -5,7 +5,8 @@ use Rattle.action.specs.declared.action.Action.TheVariants as action
 use Rattle.action.specs.declared.verdict.Verdict.{Verdict}
 use Rattle.action.specs.Verdict as verdict
 use Rattle.oci_profile.specs.declared.decision.Decision.{Decision}
-use Rattle.oci_profile.specs.declared.decision.Decision.TheVariants.{KillProcess, KillThread, Trap, Errno, Trace, Allow, Log}
+use Rattle.oci_profile.specs.declared.decision.Decision.TheVariants.{KillProcess, KillThread, Trap, Errno}
+use Rattle.oci_profile.specs.declared.decision.Decision.TheVariants.{Trace, Allow, Log}
 
 abbrev pub verdict_of : Decision → Verdict
 verdict_of KillProcess = record { action = action.KillProcess; ret_data = 0 }

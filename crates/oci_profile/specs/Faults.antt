@@ -11,7 +11,11 @@ use Rattle.json_place.specs.Places.{within}
 use Rattle.json_place.specs.declared.fields.FieldFaultAt.{FieldFaultAt}
 use Rattle.oci_profile.specs.declared.faults.ProfileFault.{ProfileFault}
 use Rattle.oci_profile.specs.declared.placed.ProfileFaultAt.{ProfileFaultAt}
-use Rattle.oci_profile.specs.declared.faults.ProfileFault.TheVariants.{TooLarge, NotJson, NotObject, Missing, WrongType, Notify, UnknownAction, ErrnoNotAllowed, ErrnoTooLarge, EmptyNames, BadIndex, RepeatedIndex, UnknownOp, UnknownCall, Memory}
+use Rattle.oci_profile.specs.declared.faults.ProfileFault.TheVariants.{TooLarge, NotJson, NotObject, Missing}
+use Rattle.oci_profile.specs.declared.faults.ProfileFault.TheVariants.{WrongType, Notify, UnknownAction}
+use Rattle.oci_profile.specs.declared.faults.ProfileFault.TheVariants.{ErrnoNotAllowed, ErrnoTooLarge}
+use Rattle.oci_profile.specs.declared.faults.ProfileFault.TheVariants.{EmptyNames, BadIndex, RepeatedIndex}
+use Rattle.oci_profile.specs.declared.faults.ProfileFault.TheVariants.{UnknownOp, UnknownCall, Memory}
 
 abbrev pub fault_of_field : FieldFault → ProfileFault
 fault_of_field field.Missing = Missing

@@ -1,11 +1,13 @@
 -- What a profile says of a call: OCI runtime-spec 1.1, config-linux, seccomp. Where that is silent this
 -- project's own: which entry decides, calls of another architecture, and those of the x32 interface.
-use Rattle.std.specs.Prelude.{ℕ, ◌+◌, ◌*◌, ◌==◌, nat_lt, nat_le, bit_and, Bool, not, ◌&&◌, if◌then◌else◌, List, [], ◌∷◌, length, slice_index, sum_by}
+use Rattle.std.specs.Prelude.{ℕ, ◌+◌, ◌*◌, ◌==◌, nat_lt, nat_le, bit_and, Bool, not, ◌&&◌, if◌then◌else◌}
+use Rattle.std.specs.Prelude.{List, [], ◌∷◌, length, slice_index, sum_by}
 use Rattle.std.specs.List.{list_all, list_any}
 use Rattle.call_data.specs.declared.sys_call.SysCall.{SysCall}
 use Rattle.oci_profile.specs.declared.conditions.Cond.{Cond}
 use Rattle.oci_profile.specs.declared.conditions.Op.{Op}
-use Rattle.oci_profile.specs.declared.conditions.Op.TheVariants.{NotEqual, Less, LessOrEqual, Equal, GreaterOrEqual, Greater, MaskedEqual}
+use Rattle.oci_profile.specs.declared.conditions.Op.TheVariants.{NotEqual, Less, LessOrEqual, Equal}
+use Rattle.oci_profile.specs.declared.conditions.Op.TheVariants.{GreaterOrEqual, Greater, MaskedEqual}
 use Rattle.oci_profile.specs.declared.decision.Decision.{Decision}
 use Rattle.oci_profile.specs.declared.decision.Decision.TheVariants.{KillProcess}
 use Rattle.oci_profile.specs.declared.profile.Entry.{Entry}
@@ -47,7 +49,8 @@ decision_of (entry ∷ entries) default nr call =
 -- what is said of a native call: from 0x40000000 on numbers are those of the x32 interface
 unfoldable pub chosen : Profile → ℕ → SysCall → ℕ
 chosen profile nr call =
-    if nat_le 0x40000000 nr then value_of KillProcess else value_of (decision_of profile.entries profile.default nr call)
+    if nat_le 0x40000000 nr then value_of KillProcess
+    else value_of (decision_of profile.entries profile.default nr call)
 
 -- what is said of a call, as a filter's value: 0xc000003e is AUDIT_ARCH_X86_64
 unfoldable pub meaning : Profile → SysCall → ℕ

@@ -2,7 +2,8 @@
 -- field by field; nothing here knows of an order in which the fields are read. This project's own are
 -- the limits of the text and of errnos, names that the table lacks, and that no argument has two
 -- conditions in one entry.
-use Rattle.std.specs.Prelude.{◌≡◌, ◌⊎◌, ℕ, ◌<◌, ◌≤◌, ◌^◌, List, [], filter_map, length, codes, Bool, is_some, IsTrue, Option, Some, None, unwrap_or, option_and_then}
+use Rattle.std.specs.Prelude.{◌≡◌, ◌⊎◌, ℕ, ◌<◌, ◌≤◌, ◌^◌, List, [], filter_map, length, codes, Bool, is_some}
+use Rattle.std.specs.Prelude.{IsTrue, Option, Some, None, unwrap_or, option_and_then}
 use Rattle.std.specs.List.{list_all}
 use Rattle.serde_json.specs.Data.{Data}
 use Rattle.json_tree.specs.Tree.{tree_of, list, object, text, text_list, whole}
@@ -12,9 +13,11 @@ use Rattle.action.specs.Verdict.{rank_of}
 use Rattle.action.specs.declared.verdict.TheConstants.{MAX_ERRNO}
 use Rattle.oci_profile.specs.declared.conditions.Cond.{Cond}
 use Rattle.oci_profile.specs.declared.conditions.Op.{Op}
-use Rattle.oci_profile.specs.declared.conditions.Op.TheVariants.{NotEqual, Less, LessOrEqual, Equal, GreaterOrEqual, Greater, MaskedEqual}
+use Rattle.oci_profile.specs.declared.conditions.Op.TheVariants.{NotEqual, Less, LessOrEqual, Equal}
+use Rattle.oci_profile.specs.declared.conditions.Op.TheVariants.{GreaterOrEqual, Greater, MaskedEqual}
 use Rattle.oci_profile.specs.declared.decision.Decision.{Decision}
-use Rattle.oci_profile.specs.declared.decision.Decision.TheVariants.{KillProcess, KillThread, Trap, Errno, Trace, Allow, Log}
+use Rattle.oci_profile.specs.declared.decision.Decision.TheVariants.{KillProcess, KillThread, Trap, Errno}
+use Rattle.oci_profile.specs.declared.decision.Decision.TheVariants.{Trace, Allow, Log}
 use Rattle.oci_profile.specs.declared.profile.Entry.{Entry}
 use Rattle.oci_profile.specs.declared.profile.Profile.{Profile}
 use Rattle.oci_profile.specs.declared.reader.TheConstants.{MAX_PROFILE_BYTES}

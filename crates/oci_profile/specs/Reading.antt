@@ -1,23 +1,31 @@
 -- Which fault of a text is found first: docs/SEMANTICS.md, "Profiles", has the order. Each definition
 -- says what is read of a tree, its faults in that order, each with the place that it has in the tree.
-use Rattle.std.specs.Prelude.{◌≡◌, ℕ, ◌==◌, ◌^◌, List, [], ◌∷◌, filter_map, length, position, codes, Bool, true, false, not, is_some, nat_lt, nat_le, if◌then◌else◌, Option, Some, None, option_map, unwrap_or, Result, Ok, Err, ⊤}
+use Rattle.std.specs.Prelude.{◌≡◌, ℕ, ◌==◌, ◌^◌, List, [], ◌∷◌, filter_map, length, position, codes, Bool}
+use Rattle.std.specs.Prelude.{true, false, not, is_some, nat_lt, nat_le, if◌then◌else◌, Option, Some, None}
+use Rattle.std.specs.Prelude.{option_map, unwrap_or, Result, Ok, Err, ⊤}
 use Rattle.std.specs.List.{list_any}
 use Rattle.std.specs.Result.{result_err}
 use Rattle.std.specs.Str.{bytes_eq}
 use Rattle.serde_json.specs.Data.{Data}
 use Rattle.json_tree.specs.Tree.{list, object, text, text_list, whole}
-use Rattle.json_tree.specs.Reading.{◌>>=◌, ◌>>◌, refuse_if, or_else, in_order_after, as_fault, document as document_of}
+use Rattle.json_tree.specs.Reading.{◌>>=◌, ◌>>◌, refuse_if, or_else, in_order_after, as_fault}
+use Rattle.json_tree.specs.Reading.{document as document_of}
 use Rattle.json_place.specs.declared.fields.FieldFaultAt.{FieldFaultAt}
 use Rattle.json_place.specs.Parts.{Member, Item}
 use Rattle.json_place.specs.Fields.{GivesAt, required, required_each, optional, optional_each}
 use Rattle.action.specs.declared.verdict.TheConstants.{MAX_ERRNO}
 use Rattle.oci_profile.specs.declared.conditions.Cond.{Cond}
 use Rattle.oci_profile.specs.declared.conditions.Op.{Op}
-use Rattle.oci_profile.specs.declared.conditions.Op.TheVariants.{NotEqual, Less, LessOrEqual, Equal, GreaterOrEqual, Greater, MaskedEqual}
+use Rattle.oci_profile.specs.declared.conditions.Op.TheVariants.{NotEqual, Less, LessOrEqual, Equal}
+use Rattle.oci_profile.specs.declared.conditions.Op.TheVariants.{GreaterOrEqual, Greater, MaskedEqual}
 use Rattle.oci_profile.specs.declared.decision.Decision.{Decision}
-use Rattle.oci_profile.specs.declared.decision.Decision.TheVariants.{KillProcess, KillThread, Trap, Errno, Trace, Allow, Log}
+use Rattle.oci_profile.specs.declared.decision.Decision.TheVariants.{KillProcess, KillThread, Trap, Errno}
+use Rattle.oci_profile.specs.declared.decision.Decision.TheVariants.{Trace, Allow, Log}
 use Rattle.oci_profile.specs.declared.faults.ProfileFault.{ProfileFault}
-use Rattle.oci_profile.specs.declared.faults.ProfileFault.TheVariants.{Memory, TooLarge, NotObject, WrongType, Notify, UnknownAction, ErrnoNotAllowed, ErrnoTooLarge, EmptyNames, BadIndex, RepeatedIndex, UnknownOp, UnknownCall}
+use Rattle.oci_profile.specs.declared.faults.ProfileFault.TheVariants.{Memory, TooLarge, NotObject, WrongType}
+use Rattle.oci_profile.specs.declared.faults.ProfileFault.TheVariants.{Notify, UnknownAction, ErrnoNotAllowed}
+use Rattle.oci_profile.specs.declared.faults.ProfileFault.TheVariants.{ErrnoTooLarge, EmptyNames, BadIndex}
+use Rattle.oci_profile.specs.declared.faults.ProfileFault.TheVariants.{RepeatedIndex, UnknownOp, UnknownCall}
 use Rattle.oci_profile.specs.declared.placed.ProfileFaultAt.{ProfileFaultAt}
 use Rattle.oci_profile.specs.declared.profile.Entry.{Entry}
 use Rattle.oci_profile.specs.declared.profile.Profile.{Profile}
@@ -121,7 +129,11 @@ names_of tree = do
 
 abbrev pub refuse_at : Option ℕ → Result ⊤ ProfileFaultAt
 refuse_at None = Ok tt
-refuse_at (Some index) = Err (record { fault = UnknownCall; place = Member (codes "names") ∷ Item index ∷ [] })
+refuse_at (Some index) = Err (record {
+  fault = UnknownCall;
+  place =
+      Member (codes "names") ∷ Item index ∷ [];
+})
 
 -- where the table has to have each name, the first that it lacks is refused
 abbrev pub known_if : Bool → List Data → Result ⊤ ProfileFaultAt

@@ -1,6 +1,7 @@
 -- The profile of a container that asks for RuntimeDefault: this project's own, after the profiles that
 -- container engines have as their default.
-use Rattle.std.specs.Prelude.{ℕ, List, [], ◌∷◌, ◌++◌, codes, map, filter, Bool, false, not, Option, Some, None}
+use Rattle.std.specs.Prelude.{ℕ, List, [], ◌∷◌, ◌++◌, codes, map, filter, Bool, false, not, Option, Some}
+use Rattle.std.specs.Prelude.{None}
 use Rattle.std.specs.List.{cons_option, list_any, range_with_len}
 use Rattle.std.specs.Str.{bytes_eq}
 use Rattle.sys_table.specs.SysTable.{name_of, number_of}
@@ -46,7 +47,11 @@ allowed_below limit = filter is_allowed (range_with_len 0 limit)
 
 -- an entry for the call with this name
 unfoldable pub entry_named : List ℕ → Decision → List Cond → Entry
-entry_named name decision conds = record { numbers = cons_option (number_of name) []; decision = decision; conds = conds }
+entry_named name decision conds = record {
+  numbers = cons_option (number_of name) [];
+  decision = decision;
+  conds = conds;
+}
 
 -- programs fall back to `clone`: 38 is ENOSYS
 abbrev pub clone3_entry : Entry
@@ -54,14 +59,16 @@ clone3_entry = entry_named (codes "clone3") (Errno 38) []
 
 -- allowed where it makes no namespace: none of the flags CLONE_NEW* is given
 abbrev pub clone_entry : Entry
-clone_entry = entry_named (codes "clone") Allow (record { index = 0; op = MaskedEqual; value = 0x7e020000; value_two = 0 } ∷ [])
+clone_entry = entry_named (codes "clone") Allow
+    (record { index = 0; op = MaskedEqual; value = 0x7e020000; value_two = 0 } ∷ [])
 
 -- PER_LINUX, PER_LINUX32, each with UNAME26, and to be told the present one
 unfoldable pub personalities : List ℕ
 personalities = 0 ∷ 8 ∷ 131072 ∷ 131080 ∷ 4294967295 ∷ []
 
 abbrev pub personality_entry : ℕ → Entry
-personality_entry persona = entry_named (codes "personality") Allow (record { index = 0; op = Equal; value = persona; value_two = 0 } ∷ [])
+personality_entry persona = entry_named (codes "personality") Allow
+    (record { index = 0; op = Equal; value = persona; value_two = 0 } ∷ [])
 
 unfoldable pub allowed_entry : Entry
 allowed_entry = record { numbers = allowed_below NUMBER_LIMIT; decision = Allow; conds = [] }

@@ -27,9 +27,9 @@ pub(crate) fn decision(
     }
 }
 
-// The decision of the action with this name, where no errno is given.
+/// The decision of the action with this name, where no errno is given.
 #[tactic(auto, unfolding(crate::specs::Reading::action_of))]
-fn named_action(name: &str) -> Result<Decision, ProfileFault>
+pub fn named_action(name: &str) -> Result<Decision, ProfileFault>
     ensures { result ≡ action_of name.now }
 {
     match name {
@@ -46,7 +46,8 @@ fn named_action(name: &str) -> Result<Decision, ProfileFault>
     }
 }
 
-fn given_errno(decision: Decision, given: u64) -> Result<Decision, ProfileFault>
+/// The decision with the errno that is given, or a tracer's message.
+pub fn given_errno(decision: Decision, given: u64) -> Result<Decision, ProfileFault>
     ensures { result ≡ with_errno decision given }
 {
     match decision {

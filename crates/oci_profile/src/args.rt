@@ -1,7 +1,8 @@
 ghost use Rattle.std.specs.Prelude.{◌≡◌, [], map};
 ghost use Rattle.serde_json.specs.View.{view};
 ghost use Rattle.json_tree.specs.Reading.{in_order_after};
-ghost use Rattle.oci_profile.specs.Reading.{Reads, cond_at, cond_of, conds_of, index_of, is_tested, op_named, op_of};
+ghost use Rattle.oci_profile.specs.Reading.{Reads, cond_at, cond_of, conds_of, index_of, is_tested, op_named};
+ghost use Rattle.oci_profile.specs.Reading.{op_of};
 
 use crate::conditions::{Cond, Conds, Op};
 use crate::faults::ProfileFault;
@@ -11,9 +12,9 @@ use json_tree::object;
 use serde_json::Value;
 use std::alloc::Global;
 
-/// The conditions of an entry.
+/// The conditions of an entry, its `args`.
 #[tactic(auto, unfolding(crate::specs::Reading::conds_of))]
-pub(crate) fn conds(alloc: Global, tree: &Value) -> Result<Conds, ProfileFaultAt>
+pub fn conds(alloc: Global, tree: &Value) -> Result<Conds, ProfileFaultAt>
     ensures { Reads (λ c. c) result (conds_of (view tree.now)) }
 {
     match optional_list(tree, "args")? {

@@ -2,7 +2,10 @@ ghost use Rattle.std.specs.Prelude.{◌≡◌, ◌≤◌, ◌∷◌, ◌++◌, [
 ghost use Rattle.std.specs.List.{cons_option};
 ghost use Rattle.sys_table.specs.SysTable.{number_of};
 ghost use Rattle.sys_table.specs.declared.table.TheConstants.{NUMBER_LIMIT};
-ghost use Rattle.oci_profile.specs.RuntimeDefault.{allowed_below, allowed_entry, clone3_entry, clone_entry, default_entries, entry_named, excluded, excludes, is_allowed, personalities, personality_entry, runtime_default};
+ghost use Rattle.oci_profile.specs.RuntimeDefault.{allowed_below, allowed_entry, clone3_entry, clone_entry};
+ghost use Rattle.oci_profile.specs.RuntimeDefault.{default_entries, entry_named, excluded, excludes};
+ghost use Rattle.oci_profile.specs.RuntimeDefault.{is_allowed, personalities, personality_entry};
+ghost use Rattle.oci_profile.specs.RuntimeDefault.{runtime_default};
 
 use crate::conditions::{Cond, Conds, Op};
 use crate::decision::{Decision, Errno};

@@ -17,6 +17,8 @@ mod placed;
 mod profile;
 mod reader;
 
+pub use actions::{given_errno, named_action};
+pub use args::conds;
 pub use conditions::{Cond, Conds, Op};
 pub use decision::{Decision, Errno};
 pub use default_profile::runtime_default;

@@ -1,11 +1,15 @@
-ghost use Rattle.std.specs.Prelude.{◌≡◌, ◌≢◌, ◌↔◌, ◌<◌, [], IfOk, IfErr, filter_map, is_some, length, map, nat_lt, not, position, Some, None, Ok, Err};
+ghost use Rattle.std.specs.Prelude.{◌≡◌, ◌≢◌, ◌↔◌, ◌<◌, [], IfOk, IfErr, filter_map, is_some, length, map};
+ghost use Rattle.std.specs.Prelude.{nat_lt, not, position, Some, None, Ok, Err};
 ghost use Rattle.serde_json.specs.View.{view};
 ghost use Rattle.json_tree.specs.Reading.{Gives, as_read, in_order_after};
 ghost use Rattle.oci_profile.specs.declared.faults.ProfileFault.{ProfileFault};
 ghost use Rattle.oci_profile.specs.declared.placed.ProfileFaultAt.{ProfileFaultAt};
 ghost use Rattle.oci_profile.specs.declared.profile.Profile.{Profile};
 ghost use Rattle.oci_profile.specs.Profile.{ReadsProfile, number_named, rank};
-ghost use Rattle.oci_profile.specs.Reading.{IsRefusedFor, Reads, all_but_args_of, all_but_entries_of, default_of, entry_at, entry_of, first_fault, first_fault_at, head_of, ignored_of, items_of, known_if, names_of, profile_of, reading_of, refuse_at, short_of};
+ghost use Rattle.oci_profile.specs.Reading.{IsRefusedFor, Reads, all_but_args_of, all_but_entries_of};
+ghost use Rattle.oci_profile.specs.Reading.{default_of, entry_at, entry_of, first_fault, first_fault_at};
+ghost use Rattle.oci_profile.specs.Reading.{head_of, ignored_of, items_of, known_if, names_of, profile_of};
+ghost use Rattle.oci_profile.specs.Reading.{reading_of, refuse_at, short_of};
 
 use crate::actions::decision;
 use crate::args::conds;

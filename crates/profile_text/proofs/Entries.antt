@@ -1,5 +1,6 @@
 -- The tree that is written of an entry says that entry.
-use Rattle.std.proofs.Common.{◌≡◌, ◌<◌, ◌≤◌, ◌&&◌, ◌||◌, not, ℕ, List, [], ◌∷◌, length, map, codes, eqb, leb, Bool, true, false, Option, Some, None, unwrap_or, refl, sym, ap, subst, arith}
+use Rattle.std.proofs.Common.{◌≡◌, ◌<◌, ◌≤◌, ◌&&◌, ◌||◌, not, ℕ, List, [], ◌∷◌, length, map, codes, eqb, leb}
+use Rattle.std.proofs.Common.{Bool, true, false, Option, Some, None, unwrap_or, refl, sym, ap, subst, arith}
 use Rattle.std.specs.Prelude.{◌↔◌, filter_map, is_some, option_map}
 use Rattle.std.specs.List.{AllByRecursion, list_all}
 use Rattle.std.proofs.lemmas.Bool.{leb-true}
@@ -13,9 +14,11 @@ use Rattle.sys_table.specs.SysTable.{name_of, number_of}
 use Rattle.oci_profile.specs.declared.decision.Decision.{Decision}
 use Rattle.oci_profile.specs.declared.profile.Entry.{Entry}
 use Rattle.oci_profile.specs.Profile.{IsCond, IsEntry, are_known, number_named, rank}
-use Rattle.profile_text.specs.Fits.{FitsEntry}
+use Rattle.oci_profile.specs.Conditions.{AreConds}
+use Rattle.profile_text.specs.Fits.{FitsDecision, FitsEntry}
 use Rattle.profile_text.specs.Writable.{are_named, is_named, is_writable_entry}
-use Rattle.profile_text.specs.Written.{action_name, cond_tree, entry_tree, errno_of, name_text, names_of, whole_number, with_list, with_whole}
+use Rattle.profile_text.specs.Written.{action_name, cond_tree, entry_tree, entry_with, errno_of, name_text}
+use Rattle.profile_text.specs.Written.{names_of, whole_number, with_list, with_whole}
 use Rattle.profile_text.proofs.Parts.{conds_are, decides, list_back, texts_back}
 
 -- what sys_table promises of its names and numbers
@@ -26,7 +29,8 @@ pub both_true : (a b : Bool) → (a && b) ≡ true → (a ≡ true) × (b ≡ tr
 both_true true b h = (refl, h)
 both_true false b h = absurd cc
 
-name_back : (agree : Agree) (n : ℕ) (name : Option (List ℕ)) → name_of n ≡ name → is_some name ≡ true → number_of (unwrap_or name []) ≡ Some n
+name_back : (agree : Agree) (n : ℕ) (name : Option (List ℕ)) → name_of n ≡ name → is_some name ≡ true
+    → number_of (unwrap_or name []) ≡ Some n
 name_back agree n None is named = absurd cc
 name_back agree n (Some name) is named = (agree name n).1 is
 
@@ -34,13 +38,15 @@ number_back : (agree : Agree) (n : ℕ) → is_named n ≡ true → number_named
 unfolding number_named
 number_back agree n named = name_back agree n (name_of n) refl named
 
-numbers_back : (agree : Agree) (ns : List ℕ) → are_named ns ≡ true → ns ≡ filter_map number_named (map string (map name_text ns))
+numbers_back : (agree : Agree) (ns : List ℕ) → are_named ns ≡ true
+    → ns ≡ filter_map number_named (map string (map name_text ns))
 numbers_back agree [] named = refl
 numbers_back agree (n ∷ ns) named =
     let parts = both_true (is_named n) (are_named ns) named in
     rw (number_back agree n parts.0) (ap (λ rest. n ∷ rest) (numbers_back agree ns parts.1))
 
-all_known : (agree : Agree) (ns : List ℕ) → are_named ns ≡ true → are_known (map string (map name_text ns)) ≡ true
+all_known : (agree : Agree) (ns : List ℕ) → are_named ns ≡ true → are_known (map string (map name_text ns))
+    ≡ true
 all_known agree [] named = refl
 all_known agree (n ∷ ns) named =
     let parts = both_true (is_named n) (are_named ns) named in
@@ -50,13 +56,17 @@ no_name : number_named (string []) ≡ None
 unfolding number_named number_of
 no_name = refl
 
-pub numbers_are : (agree : Agree) (ns : List ℕ) → are_named ns ≡ true → ns ≡ filter_map number_named (map string (names_of ns))
+pub numbers_are : (agree : Agree) (ns : List ℕ) → are_named ns ≡ true
+    → ns ≡ filter_map number_named (map string (names_of ns))
 numbers_are agree [] named = rw no_name refl
 numbers_are agree (n ∷ ns) named = numbers_back agree (n ∷ ns) named
 
-pub known : (agree : Agree) (default decision : Decision) (ns : List ℕ) → are_named ns ≡ true → (not (eqb (length ns) 0) || leb (rank default) (rank decision)) ≡ true → rank decision < rank default
+pub known : (agree : Agree) (default decision : Decision) (ns : List ℕ) → are_named ns ≡ true
+    → (not (eqb (length ns) 0) || leb (rank default) (rank decision)) ≡ true → rank decision < rank default
     → are_known (map string (names_of ns)) ≡ true
-known agree default decision [] named lenient strict = absurd (let le : rank default ≤ rank decision = leb-true (rank default) (rank decision) lenient in omega arith)
+known agree default decision [] named lenient strict =
+    absurd (let le : rank default ≤ rank decision = leb-true (rank default) (rank decision) lenient in
+    omega arith)
 known agree default decision (n ∷ ns) named lenient strict = all_known agree (n ∷ ns) named
 
 some_names : (ns : List ℕ) → 0 < length (map string (names_of ns))
@@ -72,24 +82,36 @@ abbrev list_at : List Data → Option Data
 list_at [] = None
 list_at (d ∷ ds) = Some (array (items_of (d ∷ ds)))
 
-record HasEntryFields (action : List ℕ) (errno : Option ℕ) (args : List Data) (names : List Data) (tree : Data) : Type 0 where
+record HasEntryFields (action : List ℕ) (errno : Option ℕ) (args : List Data) (names : List Data)
+    (tree : Data) : Type 0 where
   names_there : get (codes "names") tree ≡ Some (array (items_of names))
   action_there : get (codes "action") tree ≡ Some (string action)
   errno_there : get (codes "errnoRet") tree ≡ option_map whole_number errno
   list_there : get (codes "args") tree ≡ list_at args
 
-abbrev entry_with : List ℕ → Option ℕ → List Data → List Data → Data
-entry_with action errno args names = object (
-    with_whole (codes "errnoRet") errno (with_list (codes "args") args (put (codes "action") (string action) (put (codes "names") (array (items_of names)) no_members))))
+abbrev parts_tree : List ℕ → Option ℕ → List Data → List Data → Data
+parts_tree action errno args names = object (
+    with_whole (codes "errnoRet") errno (with_list (codes "args") args
+    (put (codes "action") (string action) (put (codes "names") (array (items_of names)) no_members))))
 
-entry_fields : (action : List ℕ) (errno : Option ℕ) (args names : List Data) → HasEntryFields action errno args names (entry_with action errno args names)
+entry_fields : (action : List ℕ) (errno : Option ℕ) (args names : List Data)
+    → HasEntryFields action errno args names (parts_tree action errno args names)
 unfolding serde_json_on_literals
-entry_fields action None [] names = record { names_there = refl; action_there = refl; errno_there = refl; list_there = refl }
-entry_fields action None (d ∷ ds) names = record { names_there = refl; action_there = refl; errno_there = refl; list_there = refl }
-entry_fields action (Some e) [] names = record { names_there = refl; action_there = refl; errno_there = refl; list_there = refl }
-entry_fields action (Some e) (d ∷ ds) names = record { names_there = refl; action_there = refl; errno_there = refl; list_there = refl }
+entry_fields action None [] names = record {
+  names_there = refl;
+  action_there = refl;
+  errno_there = refl;
+  list_there = refl;
+}
+entry_fields action None (d ∷ ds) names =
+    record { names_there = refl; action_there = refl; errno_there = refl; list_there = refl }
+entry_fields action (Some e) [] names =
+    record { names_there = refl; action_there = refl; errno_there = refl; list_there = refl }
+entry_fields action (Some e) (d ∷ ds) names =
+    record { names_there = refl; action_there = refl; errno_there = refl; list_there = refl }
 
-may_have_list : (tree : Data) (args : List Data) → get (codes "args") tree ≡ list_at args → MayHaveField list (codes "args") tree (args_of args)
+may_have_list : (tree : Data) (args : List Data) → get (codes "args") tree ≡ list_at args
+    → MayHaveField list (codes "args") tree (args_of args)
 unfolding member
 may_have_list tree [] is = rw is refl
 may_have_list tree (d ∷ ds) is = (array (items_of (d ∷ ds)), rw is refl, list_back (d ∷ ds))
@@ -98,28 +120,47 @@ args_back : (args : List Data) → unwrap_or (args_of args) [] ≡ args
 args_back [] = refl
 args_back (d ∷ ds) = refl
 
-pub entry_is : (agree : Agree) (default : Decision) (entry : Entry) → FitsEntry entry → is_writable_entry default entry ≡ true → IsEntry default (entry_tree entry) entry
-entry_is agree default entry fits writable =
-    let parts = both_true (are_named entry.numbers) _ writable in
+-- the tree of an entry that is written with these names
+pub said : (default : Decision) (names : List (List ℕ)) (entry : Entry) → FitsDecision entry.decision
+    → AreConds entry.conds → 0 < length (map string names)
+    → entry.numbers ≡ filter_map number_named (map string names)
+    → (rank entry.decision < rank default → are_known (map string names) ≡ true)
+    → IsEntry default (entry_with (map string names) (action_name entry.decision)
+    (errno_of entry.decision) entry.conds) entry
+said default names entry fits conds_fit some numbers known =
     let args : List Data = map cond_tree entry.conds in
-    let names : List Data = map string (names_of entry.numbers) in
-    let fields = entry_fields (action_name entry.decision) (errno_of entry.decision) args names in
+    let tree : Data = entry_with (map string names) (action_name entry.decision)
+    (errno_of entry.decision) entry.conds in
+    let fields = entry_fields (action_name entry.decision) (errno_of entry.decision) args
+    (map string names) in
     record {
       an_object = refl;
-      names = names;
-      there = (array (items_of names), fields.names_there, texts_back (names_of entry.numbers));
-      some = some_names entry.numbers;
-      decides = decides (codes "action") (codes "errnoRet") (entry_tree entry) entry.decision fits.decision fields.action_there fields.errno_there;
+      names = map string names;
+      there = (array (items_of (map string names)), fields.names_there, texts_back names);
+      some = some;
+      decides = decides (codes "action") (codes "errnoRet") tree entry.decision fits fields.action_there
+          fields.errno_there;
       args = args_of args;
-      args_there = may_have_list (entry_tree entry) args fields.list_there;
+      args_there = may_have_list tree args fields.list_there;
       conds_are = subst (λ ds. Both IsCond ds entry.conds) (sym (args_back args)) (conds_are entry.conds);
-      conds_fit = fits.conds;
-      numbers_are = numbers_are agree entry.numbers parts.0;
-      known = known agree default entry.decision entry.numbers parts.0 parts.1;
+      conds_fit = conds_fit;
+      numbers_are = numbers;
+      known = known;
     }
 
-pub entries_are : (agree : Agree) (default : Decision) (entries : List Entry) → AllByRecursion FitsEntry entries → list_all (is_writable_entry default) entries ≡ true → Both (IsEntry default) (map entry_tree entries) entries
+pub entry_is : (agree : Agree) (default : Decision) (entry : Entry) → FitsEntry entry
+    → is_writable_entry default entry ≡ true → IsEntry default (entry_tree entry) entry
+entry_is agree default entry fits writable =
+    let parts = both_true (are_named entry.numbers) _ writable in
+    said default (names_of entry.numbers) entry fits.decision fits.conds (some_names entry.numbers)
+    (numbers_are agree entry.numbers parts.0)
+    (known agree default entry.decision entry.numbers parts.0 parts.1)
+
+pub entries_are : (agree : Agree) (default : Decision) (entries : List Entry)
+    → AllByRecursion FitsEntry entries → list_all (is_writable_entry default) entries ≡ true
+    → Both (IsEntry default) (map entry_tree entries) entries
 entries_are agree default [] fits writable = tt
 entries_are agree default (entry ∷ entries) fits writable =
-    let parts = both_true (is_writable_entry default entry) (list_all (is_writable_entry default) entries) writable in
+    let parts = both_true (is_writable_entry default entry) (list_all (is_writable_entry default) entries)
+    writable in
     (entry_is agree default entry fits.0 parts.0, entries_are agree default entries fits.1 parts.1)

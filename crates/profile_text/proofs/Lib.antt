@@ -3,3 +3,4 @@ pub mod Loops
 pub mod Parts
 pub mod Readable
 pub mod Whole
+mod Taken

@@ -1,5 +1,6 @@
 -- The tree that is written of a profile's part says that part.
-use Rattle.std.proofs.Common.{◌≡◌, inl, ℕ, List, [], ◌∷◌, map, codes, cond, eqb, Bool, true, false, Option, Some, None, unwrap_or, refl, ap}
+use Rattle.std.proofs.Common.{◌≡◌, inl, ℕ, List, [], ◌∷◌, map, codes, cond, eqb, Bool, true, false, Option}
+use Rattle.std.proofs.Common.{Some, None, unwrap_or, refl, ap}
 use Rattle.std.proofs.lemmas.Bool.{eqb-true}
 use Rattle.std.specs.Prelude.{option_map}
 use Rattle.serde_json.specs.Data.{Data, string, array, object, no_members, put}
@@ -10,17 +11,22 @@ use Rattle.json_tree.specs.Tree.{each, items_list, list, member, text, text_list
 use Rattle.json_tree.specs.Reading.{Both, HasField, MayHaveField}
 use Rattle.oci_profile.specs.declared.conditions.Cond.{Cond}
 use Rattle.oci_profile.specs.declared.conditions.Op.{Op}
-use Rattle.oci_profile.specs.declared.conditions.Op.TheVariants.{NotEqual, Less, LessOrEqual, Equal, GreaterOrEqual, Greater, MaskedEqual}
+use Rattle.oci_profile.specs.declared.conditions.Op.TheVariants.{NotEqual, Less, LessOrEqual, Equal}
+use Rattle.oci_profile.specs.declared.conditions.Op.TheVariants.{GreaterOrEqual, Greater, MaskedEqual}
 use Rattle.oci_profile.specs.declared.decision.Decision.{Decision}
-use Rattle.oci_profile.specs.declared.decision.Decision.TheVariants.{KillProcess, KillThread, Trap, Errno, Trace, Allow, Log}
+use Rattle.oci_profile.specs.declared.decision.Decision.TheVariants.{KillProcess, KillThread, Trap, Errno}
+use Rattle.oci_profile.specs.declared.decision.Decision.TheVariants.{Trace, Allow, Log}
 use Rattle.oci_profile.specs.Profile.{HasDecision, IsCond, IsErrnoOf, IsNameOf, IsOpName}
 use Rattle.profile_text.specs.Fits.{FitsDecision}
-use Rattle.profile_text.specs.Written.{action_name, cond_tree, errno_of, op_name, two_of, whole_number, with_whole}
+use Rattle.profile_text.specs.Written.{action_name, cond_tree, errno_of, op_name, two_of, whole_number}
+use Rattle.profile_text.specs.Written.{with_whole}
 
-pub has_text : (key : List ℕ) (tree : Data) (x : List ℕ) → get key tree ≡ Some (string x) → HasField text key tree x
+pub has_text : (key : List ℕ) (tree : Data) (x : List ℕ) → get key tree ≡ Some (string x)
+    → HasField text key tree x
 has_text key tree x is = (string x, is, refl)
 
-has_whole : (key : List ℕ) (tree : Data) (n : ℕ) → get key tree ≡ Some (whole_number n) → HasField whole key tree n
+has_whole : (key : List ℕ) (tree : Data) (n : ℕ) → get key tree ≡ Some (whole_number n)
+    → HasField whole key tree n
 unfolding whole
 has_whole key tree n is = (whole_number n, is, refl)
 
@@ -34,13 +40,16 @@ op_named Greater = refl
 op_named MaskedEqual = refl
 
 -- a tree that has the optional number at this key, or not
-pub may_have_whole : (key : List ℕ) (tree : Data) (given : Option ℕ) → get key tree ≡ option_map whole_number given → MayHaveField whole key tree given
+pub may_have_whole : (key : List ℕ) (tree : Data) (given : Option ℕ)
+    → get key tree ≡ option_map whole_number given → MayHaveField whole key tree given
 unfolding whole member
 may_have_whole key tree None is = rw is refl
 may_have_whole key tree (Some n) is = (whole_number n, rw is refl, refl)
 
 abbrev cond_with : ℕ → Op → ℕ → Option ℕ → Data
-cond_with index op value given = object (with_whole (codes "valueTwo") given (put (codes "op") (string (op_name op)) (put (codes "value") (whole_number value) (put (codes "index") (whole_number index) no_members))))
+cond_with index op value given = object
+    (with_whole (codes "valueTwo") given (put (codes "op") (string (op_name op))
+    (put (codes "value") (whole_number value) (put (codes "index") (whole_number index) no_members))))
 
 pub record HasCondFields (index : ℕ) (op : Op) (value : ℕ) (given : Option ℕ) (tree : Data) : Type 0 where
   pub index_there : get (codes "index") tree ≡ Some (whole_number index)
@@ -48,10 +57,17 @@ pub record HasCondFields (index : ℕ) (op : Op) (value : ℕ) (given : Option �
   pub two_there : get (codes "valueTwo") tree ≡ option_map whole_number given
   pub op_there : get (codes "op") tree ≡ Some (string (op_name op))
 
-cond_fields : (index : ℕ) (op : Op) (value : ℕ) (given : Option ℕ) → HasCondFields index op value given (cond_with index op value given)
+cond_fields : (index : ℕ) (op : Op) (value : ℕ) (given : Option ℕ)
+    → HasCondFields index op value given (cond_with index op value given)
 unfolding serde_json_on_literals
-cond_fields index op value None = record { index_there = refl; value_there = refl; two_there = refl; op_there = refl }
-cond_fields index op value (Some two) = record { index_there = refl; value_there = refl; two_there = refl; op_there = refl }
+cond_fields index op value None = record {
+  index_there = refl;
+  value_there = refl;
+  two_there = refl;
+  op_there = refl;
+}
+cond_fields index op value (Some two) =
+    record { index_there = refl; value_there = refl; two_there = refl; op_there = refl }
 
 two_by : (none : Bool) (two : ℕ) → (none ≡ true → two ≡ 0) → two ≡ unwrap_or (cond none None (Some two)) 0
 two_by true two zeroes = zeroes refl
@@ -97,7 +113,9 @@ errno_is (Trace message) fits = (refl, fits)
 errno_is Allow fits = refl
 errno_is Log fits = refl
 
-pub decides : (action_key errno_key : List ℕ) (tree : Data) (decision : Decision) → FitsDecision decision → get action_key tree ≡ Some (string (action_name decision)) → get errno_key tree ≡ option_map whole_number (errno_of decision)
+pub decides : (action_key errno_key : List ℕ) (tree : Data) (decision : Decision) → FitsDecision decision
+    → get action_key tree ≡ Some (string (action_name decision))
+    → get errno_key tree ≡ option_map whole_number (errno_of decision)
     → HasDecision action_key errno_key tree decision
 decides action_key errno_key tree decision fits action errno = record {
   name = action_name decision;
@@ -121,6 +139,7 @@ each_text : (names : List (List ℕ)) → each text (map string names) ≡ Some 
 each_text [] = refl
 each_text (name ∷ names) = rw (each_text names) refl
 
-pub texts_back : (names : List (List ℕ)) → text_list (array (items_of (map string names))) ≡ Some (map string names)
+pub texts_back : (names : List (List ℕ)) → text_list (array (items_of (map string names)))
+    ≡ Some (map string names)
 unfolding text_list
 texts_back names = rw (list_back (map string names), each_text names) refl

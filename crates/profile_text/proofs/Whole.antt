@@ -1,5 +1,6 @@
 -- The text that is written of a profile reads as it.
-use Rattle.std.proofs.Common.{◌≡◌, ◌≤◌, ℕ, List, [], ◌∷◌, length, map, codes, true, false, Option, Some, None, refl, sym, subst, arith}
+use Rattle.std.proofs.Common.{◌≡◌, ◌≤◌, ℕ, List, [], ◌∷◌, length, map, codes, true, false, Option, Some, None}
+use Rattle.std.proofs.Common.{refl, sym, subst, arith}
 use Rattle.std.specs.Prelude.{option_map}
 use Rattle.std.specs.List.{AllByRecursion}
 use Rattle.std.specs.Str.{IsUtf8}
@@ -20,14 +21,19 @@ use Rattle.oci_profile.specs.declared.reader.TheConstants.{MAX_PROFILE_BYTES}
 use Rattle.oci_profile.specs.Profile.{IsProfile, ReadsProfile}
 use Rattle.profile_text.specs.Fits.{FitsDecision, FitsEntry}
 use Rattle.profile_text.specs.Writable.{is_writable}
-use Rattle.profile_text.specs.Written.{action_name, cond_tree, entry_tree, errno_of, names_of, op_name, profile_tree, two_of, whole_number, with_list, with_whole}
+use Rattle.profile_text.specs.Written.{action_name, cond_tree, entry_tree, errno_of, names_of, op_name}
+use Rattle.profile_text.specs.Written.{profile_tree, two_of, whole_number, with_list, with_whole}
 use Rattle.profile_text.proofs.Entries.{Agree, entries_are}
 use Rattle.profile_text.proofs.Parts.{decides, list_back}
 
 abbrev profile_with : List ℕ → Option ℕ → List Data → Data
-profile_with action errno entries = object (with_whole (codes "defaultErrnoRet") errno (put (codes "defaultAction") (string action) (put (codes "syscalls") (array (items_of entries)) no_members)))
+profile_with action errno entries = object
+    (with_whole (codes "defaultErrnoRet") errno
+    (put (codes "defaultAction") (string action)
+    (put (codes "syscalls") (array (items_of entries)) no_members)))
 
-record HasProfileFields (action : List ℕ) (errno : Option ℕ) (entries : List Data) (tree : Data) : Type 0 where
+record HasProfileFields (action : List ℕ) (errno : Option ℕ) (entries : List Data)
+    (tree : Data) : Type 0 where
   action_there : get (codes "defaultAction") tree ≡ Some (string action)
   errno_there : get (codes "defaultErrnoRet") tree ≡ option_map whole_number errno
   list_there : get (codes "syscalls") tree ≡ Some (array (items_of entries))
@@ -36,20 +42,42 @@ record HasProfileFields (action : List ℕ) (errno : Option ℕ) (entries : List
   no_path : get (codes "listenerPath") tree ≡ None
   no_metadata : get (codes "listenerMetadata") tree ≡ None
 
-profile_fields : (action : List ℕ) (errno : Option ℕ) (entries : List Data) → HasProfileFields action errno entries (profile_with action errno entries)
+profile_fields : (action : List ℕ) (errno : Option ℕ) (entries : List Data)
+    → HasProfileFields action errno entries (profile_with action errno entries)
 unfolding serde_json_on_literals
-profile_fields action None entries = record { action_there = refl; errno_there = refl; list_there = refl; no_architectures = refl; no_flags = refl; no_path = refl; no_metadata = refl }
-profile_fields action (Some e) entries = record { action_there = refl; errno_there = refl; list_there = refl; no_architectures = refl; no_flags = refl; no_path = refl; no_metadata = refl }
+profile_fields action None entries = record {
+  action_there = refl;
+  errno_there = refl;
+  list_there = refl;
+  no_architectures = refl;
+  no_flags = refl;
+  no_path = refl;
+  no_metadata = refl;
+}
+profile_fields action (Some e) entries =
+    record {
+      action_there = refl;
+      errno_there = refl;
+      list_there = refl;
+      no_architectures = refl;
+      no_flags =
+          refl;
+      no_path = refl;
+      no_metadata = refl;
+    }
 
-not_there : {A : Type 0} (kind : Data → Option A) (key : List ℕ) (tree : Data) → get key tree ≡ None → MayHaveField kind key tree None
+pub not_there : {A : Type 0} (kind : Data → Option A) (key : List ℕ) (tree : Data) → get key tree ≡ None
+    → MayHaveField kind key tree None
 unfolding member
 not_there kind key tree none = rw none refl
 
-list_there : (tree : Data) (ds : List Data) → get (codes "syscalls") tree ≡ Some (array (items_of ds)) → MayHaveField list (codes "syscalls") tree (Some ds)
+pub list_there : (tree : Data) (ds : List Data) → get (codes "syscalls") tree ≡ Some (array (items_of ds))
+    → MayHaveField list (codes "syscalls") tree (Some ds)
 unfolding member
 list_there tree ds is = (array (items_of ds), rw is refl, list_back ds)
 
-profile_is : (agree : Agree) (profile : Profile) → AllByRecursion FitsEntry profile.entries → FitsDecision profile.default → is_writable profile ≡ true → IsProfile (profile_tree profile) profile
+profile_is : (agree : Agree) (profile : Profile) → AllByRecursion FitsEntry profile.entries
+    → FitsDecision profile.default → is_writable profile ≡ true → IsProfile (profile_tree profile) profile
 unfolding profile_tree
 profile_is agree profile fits fits_default writable =
     let entries : List Data = map entry_tree profile.entries in
@@ -57,7 +85,8 @@ profile_is agree profile fits fits_default writable =
     let fields = profile_fields (action_name profile.default) (errno_of profile.default) entries in
     record {
       an_object = refl;
-      decides = decides (codes "defaultAction") (codes "defaultErrnoRet") tree profile.default fits_default fields.action_there fields.errno_there;
+      decides = decides (codes "defaultAction") (codes "defaultErrnoRet") tree profile.default fits_default
+          fields.action_there fields.errno_there;
       ignored = record {
         architectures = None;
         architectures_there = not_there text_list (codes "architectures") tree fields.no_architectures;
@@ -74,21 +103,28 @@ profile_is agree profile fits fits_default writable =
     }
 
 -- no number of it is a float
-cond_no_float : (index : ℕ) (op : Op) (value : ℕ) (given : Option ℕ) → has_float (object (with_whole (codes "valueTwo") given (put (codes "op") (string (op_name op)) (put (codes "value") (whole_number value) (put (codes "index") (whole_number index) no_members))))) ≡ false
+cond_no_float : (index : ℕ) (op : Op) (value : ℕ) (given : Option ℕ)
+    → has_float (object (with_whole (codes "valueTwo") given
+    (put (codes "op") (string (op_name op))
+    (put (codes "value") (whole_number value) (put (codes "index") (whole_number index) no_members)))))
+    ≡ false
 unfolding serde_json_on_literals
 cond_no_float index op value None = refl
 cond_no_float index op value (Some two) = refl
 
-conds_no_float : (conds : List Cond) → items_have_float (items_of (map cond_tree conds)) ≡ false
+pub conds_no_float : (conds : List Cond) → items_have_float (items_of (map cond_tree conds)) ≡ false
 conds_no_float [] = refl
 conds_no_float (c ∷ cs) = rw (cond_no_float c.index c.op c.value (two_of c.value_two)) (conds_no_float cs)
 
-names_no_float : (names : List (List ℕ)) → items_have_float (items_of (map string names)) ≡ false
+pub names_no_float : (names : List (List ℕ)) → items_have_float (items_of (map string names)) ≡ false
 names_no_float [] = refl
 names_no_float (name ∷ names) = names_no_float names
 
-entry_no_float : (action : List ℕ) (errno : Option ℕ) (args names : List Data) → items_have_float (items_of args) ≡ false → items_have_float (items_of names) ≡ false
-    → has_float (object (with_whole (codes "errnoRet") errno (with_list (codes "args") args (put (codes "action") (string action) (put (codes "names") (array (items_of names)) no_members))))) ≡ false
+pub entry_no_float : (action : List ℕ) (errno : Option ℕ) (args names : List Data)
+    → items_have_float (items_of args) ≡ false → items_have_float (items_of names) ≡ false
+    → has_float (object (with_whole (codes "errnoRet") errno
+    (with_list (codes "args") args (put (codes "action") (string action)
+    (put (codes "names") (array (items_of names)) no_members))))) ≡ false
 unfolding serde_json_on_literals
 entry_no_float action None [] names args_none names_none = rw names_none refl
 entry_no_float action None (d ∷ ds) names args_none names_none = rw (args_none, names_none) refl
@@ -98,34 +134,48 @@ entry_no_float action (Some e) (d ∷ ds) names args_none names_none = rw (args_
 entries_no_float : (entries : List Entry) → items_have_float (items_of (map entry_tree entries)) ≡ false
 entries_no_float [] = refl
 entries_no_float (entry ∷ entries) =
-    rw (entry_no_float (action_name entry.decision) (errno_of entry.decision) (map cond_tree entry.conds) (map string (names_of entry.numbers)) (conds_no_float entry.conds) (names_no_float (names_of entry.numbers)))
+    rw (entry_no_float (action_name entry.decision) (errno_of entry.decision) (map cond_tree entry.conds)
+    (map string (names_of entry.numbers)) (conds_no_float entry.conds)
+    (names_no_float (names_of entry.numbers)))
     (entries_no_float entries)
 
-profile_no_float : (action : List ℕ) (errno : Option ℕ) (entries : List Data) → items_have_float (items_of entries) ≡ false → has_float (profile_with action errno entries) ≡ false
+profile_no_float : (action : List ℕ) (errno : Option ℕ) (entries : List Data)
+    → items_have_float (items_of entries) ≡ false → has_float (profile_with action errno entries) ≡ false
 unfolding serde_json_on_literals
 profile_no_float action None entries none = rw none refl
 profile_no_float action (Some e) entries none = rw none refl
 
 pub no_float : (profile : Profile) → has_float (profile_tree profile) ≡ false
 unfolding profile_tree
-no_float profile = profile_no_float (action_name profile.default) (errno_of profile.default) (map entry_tree profile.entries) (entries_no_float profile.entries)
+no_float profile = profile_no_float (action_name profile.default) (errno_of profile.default)
+    (map entry_tree profile.entries) (entries_no_float profile.entries)
 
 -- it does not nest deep
-cond_shallow : (index : ℕ) (op : Op) (value : ℕ) (given : Option ℕ) → depth (object (with_whole (codes "valueTwo") given (put (codes "op") (string (op_name op)) (put (codes "value") (whole_number value) (put (codes "index") (whole_number index) no_members))))) ≤ 1
+cond_shallow : (index : ℕ) (op : Op) (value : ℕ) (given : Option ℕ)
+    → depth (object (with_whole (codes "valueTwo") given
+    (put (codes "op") (string (op_name op))
+    (put (codes "value") (whole_number value) (put (codes "index") (whole_number index) no_members))))) ≤ 1
 unfolding serde_json_on_literals
 cond_shallow index op value None = omega arith
 cond_shallow index op value (Some two) = omega arith
 
-conds_shallow : (conds : List Cond) → items_depth (items_of (map cond_tree conds)) ≤ 1
+pub conds_shallow : (conds : List Cond) → items_depth (items_of (map cond_tree conds)) ≤ 1
 conds_shallow [] = omega arith
-conds_shallow (c ∷ cs) = omega (arith, cond_shallow c.index c.op c.value (two_of c.value_two), conds_shallow cs)
+conds_shallow (c ∷ cs) = omega (
+  arith,
+  cond_shallow c.index c.op c.value (two_of c.value_two),
+  conds_shallow cs,
+)
 
-names_shallow : (names : List (List ℕ)) → items_depth (items_of (map string names)) ≤ 0
+pub names_shallow : (names : List (List ℕ)) → items_depth (items_of (map string names)) ≤ 0
 names_shallow [] = omega arith
 names_shallow (name ∷ names) = omega (arith, names_shallow names)
 
-entry_shallow : (action : List ℕ) (errno : Option ℕ) (args names : List Data) → items_depth (items_of args) ≤ 1 → items_depth (items_of names) ≤ 0
-    → depth (object (with_whole (codes "errnoRet") errno (with_list (codes "args") args (put (codes "action") (string action) (put (codes "names") (array (items_of names)) no_members))))) ≤ 3
+pub entry_shallow : (action : List ℕ) (errno : Option ℕ) (args names : List Data)
+    → items_depth (items_of args) ≤ 1 → items_depth (items_of names) ≤ 0
+    → depth (object (with_whole (codes "errnoRet") errno
+    (with_list (codes "args") args (put (codes "action") (string action)
+    (put (codes "names") (array (items_of names)) no_members))))) ≤ 3
 unfolding serde_json_on_literals
 entry_shallow action None [] names args_low names_low = omega arith
 entry_shallow action None (d ∷ ds) names args_low names_low = omega arith
@@ -137,25 +187,34 @@ entries_shallow [] = omega arith
 entries_shallow (entry ∷ entries) =
     omega (
       arith,
-      entry_shallow (action_name entry.decision) (errno_of entry.decision) (map cond_tree entry.conds) (map string (names_of entry.numbers)) (conds_shallow entry.conds) (names_shallow (names_of entry.numbers)),
+      entry_shallow (action_name entry.decision) (errno_of entry.decision) (map cond_tree entry.conds)
+          (map string (names_of entry.numbers)) (conds_shallow entry.conds)
+          (names_shallow (names_of entry.numbers)),
       entries_shallow entries,
     )
 
-profile_shallow : (action : List ℕ) (errno : Option ℕ) (entries : List Data) → items_depth (items_of entries) ≤ 3 → depth (profile_with action errno entries) ≤ 5
+profile_shallow : (action : List ℕ) (errno : Option ℕ) (entries : List Data)
+    → items_depth (items_of entries) ≤ 3 → depth (profile_with action errno entries) ≤ 5
 unfolding serde_json_on_literals
 profile_shallow action None entries low = omega arith
 profile_shallow action (Some e) entries low = omega arith
 
 shallow : (profile : Profile) → depth (profile_tree profile) ≤ max_depth
 unfolding profile_tree
-shallow profile = omega (arith, profile_shallow (action_name profile.default) (errno_of profile.default) (map entry_tree profile.entries) (entries_shallow profile.entries))
+shallow profile = omega (
+  arith,
+  profile_shallow (action_name profile.default) (errno_of profile.default)
+      (map entry_tree profile.entries) (entries_shallow profile.entries),
+)
 
-told : (bytes : List ℕ) (tree : Data) → IsUtf8 bytes → read bytes ≡ Some tree → tree_of bytes ≡ Some tree
+pub told : (bytes : List ℕ) (tree : Data) → IsUtf8 bytes → read bytes ≡ Some tree → tree_of bytes ≡ Some tree
 unfolding tree_of
 told bytes tree utf8 is = rw (is_utf8-from_IsUtf8 bytes utf8) is
 
-pub reads : (agree : Agree) (profile : Profile) (tree : Data) (bytes : List ℕ) → tree ≡ profile_tree profile → AllByRecursion FitsEntry profile.entries → FitsDecision profile.default → is_writable profile ≡ true
-    → IsUtf8 bytes → (depth tree ≤ max_depth → read bytes ≡ Some tree) → length bytes ≤ MAX_PROFILE_BYTES → ReadsProfile bytes profile
+pub reads : (agree : Agree) (profile : Profile) (tree : Data) (bytes : List ℕ) → tree ≡ profile_tree profile
+    → AllByRecursion FitsEntry profile.entries → FitsDecision profile.default → is_writable profile ≡ true
+    → IsUtf8 bytes → (depth tree ≤ max_depth → read bytes ≡ Some tree) → length bytes ≤ MAX_PROFILE_BYTES
+    → ReadsProfile bytes profile
 reads agree profile tree bytes is fits fits_default writable utf8 back short =
     let levels : depth tree ≤ max_depth = rw is (shallow profile) in
     record {

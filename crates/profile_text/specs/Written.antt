@@ -1,16 +1,20 @@
--- How a profile is written: OCI runtime-spec 1.1, config-linux, seccomp, as compact JSON with the members of each
--- object in the order of their keys' bytes. This project's own is what is left out: `args` where there are none, a
+-- How a profile is written: OCI runtime-spec 1.1, config-linux, seccomp, as compact JSON with the members of
+-- each object in the order of their keys' bytes. This project's own is what is left out: `args` where there
+-- are none, a
 -- `valueTwo` of 0, what has no effect.
-use Rattle.std.specs.Prelude.{ℕ, ◌==◌, List, [], ◌∷◌, codes, map, if◌then◌else◌, Option, Some, None, unwrap_or}
+use Rattle.std.specs.Prelude.{ℕ, ◌==◌, List, [], ◌∷◌, codes, map, if◌then◌else◌, Option, Some, None}
+use Rattle.std.specs.Prelude.{unwrap_or}
 use Rattle.serde_json.specs.Data.{Data, number, unsigned, string, array, object, Members, no_members, put}
 use Rattle.serde_json.specs.View.{items_of}
 use Rattle.serde_json.specs.Written.{compact_text}
 use Rattle.sys_table.specs.SysTable.{name_of}
 use Rattle.oci_profile.specs.declared.conditions.Cond.{Cond}
 use Rattle.oci_profile.specs.declared.conditions.Op.{Op}
-use Rattle.oci_profile.specs.declared.conditions.Op.TheVariants.{NotEqual, Less, LessOrEqual, Equal, GreaterOrEqual, Greater, MaskedEqual}
+use Rattle.oci_profile.specs.declared.conditions.Op.TheVariants.{NotEqual, Less, LessOrEqual, Equal}
+use Rattle.oci_profile.specs.declared.conditions.Op.TheVariants.{GreaterOrEqual, Greater, MaskedEqual}
 use Rattle.oci_profile.specs.declared.decision.Decision.{Decision}
-use Rattle.oci_profile.specs.declared.decision.Decision.TheVariants.{KillProcess, KillThread, Trap, Errno, Trace, Allow, Log}
+use Rattle.oci_profile.specs.declared.decision.Decision.TheVariants.{KillProcess, KillThread, Trap, Errno}
+use Rattle.oci_profile.specs.declared.decision.Decision.TheVariants.{Trace, Allow, Log}
 use Rattle.oci_profile.specs.declared.profile.Entry.{Entry}
 use Rattle.oci_profile.specs.declared.profile.Profile.{Profile}
 
@@ -72,12 +76,17 @@ abbrev pub names_of : List ℕ → List (List ℕ)
 names_of [] = [] ∷ []
 names_of (n ∷ ns) = map name_text (n ∷ ns)
 
+-- an entry with these names
+abbrev pub entry_with : List Data → List ℕ → Option ℕ → List Cond → Data
+entry_with names action errno conds = object (
+    with_whole (codes "errnoRet") errno (
+    with_list (codes "args") (map cond_tree conds) (
+    put (codes "action") (string action) (
+    put (codes "names") (array (items_of names)) no_members))))
+
 abbrev pub entry_tree : Entry → Data
-entry_tree entry = object (
-    with_whole (codes "errnoRet") (errno_of entry.decision) (
-    with_list (codes "args") (map cond_tree entry.conds) (
-    put (codes "action") (string (action_name entry.decision)) (
-    put (codes "names") (array (items_of (map string (names_of entry.numbers)))) no_members))))
+entry_tree entry = entry_with (map string (names_of entry.numbers)) (action_name entry.decision)
+    (errno_of entry.decision) entry.conds
 
 unfoldable pub profile_tree : Profile → Data
 profile_tree profile = object (

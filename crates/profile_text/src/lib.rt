@@ -7,7 +7,9 @@
 mod default_profile;
 mod faults;
 mod laws;
+mod named;
 mod object;
+mod texts;
 mod trees;
 mod writable;
 mod writer;
@@ -15,4 +17,6 @@ mod writer;
 pub use default_profile::default_text;
 pub use faults::WriteFault;
 pub use laws::{runtime_default_can_be_written, what_is_read_can_be_written};
+pub use named::{NamedEntry, is_stricter, is_taken, write_named};
+pub use texts::Texts;
 pub use writer::write;

@@ -1,9 +1,10 @@
-ghost use Rattle.std.specs.Prelude.{◌≡◌, IfOk, map};
+ghost use Rattle.std.specs.Prelude.{◌≡◌, IfOk, codes, map};
 ghost use Rattle.std.specs.List.{AllByRecursion};
-ghost use Rattle.serde_json.specs.Data.{string};
-ghost use Rattle.serde_json.specs.View.{view};
+ghost use Rattle.serde_json.specs.Data.{array, no_members, put, string};
+ghost use Rattle.serde_json.specs.View.{items_of, members_view, view};
 ghost use Rattle.profile_text.specs.Fits.{FitsDecision, FitsEntry};
-ghost use Rattle.profile_text.specs.Written.{action_name, cond_tree, entry_tree, errno_of, name_text, names_of, op_name, profile_tree, two_of};
+ghost use Rattle.profile_text.specs.Written.{action_name, cond_tree, entry_tree, entry_with, errno_of};
+ghost use Rattle.profile_text.specs.Written.{name_text, names_of, op_name, profile_tree, two_of, with_whole};
 
 use crate::object::Object;
 use oci_profile::{Cond, Decision, Entry, Op, Profile};
@@ -19,11 +20,25 @@ pub(crate) fn profile_tree(alloc: Global, profile: &Profile) -> Result<Value, Al
     ensures fit_default { IfOk result (λ _. FitsDecision profile.now.default) }
 {
     let entries = entry_trees(alloc, profile.entries.as_slice())?;
-    let object = Object::new(alloc)
+    Ok(head(alloc, profile.default, entries)?.done())
+}
+
+/// A profile with these entries.
+pub(crate) fn head(
+    alloc: Global,
+    default: Decision,
+    entries: Vec<Value>,
+) -> Result<Object, AllocError>
+    ensures members { IfOk result (λ o. members_view o.members.entries
+        ≡ with_whole (codes "defaultErrnoRet") (errno_of default) (
+        put (codes "defaultAction") (string (action_name default)) (
+        put (codes "syscalls") (array (items_of (map view entries.items))) no_members))) }
+    ensures fit { IfOk result (λ _. FitsDecision default) }
+{
+    Object::new(alloc)
         .with("syscalls", Value::Array(entries))?
-        .text("defaultAction", action_name(profile.default))?
-        .may_be_whole("defaultErrnoRet", errno_of(profile.default))?;
-    Ok(object.done())
+        .text("defaultAction", action_name(default))?
+        .may_be_whole("defaultErrnoRet", errno_of(default))
 }
 
 #[tactic(auto, using(crate::proofs::Loops::written_more, crate::proofs::Loops::fits_more))]
@@ -43,12 +58,27 @@ fn entry_tree(alloc: Global, entry: &Entry) -> Result<Value, AllocError>
     ensures fit { IfOk result (λ _. FitsEntry entry.now) }
 {
     let names = name_trees(alloc, entry.numbers.as_slice())?;
-    let args = cond_trees(alloc, entry.conds.as_slice())?;
+    let conds = entry.conds.as_slice();
+    let errno = errno_of(entry.decision);
+    entry_with(alloc, names, action_name(entry.decision), errno, conds)
+}
+
+/// An entry with these names.
+pub(crate) fn entry_with(
+    alloc: Global,
+    names: Vec<Value>,
+    action: &'static str,
+    errno: Option<u64>,
+    conds: &[Cond],
+) -> Result<Value, AllocError>
+    ensures { IfOk result (λ v. view v ≡ entry_with (map view names.items) action.now errno conds.now) }
+{
+    let args = cond_trees(alloc, conds)?;
     let object = Object::new(alloc)
         .with("names", Value::Array(names))?
-        .text("action", action_name(entry.decision))?
+        .text("action", action)?
         .may_be_list("args", args)?
-        .may_be_whole("errnoRet", errno_of(entry.decision))?;
+        .may_be_whole("errnoRet", errno)?;
     Ok(object.done())
 }
 
@@ -131,7 +161,7 @@ fn op_name(op: Op) -> &'static str
     }
 }
 
-fn action_name(decision: Decision) -> &'static str
+pub(crate) fn action_name(decision: Decision) -> &'static str
     ensures { result.now ≡ action_name decision }
 {
     match decision {
@@ -146,7 +176,7 @@ fn action_name(decision: Decision) -> &'static str
 }
 
 /// The errno, or a tracer's message, that is told with the action.
-fn errno_of(decision: Decision) -> Option<u64>
+pub(crate) fn errno_of(decision: Decision) -> Option<u64>
     ensures value { result ≡ errno_of decision }
     ensures fit { FitsDecision decision }
 {

@@ -1,4 +1,5 @@
-ghost use Rattle.std.specs.Prelude.{◌≡◌, ◌≢◌, ◌↔◌, ◌<◌, IfErr, IfOk, Err, false, length, nat_lt, string_bytes};
+ghost use Rattle.std.specs.Prelude.{◌≡◌, ◌≢◌, ◌↔◌, ◌<◌, IfErr, IfOk, Err, false, length, nat_lt};
+ghost use Rattle.std.specs.Prelude.{string_bytes};
 ghost use Rattle.oci_profile.specs.declared.reader.TheConstants.{MAX_PROFILE_BYTES};
 ghost use Rattle.oci_profile.specs.Profile.{ReadsProfile};
 ghost use Rattle.profile_text.specs.Writable.{is_writable};
@@ -34,7 +35,7 @@ pub fn write(alloc: Global, profile: &Profile) -> Result<String, WriteFault>
     Ok(text)
 }
 
-fn is_too_large(text: &str) -> bool
+pub(crate) fn is_too_large(text: &str) -> bool
     ensures { result ≡ nat_lt MAX_PROFILE_BYTES (length text.now) }
 {
     text.len() > MAX_PROFILE_BYTES

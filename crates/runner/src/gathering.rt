@@ -16,7 +16,8 @@ pub fn gather<S: Files, P: Files>(
     profiles: &mut P,
     request: &Request,
 ) -> FileAnswers
-    ensures script { Gave S.held S.failed scripts.old (script_path request.now.call) result.script scripts.new }
+    ensures script { Gave S.held S.failed scripts.old (script_path request.now.call) result.script
+        scripts.new }
     ensures profile { Gave P.held P.failed profiles.old (profile_path request.now.call) result.profile
         profiles.new }
 {

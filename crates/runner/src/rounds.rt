@@ -51,7 +51,8 @@ pub(crate) trait Visits {
 
     /// Steps the cell of the runner's share with the least id above this one; None where there is none.
     fn visit(&mut self, above: u64) -> Option<Visit>
-        ensures may { MayVisit (runner self.old) (runners self.old) (record { above = above; visit = result }) }
+        ensures may { MayVisit (runner self.old) (runners self.old)
+            (record { above = above; visit = result }) }
         ensures runner { runner self.new ≡ runner self.old }
         ensures runners { runners self.new ≡ runners self.old }
         ensures asked { asked self.new ≡ option_map (λ before. record { above = above; visit = result }

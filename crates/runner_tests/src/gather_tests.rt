@@ -103,7 +103,8 @@ const ROWS: [(&str, &str, &str); 9] = [
         "Failed Failed 1 1",
     ),
     (
-        "\"call\":\"CreateContainer\",\"image\":\"long\",\"profile\":{\"type\":\"Localhost\",\"path\":\"full\"}",
+        "\"call\":\"CreateContainer\",\"image\":\"long\",\
+         \"profile\":{\"type\":\"Localhost\",\"path\":\"full\"}",
         "TooLarge 1048576 0 0",
         "Failed Failed 1 1",
     ),

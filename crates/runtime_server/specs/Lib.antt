@@ -1,3 +1,4 @@
 pub mod Stops
 pub mod StopText
 pub mod Telling
+pub mod Wrong

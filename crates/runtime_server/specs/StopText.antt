@@ -15,7 +15,9 @@ use Rattle.runtime_server.specs.declared.socket_fault.SocketFault.{SocketFault}
 use Rattle.runtime_server.specs.declared.socket_fault.SocketFault.TheVariants as socket
 use Rattle.runtime_server.specs.declared.sockets.TheConstants.{MAX_NAME}
 use Rattle.runtime_server.specs.declared.stops.ServerStop.{ServerStop}
-use Rattle.runtime_server.specs.declared.stops.ServerStop.TheVariants.{CommandLine, BadNumber, Misfit, Baseline, File, Socket, Unwritten, Memory}
+use Rattle.runtime_server.specs.declared.stops.ServerStop.TheVariants.{CommandLine, BadNumber, Misfit}
+use Rattle.runtime_server.specs.declared.stops.ServerStop.TheVariants.{Baseline, File, Socket, Unwritten}
+use Rattle.runtime_server.specs.declared.stops.ServerStop.TheVariants.{Memory}
 
 -- the name of a filter's fault, without its place
 abbrev pub code_fault_name : CodeFault → List ℕ
@@ -53,9 +55,14 @@ socket_text socket.Memory = codes "Memory"
 abbrev pub stop_text : List ℕ → ServerStop → Option (List ℕ)
 stop_text program (CommandLine error) = None
 stop_text program (BadNumber word) = Some (program ++ codes ": " ++ word.now ++ codes ": BadNumber\n")
-stop_text program (Misfit word why) = Some (program ++ codes ": " ++ word.now ++ codes ": " ++ misfit_text why ++ codes "\n")
-stop_text program (Baseline path refusal) = Some (program ++ codes ": " ++ path.now ++ codes ": " ++ refusal_name refusal ++ codes "\n")
-stop_text program (File path caused) = Some (program ++ codes ": " ++ path.now ++ codes ": " ++ caused_text caused ++ codes "\n")
-stop_text program (Socket path fault) = Some (program ++ codes ": " ++ path.now ++ codes ": Failed (" ++ socket_text fault ++ codes ")\n")
-stop_text program (Unwritten cause) = Some (program ++ codes ": standard output: Failed (" ++ cause_text cause ++ codes ")\n")
+stop_text program (Misfit word why) = Some (program ++ codes ": " ++ word.now ++ codes ": " ++ misfit_text why
+    ++ codes "\n")
+stop_text program (Baseline path refusal) =
+    Some (program ++ codes ": " ++ path.now ++ codes ": " ++ refusal_name refusal ++ codes "\n")
+stop_text program (File path caused) = Some
+    (program ++ codes ": " ++ path.now ++ codes ": " ++ caused_text caused ++ codes "\n")
+stop_text program (Socket path fault) =
+    Some (program ++ codes ": " ++ path.now ++ codes ": Failed (" ++ socket_text fault ++ codes ")\n")
+stop_text program (Unwritten cause) = Some (program ++ codes ": standard output: Failed (" ++ cause_text cause
+    ++ codes ")\n")
 stop_text program Memory = Some (program ++ codes ": Memory\n")

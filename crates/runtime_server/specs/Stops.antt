@@ -12,7 +12,9 @@ use Rattle.node_io.specs.declared.faults.FileFault.TheVariants as file
 use Rattle.runtime_server.specs.declared.socket_fault.SocketFault.{SocketFault}
 use Rattle.runtime_server.specs.declared.socket_fault.SocketFault.TheVariants as socket
 use Rattle.runtime_server.specs.declared.stops.ServerStop.{ServerStop}
-use Rattle.runtime_server.specs.declared.stops.ServerStop.TheVariants.{CommandLine, BadNumber, Misfit, Baseline, File, Socket, Unwritten, Memory}
+use Rattle.runtime_server.specs.declared.stops.ServerStop.TheVariants.{CommandLine, BadNumber, Misfit}
+use Rattle.runtime_server.specs.declared.stops.ServerStop.TheVariants.{Baseline, File, Socket, Unwritten}
+use Rattle.runtime_server.specs.declared.stops.ServerStop.TheVariants.{Memory}
 
 abbrev pub status_of : ServerStop → ℕ
 status_of (Baseline path refusal) = 1

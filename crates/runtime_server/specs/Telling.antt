@@ -1,10 +1,25 @@
 -- What is told of a runtime beside its messages, this project's own: docs/SEMANTICS.md, "Programs".
-use Rattle.std.specs.Prelude.{ℕ, List, [], ◌++◌, codes}
+use Rattle.std.specs.Prelude.{ℕ, List, [], ◌++◌, Bool, true, false, codes}
 use Rattle.cri_msgs.specs.declared.refusals.Refusal.{Refusal}
-use Rattle.cri_msgs.specs.declared.refusals.Refusal.TheVariants.{InvalidArgument, NotFound, AlreadyExists, ResourceExhausted, FailedPrecondition, Internal, Memory}
+use Rattle.cri_msgs.specs.declared.refusals.Refusal.TheVariants.{InvalidArgument, NotFound, AlreadyExists}
+use Rattle.cri_msgs.specs.declared.refusals.Refusal.TheVariants.{ResourceExhausted, FailedPrecondition}
+use Rattle.cri_msgs.specs.declared.refusals.Refusal.TheVariants.{Internal, Memory}
 use Rattle.cri_msgs.specs.declared.replies.Answer.{Answer}
 use Rattle.cri_msgs.specs.declared.replies.Answer.TheVariants.{Refused}
 use Rattle.runtime_server.specs.declared.site.Address.{Address}
+use Rattle.runtime_server.specs.declared.site.Tells.{Tells}
+use Rattle.runtime_server.specs.declared.site.Tells.TheVariants.{Nothing, WrongFiles, Each}
+
+-- whether an answer is told, behind which a file is wrong or not
+abbrev pub is_told : Tells → Bool → Bool
+is_told Nothing wrong = false
+is_told WrongFiles wrong = wrong
+is_told Each wrong = true
+
+-- where scriptd is to tell what it does
+abbrev pub told_where : Bool → Tells
+told_where true = Each
+told_where false = Nothing
 
 -- the names of gRPC's status codes, and of want of memory
 abbrev pub refusal_text : Refusal → List ℕ
@@ -24,4 +39,6 @@ name_behind _ = []
 -- the first line of a runtime
 abbrev pub listening_text : Address → List ℕ
 listening_text address =
-    codes "listens at " ++ (address.socket.now ++ (codes ", scripts in " ++ (address.scripts.now ++ (codes ", profiles in " ++ address.profiles.now))))
+    codes "listens at " ++ (address.socket.now
+    ++ (codes ", scripts in " ++ (address.scripts.now
+    ++ (codes ", profiles in " ++ address.profiles.now))))

@@ -1,8 +1,11 @@
 //! What is wrong with the files of a request, in the order in which a runtime judges them: the script, then
 //! the profile. A request that is refused for another reason is told without.
+ghost use Rattle.std.specs.Prelude.{◌≡◌, ◌++◌, IfOk, string_bytes};
+ghost use Rattle.runtime_server.specs.Wrong.{TellsProfile, TellsScript};
 
 use compile::{CompileFault, compile};
 use cri_msgs::{Answer, Call, Refusal, Request};
+use fault_notes::{profile_note, script_note};
 use manifest::SeccompProfile;
 use node_io::{CausedFault, FileFault, MAX_FILE_BYTES, SystemFiles};
 use oci_profile::ProfileFault;
@@ -18,7 +21,8 @@ pub(crate) fn is_of_files(answer: &Answer) -> bool {
     )
 }
 
-/// The first file that is wrong, and why: `gone.s: NotFound`.
+/// The first file that is wrong, where in it, and why: `gone.s: NotFound`, `s.json: steps[2].call:
+/// UnknownCall: "nosuch"`.
 pub(crate) fn wrong_in(
     alloc: Global,
     scripts: &SystemFiles<'_, HostRuntime>,
@@ -49,11 +53,28 @@ fn wrong_script(
     match read {
         None => Ok(None),
         Some(Err(fault)) => Ok(Some(unread(alloc, files, path, *fault)?)),
-        Some(Ok(contents)) => match script::read(alloc, contents.as_slice()) {
-            Ok(_) | Err(ScriptFault::Memory) => Ok(None),
-            Err(fault) => Ok(Some(format!(in alloc; "{path}: {fault}")?)),
+        Some(Ok(contents)) => script_fault(alloc, path, contents.as_slice()),
+    }
+}
+
+// What is wrong with a script's text, if something is.
+fn script_fault(alloc: Global, path: &str, bytes: &[u8]) -> Result<Option<String>, AllocError>
+    ensures { IfOk result (TellsScript path.now bytes.now) }
+{
+    match script::read_placed(alloc, bytes) {
+        Ok(_script) => Ok(None),
+        Err(found) => match found.fault {
+            ScriptFault::Memory => Ok(None),
+            _ => Ok(Some(behind(alloc, path, &script_note(alloc, bytes, &found)?)?)),
         },
     }
+}
+
+// What is told of a file.
+fn behind(alloc: Global, path: &str, told: &str) -> Result<String, AllocError>
+    ensures { IfOk result (λ text. string_bytes text ≡ path.now ++ told.now) }
+{
+    format!(in alloc; "{path}{told}")
 }
 
 fn wrong_profile(
@@ -65,13 +86,22 @@ fn wrong_profile(
     match read {
         None => Ok(None),
         Some(Err(fault)) => Ok(Some(unread(alloc, files, path, *fault)?)),
-        Some(Ok(contents)) => match oci_profile::read(alloc, contents.as_slice()) {
-            Ok(profile) => match compile(alloc, &profile) {
-                Ok(_) | Err(CompileFault::Memory) => Ok(None),
-                Err(fault) => Ok(Some(format!(in alloc; "{path}: {fault}")?)),
-            },
-            Err(ProfileFault::Memory) => Ok(None),
-            Err(fault) => Ok(Some(format!(in alloc; "{path}: {fault}")?)),
+        Some(Ok(contents)) => profile_fault(alloc, path, contents.as_slice()),
+    }
+}
+
+// What is wrong with a profile's text, if something is.
+fn profile_fault(alloc: Global, path: &str, bytes: &[u8]) -> Result<Option<String>, AllocError>
+    ensures { IfOk result (TellsProfile path.now bytes.now) }
+{
+    match oci_profile::read_placed(alloc, bytes) {
+        Ok(profile) => match compile(alloc, &profile) {
+            Ok(_) | Err(CompileFault::Memory) => Ok(None),
+            Err(CompileFault::TooLong) => Ok(Some(behind(alloc, path, ": TooLong")?)),
+        },
+        Err(found) => match found.fault {
+            ProfileFault::Memory => Ok(None),
+            _ => Ok(Some(behind(alloc, path, &profile_note(alloc, bytes, &found)?)?)),
         },
     }
 }

@@ -24,7 +24,7 @@ pub use engine::{Engine, EngineHost, start_runners};
 pub use inputs::{baseline_at, bytes_at, look_at_folders};
 pub use laws::constants_are_as_stated;
 pub use scriptd::scriptd_run;
-pub use site::{Address, Site, accept_all};
+pub use site::{Address, Site, Tells, accept_all};
 pub use socket_fault::SocketFault;
 pub use stops::{ServerStop, Told, file_stop, socket_stop};
 pub use teller::{MAX_WAITING, READER_PATIENCE, Stream, Teller};

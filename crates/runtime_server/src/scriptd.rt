@@ -1,9 +1,11 @@
 ghost use Rattle.std.specs.Prelude.{◌≡◌};
+ghost use Rattle.runtime_server.specs.Telling.{told_where};
 
 use crate::engine::start_runners;
 use crate::inputs::{baseline_at, look_at_folders};
-use crate::site::{Address, Site, accept_all};
+use crate::site::{Address, Site, Tells, accept_all};
 use crate::stops::{ServerStop, Told, socket_stop};
+use crate::teller::{Stream, Teller};
 use bpf_verify::Filter;
 use command_line::{ScriptdLine, scriptd_line};
 use runner::Baseline;
@@ -65,7 +67,12 @@ fn run_line<
 ) -> Result<(), ServerStop<'a>>
     requires { baseline ≡ B.filter }
 {
-    let site = match Site::<B>::open(rt, system, address_of(line), baseline) {
+    let teller = if line.verbose {
+        Some(Teller::start(*rt, *system, Stream::Error)?)
+    } else {
+        None
+    };
+    let site = match Site::<B>::open(rt, system, address_of(line), baseline, teller) {
         Ok(site) => site,
         Err(fault) => return Err(socket_stop(line.socket, fault)),
     };
@@ -76,13 +83,17 @@ fn address_of<'a>(line: &ScriptdLine<'a>) -> Address<'a>
     ensures socket { result.socket ≡ line.now.socket }
     ensures scripts { result.scripts ≡ line.now.scripts }
     ensures profiles { result.profiles ≡ line.now.profiles }
-    ensures verbose { result.verbose ≡ line.now.verbose }
+    ensures tells { result.tells ≡ told_where line.now.verbose }
 {
     Address {
         socket: line.socket,
         scripts: line.scripts,
         profiles: line.profiles,
-        verbose: line.verbose,
+        tells: if line.verbose {
+            Tells::Each
+        } else {
+            Tells::Nothing
+        },
     }
 }
 

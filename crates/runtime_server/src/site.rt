@@ -6,7 +6,7 @@ use crate::diagnosis::{is_of_files, wrong_in};
 use crate::engine::{Engine, EngineHost};
 use crate::socket_fault::SocketFault;
 use crate::sockets::Socket;
-use crate::teller::{Stream, Teller};
+use crate::teller::Teller;
 use crate::telling::{asked, listening_line, reply_line};
 use bpf_verify::Filter;
 use cri_msgs::{Reply, Request};
@@ -32,8 +32,34 @@ pub struct Address<'a> {
     pub scripts: &'a str,
     /// The folder of profiles.
     pub profiles: &'a str,
-    /// Whether each answer is told on standard error.
-    pub verbose: bool,
+    /// Which of its answers are told.
+    pub tells: Tells,
+}
+
+/// Which of a runtime's answers are told.
+#[derive(Clone, Copy, Debug, PartialEq, Eq)]
+pub enum Tells {
+    Nothing,
+    /// Those that refuse a container for what is wrong with a file.
+    WrongFiles,
+    /// Each, and before them on what the runtime works.
+    Each,
+}
+
+impl Tells {
+    ghost use Rattle.std.specs.Prelude.{◌≡◌, is_some};
+    ghost use Rattle.runtime_server.specs.Telling.{is_told};
+
+    /// Whether an answer is told, behind which this file is wrong, if one is.
+    fn is_told(self, wrong: &Option<String>) -> bool
+        ensures { result ≡ is_told self (is_some wrong.now) }
+    {
+        match self {
+            Tells::Nothing => false,
+            Tells::WrongFiles => wrong.is_some(),
+            Tells::Each => true,
+        }
+    }
 }
 
 /// A runtime that is served over a socket, on a node with this filter of its own.
@@ -43,31 +69,27 @@ pub struct Site<'a, B: Baseline> {
     address: Address<'a>,
     socket: Socket,
     connections: Connections,
-    // By whom answers are told, if they are.
+    // By whom answers are told, if somebody can.
     teller: Option<Arc<Teller, Global>>,
     /// The runtime.
     pub engine: Engine<B>,
 }
 
 impl<'a, B: Baseline> Site<'a, B> {
-    /// Listens at the address. The runtime has no containers.
-    pub fn open<R: Threads + Wait + Copy + Send + 'static>(
+    /// Listens at the address. The runtime has no containers. The teller has its lines.
+    pub fn open<R: Wait>(
         rt: &R,
         system: &HostRuntime,
         address: Address<'a>,
         baseline: Option<Filter>,
+        teller: Option<Arc<Teller, Global>>,
     ) -> Result<Site<'a, B>, SocketFault>
         requires { baseline ≡ B.filter }
         ensures { IfOk result (λ site. site.address ≡ address.entry) }
     {
         let connections = Connections::new(system.alloc())?;
-        let teller = if address.verbose {
-            Some(Teller::start(*rt, *system, Stream::Error)?)
-        } else {
-            None
-        };
         let socket = Socket::at(system, address.socket)?;
-        if let Some(teller) = &teller {
+        if let (Some(teller), Tells::Each) = (&teller, address.tells) {
             teller.tell(rt, listening_line(system.alloc(), address));
         }
         Ok(Site {
@@ -115,7 +137,10 @@ impl<B: Baseline, R: Wait> Host for ToldHost<'_, B, R> {
     ghost may = { λ _ request files reply _. MayServe B.filter request files reply };
 
     fn serve(&mut self, request: Request, files: FileAnswers) -> Reply {
-        let Some(teller) = &self.site.teller else {
+        let (Some(teller), Tells::WrongFiles | Tells::Each) = (
+            &self.site.teller,
+            self.site.address.tells,
+        ) else {
             return self.host.serve(request, files);
         };
         let asked = asked(self.site.alloc, &request);
@@ -126,8 +151,10 @@ impl<B: Baseline, R: Wait> Host for ToldHost<'_, B, R> {
         } else {
             None
         };
-        let line = reply_line(self.site.alloc, self.connection, asked, &reply, wrong);
-        teller.tell(self.rt, line);
+        if self.site.address.tells.is_told(&wrong) {
+            let line = reply_line(self.site.alloc, self.connection, asked, &reply, wrong);
+            teller.tell(self.rt, line);
+        }
         reply
     }
 

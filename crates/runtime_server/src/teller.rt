@@ -1,5 +1,5 @@
-//! The lines that threads tell, and the one thread that writes them on standard output or standard error: whoever
-//! tells a line waits for no reader.
+//! The lines that threads tell, and the one thread that writes them on standard output or standard error:
+//! whoever tells a line waits for no reader.
 
 use node_io::Cause;
 use std::alloc::{AllocError, Global};

@@ -128,7 +128,8 @@ fn states_and_records(rt: HostRuntime) -> Result<(), Fail> {
             adds,
             true,
             "stttt",
-            "Performed Denied(Verdict { action: Errno, ret_data: 1 }) Performed Ended(0) Exited { code: 0, killed: false } 2 1 0",
+            "Performed Denied(Verdict { action: Errno, ret_data: 1 }) Performed Ended(0) \
+             Exited { code: 0, killed: false } 2 1 0",
         ),
     ];
     for (text, denies, letters, want) in rows {

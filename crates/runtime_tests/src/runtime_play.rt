@@ -64,7 +64,8 @@ fn request_text(alloc: Global, number: u64, line: &str) -> Result<String, AllocE
 const SHORT: &str = "{\"steps\":[{\"call\":\"getpid\"},{\"exit\":3}]}";
 
 const CALLS: &str =
-    "{\"steps\":[{\"call\":\"getpid\"},{\"call\":\"getppid\"},{\"call\":\"ptrace\"},{\"call\":\"read\"},{\"exit\":5}]}";
+    "{\"steps\":[{\"call\":\"getpid\"},{\"call\":\"getppid\"},{\"call\":\"ptrace\"},\
+     {\"call\":\"read\"},{\"exit\":5}]}";
 
 const NO_GETPPID: &str = "{\"defaultAction\":\"SCMP_ACT_ALLOW\",\"syscalls\":[\
     {\"names\":[\"getppid\"],\"action\":\"SCMP_ACT_ERRNO\",\"errnoRet\":13}]}";

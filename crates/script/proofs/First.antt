@@ -1,15 +1,20 @@
 -- A text has one first fault, or it is a script.
-use Rattle.std.proofs.Common.{◌≡◌, ℕ, ◌+◌, ◌<◌, get_or, map, take, drop, List, [], ◌∷◌, ◌++◌, length, Result, Ok, Err, refl, sym, ap, subst, ◌∙◌, arith}
+use Rattle.std.proofs.Common.{◌≡◌, ℕ, suc, ◌+◌, ◌<◌, get_or, map, take, drop, List, [], ◌∷◌, ◌++◌, length}
+use Rattle.std.proofs.Common.{Result, Ok, Err, refl, sym, ap, subst, ◌∙◌, arith}
 use Rattle.std.specs.Prelude.{◌≢◌}
 use Rattle.bpf_code.specs.declared.insn.Insn.{Insn}
 use Rattle.serde_json.specs.Data.{Data}
 use Rattle.json_tree.specs.Reading.{Both, Gives}
+use Rattle.json_tree.specs.Reading.{as_fault}
 use Rattle.script.specs.declared.faults.ScriptFault.{ScriptFault}
 use Rattle.script.specs.declared.faults.ScriptFault.TheVariants.{Memory}
+use Rattle.script.specs.declared.placed.ScriptFaultAt.{ScriptFaultAt}
+use Rattle.script.specs.Faults.{fault_of_step}
 use Rattle.script.specs.declared.scripts.Step.{Step}
 use Rattle.script.specs.declared.scripts.Step.TheVariants.{Call, Exit, ExitByAttempt, Install}
 use Rattle.script.specs.Script.{HasSoundFilters, IsSoundStep, IsStep, ReadsScript}
-use Rattle.script.specs.Reading.{step_of, text_items, StepText, IsReadAs, HasFault, IsRefused, IsFirstOfSteps, IsFirstIn, IsFirstFault, GivesStep, GivesSteps}
+use Rattle.script.specs.Reading.{step_of, text_items, StepText, IsReadAs, HasFault, IsRefused, IsFirstOfSteps}
+use Rattle.script.specs.Reading.{IsFirstIn, IsFirstFault, IsFirstFaultAt, GivesStep, GivesSteps, Reads}
 use Rattle.script.specs.Reading.StepText.{Whole, Installs}
 use Rattle.serde_json.specs.View.{view}
 use Rattle.serde_json.specs.declared.value.Value.{Value}
@@ -18,7 +23,8 @@ use Rattle.script.proofs.Found.{step_found}
 use Rattle.script.proofs.Rows.{AreToldApart, one_code, both_push}
 use Rattle.script.proofs.Only.{step_only, items_only}
 
-pub length_both : {A B : Type 0} (R : A → B → Type 0) (xs : List A) (ys : List B) → Both R xs ys → length ys ≡ length xs
+pub length_both : {A B : Type 0} (R : A → B → Type 0) (xs : List A) (ys : List B) → Both R xs ys
+    → length ys ≡ length xs
 length_both R [] [] all = refl
 length_both R [] (y ∷ ys) all = absurd all
 length_both R (x ∷ xs) [] all = absurd all
@@ -30,13 +36,15 @@ not_refused (Whole known) step is refused = refused
 not_refused (Installs numbers on_error) step is refused = refused is.0 is.1
 
 -- a step has no fault
-no_fault : (item : Data) (step : Step) (fault : ScriptFault) → IsStep item step → HasFault (step_of item) fault → ⊥
+no_fault : (item : Data) (step : Step) (fault : ScriptFaultAt) → IsStep item step
+    → HasFault (step_of item) fault → ⊥
 no_fault item step fault is has =
     let read = step_only item step is in
     not_refused read.0 step read.2 (subst (λ r. HasFault r fault) read.1 has).0
 
 -- and what has one has only this
-fault_one : (reading : Result StepText ScriptFault) (fault other : ScriptFault) → HasFault reading fault → HasFault reading other → fault ≡ other
+fault_one : (reading : Result StepText ScriptFaultAt) (fault other : ScriptFaultAt) → HasFault reading fault
+    → HasFault reading other → fault ≡ other
 fault_one (Err found) fault other has also = has ∙ sym also
 fault_one (Ok text) fault other has also = has.1 ∙ sym also.1
 
@@ -46,76 +54,108 @@ same_head x y xs ys e = cc
 same_tail : (x y : Data) (xs ys : List Data) → x ∷ xs ≡ y ∷ ys → xs ≡ ys
 same_tail x y xs ys e = cc
 
-first_one : (before other_before : List Data) (item other : Data) (behind other_behind : List Data) (steps others : List Step) (fault also : ScriptFault)
-    → before ++ item ∷ behind ≡ other_before ++ other ∷ other_behind → Both IsStep before steps → Both IsStep other_before others
-    → HasFault (step_of item) fault → HasFault (step_of other) also → fault ≡ also
-first_one [] [] item other behind other_behind steps others fault also same each all has had =
-    fault_one (step_of item) fault also has (subst (λ d. HasFault (step_of d) also) (sym (same_head item other behind other_behind same)) had)
+first_one : (before other_before : List Data) (item other : Data) (behind other_behind : List Data)
+    (steps others : List Step) (fault also : ScriptFaultAt)
+    → before ++ item ∷ behind ≡ other_before ++ other ∷ other_behind → Both IsStep before steps
+    → Both IsStep other_before others
+    → HasFault (step_of item) fault → HasFault (step_of other) also → (length before ≡ length other_before)
+    × (fault ≡ also)
+first_one [] [] item other behind other_behind steps others fault also same each all has had = (
+  refl,
+  fault_one (step_of item) fault also has
+      (subst (λ d. HasFault (step_of d) also) (sym (same_head item other behind other_behind same)) had),
+)
 first_one [] (x ∷ more) item other behind other_behind steps [] fault also same each all has had = absurd all
 first_one [] (x ∷ more) item other behind other_behind steps (y ∷ others) fault also same each all has had =
-    absurd (no_fault x y fault all.0 (subst (λ d. HasFault (step_of d) fault) (same_head item x behind (more ++ other ∷ other_behind) same) has))
-first_one (x ∷ more) [] item other behind other_behind [] others fault also same each all has had = absurd each
+    absurd (no_fault x y fault all.0 (subst (λ d. HasFault (step_of d) fault)
+    (same_head item x behind (more ++ other ∷ other_behind) same) has))
+first_one (x ∷ more) [] item other behind other_behind [] others fault also same each all has had =
+    absurd each
 first_one (x ∷ more) [] item other behind other_behind (y ∷ steps) others fault also same each all has had =
-    absurd (no_fault x y also each.0 (subst (λ d. HasFault (step_of d) also) (sym (same_head x other (more ++ item ∷ behind) other_behind same)) had))
-first_one (x ∷ more) (z ∷ rest) item other behind other_behind [] others fault also same each all has had = absurd each
-first_one (x ∷ more) (z ∷ rest) item other behind other_behind (y ∷ steps) [] fault also same each all has had = absurd all
-first_one (x ∷ more) (z ∷ rest) item other behind other_behind (y ∷ steps) (w ∷ others) fault also same each all has had =
-    first_one more rest item other behind other_behind steps others fault also (same_tail x z (more ++ item ∷ behind) (rest ++ other ∷ other_behind) same) each.1 all.1 has had
+    absurd (no_fault x y also each.0 (subst (λ d. HasFault (step_of d) also)
+    (sym (same_head x other (more ++ item ∷ behind) other_behind same)) had))
+first_one (x ∷ more) (z ∷ rest) item other behind other_behind [] others fault also same each all has had =
+    absurd each
+first_one (x ∷ more) (z ∷ rest) item other behind other_behind (y ∷ steps)
+    [] fault also same each all has had = absurd all
+first_one (x ∷ more) (z ∷ rest) item other behind other_behind (y ∷ steps)
+    (w ∷ others) fault also same each all has had =
+    let next = first_one more rest item other behind other_behind steps others fault also
+    (same_tail x z (more ++ item ∷ behind) (rest ++ other ∷ other_behind) same) each.1 all.1 has had in
+    (ap suc next.0, next.1)
 
 -- where all are steps, none has a fault
-none_first : (before : List Data) (item : Data) (behind : List Data) (steps : List Step) (fault : ScriptFault) → Both IsStep (before ++ item ∷ behind) steps
+none_first : (before : List Data) (item : Data) (behind : List Data) (steps : List Step)
+    (fault : ScriptFaultAt) → Both IsStep (before ++ item ∷ behind) steps
     → HasFault (step_of item) fault → ⊥
 none_first [] item behind [] fault each has = each
 none_first [] item behind (step ∷ steps) fault each has = no_fault item step fault each.0 has
 none_first (x ∷ before) item behind [] fault each has = each
-none_first (x ∷ before) item behind (step ∷ steps) fault each has = none_first before item behind steps fault each.1 has
+none_first (x ∷ before) item behind (step ∷ steps) fault each has =
+    none_first before item behind steps fault each.1 has
 
-steps_one : (reading : Result (List Data) ScriptFault) (fault also : ScriptFault) → IsFirstIn reading fault → IsFirstIn reading also → fault ≡ also
+steps_one : (reading : Result (List Data) ScriptFaultAt) (fault also : ScriptFaultAt)
+    → IsFirstIn reading fault → IsFirstIn reading also → fault ≡ also
 steps_one (Err found) fault also first other = first ∙ sym other
 steps_one (Ok items) fault also first other =
-    first_one first.before other.before first.item other.item first.behind other.behind first.steps other.steps fault also
-    (sym first.stands ∙ other.stands) first.each other.each first.has other.has
+    let same = first_one first.before other.before first.item other.item first.behind other.behind first.steps
+    other.steps first.own other.own
+    (sym first.stands ∙ other.stands) first.each other.each first.has other.has in
+    first.is ∙ ap (λ (index : ℕ). fault_of_step index first.own) same.0
+    ∙ ap (fault_of_step (length other.before)) same.1 ∙ sym other.is
 
-no_steps : (items : List Data) (steps : List Step) (fault : ScriptFault) → Both IsStep items steps → IsFirstOfSteps items fault → ⊥
+no_steps : (items : List Data) (steps : List Step) (fault : ScriptFaultAt) → Both IsStep items steps
+    → IsFirstOfSteps items fault → ⊥
 no_steps items steps fault each first =
-    none_first first.before first.item first.behind steps fault (subst (λ ds. Both IsStep ds steps) first.stands each) first.has
+    none_first first.before first.item first.behind steps first.own
+    (subst (λ ds. Both IsStep ds steps) first.stands each) first.has
 
 -- a text with a first fault is refused for it
-pub told : (bytes : List ℕ) (result : Result (List Step) ScriptFault) (fault : ScriptFault) → GivesSteps result (text_items bytes) → IsFirstFault bytes fault
-    → Gives Memory (λ steps. steps) result (Err fault)
-told bytes (Ok steps) fault gives first = absurd (no_steps gives.0 steps fault gives.2 (subst (λ r. IsFirstIn r fault) gives.1 first))
-told bytes (Err other) fault gives first = λ known. ap Err (steps_one (text_items bytes) fault other first (gives known))
+pub told : (bytes : List ℕ) (result : Result (List Step) ScriptFaultAt) (fault : ScriptFaultAt)
+    → GivesSteps result (text_items bytes) → IsFirstFaultAt bytes fault
+    → Reads (λ steps. steps) result (Err fault)
+told bytes (Ok steps) fault gives first =
+    absurd (no_steps gives.0 steps fault gives.2 (subst (λ r. IsFirstIn r fault) gives.1 first))
+told bytes (Err other) fault gives first = λ known.
+    ap Err (steps_one (text_items bytes) fault other first (gives known))
 
-same_text : (x y : StepText) (r : Result StepText ScriptFault) → r ≡ Ok x → r ≡ Ok y → x ≡ y
+same_text : (x y : StepText) (r : Result StepText ScriptFaultAt) → r ≡ Ok x → r ≡ Ok y → x ≡ y
 same_text x y r one other = cc
 
 -- what is read is one step at most
-read_one : AreToldApart → (text : StepText) (step other : Step) → IsReadAs text step → IsReadAs text other → step ≡ other
+read_one : AreToldApart → (text : StepText) (step other : Step) → IsReadAs text step → IsReadAs text other
+    → step ≡ other
 read_one apart (Whole known) step other is also = is ∙ sym also
 read_one apart (Installs numbers on_error) step other is also =
-    is.2 ∙ ap (λ (filter : List Insn). Install filter on_error) (one_code apart numbers is.0 also.0 is.1.each also.1.each) ∙ sym also.2
+    is.2 ∙ ap (λ (filter : List Insn). Install filter on_error)
+    (one_code apart numbers is.0 also.0 is.1.each also.1.each) ∙ sym also.2
 
-step_one : AreToldApart → (item : Data) (step other : Step) → IsStep item step → IsStep item other → step ≡ other
+step_one : AreToldApart → (item : Data) (step other : Step) → IsStep item step → IsStep item other
+    → step ≡ other
 step_one apart item step other is also =
     let read = step_only item step is in
     let had = step_only item other also in
-    read_one apart read.0 step other read.2 (subst (λ text. IsReadAs text other) (same_text had.0 read.0 (step_of item) had.1 read.1) had.2)
+    read_one apart read.0 step other read.2
+    (subst (λ text. IsReadAs text other) (same_text had.0 read.0 (step_of item) had.1 read.1) had.2)
 
-all_one : AreToldApart → (items : List Data) (steps others : List Step) → Both IsStep items steps → Both IsStep items others → steps ≡ others
+all_one : AreToldApart → (items : List Data) (steps others : List Step) → Both IsStep items steps
+    → Both IsStep items others → steps ≡ others
 all_one apart [] [] [] all also = refl
 all_one apart [] [] (y ∷ others) all also = absurd also
 all_one apart [] (x ∷ steps) others all also = absurd all
 all_one apart (d ∷ items) [] others all also = absurd all
 all_one apart (d ∷ items) (x ∷ steps) [] all also = absurd also
 all_one apart (d ∷ items) (x ∷ steps) (y ∷ others) all also =
-    ap (λ (s : Step). s ∷ steps) (step_one apart d x y all.0 also.0) ∙ ap (λ (ss : List Step). y ∷ ss) (all_one apart items steps others all.1 also.1)
+    ap (λ (s : Step). s ∷ steps) (step_one apart d x y all.0 also.0)
+    ∙ ap (λ (ss : List Step). y ∷ ss) (all_one apart items steps others all.1 also.1)
 
-same_items : (x y : List Data) (r : Result (List Data) ScriptFault) → r ≡ Ok x → r ≡ Ok y → x ≡ y
+same_items : (x y : List Data) (r : Result (List Data) ScriptFaultAt) → r ≡ Ok x → r ≡ Ok y → x ≡ y
 same_items x y r one other = cc
 
 -- a text's script is read
-pub only : AreToldApart → (bytes : List ℕ) (result : Result (List Step) ScriptFault) (steps : List Step) → GivesSteps result (text_items bytes) → ReadsScript bytes steps
-    → Gives Memory (λ steps. steps) result (Ok steps)
+pub only : AreToldApart → (bytes : List ℕ) (result : Result (List Step) ScriptFaultAt) (steps : List Step)
+    → GivesSteps result (text_items bytes) → ReadsScript bytes steps
+    → Reads (λ steps. steps) result (Ok steps)
 only apart bytes (Ok others) steps gives is =
     let items = items_only bytes steps is in
     let same : items.0 ≡ gives.0 = same_items items.0 gives.0 (text_items bytes) items.1 gives.1 in
@@ -124,24 +164,56 @@ only apart bytes (Err fault) steps gives is = λ known.
     let items = items_only bytes steps is in
     absurd (no_steps items.0 steps fault items.2 (subst (λ r. IsFirstIn r fault) items.1 (gives known)))
 
+-- one item is a step, as it is read
+pub step_read : (index : ℕ) (read : Result Step ScriptFaultAt) (reading : Result StepText ScriptFaultAt)
+    (step : Step) → GivesStep read reading
+    → as_fault (fault_of_step index) read ≡ Ok step → GivesStep (Ok step) reading
+step_read index (Ok other) reading step here is =
+    let same : other ≡ step = cc in
+    subst (λ s. GivesStep (Ok s) reading) same here
+step_read index (Err found) reading step here is = absurd cc
+
 -- one more item is a step
-pub steps_more : (items : List Value) (i : ℕ) (v : Value) (steps : List Step) (step : Step) → i < length items → v ≡ get_or items i v
-    → Both IsStep (map view (take i items)) steps → GivesStep (Ok step) (step_of (view v)) → Both IsStep (map view (take (i + 1) items)) (steps ++ step ∷ [])
-steps_more items i v steps step lt is so_far here =
-    rw (map_more view items i v lt is) (both_push IsStep (map view (take i items)) steps (view v) step so_far (step_found (view v) here.0 step here.1 here.2))
+pub steps_more : (items : List Value) (i : ℕ) (v : Value) (steps : List Step)
+    (read : Result Step ScriptFaultAt) (step : Step) → i < length items → v ≡ get_or items i v
+    → Both IsStep (map view (take i items)) steps → GivesStep read (step_of (view v))
+    → as_fault (fault_of_step (length steps)) read ≡ Ok step
+    → Both IsStep (map view (take (i + 1) items)) (steps ++ step ∷ [])
+steps_more items i v steps read step lt is so_far given has =
+    let here = step_read (length steps) read (step_of (view v)) step given has in
+    rw (map_more view items i v lt is) (both_push IsStep (map view (take i items)) steps (view v) step so_far
+    (step_found (view v) here.0 step here.1 here.2))
+
+-- the fault of a step that is read is the step's own
+own_fault : (index : ℕ) (read : Result Step ScriptFaultAt) (reading : Result StepText ScriptFaultAt)
+    (found : ScriptFaultAt) → GivesStep read reading
+    → as_fault (fault_of_step index) read ≡ Err found → found.fault ≢ Memory → (own : ScriptFaultAt)
+    × HasFault reading own × (found ≡ fault_of_step index own)
+own_fault index (Ok step) reading found here is known = absurd cc
+own_fault index (Err own) reading found here is known =
+    let same : fault_of_step index own ≡ found = cc in
+    (own, here (λ memory. known (sym (ap (λ (f : ScriptFaultAt). f.fault) same) ∙ memory)), sym same)
 
 -- one item has a fault
-pub first_here : (items : List Value) (i : ℕ) (v : Value) (steps : List Step) (fault : ScriptFault) → i < length items → v ≡ get_or items i v
-    → Both IsStep (map view (take i items)) steps → GivesStep (Err fault) (step_of (view v)) → fault ≢ Memory → IsFirstOfSteps (map view items) fault
-first_here items i v steps fault lt is so_far here known = record {
-  before = map view (take i items);
-  item = view v;
-  behind = map view (drop (i + 1) items);
-  stands = map_parts view items i v lt is;
-  steps = steps;
-  each = so_far;
-  has = here known;
-}
+pub first_here : (items : List Value) (i : ℕ) (v : Value) (steps : List Step)
+    (read : Result Step ScriptFaultAt) (found : ScriptFaultAt) → i < length items → v ≡ get_or items i v
+    → Both IsStep (map view (take i items)) steps → GivesStep read (step_of (view v))
+    → as_fault (fault_of_step (length steps)) read ≡ Err found
+    → found.fault ≢ Memory → IsFirstOfSteps (map view items) found
+first_here items i v steps read found lt is so_far here has known =
+    let own = own_fault (length steps) read (step_of (view v)) found here has known in
+    record {
+      before = map view (take i items);
+      item = view v;
+      behind = map view (drop (i + 1) items);
+      stands = map_parts view items i v lt is;
+      steps = steps;
+      each = so_far;
+      own = own.0;
+      has = own.1;
+      is = own.2 ∙ ap (λ (index : ℕ). fault_of_step index own.0)
+          (length_both IsStep (map view (take i items)) steps so_far);
+    }
 
 sound_step : (item : Data) (step : Step) → IsStep item step → IsSoundStep step
 sound_step item (Call call on_error) is = tt

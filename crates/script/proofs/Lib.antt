@@ -3,3 +3,4 @@ pub mod Six
 pub mod Found
 pub mod Only
 pub mod First
+pub mod Attempts

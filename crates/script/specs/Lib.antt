@@ -1,3 +1,4 @@
 pub mod Script
 pub mod Reading
 pub mod FaultText
+pub mod Faults

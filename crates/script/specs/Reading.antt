@@ -1,18 +1,22 @@
 -- Which fault of a text is found first: docs/SEMANTICS.md, "Scripts", has the order. Each definition
--- says what is read of a tree, its faults in that order.
-use Rattle.std.specs.Prelude.{◌≡◌, ◌≢◌, ℕ, ◌==◌, List, [], ◌∷◌, ◌++◌, length, map, slice_get, codes, Bool, true, false, nat_lt, nat_le, if◌then◌else◌, Option, Some, None, unwrap_or, option_and_then, Result, Ok, Err}
+-- says what is read of a tree, its faults in that order, each with the place that it has in the tree.
+use Rattle.std.specs.Prelude.{◌≡◌, ◌≢◌, ℕ, ◌==◌, List, [], ◌∷◌, ◌++◌, length, map, position, slice_get, codes}
+use Rattle.std.specs.Prelude.{Bool, true, false, not, is_some, nat_lt, nat_le, if◌then◌else◌, Option, Some}
+use Rattle.std.specs.Prelude.{None, unwrap_or, option_and_then, Result, Ok, Err}
 use Rattle.bpf_code.specs.declared.insn.Insn.{Insn}
 use Rattle.serde_json.specs.View.{view}
 use Rattle.serde_json.specs.declared.value.Value.{Value}
 use Rattle.serde_json.specs.Data.{Data}
-use Rattle.json_tree.specs.declared.faults.FieldFault.{FieldFault}
-use Rattle.json_tree.specs.declared.faults.FieldFault.TheVariants as field
-use Rattle.json_tree.specs.declared.faults.TextFault.{TextFault}
-use Rattle.json_tree.specs.declared.faults.TextFault.TheVariants as document
 use Rattle.json_tree.specs.Tree.{each, has, list, object, text, value, whole, wholes, word}
-use Rattle.json_tree.specs.Reading.{◌>>=◌, ◌>>◌, refuse_if, or_else, if_there, in_order, as_fault, as_read, document as document_of, required, optional, Both}
+use Rattle.json_tree.specs.Reading.{◌>>=◌, ◌>>◌, refuse_if, or_else, if_there, in_order_after, as_fault}
+use Rattle.json_tree.specs.Reading.{as_read, document as document_of, Both}
+use Rattle.json_place.specs.declared.fields.FieldFaultAt.{FieldFaultAt}
+use Rattle.json_place.specs.Parts.{Member, Item}
+use Rattle.json_place.specs.Fields.{GivesAt, item_place, required, required_each, optional}
 use Rattle.script.specs.declared.faults.ScriptFault.{ScriptFault}
-use Rattle.script.specs.declared.faults.ScriptFault.TheVariants.{NotJson, Missing, WrongType, UnknownCall, TooMany, BadCode, BadFilter, Memory}
+use Rattle.script.specs.declared.faults.ScriptFault.TheVariants.{Missing, WrongType, UnknownCall, TooMany}
+use Rattle.script.specs.declared.faults.ScriptFault.TheVariants.{BadCode, BadFilter, Memory}
+use Rattle.script.specs.declared.placed.ScriptFaultAt.{ScriptFaultAt}
 use Rattle.script.specs.declared.scripts.Step.{Step}
 use Rattle.script.specs.declared.scripts.Step.TheVariants.{Call, Exit, ExitByAttempt, Install}
 use Rattle.script.specs.declared.scripts.TheConstants.{MAX_STEPS}
@@ -21,19 +25,16 @@ use Rattle.call_data.specs.declared.sys_call.TheConstants.{NATIVE_ARCH}
 use Rattle.script.specs.declared.reader.StepKind.{StepKind}
 use Rattle.script.specs.declared.reader.StepKind.TheVariants as kind
 use Rattle.script.specs.declared.install.Row.{Row}
+use Rattle.script.specs.Faults.{at, fault_at, fault_here, fault_of_field_at, fault_of_item, fault_of_step}
+use Rattle.script.specs.Faults.{fault_of_text, under}
 use Rattle.script.specs.Script.{number_of_name, row, SpellsFilter, IsStep}
 
-abbrev pub fault_of_field : FieldFault → ScriptFault
-fault_of_field field.Missing = Missing
-fault_of_field field.WrongType = WrongType
-fault_of_field field.Memory = Memory
+abbrev pub here : {A : Type 0} → Result A FieldFaultAt → Result A ScriptFaultAt
+here r = as_fault fault_of_field_at r
 
-abbrev pub fault_of_text : TextFault → ScriptFault
-fault_of_text document.NotJson = NotJson
-fault_of_text document.Memory = Memory
-
-abbrev pub here : {A : Type 0} → Result A FieldFault → Result A ScriptFault
-here r = as_fault fault_of_field r
+-- a call gives this reading, or memory ran out
+abbrev pub Reads : {X Y : Type 0} → (X → Y) → Result X ScriptFaultAt → Result Y ScriptFaultAt → Type 0
+Reads view result reading = GivesAt (λ found. found.fault) Memory view result reading
 
 unfoldable pub code_of : ℕ → Result ℕ ScriptFault
 code_of n = if nat_le n 255 then Ok n else Err BadCode
@@ -43,22 +44,22 @@ abbrev pub number_of : Option (List ℕ) → Option ℕ → Result ℕ ScriptFau
 number_of (Some name) number = or_else UnknownCall (number_of_name name)
 number_of None number = or_else WrongType number
 
-unfoldable pub call_of : Data → Result ℕ ScriptFault
+unfoldable pub call_of : Data → Result ℕ ScriptFaultAt
 call_of tree = do
   named ← here (required value (codes "call") tree)
-  number_of (text named) (word named)
+  at (codes "call") (number_of (text named) (word named))
 
 -- an argument that is not given is 0
-abbrev pub given_argument : Option Data → Result ℕ ScriptFault
-given_argument None = Ok 0
-given_argument (Some item) = or_else WrongType (whole item)
+abbrev pub given_argument : ℕ → Option Data → Result ℕ ScriptFaultAt
+given_argument index None = Ok 0
+given_argument index (Some item) = or_else (fault_of_item index WrongType) (whole item)
 
-abbrev pub argument_of : List Data → ℕ → Result ℕ ScriptFault
-argument_of items place = given_argument (slice_get items place)
+abbrev pub argument_of : List Data → ℕ → Result ℕ ScriptFaultAt
+argument_of items index = given_argument index (slice_get items index)
 
-unfoldable pub six_of : List Data → Result (List ℕ) ScriptFault
+unfoldable pub six_of : List Data → Result (List ℕ) ScriptFaultAt
 six_of items = do
-  refuse_if (nat_lt 6 (length items)) WrongType
+  refuse_if (nat_lt 6 (length items)) (fault_here WrongType)
   first ← argument_of items 0
   second ← argument_of items 1
   third ← argument_of items 2
@@ -67,27 +68,27 @@ six_of items = do
   sixth ← argument_of items 5
   Ok (first ∷ second ∷ third ∷ fourth ∷ fifth ∷ sixth ∷ [])
 
-unfoldable pub args_of : Data → Result (List ℕ) ScriptFault
+unfoldable pub args_of : Data → Result (List ℕ) ScriptFaultAt
 args_of tree = do
   items ← here (optional list (codes "args") tree)
-  six_of (unwrap_or items [])
+  under (Member (codes "args")) (six_of (unwrap_or items []))
 
-unfoldable pub arch_of : Data → Result ℕ ScriptFault
+unfoldable pub arch_of : Data → Result ℕ ScriptFaultAt
 arch_of tree = do
   given ← here (optional word (codes "arch") tree)
   Ok (unwrap_or given NATIVE_ARCH)
 
-unfoldable pub ip_of : Data → Result ℕ ScriptFault
+unfoldable pub ip_of : Data → Result ℕ ScriptFaultAt
 ip_of tree = do
   given ← here (optional whole (codes "ip") tree)
   Ok (unwrap_or given 0)
 
-unfoldable pub on_error_of : Data → Result (Option ℕ) ScriptFault
+unfoldable pub on_error_of : Data → Result (Option ℕ) ScriptFaultAt
 on_error_of tree = do
   given ← here (optional whole (codes "onError") tree)
-  if_there code_of given
+  at (codes "onError") (if_there code_of given)
 
-unfoldable pub call_fields_of : Data → Result CallFields ScriptFault
+unfoldable pub call_fields_of : Data → Result CallFields ScriptFaultAt
 call_fields_of tree = do
   args ← args_of tree
   arch ← arch_of tree
@@ -95,126 +96,146 @@ call_fields_of tree = do
   on_error ← on_error_of tree
   Ok (record { args = args; arch = arch; ip = ip; on_error = on_error })
 
-unfoldable pub exit_of : Data → Result ℕ ScriptFault
+unfoldable pub exit_of : Data → Result ℕ ScriptFaultAt
 exit_of tree = do
   given ← here (required whole (codes "exit") tree)
-  code_of given
+  at (codes "exit") (code_of given)
+
+-- as the item behind those that were read
+abbrev pub code_at : List ℕ → ℕ → Result ℕ ScriptFaultAt
+code_at done n = as_fault (fault_of_item (length done)) (code_of n)
 
 -- there is one at least
-unfoldable pub codes_of : List ℕ → Result (List ℕ) ScriptFault
+unfoldable pub codes_of : List ℕ → Result (List ℕ) ScriptFaultAt
 codes_of given = do
-  refuse_if (length given == 0) Missing
-  in_order code_of given
+  refuse_if (length given == 0) (fault_here Missing)
+  in_order_after code_at [] given
 
-unfoldable pub exit_by_attempt_of : Data → Result (List ℕ) ScriptFault
+unfoldable pub exit_by_attempt_of : Data → Result (List ℕ) ScriptFaultAt
 exit_by_attempt_of tree = do
-  given ← here (required wholes (codes "exitByAttempt") tree)
-  codes_of given
+  given ← here (required_each whole wholes (codes "exitByAttempt") tree)
+  under (Member (codes "exitByAttempt")) (codes_of given)
 
 -- of the four kinds a step has exactly one
-abbrev pub the_kind : Bool → Bool → Bool → Bool → Result StepKind ScriptFault
-the_kind false false false false = Err Missing
+abbrev pub the_kind : Bool → Bool → Bool → Bool → Result StepKind ScriptFaultAt
+the_kind false false false false = Err (fault_here Missing)
 the_kind true false false false = Ok kind.Call
 the_kind false true false false = Ok kind.Exit
 the_kind false false true false = Ok kind.ExitByAttempt
 the_kind false false false true = Ok kind.Install
-the_kind _ _ _ _ = Err WrongType
+the_kind _ _ _ _ = Err (fault_here WrongType)
 
-unfoldable pub kind_of : Data → Result StepKind ScriptFault
-kind_of tree = the_kind (has (codes "call") tree) (has (codes "exit") tree) (has (codes "exitByAttempt") tree) (has (codes "install") tree)
+unfoldable pub kind_of : Data → Result StepKind ScriptFaultAt
+kind_of tree = the_kind (has (codes "call") tree) (has (codes "exit") tree) (has (codes "exitByAttempt") tree)
+    (has (codes "install") tree)
 
-unfoldable pub call_step_of : Data → Result Step ScriptFault
+unfoldable pub call_step_of : Data → Result Step ScriptFaultAt
 call_step_of tree = do
   nr ← call_of tree
   fields ← call_fields_of tree
   Ok (Call (record { nr = nr; arch = fields.arch; ip = fields.ip; args = fields.args }) fields.on_error)
 
-unfoldable pub exit_step_of : Data → Result Step ScriptFault
+unfoldable pub exit_step_of : Data → Result Step ScriptFaultAt
 exit_step_of tree = do
   beside ← call_fields_of tree
   ends ← exit_of tree
   Ok (Exit ends)
 
-unfoldable pub exit_by_attempt_step_of : Data → Result Step ScriptFault
+unfoldable pub exit_by_attempt_step_of : Data → Result Step ScriptFaultAt
 exit_by_attempt_step_of tree = do
   beside ← call_fields_of tree
   ends ← exit_by_attempt_of tree
   Ok (ExitByAttempt ends)
 
-unfoldable pub rows_of : Data → Result (List Row) ScriptFault
+-- the first item that is no row
+abbrev pub no_row : List Data → ScriptFaultAt
+no_row items = record {
+  fault = WrongType;
+  place =
+      item_place (position (λ item. not (is_some (row item))) items);
+}
+
+unfoldable pub rows_of : Data → Result (List Row) ScriptFaultAt
 rows_of tree = do
   items ← here (required list (codes "install") tree)
-  or_else WrongType (each row items)
+  under (Member (codes "install")) (or_else (no_row items) (each row items))
 
 -- what is read of a step before its filter is judged
 pub data StepText : Type 0 where
   Whole : Step → StepText
   Installs : List Row → Option ℕ → StepText
 
-unfoldable pub install_step_of : Data → Result StepText ScriptFault
+unfoldable pub install_step_of : Data → Result StepText ScriptFaultAt
 install_step_of tree = do
   beside ← call_fields_of tree
   numbers ← rows_of tree
   Ok (Installs numbers beside.on_error)
 
-abbrev pub step_of_kind : StepKind → Data → Result StepText ScriptFault
+abbrev pub step_of_kind : StepKind → Data → Result StepText ScriptFaultAt
 step_of_kind kind.Call tree = as_read Whole (call_step_of tree)
 step_of_kind kind.Exit tree = as_read Whole (exit_step_of tree)
 step_of_kind kind.ExitByAttempt tree = as_read Whole (exit_by_attempt_step_of tree)
 step_of_kind kind.Install tree = install_step_of tree
 
-unfoldable pub step_of : Data → Result StepText ScriptFault
+unfoldable pub step_of : Data → Result StepText ScriptFaultAt
 step_of item = do
-  tree ← or_else WrongType (object item)
+  tree ← or_else (fault_here WrongType) (object item)
   is ← kind_of tree
   step_of_kind is tree
 
 -- the step, its filter judged
 abbrev pub IsReadAs : StepText → Step → Type 0
 IsReadAs (Whole known) step = step ≡ known
-IsReadAs (Installs numbers on_error) step = (filter : List Insn) × SpellsFilter numbers filter × (step ≡ Install filter on_error)
+IsReadAs (Installs numbers on_error) step = (filter : List Insn) × SpellsFilter numbers filter
+    × (step ≡ Install filter on_error)
 
 -- there is no such filter
 abbrev pub IsRefused : StepText → Type 0
 IsRefused (Whole known) = ⊥
 IsRefused (Installs numbers on_error) = (filter : List Insn) → ¬ SpellsFilter numbers filter
 
--- the fault of a step: what was found in reading it, else that of its filter
-abbrev pub HasFault : Result StepText ScriptFault → ScriptFault → Type 0
+-- the fault of a step, by its place in the step: what was found in reading it, else that of its filter
+abbrev pub HasFault : Result StepText ScriptFaultAt → ScriptFaultAt → Type 0
 HasFault (Err found) fault = fault ≡ found
-HasFault (Ok step) fault = IsRefused step × (fault ≡ BadFilter)
+HasFault (Ok step) fault = IsRefused step × (fault ≡ fault_at (codes "install") BadFilter)
 
 -- the steps as they stand there, before any of them is looked at
-unfoldable pub items_of : Data → Result (List Data) ScriptFault
+unfoldable pub items_of : Data → Result (List Data) ScriptFaultAt
 items_of whole_tree = do
-  tree ← or_else WrongType (object whole_tree)
+  tree ← or_else (fault_here WrongType) (object whole_tree)
   items ← here (required list (codes "steps") tree)
-  refuse_if (nat_lt MAX_STEPS (length items)) TooMany
+  refuse_if (nat_lt MAX_STEPS (length items)) (fault_at (codes "steps") TooMany)
   Ok items
 
 -- the steps of a text, as they stand there
-unfoldable pub text_items : List ℕ → Result (List Data) ScriptFault
+unfoldable pub text_items : List ℕ → Result (List Data) ScriptFaultAt
 text_items bytes = do
-  tree ← as_fault fault_of_text (document_of bytes)
+  tree ← as_fault (λ fault. fault_here (fault_of_text fault)) (document_of bytes)
   items_of tree
 
--- this one has the fault, and all before it are steps
-pub record IsFirstOfSteps (items : List Data) (fault : ScriptFault) : Type 0 where
+-- this one has the fault, and all before it are steps; the place begins with the index of this one
+pub record IsFirstOfSteps (items : List Data) (fault : ScriptFaultAt) : Type 0 where
   pub before : List Data
   pub item : Data
   pub behind : List Data
   pub stands : items ≡ before ++ item ∷ behind
   pub steps : List Step
   pub each : Both IsStep before steps
-  pub has : HasFault (step_of item) fault
+  pub own : ScriptFaultAt
+  pub has : HasFault (step_of item) own
+  pub is : fault ≡ fault_of_step (length before) own
 
-abbrev pub IsFirstIn : Result (List Data) ScriptFault → ScriptFault → Type 0
+abbrev pub IsFirstIn : Result (List Data) ScriptFaultAt → ScriptFaultAt → Type 0
 IsFirstIn (Err found) fault = fault ≡ found
 IsFirstIn (Ok items) fault = IsFirstOfSteps items fault
 
--- the fault of a text that is found first
+-- the fault of a text that is found first, and its place
+abbrev pub IsFirstFaultAt : List ℕ → ScriptFaultAt → Type 0
+IsFirstFaultAt bytes found = IsFirstIn (text_items bytes) found
+
+-- the same without the place
 abbrev pub IsFirstFault : List ℕ → ScriptFault → Type 0
-IsFirstFault bytes fault = IsFirstIn (text_items bytes) fault
+IsFirstFault bytes fault = (found : ScriptFaultAt) × IsFirstFaultAt bytes found × (found.fault ≡ fault)
 
 -- The rest is cited by private functions alone.
 
@@ -225,20 +246,24 @@ number_at items place = option_and_then whole (slice_get items place)
 unfoldable pub numbers_of : List Data → Option Row
 numbers_of items =
     if length items == 4
-    then option_and_then (λ code. option_and_then (λ jt. option_and_then (λ jf. option_and_then (λ k. Some (record { code = code; jt = jt; jf = jf; k = k })) (number_at items 3)) (number_at items 2)) (number_at items 1)) (number_at items 0)
+    then option_and_then (λ code. option_and_then
+    (λ jt. option_and_then (λ jf. option_and_then
+    (λ k. Some (record { code = code; jt = jt; jf = jf; k = k })) (number_at items 3))
+    (number_at items 2)) (number_at items 1)) (number_at items 0)
     else None
 
 -- the call lends what is read as these rows
-abbrev pub LendsRows : Result (List Value) ScriptFault → Result (List Row) ScriptFault → Type 0
-LendsRows (Ok items) reading = (numbers : List Row) × (each row (map view items) ≡ Some numbers) × (reading ≡ Ok numbers)
+abbrev pub LendsRows : Result (List Value) ScriptFaultAt → Result (List Row) ScriptFaultAt → Type 0
+LendsRows (Ok items) reading = (numbers : List Row) × (each row (map view items) ≡ Some numbers)
+    × (reading ≡ Ok numbers)
 LendsRows (Err fault) reading = reading ≡ Err fault
 
 -- the call gives the step, its filter judged, memory aside
-abbrev pub GivesStep : Result Step ScriptFault → Result StepText ScriptFault → Type 0
+abbrev pub GivesStep : Result Step ScriptFaultAt → Result StepText ScriptFaultAt → Type 0
 GivesStep (Ok step) reading = (text : StepText) × (reading ≡ Ok text) × IsReadAs text step
-GivesStep (Err fault) reading = fault ≢ Memory → HasFault reading fault
+GivesStep (Err found) reading = found.fault ≢ Memory → HasFault reading found
 
 -- the call gives the steps, memory aside
-abbrev pub GivesSteps : Result (List Step) ScriptFault → Result (List Data) ScriptFault → Type 0
+abbrev pub GivesSteps : Result (List Step) ScriptFaultAt → Result (List Data) ScriptFaultAt → Type 0
 GivesSteps (Ok steps) reading = (items : List Data) × (reading ≡ Ok items) × Both IsStep items steps
-GivesSteps (Err fault) reading = fault ≢ Memory → IsFirstIn reading fault
+GivesSteps (Err found) reading = found.fault ≢ Memory → IsFirstIn reading found

@@ -1,6 +1,7 @@
 -- Scripts as JSON trees, this project's own format: docs/SEMANTICS.md, "Scripts". Which tree is which
 -- script, field by field; nothing here knows of an order in which the fields are read.
-use Rattle.std.specs.Prelude.{◌≡◌, ◌⊎◌, ℕ, ◌<◌, ◌≤◌, List, [], ◌∷◌, length, codes, slice_index, nat_le, if◌then◌else◌, IsTrue, Option, Some, None, unwrap_or, option_and_then}
+use Rattle.std.specs.Prelude.{◌≡◌, ◌⊎◌, ℕ, ◌<◌, ◌≤◌, List, [], ◌∷◌, length, codes, slice_index, nat_le}
+use Rattle.std.specs.Prelude.{if◌then◌else◌, IsTrue, Option, Some, None, unwrap_or, option_and_then}
 use Rattle.std.specs.List.{AllByRecursion, list_all}
 use Rattle.serde_json.specs.Data.{Data}
 use Rattle.serde_json.specs.Find.{get}
@@ -28,11 +29,13 @@ code tree = option_and_then (λ n. if nat_le n 255 then Some n else None) (whole
 
 -- a call is a number, or a name
 abbrev pub IsCall : Data → ℕ → Type 0
-IsCall found nr = (word found ≡ Some nr) ⊎ ((name : List ℕ) × (text found ≡ Some name) × (number_of_name name ≡ Some nr))
+IsCall found nr = (word found ≡ Some nr) ⊎ ((name : List ℕ) × (text found ≡ Some name)
+    × (number_of_name name ≡ Some nr))
 
 -- six arguments: those that are given, and the rest are 0
 abbrev pub six : List ℕ → List ℕ
-six given = slice_index given 0 ∷ slice_index given 1 ∷ slice_index given 2 ∷ slice_index given 3 ∷ slice_index given 4 ∷ slice_index given 5 ∷ []
+six given = slice_index given 0 ∷ slice_index given 1 ∷ slice_index given 2 ∷ slice_index given 3
+    ∷ slice_index given 4 ∷ slice_index given 5 ∷ []
 
 pub record HasArgs (tree : Data) (args : List ℕ) : Type 0 where
   pub given : Option (List ℕ)
@@ -86,7 +89,13 @@ pub record IsCallStep (tree : Data) (call : SysCall) (on_error : Option ℕ) : T
   pub named : Data
   pub there : get (codes "call") tree ≡ Some named
   pub number : IsCall named call.nr
-  pub fields : HasCallFields tree (record { args = call.args; arch = call.arch; ip = call.ip; on_error = on_error })
+  pub fields : HasCallFields tree (record {
+    args = call.args;
+    arch = call.arch;
+    ip = call.ip;
+    on_error =
+        on_error;
+  })
 
 pub record IsExitStep (tree : Data) (ends : ℕ) : Type 0 where
   pub no_call : member (codes "call") tree ≡ None

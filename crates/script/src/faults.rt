@@ -50,7 +50,7 @@ impl fmt::Display for ScriptFault {
 
 impl From<FieldFault> for ScriptFault {
     ghost use Rattle.std.specs.Prelude.{◌≡◌};
-    ghost use Rattle.script.specs.Reading.{fault_of_field};
+    ghost use Rattle.script.specs.Faults.{fault_of_field};
 
     ghost from_gives = { λ field fault. fault ≡ fault_of_field field };
 
@@ -65,7 +65,7 @@ impl From<FieldFault> for ScriptFault {
 
 impl From<TextFault> for ScriptFault {
     ghost use Rattle.std.specs.Prelude.{◌≡◌};
-    ghost use Rattle.script.specs.Reading.{fault_of_text};
+    ghost use Rattle.script.specs.Faults.{fault_of_text};
 
     ghost from_gives = { λ text fault. fault ≡ fault_of_text text };
 

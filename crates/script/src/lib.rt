@@ -1,17 +1,19 @@
 //! Scripts: what a container of this project does, step by step, read from JSON.
 //!
-//! A step makes a system call, installs a filter, or ends the script with a code. Which trees are which scripts stands
-//! in `specs/Script.antt`, and which fault is found first in `specs/Reading.antt`.
+//! A step makes a system call, installs a filter, or ends the script with a code. Which trees are which
+//! scripts stands in `specs/Script.antt`, and which fault is found first, and where, in `specs/Reading.antt`.
 #![tactic(auto)]
 
 mod faults;
 mod fields;
 mod install;
 mod laws;
+mod placed;
 mod reader;
 mod scripts;
 
 pub use faults::ScriptFault;
 pub use laws::constants_are_as_stated;
-pub use reader::read;
+pub use placed::ScriptFaultAt;
+pub use reader::{read, read_placed};
 pub use scripts::{Codes, MAX_STEPS, Script, Step};

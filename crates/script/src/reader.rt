@@ -2,18 +2,23 @@ ghost use Rattle.std.specs.Prelude.{◌≡◌, ◌≢◌, ◌≤◌, List, Ok, E
 ghost use Rattle.serde_json.specs.View.{view};
 ghost use Rattle.json_tree.specs.Reading.{Both, Gives, as_read};
 ghost use Rattle.script.specs.declared.faults.ScriptFault.{ScriptFault};
+ghost use Rattle.script.specs.declared.placed.ScriptFaultAt.{ScriptFaultAt};
 ghost use Rattle.script.specs.declared.scripts.Step.{Step};
 ghost use Rattle.script.specs.declared.scripts.TheConstants.{MAX_STEPS};
 ghost use Rattle.script.specs.Script.{IsStep, ReadsScript};
-ghost use Rattle.script.specs.Reading.{GivesStep, GivesSteps, IsFirstFault, IsFirstOfSteps, call_step_of, exit_by_attempt_step_of, exit_step_of, install_step_of, items_of, kind_of, step_of, text_items};
+ghost use Rattle.script.specs.Reading.{GivesStep, GivesSteps, IsFirstFault, IsFirstFaultAt, IsFirstOfSteps};
+ghost use Rattle.script.specs.Reading.{Reads, call_step_of, exit_by_attempt_step_of, exit_step_of};
+ghost use Rattle.script.specs.Reading.{install_step_of, items_of, kind_of, step_of, text_items};
 
 use crate::faults::ScriptFault;
 use crate::fields::{call, call_fields, exit, exit_by_attempt};
 use crate::install::{filter, rows};
+use crate::placed::{ScriptFaultAt, at, in_step};
 use crate::scripts::{MAX_STEPS, Script, Step};
 use bpf_code::written_is_read;
 use call_data::SysCall;
-use json_tree::{has, object, required_list};
+use json_place::required_list;
+use json_tree::{has, object};
 use serde_json::Value;
 use std::alloc::Global;
 
@@ -41,23 +46,36 @@ pub fn read(alloc: Global, bytes: &[u8]) -> Result<Script, ScriptFault>
     ensures told { (fault : ScriptFault) → IsFirstFault bytes.now fault
         → Gives ScriptFault.Memory (λ script. script) result (Err fault) }
 {
+    Ok(read_placed(alloc, bytes)?)
+}
+
+/// The same, with the place of the first fault in the text.
+pub fn read_placed(alloc: Global, bytes: &[u8]) -> Result<Script, ScriptFaultAt>
+    ensures found { IfOk result (ReadsScript bytes.now) }
+    ensures only { (steps : List Step) → ReadsScript bytes.now steps
+        → Reads (λ script. script) result (Ok steps) }
+    ensures first { IfErr result
+        (λ found. found.fault ≢ ScriptFault.Memory → IsFirstFaultAt bytes.now found) }
+    ensures told { (found : ScriptFaultAt) → IsFirstFaultAt bytes.now found
+        → Reads (λ script. script) result (Err found) }
+{
     written_is_read();
     reading(alloc, bytes)
 }
 
 #[tactic(auto, unfolding(crate::specs::Reading::text_items))]
-fn reading(alloc: Global, bytes: &[u8]) -> Result<Script, ScriptFault>
+fn reading(alloc: Global, bytes: &[u8]) -> Result<Script, ScriptFaultAt>
     ensures { GivesSteps result (text_items bytes.now) }
 {
     let tree = json_tree::read(alloc, bytes)?;
     script(alloc, &tree)
 }
 
-fn script(alloc: Global, tree: &Value) -> Result<Script, ScriptFault>
+fn script(alloc: Global, tree: &Value) -> Result<Script, ScriptFaultAt>
     ensures value { GivesSteps result (items_of (view tree.now)) }
 
     // What is found before a step is looked at is told, whether there is memory or not.
-    ensures told { (fault : ScriptFault) → items_of (view tree.now) ≡ Err fault → result ≡ Err fault }
+    ensures told { (found : ScriptFaultAt) → items_of (view tree.now) ≡ Err found → result ≡ Err found }
 {
     let items = items(tree)?;
     let steps = steps(alloc, items)?;
@@ -66,35 +84,37 @@ fn script(alloc: Global, tree: &Value) -> Result<Script, ScriptFault>
 
 /// The steps as they stand there.
 #[tactic(auto, unfolding(crate::specs::Reading::items_of))]
-fn items(tree: &Value) -> Result<&[Value], ScriptFault>
+fn items(tree: &Value) -> Result<&[Value], ScriptFaultAt>
     ensures value { as_read (λ items. map view items.now) result ≡ items_of (view tree.now) }
     ensures few { IfOk result (λ items. length items.now ≤ MAX_STEPS) }
 {
-    let tree = object(tree).ok_or(ScriptFault::WrongType)?;
+    let tree = object(tree).ok_or(ScriptFaultAt::here(ScriptFault::WrongType))?;
     let items = required_list(tree, "steps")?;
     if items.len() > MAX_STEPS {
-        return Err(ScriptFault::TooMany);
+        return Err(ScriptFaultAt::at("steps", ScriptFault::TooMany));
     }
     Ok(items)
 }
 
 #[tactic(auto, using(crate::proofs::First::steps_more, crate::proofs::First::first_here))]
-fn steps(alloc: Global, items: &[Value]) -> Result<Vec<Step>, ScriptFault>
+fn steps(alloc: Global, items: &[Value]) -> Result<Vec<Step>, ScriptFaultAt>
     ensures found { IfOk result (λ steps. Both IsStep (map view items.now) steps.items) }
-    ensures first { IfErr result (λ fault. fault ≢ ScriptFault.Memory → IsFirstOfSteps (map view items.now) fault) }
+    ensures first { IfErr result (λ found. found.fault ≢ ScriptFault.Memory
+        → IsFirstOfSteps (map view items.now) found) }
 {
     let mut steps = Vec::new(alloc);
     for item in items {
-        steps.push(step(alloc, item)?)?;
+        let step = in_step(steps.len(), step(alloc, item))?;
+        steps.push(step)?;
     }
     Ok(steps)
 }
 
 #[tactic(auto, unfolding(crate::specs::Reading::step_of))]
-fn step(alloc: Global, item: &Value) -> Result<Step, ScriptFault>
+fn step(alloc: Global, item: &Value) -> Result<Step, ScriptFaultAt>
     ensures { GivesStep result (step_of (view item.now)) }
 {
-    let tree = object(item).ok_or(ScriptFault::WrongType)?;
+    let tree = object(item).ok_or(ScriptFaultAt::here(ScriptFault::WrongType))?;
     match kind(tree)? {
         StepKind::Call => call_step(tree),
         StepKind::Exit => exit_step(tree),
@@ -104,7 +124,7 @@ fn step(alloc: Global, item: &Value) -> Result<Step, ScriptFault>
 }
 
 #[tactic(auto, unfolding(crate::specs::Reading::kind_of))]
-fn kind(tree: &Value) -> Result<StepKind, ScriptFault>
+fn kind(tree: &Value) -> Result<StepKind, ScriptFaultAt>
     ensures { result ≡ kind_of (view tree.now) }
 {
     match (
@@ -117,13 +137,13 @@ fn kind(tree: &Value) -> Result<StepKind, ScriptFault>
         (false, true, false, false) => Ok(StepKind::Exit),
         (false, false, true, false) => Ok(StepKind::ExitByAttempt),
         (false, false, false, true) => Ok(StepKind::Install),
-        (false, false, false, false) => Err(ScriptFault::Missing),
-        _ => Err(ScriptFault::WrongType),
+        (false, false, false, false) => Err(ScriptFaultAt::here(ScriptFault::Missing)),
+        _ => Err(ScriptFaultAt::here(ScriptFault::WrongType)),
     }
 }
 
 #[tactic(auto, unfolding(crate::specs::Reading::call_step_of))]
-fn call_step(tree: &Value) -> Result<Step, ScriptFault>
+fn call_step(tree: &Value) -> Result<Step, ScriptFaultAt>
     ensures { as_read (λ s. s) result ≡ call_step_of (view tree.now) }
 {
     let nr = call(tree)?;
@@ -142,7 +162,7 @@ fn call_step(tree: &Value) -> Result<Step, ScriptFault>
 }
 
 #[tactic(auto, unfolding(crate::specs::Reading::exit_step_of))]
-fn exit_step(tree: &Value) -> Result<Step, ScriptFault>
+fn exit_step(tree: &Value) -> Result<Step, ScriptFaultAt>
     ensures { as_read (λ s. s) result ≡ exit_step_of (view tree.now) }
 {
     let _beside = call_fields(tree)?;
@@ -150,20 +170,20 @@ fn exit_step(tree: &Value) -> Result<Step, ScriptFault>
 }
 
 #[tactic(auto, unfolding(crate::specs::Reading::exit_by_attempt_step_of))]
-fn exit_by_attempt_step(alloc: Global, tree: &Value) -> Result<Step, ScriptFault>
-    ensures { Gives ScriptFault.Memory (λ s. s) result (exit_by_attempt_step_of (view tree.now)) }
+fn exit_by_attempt_step(alloc: Global, tree: &Value) -> Result<Step, ScriptFaultAt>
+    ensures { Reads (λ s. s) result (exit_by_attempt_step_of (view tree.now)) }
 {
     let _beside = call_fields(tree)?;
     Ok(Step::ExitByAttempt(exit_by_attempt(alloc, tree)?))
 }
 
 #[tactic(auto, unfolding(crate::specs::Reading::install_step_of))]
-fn install_step(alloc: Global, tree: &Value) -> Result<Step, ScriptFault>
+fn install_step(alloc: Global, tree: &Value) -> Result<Step, ScriptFaultAt>
     ensures { GivesStep result (install_step_of (view tree.now)) }
 {
     let beside = call_fields(tree)?;
     let items = rows(tree)?;
-    let filter = filter(alloc, items)?;
+    let filter = at("install", filter(alloc, items))?;
     Ok(Step::Install {
         filter,
         on_error: beside.on_error,

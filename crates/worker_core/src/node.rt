@@ -227,7 +227,8 @@ impl Node {
     fn claim_answer(&self, worker: u32) -> Result<Answer, AllocError>
         ensures answer { IfOk result (λ answer.
             answer ≡ claim_answer self.now (holder_of worker self.now.slots)) }
-        ensures only { OnErr result (changes (claim_answer self.now (holder_of worker self.now.slots)) ≡ true) }
+        ensures only { OnErr result
+            (changes (claim_answer self.now (holder_of worker self.now.slots)) ≡ true) }
     {
         if self.is_busy(worker) {
             return Ok(Answer::Refused(NodeRefusal::NotYours));
@@ -241,9 +242,11 @@ impl Node {
     fn claim(&mut self, worker: u32) -> Result<Answer, AllocError>
         ensures answer { IfOk result (λ answer.
             answer ≡ claim_answer self.old (holder_of worker self.old.slots)) }
-        ensures node { OnOk result (self.new ≡ after_claim self.old worker (holder_of worker self.old.slots)) }
+        ensures node { OnOk result
+            (self.new ≡ after_claim self.old worker (holder_of worker self.old.slots)) }
         ensures err { OnErr result (self.new ≡ self.old) }
-        ensures only { OnErr result (changes (claim_answer self.old (holder_of worker self.old.slots)) ≡ true) }
+        ensures only { OnErr result
+            (changes (claim_answer self.old (holder_of worker self.old.slots)) ≡ true) }
     {
         if self.is_busy(worker) {
             return Ok(Answer::Refused(NodeRefusal::NotYours));

@@ -20,7 +20,9 @@ const SPECS: [(&str, &str); 5] = [
     ),
     (
         "boot",
-        r#""restartPolicy":"OnFailure","initContainers":[{"name":"setup","image":"flaky.json"},{"name":"second","image":"ends.json"}],"containers":[{"name":"main","image":"traces.json","securityContext":{"seccompProfile":{"type":"RuntimeDefault"}}},{"name":"beside","image":"adds.json"}]"#,
+        r#""restartPolicy":"OnFailure","initContainers":[{"name":"setup","image":"flaky.json"},
+{"name":"second","image":"ends.json"}],"containers":[{"name":"main","image":"traces.json",
+"securityContext":{"seccompProfile":{"type":"RuntimeDefault"}}},{"name":"beside","image":"adds.json"}]"#,
     ),
     (
         "adds",
@@ -28,7 +30,8 @@ const SPECS: [(&str, &str); 5] = [
     ),
     (
         "confined",
-        r#""securityContext":{"seccompProfile":{"type":"Localhost","localhostProfile":"no_seccomp.json"}},"containers":[{"name":"main","image":"adds.json"}]"#,
+        r#""securityContext":{"seccompProfile":{"type":"Localhost","localhostProfile":"no_seccomp.json"}},
+"containers":[{"name":"main","image":"adds.json"}]"#,
     ),
     (
         "lacks",

@@ -9,9 +9,9 @@ use worker_pod::Settings;
 use world::{Act, World, WorldEvent};
 
 // A world that is played with lines of words, each of which is one event:
-//   admit NAME, delete NAME, claim WORKER, tick MOMENT, abandon WORKER, report WORKER PLACE, lose WORKER, step ID,
-//   kill ID CODE, and serve PLACE, behind which stand the faults of its files, the script's and the profile's, where
-//   they can't be read.
+//   admit NAME, delete NAME, claim WORKER, tick MOMENT, abandon WORKER, report WORKER PLACE, lose WORKER,
+//   step ID, kill ID CODE, and serve PLACE, behind which stand the faults of its files, the script's and the
+//   profile's, where they can't be read.
 // What came of a line is told: of a claim the request that was sent, of a serving what was answered, of a
 // step the state of the cell, or the fault.
 #[derive(Drop)]

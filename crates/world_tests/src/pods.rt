@@ -23,7 +23,8 @@ const FILES: [(&str, &str); 8] = [
     ),
     (
         "long.json",
-        r#"{"steps":[{"call":"read"},{"call":"write"},{"call":"close"},{"call":"read"},{"call":"write"},{"call":"close"},{"exit":9}]}"#,
+        r#"{"steps":[{"call":"read"},{"call":"write"},{"call":"close"},{"call":"read"},{"call":"write"},
+{"call":"close"},{"exit":9}]}"#,
     ),
     (
         "no_getpid.json",

@@ -189,11 +189,12 @@ claim 3=>CreateContainer main 0"#;
 
 const MAIN: &str = r#""restartPolicy":"Never","containers":[{"name":"main","image":"ends.json"}]"#;
 
-const LOCALHOST: &str =
-    r#""containers":[{"name":"main","image":"ends.json","securityContext":{"seccompProfile":{"type":"Localhost","localhostProfile":"no_getpid.json"}}}]"#;
+const LOCALHOST: &str = r#""containers":[{"name":"main","image":"ends.json",
+"securityContext":{"seccompProfile":{"type":"Localhost","localhostProfile":"no_getpid.json"}}}]"#;
 
 const TWO: &str =
-    r#""restartPolicy":"Never","initContainers":[{"name":"setup","image":"fails.json"}],"containers":[{"name":"main","image":"ends.json"}]"#;
+    r#""restartPolicy":"Never","initContainers":[{"name":"setup","image":"fails.json"}],
+"containers":[{"name":"main","image":"ends.json"}]"#;
 
 const ADDING: &str = r#""containers":[{"name":"main","image":"adds.json"}]"#;
 

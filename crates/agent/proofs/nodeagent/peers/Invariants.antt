@@ -7,4 +7,5 @@ use Rattle.agent.proofs.nodeagent.peers.Given as goal
 abbrev pub invariant-loop : goal.invariant-loop
 invariant-loop g l =
     (vec_len l.peers ≡ l.counter) × (l.counter ≤ l.end) × (l.end ≡ min l.line.numbers.workers 64)
-    × AllByRecursion (λ peer. (peer.path.now ≡ l.line.socket.now) × (peer.version ≡ version_for l.line)) l.peers.items
+    × AllByRecursion (λ peer. (peer.path.now ≡ l.line.socket.now) × (peer.version ≡ version_for l.line))
+    l.peers.items

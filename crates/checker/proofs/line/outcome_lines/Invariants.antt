@@ -4,4 +4,5 @@ use Rattle.checker.specs.Texts.{lines_text}
 use Rattle.checker.proofs.line.outcome_lines.Given as goal
 
 abbrev pub invariant-loop-place : goal.invariant-loop-place
-invariant-loop-place l = string_bytes l.text ≡ lines_text (entry_text l.naming) 0 (take l.place l.outcome.entries)
+invariant-loop-place l = string_bytes l.text
+    ≡ lines_text (entry_text l.naming) 0 (take l.place l.outcome.entries)

@@ -7,7 +7,11 @@ use Rattle.creation.proofs.building.own_in.Goals as goal
 pub returns-in-Err-compiled-clause-refused : goal.returns-in-Err-compiled-clause-refused
 returns-in-Err-compiled-clause-refused c = elim c.in-Err-compiled.ensures.refused [
   | inl memory ↦ inl memory
-  | inr long ↦ inr ((λ other reads. subst (λ p. MAX_INSNS < weight p) (sym (c.in-Ok.ensures.one other reads)) long.1), long.0)
+  | inr long ↦ inr (
+    (λ other reads. subst (λ p. MAX_INSNS < weight p)
+        (sym (c.in-Ok.ensures.one other reads)) long.1),
+    long.0,
+  )
 ]
 
 pub returns-in-Err-clause-refused : goal.returns-in-Err-clause-refused

@@ -6,4 +6,5 @@ use Rattle.explain.specs.Explained.{first_failing}
 use Rattle.explain.proofs.conditions.first_failing.Given as goal
 
 abbrev pub invariant-loop-cond : goal.invariant-loop-cond
-invariant-loop-cond l = find (λ cond. not (holds_on cond l.call)) (drop l.cond-index l.cond-items) ≡ first_failing l.call l.entry
+invariant-loop-cond l = find (λ cond. not (holds_on cond l.call)) (drop l.cond-index l.cond-items)
+    ≡ first_failing l.call l.entry

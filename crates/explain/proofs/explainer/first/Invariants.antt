@@ -6,4 +6,5 @@ use Rattle.explain.specs.Explained.{applies}
 use Rattle.explain.proofs.explainer.first.Given as goal
 
 abbrev pub invariant-loop-place : goal.invariant-loop-place
-invariant-loop-place l = (k : ℕ) (other : Entry) → k < l.place → slice_get l.entries k ≡ Some other → applies l.call other ≡ false
+invariant-loop-place l = (k : ℕ) (other : Entry) → k < l.place → slice_get l.entries k ≡ Some other
+    → applies l.call other ≡ false

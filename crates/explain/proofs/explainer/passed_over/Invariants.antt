@@ -6,4 +6,6 @@ use Rattle.explain.specs.Explained.{told}
 use Rattle.explain.proofs.explainer.passed_over.Given as goal
 
 abbrev pub invariant-loop-place : goal.invariant-loop-place
-invariant-loop-place l = l.passed.items ++ filter_map (told l.call) (enumerate_from l.place (drop l.place l.entries)) ≡ filter_map (told l.call) (enumerate_from 0 l.entries)
+invariant-loop-place l = l.passed.items
+    ++ filter_map (told l.call) (enumerate_from l.place (drop l.place l.entries))
+    ≡ filter_map (told l.call) (enumerate_from 0 l.entries)

@@ -6,4 +6,5 @@ use Rattle.json_place.specs.Shown.{stands_at}
 use Rattle.json_place.proofs.shown.stands_at.Given as goal
 
 abbrev pub invariant-loop-step : goal.invariant-loop-step
-invariant-loop-step l = stands_at (map part_of (drop l.step-index l.step-items)) (view l.tree) ≡ stands_at l.fn.place (view l.fn.tree)
+invariant-loop-step l = stands_at (map part_of (drop l.step-index l.step-items)) (view l.tree)
+    ≡ stands_at l.fn.place (view l.fn.tree)

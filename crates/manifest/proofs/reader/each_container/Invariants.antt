@@ -6,4 +6,6 @@ use Rattle.manifest.specs.Reading.{container_at}
 use Rattle.manifest.proofs.reader.each_container.Given as goal
 
 abbrev pub invariant-loop-item : goal.invariant-loop-item
-invariant-loop-item l = in_order_after (container_at (length l.fn.done.items)) l.done.items (map view (drop l.item-index l.items)) ≡ in_order_after (container_at (length l.fn.done.items)) l.fn.done.items (map view l.items)
+invariant-loop-item l = in_order_after (container_at (length l.fn.done.items)) l.done.items
+    (map view (drop l.item-index l.items))
+    ≡ in_order_after (container_at (length l.fn.done.items)) l.fn.done.items (map view l.items)

@@ -8,4 +8,5 @@ pub returns-clause-found : goal.returns-clause-found
 returns-clause-found c = found c.args.bytes.now c.reading.result c.reading.ensures
 
 pub returns-clause-only : goal.returns-clause-only
-returns-clause-only c = λ pod is. subst (Reads (λ pod. pod) c.reading.result) (only c.args.bytes.now pod is) c.reading.ensures
+returns-clause-only c = λ pod is. subst (Reads (λ pod. pod) c.reading.result)
+    (only c.args.bytes.now pod is) c.reading.ensures

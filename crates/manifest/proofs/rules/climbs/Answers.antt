@@ -10,4 +10,7 @@ use Rattle.manifest.proofs.rules.climbs.Goals as goal
 pub returns : goal.returns
 unfolding climbs
 returns c =
-    any_from_yields_List (λ part. bytes_eq part (codes "..")) _ _ _ c.any.ensures.ran (YieldsList-from_str_split 47 c.args.text.now (omega arith) c.split.ensures.text c.split.ensures.has_more c.split.ensures.pattern) (λ x b q k. search (rules, tests))
+    any_from_yields_List (λ part. bytes_eq part (codes "..")) _ _ _ c.any.ensures.ran
+    (YieldsList-from_str_split 47 c.args.text.now
+    (omega arith) c.split.ensures.text c.split.ensures.has_more c.split.ensures.pattern) (λ x b q k.
+    search (rules, tests))

@@ -8,4 +8,6 @@ use Rattle.oci_profile.proofs.args.each_cond.Goals as goal
 
 pub new-requires : goal.new-requires
 new-requires c =
-    conds_fit (map view c.args.items.now) c.loop-item.conds.items (after_ends cond_at view c.args.items.now c.loop-item.item-index c.loop-item.conds.items _ (omega arith) c.loop-item.invariant)
+    conds_fit (map view c.args.items.now) c.loop-item.conds.items
+    (after_ends cond_at view c.args.items.now c.loop-item.item-index c.loop-item.conds.items _
+    (omega arith) c.loop-item.invariant)

@@ -6,4 +6,5 @@ use Rattle.oci_profile.specs.RuntimeDefault.{excludes}
 use Rattle.oci_profile.proofs.default_profile.excludes.Given as goal
 
 abbrev pub invariant-loop-other : goal.invariant-loop-other
-invariant-loop-other l = list_any (λ other. bytes_eq l.name other) (map (λ text. text.now) (drop l.other-index l.other-items)) ≡ excludes l.name
+invariant-loop-other l = list_any (λ other. bytes_eq l.name other)
+    (map (λ text. text.now) (drop l.other-index l.other-items)) ≡ excludes l.name

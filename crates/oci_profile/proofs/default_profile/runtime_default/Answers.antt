@@ -4,4 +4,5 @@ use Rattle.oci_profile.proofs.Default.{default_fit}
 use Rattle.oci_profile.proofs.default_profile.runtime_default.Goals as goal
 
 pub new-requires : goal.new-requires
-new-requires c = subst AreEntries (sym c.in_ok-entries.ensures) (default_fit c.names_and_numbers_agree.ensures.small)
+new-requires c = subst AreEntries (sym c.in_ok-entries.ensures)
+    (default_fit c.names_and_numbers_agree.ensures.small)

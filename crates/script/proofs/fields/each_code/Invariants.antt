@@ -1,8 +1,9 @@
--- The numbers so far are codes, and these.
-use Rattle.std.proofs.Common.{◌≡◌, Ok, take}
-use Rattle.json_tree.specs.Reading.{in_order}
-use Rattle.script.specs.Reading.{code_of}
+-- What the numbers from this one on give behind the codes so far is what all of them give.
+use Rattle.std.proofs.Common.{◌≡◌, [], drop}
+use Rattle.json_tree.specs.Reading.{in_order_after}
+use Rattle.script.specs.Reading.{code_at}
 use Rattle.script.proofs.fields.each_code.Given as goal
 
 abbrev pub invariant-loop-number : goal.invariant-loop-number
-invariant-loop-number l = in_order code_of (take l.number-index l.numbers) ≡ Ok l.codes.items
+invariant-loop-number l = in_order_after code_at l.codes.items (drop l.number-index l.numbers)
+    ≡ in_order_after code_at [] l.numbers

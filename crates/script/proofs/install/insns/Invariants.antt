@@ -8,4 +8,5 @@ use Rattle.script.specs.Script.{row, IsSpelled}
 use Rattle.script.proofs.install.insns.Given as goal
 
 abbrev pub invariant-loop-item : goal.invariant-loop-item
-invariant-loop-item l = (numbers : List Row) × (each row (map view (take l.item-index l.items)) ≡ Some numbers) × Both IsSpelled numbers l.insns.items
+invariant-loop-item l = (numbers : List Row)
+    × (each row (map view (take l.item-index l.items)) ≡ Some numbers) × Both IsSpelled numbers l.insns.items

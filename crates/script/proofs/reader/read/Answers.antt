@@ -1,12 +1,13 @@
-use Rattle.script.proofs.Found.{found}
-use Rattle.script.proofs.First.{only, told}
+use Rattle.std.proofs.Common.{sym}
+use Rattle.std.proofs.lemmas.Result.{err_from_is_err_and}
+use Rattle.json_place.proofs.SameReading.{same_value, not_refused}
 use Rattle.script.proofs.reader.read.Goals as goal
 
-pub returns-clause-found : goal.returns-clause-found
-returns-clause-found c = found c.args.bytes.now _ c.reading.ensures
+pub returns-in_err-read_placed-clause-only : goal.returns-in_err-read_placed-clause-only
+returns-in_err-read_placed-clause-only c = λ steps is.
+    let p = err_from_is_err_and c.from_residual.result c.from_residual.ensures.1 in
+    rw (p.1, p.2) (λ not_memory. sym (not_refused steps c.in_err-read_placed.field-0.0 _
+    (sym (c.in_err-read_placed.ensures.only steps is not_memory))))
 
 pub returns-clause-only : goal.returns-clause-only
-returns-clause-only c = λ steps is. only c.written_is_read.ensures.alone c.args.bytes.now _ steps c.reading.ensures is
-
-pub returns-clause-told : goal.returns-clause-told
-returns-clause-told c = λ fault first. told c.args.bytes.now _ fault c.reading.ensures first
+returns-clause-only c = λ steps is. same_value _ _ (c.in_ok-read_placed.ensures.only steps is)

@@ -5,4 +5,9 @@ use Rattle.checker.proofs.compared.ValueDisplay.fmt.Goals as goal
 
 pub returns-clause-writes : goal.returns-clause-writes
 returns-clause-writes g c =
-    (rw (c.laid_out.ensures, c.in_radix.ensures, padded_to_eight (digits 16 false c.args.self.now.0), c.of_value-verdict.ensures) at c.write.ensures.writes)
+    (rw (
+      c.laid_out.ensures,
+      c.in_radix.ensures,
+      padded_to_eight (digits 16 false c.args.self.now.0),
+      c.of_value-verdict.ensures,
+    ) at c.write.ensures.writes)

@@ -4,4 +4,8 @@ use Rattle.checker.proofs.Digits.{padded_to_eight}
 use Rattle.checker.proofs.judging.JudgedDisplay.fmt.Goals as goal
 
 pub returns-clause-writes : goal.returns-clause-writes
-returns-clause-writes g c = (rw (c.laid_out.ensures, c.in_radix.ensures, padded_to_eight (digits 16 false c.args.self.now.value)) at c.write.ensures.writes)
+returns-clause-writes g c = (rw (
+  c.laid_out.ensures,
+  c.in_radix.ensures,
+  padded_to_eight (digits 16 false c.args.self.now.value),
+) at c.write.ensures.writes)

@@ -8,4 +8,6 @@ pub returns : goal.returns
 returns c =
     let old = c.args.self.members.entries in
     let copied : string_bytes c.in_ok-name.name ≡ c.args.key.now = search rules in
-    ap members_view c.in_ok-insert.ensures.entries ∙ members_view-insert_entry old c.in_ok-name.name c.args.value ∙ ap (λ k. put k (view c.args.value) (members_view old)) copied
+    ap members_view c.in_ok-insert.ensures.entries
+    ∙ members_view-insert_entry old c.in_ok-name.name c.args.value
+    ∙ ap (λ k. put k (view c.args.value) (members_view old)) copied

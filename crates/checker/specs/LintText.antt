@@ -1,0 +1,10 @@
+-- What is printed beside a filter, of its profile: this project's own, docs/SEMANTICS.md, "Programs".
+use Rattle.std.specs.Prelude.{ℕ, zero, suc, List, [], ◌++◌, codes}
+use Rattle.std.specs.Fmt.{decimal}
+
+-- nothing where nothing is found
+abbrev pub count_text : List ℕ → ℕ → List ℕ
+count_text path zero = []
+count_text path (suc zero) = codes "seccheck: " ++ (path ++ codes ": 1 finding, see seccheck lint\n")
+count_text path (suc (suc more)) = codes "seccheck: " ++ (path ++ (codes ": "
+    ++ (decimal (suc (suc more)) ++ codes " findings, see seccheck lint\n")))

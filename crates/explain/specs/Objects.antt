@@ -1,0 +1,43 @@
+-- An explanation as objects of JSON (RFC 8259), one a line, this project's own: docs/SEMANTICS.md,
+-- "Programs".
+-- No text of it has a byte that JSON would escape.
+use Rattle.std.specs.Prelude.{ℕ, List, [], ◌∷◌, ◌++◌, codes}
+use Rattle.std.specs.Fmt.{decimal}
+use Rattle.action.specs.Verdict.{name_of}
+use Rattle.oci_profile.specs.declared.conditions.Op.{Op}
+use Rattle.oci_profile.specs.declared.conditions.Op.TheVariants.{MaskedEqual}
+use Rattle.oci_profile.specs.declared.decision.Decision.{Decision}
+use Rattle.oci_profile.specs.Decision.{verdict_of}
+use Rattle.explain.specs.declared.explanation.Decider.{Decider}
+use Rattle.explain.specs.declared.explanation.Explanation.{Explanation}
+use Rattle.explain.specs.declared.explanation.PassedOver.{PassedOver}
+use Rattle.explain.specs.Text.{decider_text, op_text}
+
+-- what is behind the mask
+abbrev pub masked_member : Op → ℕ → List ℕ
+masked_member MaskedEqual two = codes ",\"valueTwo\":" ++ decimal two
+masked_member _ two = []
+
+-- an entry's place, the argument that was looked at, and what its condition wants of it
+abbrev pub passed_object : PassedOver → List ℕ
+passed_object passed =
+    codes "{\"not\":\"syscalls[" ++ (decimal passed.place
+    ++ (codes "]\",\"arg\":" ++ (decimal passed.cond.index ++ (codes ",\"is\":"
+    ++ (decimal passed.argument ++ (codes ",\"wanted\":\""
+    ++ (op_text passed.cond.op ++ (codes "\",\"value\":" ++ (decimal passed.cond.value
+    ++ (masked_member passed.cond.op passed.cond.value_two ++ codes "}"))))))))))
+
+-- the action and its data, and what decides: a line
+abbrev pub decided_object : Decision → Decider → List ℕ
+decided_object decision decider =
+    codes "{\"action\":\"" ++ (name_of (verdict_of decision).action ++ (codes "\",\"data\":"
+    ++ (decimal (verdict_of decision).ret_data ++ (codes ",\"by\":\"" ++ (decider_text decider
+    ++ codes "\"}\n")))))
+
+-- one line an entry
+abbrev pub passed_objects : List PassedOver → List ℕ
+passed_objects [] = []
+passed_objects (passed ∷ others) = passed_object passed ++ (codes "\n" ++ passed_objects others)
+
+abbrev pub explanation_objects : Explanation → List ℕ
+explanation_objects e = passed_objects e.passed.items ++ decided_object e.decision e.decider

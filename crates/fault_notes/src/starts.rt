@@ -1,0 +1,49 @@
+//! What a text begins with.
+ghost use Rattle.std.specs.Prelude.{◌≡◌, ◌<◌, IfSome, length, not, position};
+ghost use Rattle.fault_notes.specs.Starts.{begins_object, begins_yaml, is_letter, is_space, is_yaml_start};
+
+/// Whether the first byte that is no white space of JSON (RFC 8259) begins an object.
+pub fn begins_object(bytes: &[u8]) -> bool
+    ensures { result ≡ begins_object bytes.now }
+{
+    match begin(bytes) {
+        Some(first) => bytes[first] == b'{',
+        None => false,
+    }
+}
+
+/// Whether a text begins as YAML does: its first byte that is no white space is a letter, `-`, `#` or `%`.
+pub(crate) fn begins_yaml(bytes: &[u8]) -> bool
+    ensures { result ≡ begins_yaml bytes.now }
+{
+    match begin(bytes) {
+        Some(first) => is_yaml_start(bytes[first]),
+        None => false,
+    }
+}
+
+fn is_yaml_start(byte: u8) -> bool
+    ensures { result ≡ is_yaml_start byte }
+{
+    is_letter(byte) || byte == b'-' || byte == b'#' || byte == b'%'
+}
+
+fn is_letter(byte: u8) -> bool
+    ensures { result ≡ is_letter byte }
+{
+    (b'A' <= byte && byte <= b'Z') || (b'a' <= byte && byte <= b'z')
+}
+
+/// Where the first byte is that is no white space.
+fn begin(bytes: &[u8]) -> Option<usize>
+    ensures first { result ≡ position (λ byte. not (is_space byte)) bytes.now }
+    ensures inside { IfSome result (λ at. at < length bytes.now) }
+{
+    bytes.iter().position(|byte| !is_space(*byte))
+}
+
+fn is_space(byte: u8) -> bool
+    ensures { result ≡ is_space byte }
+{
+    byte == b' ' || byte == b'\t' || byte == b'\n' || byte == b'\r'
+}

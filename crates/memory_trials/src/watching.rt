@@ -1,0 +1,206 @@
+//! What an agent remembers and tells of its calls and pods.
+use crate::nodes::begun;
+use crate::trial::{Came, Told, Trial, tried};
+use cri_msgs::{Call, Refusal};
+use lifecycle::{ContainerState, Phase};
+use manifest::{Label, Uid};
+use node_watch::{Form, PodSeen, Reasons, Trouble, gone_line, pod_changes};
+use std::alloc::{AllocError, Global};
+use worker_core::Node;
+
+/// What came of the call of this name, if it is one of these.
+pub(crate) fn told(rt: &HostRuntime, name: &str) -> Option<Told> {
+    let alloc = rt.alloc();
+    match name {
+        "Reasons::note" => Some(tried(rt, Notes::new(alloc, Some(TROUBLE)))),
+        "Reasons::note in no trouble" => Some(tried(rt, Notes::new(alloc, None))),
+        "PodSeen::of" => Some(tried(rt, Sees::new(alloc))),
+        "pod_changes" => Some(tried(rt, Changes::new(alloc))),
+        "gone_line" => Some(tried(rt, Goes::new(alloc))),
+        _ => None,
+    }
+}
+
+const TROUBLE: Trouble = Trouble::Refused(Refusal::FailedPrecondition);
+
+fn uid(alloc: Global, text: &str) -> Option<Uid> {
+    Uid::new(alloc, text).ok()?
+}
+
+fn list_of(alloc: Global, text: &str) -> Option<Call> {
+    let uid = uid(alloc, text)?;
+    Some(Call::ListContainers { uid })
+}
+
+/// The reasons behind a list of another pod that was lost at moment 3, and one of this pod that was at moment
+/// 5.
+fn reasons(alloc: Global) -> Option<Reasons> {
+    let mut reasons = Reasons::new(alloc);
+    for (moment, name) in [(3, "b"), (5, "a")] {
+        reasons
+            .note(moment, &list_of(alloc, name)?, Some(Trouble::Lost))
+            .ok()?;
+    }
+    Some(reasons)
+}
+
+/// `Reasons::note`, of a call that came to nothing otherwise before.
+#[derive(Drop)]
+struct Notes {
+    alloc: Global,
+    reasons: Reasons,
+    container: Label,
+    call: Call,
+    trouble: Option<Trouble>,
+}
+
+impl Notes {
+    fn new(alloc: Global, trouble: Option<Trouble>) -> Option<Notes> {
+        Some(Notes {
+            alloc,
+            reasons: reasons(alloc)?,
+            container: Label::new(alloc, "main").ok()??,
+            call: list_of(alloc, "a")?,
+            trouble,
+        })
+    }
+
+    /// Since when, and whether by a loss, the list of this pod comes to nothing.
+    fn since(&self, name: &str) -> Option<(u64, bool)> {
+        let uid = uid(self.alloc, name)?;
+        let reason = self.reasons.reason_for(&uid, &self.container)?;
+        Some((reason.since, matches!(reason.trouble, Trouble::Lost)))
+    }
+}
+
+impl Trial for Notes {
+    type Answer = Result<(), AllocError>;
+
+    fn call(&mut self) -> Result<(), AllocError> {
+        self.reasons.note(9, &self.call, self.trouble)
+    }
+
+    fn came(&mut self, answer: &Result<(), AllocError>) -> Came {
+        let wanted = self.trouble.map(|_| (9, false));
+        match answer {
+            Ok(()) => Came::right_if(
+                self.since("a") == wanted && self.since("b") == Some((3, true)),
+            ),
+            Err(AllocError) => Came::Memory,
+        }
+    }
+
+    fn is_unchanged(&mut self) -> bool {
+        self.since("a") == Some((5, true)) && self.since("b") == Some((3, true))
+    }
+}
+
+/// What is seen of the first pod of a node whose container runs.
+fn seen(alloc: Global) -> Option<PodSeen> {
+    PodSeen::of(alloc, begun(alloc)?.pod(0)?).ok()
+}
+
+/// `PodSeen::of`, of a node's first pod.
+#[derive(Drop)]
+struct Sees {
+    alloc: Global,
+    node: Node,
+}
+
+impl Sees {
+    fn new(alloc: Global) -> Option<Sees> {
+        let node = begun(alloc)?;
+        Some(Sees { alloc, node })
+    }
+}
+
+fn is_running(seen: &PodSeen) -> bool {
+    match seen.containers.as_slice() {
+        [container] => {
+            container.name.as_str() == "main"
+                && matches!(container.state, ContainerState::Running)
+                && container.restarts == 0
+                && seen.uid.as_str() == "default.a"
+                && seen.phase == Phase::Running
+        }
+        _ => false,
+    }
+}
+
+impl Trial for Sees {
+    type Answer = Option<Result<PodSeen, AllocError>>;
+
+    fn call(&mut self) -> Option<Result<PodSeen, AllocError>> {
+        Some(PodSeen::of(self.alloc, self.node.pod(0)?))
+    }
+
+    fn came(&mut self, answer: &Option<Result<PodSeen, AllocError>>) -> Came {
+        match answer {
+            Some(Ok(seen)) => Came::right_if(is_running(seen)),
+            Some(Err(AllocError)) => Came::Memory,
+            None => Came::Wrong,
+        }
+    }
+}
+
+/// `pod_changes`, of a pod that was not seen before.
+#[derive(Drop)]
+struct Changes {
+    alloc: Global,
+    seen: PodSeen,
+}
+
+impl Changes {
+    fn new(alloc: Global) -> Option<Changes> {
+        let seen = seen(alloc)?;
+        Some(Changes { alloc, seen })
+    }
+}
+
+fn came_to(answer: &Result<String, AllocError>, wanted: &str) -> Came {
+    match answer {
+        Ok(text) => Came::right_if(text.as_str() == wanted),
+        Err(AllocError) => Came::Memory,
+    }
+}
+
+impl Trial for Changes {
+    type Answer = Result<String, AllocError>;
+
+    fn call(&mut self) -> Result<String, AllocError> {
+        pod_changes(self.alloc, Form::Text, 12, None, &self.seen)
+    }
+
+    fn came(&mut self, answer: &Result<String, AllocError>) -> Came {
+        came_to(
+            answer,
+            "12 default.a Running\n12 default.a main Running - 0\n",
+        )
+    }
+}
+
+/// `gone_line`.
+#[derive(Drop)]
+struct Goes {
+    alloc: Global,
+    uid: Uid,
+}
+
+impl Goes {
+    fn new(alloc: Global) -> Option<Goes> {
+        let uid = uid(alloc, "default.a")?;
+        Some(Goes { alloc, uid })
+    }
+}
+
+impl Trial for Goes {
+    type Answer = Result<String, AllocError>;
+
+    fn call(&mut self) -> Result<String, AllocError> {
+        gone_line(self.alloc, Form::Text, 12, &self.uid)
+    }
+
+    fn came(&mut self, answer: &Result<String, AllocError>) -> Came {
+        came_to(answer, "12 default.a Deleted\n")
+    }
+}

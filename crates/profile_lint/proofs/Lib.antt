@@ -1,0 +1,4 @@
+pub mod Compared
+pub mod Near
+pub mod Seen
+pub mod Views

@@ -1,0 +1,15 @@
+-- What was told, and what is told of the names from here on, are all together; the numbers of those before
+-- were seen.
+use Rattle.std.proofs.Common.{◌≡◌, ◌++◌, drop, map, take}
+use Rattle.std.specs.Prelude.{filter_map}
+use Rattle.std.specs.List.{enumerate_from}
+use Rattle.serde_json.specs.View.{view}
+use Rattle.profile_lint.specs.Passed.{AreSeen, name_at, told}
+use Rattle.profile_lint.proofs.names.names_in.Given as goal
+
+abbrev pub invariant-loop-index : goal.invariant-loop-index
+invariant-loop-index l = (map told l.found.items
+    ++ filter_map (name_at l.entry (map view l.names))
+    (enumerate_from l.index (map view (drop l.index l.names)))
+    ≡ filter_map (name_at l.entry (map view l.names)) (enumerate_from 0 (map view l.names)))
+    × AreSeen (take l.index (map view l.names)) l.seen.items

@@ -1,0 +1,12 @@
+-- What was told, and what is told of the conditions from here on, are all together.
+use Rattle.std.proofs.Common.{◌≡◌, ◌++◌, drop, map}
+use Rattle.std.specs.Prelude.{flat_map}
+use Rattle.std.specs.List.{enumerate_from}
+use Rattle.serde_json.specs.View.{view}
+use Rattle.profile_lint.specs.Passed.{arg_at, told}
+use Rattle.profile_lint.proofs.text.args_in.Given as goal
+
+abbrev pub invariant-loop-index : goal.invariant-loop-index
+invariant-loop-index l = map told l.found.items
+    ++ flat_map (arg_at l.entry) (enumerate_from l.index (map view (drop l.index l.items)))
+    ≡ flat_map (arg_at l.entry) (enumerate_from 0 (map view l.items))

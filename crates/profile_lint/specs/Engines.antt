@@ -1,0 +1,53 @@
+-- How runc 1.1 makes a filter of a profile by libseccomp 2.5: docs/SEMANTICS.md, "Where engines differ". An
+-- entry that decides as the default is left out, and one without conditions decides its calls wherever it
+-- stands. Which of two entries with conditions decides a call of which both hold is not said.
+use Rattle.std.specs.Prelude.{◌≡◌, ◌≢◌, ℕ, ◌==◌, Bool, true, not, ◌&&◌, List, ◌++◌, filter, length}
+use Rattle.std.specs.Prelude.{slice_get, Some}
+use Rattle.call_data.specs.declared.sys_call.SysCall.{SysCall}
+use Rattle.oci_profile.specs.declared.decision.Decision.{Decision}
+use Rattle.oci_profile.specs.declared.profile.Entry.{Entry}
+use Rattle.oci_profile.specs.declared.profile.Profile.{Profile}
+use Rattle.oci_profile.specs.Decision.{value_of}
+use Rattle.oci_profile.specs.Meaning.{meaning}
+use Rattle.explain.specs.Explained.{AppliesFirst, applies}
+use Rattle.profile_lint.specs.declared.engines.Kind.{Kind}
+use Rattle.profile_lint.specs.declared.engines.Kind.TheVariants.{Bare, Asking}
+use Rattle.profile_lint.specs.Entries.{with_entries}
+
+-- whether the entry has conditions or none
+abbrev pub is_of : Kind → Entry → Bool
+is_of Bare entry = length entry.conds == 0
+is_of Asking entry = not (length entry.conds == 0)
+
+-- whether the entry decides otherwise than the default, and so is not left out
+abbrev pub is_kept : Profile → Entry → Bool
+is_kept profile entry = not (value_of entry.decision == value_of profile.default)
+
+-- the entries of this kind that are not left out
+abbrev pub kept_of : Kind → Profile → List Entry
+kept_of kind profile = filter (λ entry. is_kept profile entry && is_of kind entry) profile.entries
+
+-- the profile as engines read it, where its order decides between entries with conditions
+abbrev pub as_engines_read : Profile → Profile
+as_engines_read profile = with_entries profile (kept_of Bare profile ++ kept_of Asking profile)
+
+-- the entry at this place decides the call, and the engines' value of it is another
+pub record IsReadOtherwise (profile : Profile) (place : ℕ) (call : SysCall) (here there : ℕ) : Type 0 where
+  pub decision : Decision
+  pub decides : AppliesFirst profile.entries call place decision
+  pub ours : meaning profile call ≡ here
+  pub theirs : meaning (as_engines_read profile) call ≡ there
+  pub differ : here ≢ there
+
+-- both entries apply to the call, and decide it otherwise
+abbrev pub AreBoth : Entry → Entry → SysCall → Type 0
+AreBoth one two call = (applies call one ≡ true) × (applies call two ≡ true)
+    × (value_of one.decision ≢ value_of two.decision)
+
+-- the entries at two places do
+pub record Overlap (profile : Profile) (place other : ℕ) (call : SysCall) : Type 0 where
+  pub one : Entry
+  pub two : Entry
+  pub one_there : slice_get profile.entries place ≡ Some one
+  pub two_there : slice_get profile.entries other ≡ Some two
+  pub both : AreBoth one two call

@@ -1,0 +1,6 @@
+pub mod Engines
+pub mod Entries
+pub mod Findings
+pub mod Passed
+pub mod Sameness
+pub mod Text

@@ -1,0 +1,133 @@
+-- What of a profile's text decides nothing: OCI runtime-spec 1.1, config-linux, seccomp. This project's own
+-- are that members which say nothing, and comments, are not told: docs/SEMANTICS.md, "What is told of a
+-- profile".
+use Rattle.std.specs.Prelude.{◌≡◌, ℕ, ◌==◌, Bool, false, not, ◌&&◌, ◌||◌, if◌then◌else◌, List, [], ◌∷◌, ◌++◌}
+use Rattle.std.specs.Prelude.{length, codes, take, filter_map, flat_map, Option, Some, None, option_and_then}
+use Rattle.std.specs.Prelude.{is_some, option_map, unwrap_or}
+use Rattle.std.specs.List.{enumerate_from, list_any}
+use Rattle.std.specs.Str.{bytes_eq}
+use Rattle.serde_json.specs.Data as json
+use Rattle.serde_json.specs.Data.{Data, Members}
+use Rattle.serde_json.specs.Find.{as_object}
+use Rattle.json_tree.specs.Tree.{list, member, text, value}
+use Rattle.oci_profile.specs.Profile.{number_named}
+use Rattle.sys_table.specs.SysTable.{number_of}
+use Rattle.profile_lint.specs.declared.passed.Holder.{Holder}
+use Rattle.profile_lint.specs.declared.passed.Holder.TheVariants as of
+use Rattle.profile_lint.specs.declared.passed.Passed as passed
+use Rattle.profile_lint.specs.declared.passed.Passed.TheVariants as kind
+
+-- what is told, with texts as their bytes
+pub data Told : Type 0 where
+  Ignored : Holder → List ℕ → Told
+  OtherArchitectures : Told
+  UnknownName : ℕ → ℕ → List ℕ → Told
+  RepeatedName : ℕ → ℕ → List ℕ → Told
+
+abbrev pub told : passed.Passed → Told
+told (kind.Ignored holder key) = Ignored holder key.now
+told kind.OtherArchitectures = OtherArchitectures
+told (kind.UnknownName entry index name) = UnknownName entry index name.now
+told (kind.RepeatedName entry index name) = RepeatedName entry index name.now
+
+abbrev pub members_list : Members → List (List ℕ × Data)
+members_list json.no_members = []
+members_list (json.member key value ms) = (key, value) ∷ members_list ms
+
+-- the members, if it is an object
+abbrev pub members_of : Data → Option (List (List ℕ × Data))
+members_of tree = option_map members_list (as_object tree)
+
+abbrev pub is_empty : {A : Type 0} → Option (List A) → Bool
+is_empty None = false
+is_empty (Some xs) = length xs == 0
+
+-- null, and a text, a list and an object that have nothing in them
+unfoldable pub says_nothing : Data → Bool
+says_nothing tree = not (is_some (value tree)) || (is_empty (text tree)
+    || (is_empty (list tree) || is_empty (members_of tree)))
+
+abbrev pub is_one_of : List (List ℕ) → List ℕ → Bool
+is_one_of names name = list_any (bytes_eq name) names
+
+-- the members that decide something
+abbrev pub deciding : Holder → List (List ℕ)
+deciding of.Profile = codes "defaultAction" ∷ codes "defaultErrnoRet" ∷ codes "architectures"
+    ∷ codes "syscalls" ∷ []
+deciding (of.Entry entry) = codes "names" ∷ codes "action" ∷ codes "errnoRet" ∷ codes "args" ∷ []
+deciding (of.Arg entry arg) = codes "index" ∷ codes "value" ∷ codes "valueTwo" ∷ codes "op" ∷ []
+
+unfoldable pub is_ignored : Holder → List ℕ → Data → Bool
+is_ignored holder key value = not (says_nothing value)
+    && not (bytes_eq key (codes "comment") || is_one_of (deciding holder) key)
+
+abbrev pub ignored_at : Holder → List ℕ × Data → Option Told
+ignored_at holder (key, value) = if is_ignored holder key value then Some (Ignored holder key) else None
+
+-- the members that decide nothing
+abbrev pub ignored_in : Holder → Data → List Told
+ignored_in holder tree = filter_map (ignored_at holder) (unwrap_or (members_of tree) [])
+
+-- the items of the list that this member is
+unfoldable pub items_in : List ℕ → Data → List Data
+items_in key tree = unwrap_or (option_and_then list (member key tree)) []
+
+abbrev pub is_text : List ℕ → Option (List ℕ) → Bool
+is_text wanted None = false
+is_text wanted (Some t) = bytes_eq t wanted
+
+abbrev pub is_native : Data → Bool
+is_native name = is_text (codes "SCMP_ARCH_X86_64") (text name)
+
+-- whether there are some, and x86-64 is none of them
+abbrev pub are_others : List Data → Bool
+are_others names = not (length names == 0) && not (list_any is_native names)
+
+abbrev pub others_in : Data → List Told
+others_in tree = if are_others (items_in (codes "architectures") tree) then OtherArchitectures ∷ [] else []
+
+abbrev pub is_number : ℕ → Option ℕ → Bool
+is_number number None = false
+is_number number (Some n) = n == number
+
+-- whether one of the names is that of the call with this number
+abbrev pub is_named_in : List Data → ℕ → Bool
+is_named_in names number = list_any (λ name. is_number number (number_named name)) names
+
+-- the numbers are those of the names, whatever their order
+abbrev pub AreSeen : List Data → List ℕ → Type 0
+AreSeen names numbers = (number : ℕ) → list_any (λ n. n == number) numbers ≡ is_named_in names number
+
+-- of the entry's name at this index: a call that the table lacks, or one that a name before has
+abbrev pub told_number : ℕ → ℕ → List ℕ → Option ℕ → List Data → Option Told
+told_number entry index name None before = Some (UnknownName entry index name)
+told_number entry index name (Some number) before =
+    if is_named_in before number then Some (RepeatedName entry index name) else None
+
+abbrev pub told_text : ℕ → ℕ → Option (List ℕ) → List Data → Option Told
+told_text entry index None before = None
+told_text entry index (Some name) before = told_number entry index name (number_of name) before
+
+abbrev pub name_at : ℕ → List Data → ℕ × Data → Option Told
+name_at entry names (index, name) = told_text entry index (text name) (take index names)
+
+abbrev pub names_in : ℕ → List Data → List Told
+names_in entry names = filter_map (name_at entry names) (enumerate_from 0 names)
+
+abbrev pub arg_at : ℕ → ℕ × Data → List Told
+arg_at entry (index, item) = ignored_in (of.Arg entry index) item
+
+abbrev pub args_in : ℕ → List Data → List Told
+args_in entry items = flat_map (arg_at entry) (enumerate_from 0 items)
+
+abbrev pub entry_at : ℕ × Data → List Told
+entry_at (index, item) = ignored_in (of.Entry index) item
+    ++ (names_in index (items_in (codes "names") item) ++ args_in index (items_in (codes "args") item))
+
+abbrev pub entries_in : List Data → List Told
+entries_in items = flat_map entry_at (enumerate_from 0 items)
+
+-- all that is told of a profile's tree
+abbrev pub passed_in : Data → List Told
+passed_in tree = ignored_in of.Profile tree
+    ++ (others_in tree ++ entries_in (items_in (codes "syscalls") tree))

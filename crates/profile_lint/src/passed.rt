@@ -1,0 +1,22 @@
+/// Whose member something is.
+#[derive(Clone, Copy, Debug, PartialEq, Eq)]
+pub enum Holder {
+    Profile,
+    /// The entry at this place of `syscalls`, from 0.
+    Entry(usize),
+    /// Of the entry at the first place, the condition at the second one.
+    Arg(usize, usize),
+}
+
+/// Something in a profile's text that decides nothing.
+#[derive(Clone, Copy, Debug)]
+pub enum Passed<'v> {
+    /// The holder's member with this key.
+    Ignored(Holder, &'v str),
+    /// `architectures`, of which none is x86-64.
+    OtherArchitectures,
+    /// Of the entry at the first place, the name at the second one, which the call table lacks.
+    UnknownName(usize, usize, &'v str),
+    /// The same of a name that stands before in the entry.
+    RepeatedName(usize, usize, &'v str),
+}

@@ -1,0 +1,7 @@
+pub mod Architectures
+pub mod Errnos
+pub mod Faults
+pub mod Reading
+pub mod Resolved
+pub mod Settings
+pub mod Version

@@ -1,0 +1,109 @@
+ghost use Rattle.std.specs.Prelude.{◌≡◌, IfOk, flat_map, map, string_bytes};
+ghost use Rattle.std.specs.List.{enumerate_from};
+ghost use Rattle.profile_template.specs.Resolved.{met_entries, names_out, out_if, out_of_entry};
+
+use crate::template::Template;
+use oci_profile::Decision;
+use profile_text::{NamedEntry, WriteFault, is_stricter, is_taken, write_named};
+use std::alloc::{AllocError, Global};
+
+/// A name of a template's entry that its profile is written without.
+#[derive(Clone, Copy, Debug, PartialEq, Eq)]
+pub struct LeftOut {
+    /// The entry's index among all of the template, from 0.
+    pub entry: usize,
+    /// The name's index among those of the entry, from 0.
+    pub name: usize,
+}
+
+impl Template {
+    ghost use Rattle.std.specs.Prelude.{◌≡◌, IfOk, string_bytes};
+    ghost use Rattle.oci_profile.specs.Profile.{ReadsProfile};
+    ghost use Rattle.profile_template.specs.Resolved.{left_out, profile_of};
+
+    /// The plain profile: its text reads as the profile in which exactly the entries stand whose conditions
+    /// are met, in their order, but for the names that are left out.
+    pub fn write(self, alloc: Global) -> Result<String, WriteFault>
+        ensures { IfOk result (λ text. ReadsProfile (string_bytes text) (profile_of self)) }
+    {
+        let entries = met_entries(alloc, self.entries.into_vec())?;
+        write_named(
+            alloc,
+            &self.default,
+            &self.architectures,
+            entries.as_slice(),
+        )
+    }
+
+    /// The names that are left out, in their order.
+    pub fn left_out(&self, alloc: Global) -> Result<Vec<LeftOut>, AllocError>
+        ensures { IfOk result (λ v. v.items ≡ left_out self.now) }
+    {
+        left_out_of(alloc, &self.default, self.entries.as_slice())
+    }
+}
+
+fn met_entries(
+    alloc: Global,
+    entries: Vec<Option<NamedEntry>>,
+) -> Result<Vec<NamedEntry>, AllocError>
+    ensures { IfOk result (λ v. v.items ≡ met_entries entries.items) }
+{
+    let mut met = Vec::new(alloc);
+    for entry in entries {
+        if let Some(entry) = entry {
+            met.push(entry)?;
+        }
+    }
+    Ok(met)
+}
+
+fn left_out_of(
+    alloc: Global,
+    default: &Decision,
+    entries: &[Option<NamedEntry>],
+) -> Result<Vec<LeftOut>, AllocError>
+    ensures { IfOk result (λ v. v.items
+        ≡ flat_map (out_of_entry default.now) (enumerate_from 0 entries.now)) }
+{
+    let mut found = Vec::new(alloc);
+    for (index, entry) in entries.iter().enumerate() {
+        let names = out_if(alloc, default, index, entry)?;
+        found.extend_from_slice(names.as_slice())?;
+    }
+    Ok(found)
+}
+
+fn out_if(
+    alloc: Global,
+    default: &Decision,
+    index: usize,
+    entry: &Option<NamedEntry>,
+) -> Result<Vec<LeftOut>, AllocError>
+    ensures { IfOk result (λ v. v.items ≡ out_if default.now index entry.now) }
+{
+    match entry {
+        Some(entry) => {
+            let is_stricter = is_stricter(default, &entry.decision);
+            names_out(alloc, is_stricter, index, entry.names.as_slice())
+        }
+        None => Ok(Vec::new(alloc)),
+    }
+}
+
+fn names_out(
+    alloc: Global,
+    is_stricter: bool,
+    entry: usize,
+    names: &[String],
+) -> Result<Vec<LeftOut>, AllocError>
+    ensures { IfOk result (λ v. v.items ≡ names_out is_stricter entry (map string_bytes names.now)) }
+{
+    let mut found = Vec::new(alloc);
+    for (index, name) in names.iter().enumerate() {
+        if !is_taken(is_stricter, name.as_str()) {
+            found.push(LeftOut { entry, name: index })?;
+        }
+    }
+    Ok(found)
+}
