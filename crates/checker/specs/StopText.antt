@@ -10,7 +10,7 @@ use Rattle.script.specs.FaultText.{fault_text as script_fault_text}
 use Rattle.verdict.specs.FaultText.{fault_text as stack_fault_text}
 use Rattle.node_io.specs.Causes.{cause_text}
 use Rattle.node_io.specs.FaultText.{caused_text}
-use Rattle.checker.specs.Compared.{difference_text, reason_of}
+use Rattle.check_answers.specs.Compared.{difference_text, reason_of}
 use Rattle.checker.specs.BadWords.{word_fault_text}
 use Rattle.checker.specs.declared.stop.Stop.{Stop}
 use Rattle.checker.specs.declared.stop.Stop.TheVariants.{Refused, Profile, Template, Compile, Manifest}

@@ -1,19 +1,11 @@
-use crate::compared::{BUDGET, is_profile, same_line, same_or_stop};
+use crate::answer_object::AnswerObject;
+use crate::compared::{BUDGET, is_profile, same_or_stop};
 use crate::file::{is_same_file, write_file};
 use crate::form::Form;
-use crate::judging::judge;
-use crate::line::{accepted, compiled, judged_line, longest, outcome_lines};
 use crate::linting::{beside, lint_told};
-use crate::list_objects::{code_objects, picked_objects, record_objects};
 use crate::notes::tell_note;
-use crate::objects::{
-    AnswerObject, accepted_object, compiled_object, judged_object, longest_object, same_object,
-};
-use crate::picked::picked_lines;
-use crate::playing::{Outcome, play};
 use crate::profiles::{default_line, explain_text};
 use crate::resolving::{resolve_text, settings_of};
-use crate::show::code_lines;
 use crate::stop::{
     Stop, compile_stop, filter_stop, manifest_stop, profile_stop, script_stop, stack_filter_stop,
     stack_stop, stop_at,
@@ -24,6 +16,11 @@ use bpf_compare::{Scope, compare};
 use bpf_verify::{Filter, Refusal, filter_of};
 use call_data::SysCall;
 use call_names::{Naming, number_tests};
+use check_answers::{
+    Outcome, accepted_line, accepted_object, code_lines, code_objects, compiled_line, compiled_object,
+    judge, judged_line, judged_object, longest_line, longest_object, outcome_lines, picked_lines,
+    picked_objects, play, record_objects, same_line, same_object,
+};
 use clap::ArgMatches;
 use clap::error::ErrorKind;
 use compile::compile;
@@ -196,7 +193,7 @@ fn compile_told<'a, R: rt::Files + AllocGlobal>(
     }
     write_file(rt, out, &code).map_err(|fault| stop_at(out, fault))?;
     let text = match form {
-        Form::Text => compiled(alloc, filter.len())?,
+        Form::Text => compiled_line(alloc, filter.len())?,
         Form::Json => compiled_object(alloc, filter.len())?,
     };
     Ok(Told::with_aside(text, aside))
@@ -210,7 +207,7 @@ fn budget_text<'a, R: rt::Files + AllocGlobal>(
 ) -> Result<String, Stop<'a>> {
     let filter = filter_at(rt, path)?;
     Ok(match form {
-        Form::Text => longest(rt.alloc(), filter.longest())?,
+        Form::Text => longest_line(rt.alloc(), filter.longest())?,
         Form::Json => longest_object(rt.alloc(), filter.longest())?,
     })
 }
@@ -223,7 +220,7 @@ fn verify_text<'a, R: rt::Files + AllocGlobal>(
 ) -> Result<String, Stop<'a>> {
     let filter = filter_at(rt, path)?;
     Ok(match form {
-        Form::Text => accepted(rt.alloc(), filter.len())?,
+        Form::Text => accepted_line(rt.alloc(), filter.len())?,
         Form::Json => accepted_object(rt.alloc(), filter.len())?,
     })
 }

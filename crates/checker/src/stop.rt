@@ -3,10 +3,10 @@ ghost use Rattle.checker.specs.Stops.{IsOfRefusal, IsOfScriptFault, IsOfStackFau
 ghost use Rattle.checker.specs.Stops.{IsOfTemplateFault};
 
 use crate::bad_words::WordFault;
-use crate::compared::{Difference, reason};
 use bpf_code::CodeFault;
 use bpf_compare::Doubt;
 use bpf_verify::Refusal;
+use check_answers::{Difference, reason};
 use compile::CompileFault;
 use manifest::{PodFault, PodFaultAt};
 use node_io::{Cause, CausedFault, FileFault};

@@ -1,0 +1,81 @@
+/* How long comparisons of two filters take: RuntimeDefault beside the same profile by libseccomp's list and by
+ * its binary tree, on native calls, and two lists of compares of 4,000 instructions in different orders, on
+ * every call. */
+#include "rules.h"
+#include <linux/filter.h>
+#include <time.h>
+
+enum { ROUNDS = 11, TESTS = 1999, LONG = 2 * TESTS + 2 };
+
+static int by_size(const void *a, const void *b) {
+    double x = *(const double *)a, y = *(const double *)b;
+    return (x > y) - (x < y);
+}
+
+static double now(void) {
+    struct timespec at;
+    clock_gettime(CLOCK_PROCESS_CPUTIME_ID, &at);
+    return at.tv_sec * 1e3 + at.tv_nsec / 1e6;
+}
+
+static void row(const char *what, const void *first, size_t first_len, const void *second, size_t second_len,
+                int native) {
+    double times[ROUNDS];
+    enum motchidu_status status = MOTCHIDU_ACCEPTED;
+    for (int i = 0; i < ROUNDS; i++) {
+        uint8_t call[64];
+        uint32_t values[2];
+        double before = now();
+        status = motchidu_compare(first, first_len, second, second_len, native, UINT64_MAX, call, values);
+        times[i] = now() - before;
+    }
+    qsort(times, ROUNDS, sizeof *times, by_size);
+    printf("| %s | %zu and %zu | %s | %.1f ms |\n", what, first_len / 8, second_len / 8,
+           motchidu_status_text(status), times[ROUNDS / 2]);
+}
+
+/* A list of compares of the call's number: each number has its own errno, whatever the order of its test. */
+static void list_in_order(struct sock_filter *filter, const int *numbers) {
+    struct sock_filter *at = filter;
+    *at++ = (struct sock_filter)BPF_STMT(BPF_LD | BPF_W | BPF_ABS, 0);
+    for (int i = 0; i < TESTS; i++) {
+        *at++ = (struct sock_filter)BPF_JUMP(BPF_JMP | BPF_JEQ | BPF_K, numbers[i], 0, 1);
+        *at++ = (struct sock_filter)BPF_STMT(BPF_RET | BPF_K, SECCOMP_RET_ERRNO | (numbers[i] + 1));
+    }
+    *at = (struct sock_filter)BPF_STMT(BPF_RET | BPF_K, SECCOMP_RET_ALLOW);
+}
+
+static void long_lists(void) {
+    static struct sock_filter first[LONG], second[LONG];
+    static int numbers[TESTS];
+    for (int i = 0; i < TESTS; i++)
+        numbers[i] = i;
+    list_in_order(first, numbers);
+    for (int i = TESTS - 1; i > 0; i--) {
+        int other = below(i + 1), number = numbers[i];
+        numbers[i] = numbers[other];
+        numbers[other] = number;
+    }
+    list_in_order(second, numbers);
+    row("two lists, in different orders", first, sizeof first, second, sizeof second, 0);
+}
+
+int main(void) {
+    static uint8_t ours[32768];
+    printf("| compared | instructions | found | takes |\n|---|---|---|---|\n");
+    runtime_default();
+    text_len = json(text);
+    size_t length = compiled(ours, 0);
+    row("RuntimeDefault and itself", ours, length, ours, length, 0);
+#ifdef HAS_SECCOMP
+    static uint8_t theirs[32768];
+    size_t their_length = compiled(theirs, 1);
+    row("RuntimeDefault and libseccomp's", ours, length, theirs, their_length, 1);
+    their_length = compiled(theirs, 2);
+    row("RuntimeDefault and its binary tree's", ours, length, theirs, their_length, 1);
+#else
+    (void)length;
+#endif
+    long_lists();
+    return 0;
+}

@@ -1,0 +1,39 @@
+-- What is printed where two filters are compared, this project's own: docs/SEMANTICS.md, "Programs".
+use Rattle.std.specs.Prelude.{ℕ, false, List, ◌++◌, codes, slice_index}
+use Rattle.std.specs.Fmt.{decimal, digits}
+use Rattle.action.specs.Verdict.{name_of, verdict_of}
+use Rattle.bpf_compare.specs.declared.comparison.Doubt.{Doubt}
+use Rattle.bpf_compare.specs.declared.comparison.Doubt.TheVariants.{Budget, Arithmetic, NoCall}
+use Rattle.bpf_compare.specs.declared.scope.Scope.{Scope}
+use Rattle.bpf_compare.specs.declared.scope.Scope.TheVariants.{EveryCall, NativeCalls}
+use Rattle.check_answers.specs.declared.compared.Difference.{Difference}
+use Rattle.check_answers.specs.Texts.{eight_digits}
+
+-- a value, its action and data
+abbrev pub value_text : ℕ → List ℕ
+value_text value =
+    eight_digits value ++ (codes " " ++ (name_of (verdict_of value).action
+    ++ (codes " " ++ decimal (verdict_of value).ret_data)))
+
+abbrev pub arg_text : List ℕ → ℕ → List ℕ
+arg_text args at = decimal (slice_index args at)
+
+-- the call, in the words in which `run` takes it, and both values
+abbrev pub difference_text : Difference → List ℕ
+difference_text d =
+    codes "differ at " ++ (decimal d.call.nr
+    ++ (codes " " ++ (arg_text d.call.args 0 ++ (codes " " ++ (arg_text d.call.args 1 ++ (codes " "
+    ++ (arg_text d.call.args 2 ++ (codes " "
+    ++ (arg_text d.call.args 3 ++ (codes " " ++ (arg_text d.call.args 4 ++ (codes " "
+    ++ (arg_text d.call.args 5 ++ (codes " --arch 0x" ++ (digits 16 false d.call.arch ++ (codes " --ip 0x"
+    ++ (digits 16 false d.call.ip ++ (codes ": "
+    ++ (value_text d.first ++ (codes ", " ++ value_text d.second))))))))))))))))))))
+
+abbrev pub reason_of : Doubt → List ℕ
+reason_of Budget = codes "there are too many ways through them"
+reason_of Arithmetic = codes "one computes with what it loaded"
+reason_of NoCall = codes "no call was found on which they differ"
+
+abbrev pub same_text : Scope → List ℕ
+same_text EveryCall = codes "same on every call\n"
+same_text NativeCalls = codes "same on every native call\n"

@@ -1,0 +1,11 @@
+pub mod ArrowText
+pub mod Compared
+pub mod LineText
+pub mod ListObjects
+pub mod Objects
+pub mod PartObjects
+pub mod PickText
+pub mod PickedText
+pub mod Playing
+pub mod ShownText
+pub mod Texts

@@ -1,0 +1,50 @@
+-- What is printed as objects of JSON (RFC 8259), one a line, this project's own: docs/SEMANTICS.md,
+-- "Programs". No text of these has a byte that JSON would escape.
+use Rattle.std.specs.Prelude.{ℕ, List, ◌++◌, codes}
+use Rattle.std.specs.Fmt.{decimal}
+use Rattle.action.specs.Verdict.{name_of, verdict_of}
+use Rattle.bpf_compare.specs.declared.scope.Scope.{Scope}
+use Rattle.bpf_compare.specs.declared.scope.Scope.TheVariants.{EveryCall, NativeCalls}
+use Rattle.check_answers.specs.Compared.{arg_text}
+use Rattle.check_answers.specs.declared.compared.Difference.{Difference}
+use Rattle.check_answers.specs.declared.judging.Judged.{Judged}
+
+-- a sound filter of so many instructions
+abbrev pub accepted_object : ℕ → List ℕ
+accepted_object count = codes "{\"answer\":\"accepted\",\"instructions\":" ++ decimal count ++ codes "}\n"
+
+-- a profile's filter, of so many instructions
+abbrev pub compiled_object : ℕ → List ℕ
+compiled_object count = codes "{\"answer\":\"compiled\",\"instructions\":" ++ decimal count ++ codes "}\n"
+
+-- how many instructions a run takes at most
+abbrev pub longest_object : ℕ → List ℕ
+longest_object most = codes "{\"longest\":" ++ decimal most ++ codes "}\n"
+
+-- the value, its action and data, and the steps
+abbrev pub judged_object : Judged → List ℕ
+judged_object judged =
+    codes "{\"value\":" ++ (decimal judged.value ++ (codes ",\"action\":\"" ++ (name_of judged.verdict.action
+    ++ (codes "\",\"data\":" ++ (decimal judged.verdict.ret_data
+    ++ (codes ",\"steps\":" ++ (decimal judged.steps ++ codes "}\n")))))))
+
+abbrev pub same_object : Scope → List ℕ
+same_object EveryCall = codes "{\"answer\":\"same\",\"calls\":\"every\"}\n"
+same_object NativeCalls = codes "{\"answer\":\"same\",\"calls\":\"native\"}\n"
+
+-- a value, its action and data
+abbrev pub value_object : ℕ → List ℕ
+value_object value =
+    codes "{\"value\":" ++ (decimal value ++ (codes ",\"action\":\"" ++ (name_of (verdict_of value).action
+    ++ (codes "\",\"data\":" ++ (decimal (verdict_of value).ret_data ++ codes "}")))))
+
+-- the call, and both values
+abbrev pub difference_object : Difference → List ℕ
+difference_object d =
+    codes "{\"answer\":\"differ\",\"call\":" ++ (decimal d.call.nr
+    ++ (codes ",\"args\":[" ++ (arg_text d.call.args 0 ++ (codes "," ++ (arg_text d.call.args 1
+    ++ (codes "," ++ (arg_text d.call.args 2 ++ (codes "," ++ (arg_text d.call.args 3
+    ++ (codes "," ++ (arg_text d.call.args 4 ++ (codes "," ++ (arg_text d.call.args 5
+    ++ (codes "],\"arch\":" ++ (decimal d.call.arch ++ (codes ",\"ip\":" ++ (decimal d.call.ip
+    ++ (codes ",\"first\":" ++ (value_object d.first ++ (codes ",\"second\":" ++ (value_object d.second
+    ++ codes "}\n")))))))))))))))))))))

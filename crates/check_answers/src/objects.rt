@@ -1,0 +1,98 @@
+//! What is printed as an object of JSON (RFC 8259). No text of these has a byte that JSON would escape.
+ghost use Rattle.std.specs.Prelude.{◌≡◌, IfOk, string_bytes};
+ghost use Rattle.check_answers.specs.Objects.{accepted_object, compiled_object, judged_object, longest_object};
+ghost use Rattle.check_answers.specs.Objects.{same_object};
+
+use crate::compared::Difference;
+use crate::judging::Judged;
+use action::Verdict;
+use bpf_compare::Scope;
+use std::alloc::{AllocError, Global};
+use std::fmt;
+
+/// The object of a sound filter of so many instructions.
+pub fn accepted_object(alloc: Global, count: usize) -> Result<String, AllocError>
+    ensures { IfOk result (λ text. string_bytes text ≡ accepted_object count) }
+{
+    format!(in alloc; "{{\"answer\":\"accepted\",\"instructions\":{count}}}\n")
+}
+
+/// The object of a filter that was compiled, of so many instructions.
+pub fn compiled_object(alloc: Global, count: usize) -> Result<String, AllocError>
+    ensures { IfOk result (λ text. string_bytes text ≡ compiled_object count) }
+{
+    format!(in alloc; "{{\"answer\":\"compiled\",\"instructions\":{count}}}\n")
+}
+
+/// The object of a filter whose runs take so many steps at most.
+pub fn longest_object(alloc: Global, most: u32) -> Result<String, AllocError>
+    ensures { IfOk result (λ text. string_bytes text ≡ longest_object most) }
+{
+    format!(in alloc; "{{\"longest\":{most}}}\n")
+}
+
+/// The object of what a filter says.
+pub fn judged_object(alloc: Global, judged: &Judged) -> Result<String, AllocError>
+    ensures { IfOk result (λ text. string_bytes text ≡ judged_object judged.now) }
+{
+    let (value, steps) = (judged.value, judged.steps);
+    let (action, ret_data) = (judged.verdict.action, judged.verdict.ret_data);
+    format!(in alloc;
+        "{{\"value\":{value},\"action\":\"{action}\",\"data\":{ret_data},\"steps\":{steps}}}\n"
+    )
+}
+
+/// The object of filters that are the same on the calls that were asked about.
+pub fn same_object(alloc: Global, scope: Scope) -> Result<String, AllocError>
+    ensures { IfOk result (λ text. string_bytes text ≡ same_object scope) }
+{
+    let calls = match scope {
+        Scope::EveryCall => "every",
+        Scope::NativeCalls => "native",
+    };
+    format!(in alloc; "{{\"answer\":\"same\",\"calls\":\"{calls}\"}}\n")
+}
+
+/// A value that a filter returns: `{"value":2147418112,"action":"ALLOW","data":0}`.
+#[derive(Clone, Copy)]
+struct ValueObject(u32);
+
+impl fmt::Display for ValueObject {
+    ghost use Rattle.std.specs.Prelude.{Some};
+    ghost use Rattle.check_answers.specs.Objects.{value_object};
+
+    ghost output = { λ value. Some (value_object value.0) };
+
+    fn fmt<W: fmt::Write>(&self, f: &mut fmt::Formatter<W>) -> fmt::Result {
+        let value = self.0;
+        let verdict = Verdict::of_value(value);
+        let (action, ret_data) = (verdict.action, verdict.ret_data);
+        write!(
+            f,
+            "{{\"value\":{value},\"action\":\"{action}\",\"data\":{ret_data}}}"
+        )
+    }
+}
+
+/// The call on which two filters return different values, and these, with the end of the line.
+#[derive(Clone, Copy)]
+pub struct DifferenceObject(pub Difference);
+
+impl fmt::Display for DifferenceObject {
+    ghost use Rattle.std.specs.Prelude.{Some};
+    ghost use Rattle.check_answers.specs.Objects.{difference_object};
+
+    ghost output = { λ difference. Some (difference_object difference.0) };
+
+    fn fmt<W: fmt::Write>(&self, f: &mut fmt::Formatter<W>) -> fmt::Result {
+        let (nr, args) = (self.0.call.nr, self.0.call.args);
+        let (arch, ip) = (self.0.call.arch, self.0.call.ip);
+        let (first, second) = (ValueObject(self.0.first), ValueObject(self.0.second));
+        writeln!(
+            f,
+            "{{\"answer\":\"differ\",\"call\":{nr},\"args\":[{},{},{},{},{},{}],\
+             \"arch\":{arch},\"ip\":{ip},\"first\":{first},\"second\":{second}}}",
+            args[0], args[1], args[2], args[3], args[4], args[5]
+        )
+    }
+}

@@ -1,0 +1,142 @@
+ghost use Rattle.std.specs.Prelude.{◌≡◌, ◌+◌, ◌<◌, ◌≤◌, IfOk, length, string_bytes};
+ghost use Rattle.bpf_code.specs.declared.limits.TheConstants.{MAX_INSNS};
+ghost use Rattle.bpf_code.specs.Flow.{flow_of};
+ghost use Rattle.check_answers.specs.ArrowText.{arrow_of};
+ghost use Rattle.check_answers.specs.ListObjects.{commented_object};
+ghost use Rattle.check_answers.specs.PartObjects.{shown_object};
+ghost use Rattle.check_answers.specs.ShownText.{shown_text};
+ghost use Rattle.check_answers.specs.Texts.{code_text, commented_text};
+
+use bpf_code::{Flow, Insn};
+use std::alloc::{AllocError, Global};
+use std::fmt;
+
+/// Where an instruction may go.
+#[derive(Clone, Copy)]
+pub(crate) enum Arrow {
+    /// To this place.
+    To(u64),
+    /// To the one place where the test holds, to the other where it fails.
+    Either(u64, u64),
+    /// Nowhere, or to the next place.
+    Nothing,
+}
+
+impl fmt::Display for Arrow {
+    ghost use Rattle.std.specs.Prelude.{Some};
+    ghost use Rattle.check_answers.specs.ArrowText.{arrow_text};
+
+    ghost output = { λ arrow. Some (arrow_text arrow) };
+
+    fn fmt<W: fmt::Write>(&self, f: &mut fmt::Formatter<W>) -> fmt::Result {
+        match self {
+            Arrow::To(place) => write!(f, " -> {place}"),
+            Arrow::Either(holds, fails) => write!(f, " -> {holds}, {fails}"),
+            Arrow::Nothing => Ok(()),
+        }
+    }
+}
+
+/// The name of a call that an instruction asks about, behind it.
+#[derive(Clone, Copy)]
+pub(crate) struct Comment {
+    pub(crate) is_number_test: bool,
+    pub(crate) nr: u32,
+}
+
+impl fmt::Display for Comment {
+    ghost use Rattle.std.specs.Prelude.{Some};
+    ghost use Rattle.check_answers.specs.Texts.{comment_text};
+
+    ghost output = { λ comment. Some (comment_text comment.is_number_test comment.nr) };
+
+    fn fmt<W: fmt::Write>(&self, f: &mut fmt::Formatter<W>) -> fmt::Result {
+        if !self.is_number_test {
+            return Ok(());
+        }
+        match sys_table::name(self.nr) {
+            Some(name) => write!(f, " ; {name}"),
+            None => Ok(()),
+        }
+    }
+}
+
+/// An instruction as it is shown, with its place in front, and where it may go and a call's name behind it.
+#[derive(Clone, Copy)]
+pub(crate) struct Shown {
+    pub(crate) place: usize,
+    pub(crate) insn: Insn,
+    pub(crate) arrow: Arrow,
+    pub(crate) comment: Comment,
+}
+
+impl fmt::Display for Shown {
+    ghost use Rattle.std.specs.Prelude.{Some};
+    ghost use Rattle.check_answers.specs.ShownText.{shown_text};
+
+    ghost output = { λ shown. Some (shown_text shown) };
+
+    fn fmt<W: fmt::Write>(&self, f: &mut fmt::Formatter<W>) -> fmt::Result {
+        let (place, insn) = (self.place, self.insn);
+        let (arrow, comment) = (self.arrow, self.comment);
+        write!(f, "{place}: {insn}{arrow}{comment}")
+    }
+}
+
+/// One line an instruction: its place, its text, behind a jump the places that it may go to, and behind a
+/// comparison of the call's number, which these tell, the name that it has.
+pub fn code_lines(
+    alloc: Global,
+    code: &[Insn],
+    number_tests: &[bool],
+) -> Result<String, AllocError>
+    requires short { length code.now ≤ MAX_INSNS }
+    requires as_many { length number_tests.now ≡ length code.now }
+    ensures { IfOk result (λ text. string_bytes text ≡ code_text number_tests.now code.now) }
+{
+    let mut text = String::new(alloc);
+    for (place, insn) in code.iter().enumerate() {
+        let line = shown_at(place, *insn, number_tests[place]);
+        writeln!(text, "{line}")?;
+    }
+    Ok(text)
+}
+
+pub(crate) fn shown_at(place: usize, insn: Insn, is_number_test: bool) -> Shown
+    requires { place < MAX_INSNS }
+    ensures text { shown_text result ≡ commented_text is_number_test place insn }
+    ensures object { shown_object result ≡ commented_object is_number_test place insn }
+{
+    Shown {
+        place,
+        insn,
+        arrow: ways_on(place, &insn),
+        comment: Comment {
+            is_number_test,
+            nr: insn.k,
+        },
+    }
+}
+
+/// Where the instruction at this place may go.
+fn ways_on(place: usize, insn: &Insn) -> Arrow
+    requires { place < MAX_INSNS }
+    ensures { result ≡ arrow_of (flow_of insn.now.op) place insn.now }
+{
+    match insn.op.flow() {
+        Flow::Branches => Arrow::Either(
+            target(place, u32::from(insn.jt)),
+            target(place, u32::from(insn.jf)),
+        ),
+        Flow::Jumps => Arrow::To(target(place, insn.k)),
+        Flow::Returns | Flow::Continues => Arrow::Nothing,
+    }
+}
+
+/// The place to which a jump goes that skips so many instructions.
+fn target(place: usize, skipped: u32) -> u64
+    requires { place < MAX_INSNS }
+    ensures { result ≡ place + 1 + skipped }
+{
+    place as u64 + 1 + u64::from(skipped)
+}
