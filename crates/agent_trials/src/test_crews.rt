@@ -7,7 +7,7 @@ use agent::table;
 use cri_msgs::Version;
 use manifest::{Pod, PodFault};
 use node_io::{MemoryFiles, StoredFile};
-use node_lock::{Book, MAX_ENTRIES, PARTS, Tally, audit};
+use node_lock::{Book, Entry, MAX_ENTRIES, PARTS, Tally, audit};
 use runtime_server::start_runners;
 use std::alloc::{AllocError, Global};
 use std::sync::Wait;
@@ -117,6 +117,15 @@ pub(crate) fn runtime(
     Ok(runtime)
 }
 
+// The settings of an agent that speaks this version.
+fn settings(version: Version) -> Settings {
+    Settings {
+        seccomp_default: false,
+        poll: 0,
+        version,
+    }
+}
+
 /// A shared book of so many entries at most, with these pods, of an agent that speaks this version, and
 /// worker 0's coordinator.
 pub(crate) fn begun<L: Ledger, R: Wait>(
@@ -133,12 +142,7 @@ pub(crate) fn begun<L: Ledger, R: Wait>(
     requires limit { limit ≤ MAX_ENTRIES }
     ensures { IfOk result (λ begun. begun.1.parts ≡ PARTS) }
 {
-    let settings = Settings {
-        seccomp_default: false,
-        poll: 0,
-        version,
-    };
-    let (book, share) = Book::<L>::with_limit(alloc, settings, limit, blank);
+    let (book, share) = Book::<L>::with_limit(alloc, settings(version), limit, blank);
     let shared = Shared::new(alloc, book, Observed::Nothing);
     let mut coordinator = Coordinator::new(alloc, share);
     for line in pods.lines() {
@@ -232,25 +236,46 @@ pub(crate) struct Left {
     /// How the crew ended, whether there is a receipt for each entry and each stands where it says, and the
     /// pods' table.
     pub(crate) text: String,
-    /// At which moments the runs of the first pod's first container were recorded.
+    /// At which moments the runs of the first pod's first container were recorded, where there are few pods.
     pub(crate) recorded: Vec<u64>,
 }
 
-fn recorded_first(alloc: Global, node: &Node) -> Result<Vec<u64>, AllocError> {
+// The moment at which this run of the first pod's first container was recorded, if it is the last one.
+fn recorded_at(node: &Node, run: usize) -> Option<u64> {
+    let track = node.pod(0)?.tracks.first()?;
+    if track.runs.count() == run {
+        Some(track.runs.last()?.recorded())
+    } else {
+        None
+    }
+}
+
+// At which moments its runs were recorded, by a node that takes the events of the history once more, and
+// answers them as they were answered.
+fn recorded_first(alloc: Global, settings: Settings, history: &[Entry]) -> Result<Vec<u64>, Fail> {
+    let mut node = Node::new(alloc, settings);
     let mut recorded = Vec::new(alloc);
-    if let Some(track) = node.pod(0).and_then(|pod| pod.tracks.first()) {
-        for run in track.runs.as_slice().iter() {
-            recorded.push(run.recorded())?;
+    for entry in history {
+        if !node
+            .apply(entry.event.try_clone(alloc)?)
+            .same(&entry.answer)
+        {
+            return Err("an event is answered otherwise")?;
+        }
+        if let Some(moment) = recorded_at(&node, recorded.len() + 1) {
+            recorded.push(moment)?;
         }
     }
     Ok(recorded)
 }
 
+// What is left of a history that one part holds, with the runs where settings are given.
 fn left_of<L: Ledger>(
     alloc: Global,
     shared: Shared<L>,
     ended: Ended,
     tally: Option<Tally<L>>,
+    replayed: Option<Settings>,
 ) -> Result<Left, Fail> {
     let mut tally = tally.ok_or("a tally")?;
     let mut book = shared.into_book();
@@ -265,9 +290,13 @@ fn left_of<L: Ledger>(
         Ended::HistoryFull => "full",
         Ended::Endless => "endless",
     };
+    let recorded = match replayed {
+        Some(settings) => recorded_first(alloc, settings, book.history())?,
+        None => Vec::new(alloc),
+    };
     Ok(Left {
         text: format!(in alloc; "{ended}, {}\n{}", whole && stand, table.as_str())?,
-        recorded: recorded_first(alloc, book.node())?,
+        recorded,
     })
 }
 
@@ -401,7 +430,7 @@ pub(crate) fn entries_at_call<L: Ledger + Send + Sync, R: Threads + Wait + Clock
     let held = gate.entries.load(Ordering::SeqCst);
     let all = shared.entries(rt);
     drop(gate);
-    let text = left_of(alloc, shared, ended, tally)?.text;
+    let text = left_of(alloc, shared, ended, tally, None)?.text;
     Ok(Entries { held, all, text })
 }
 
@@ -483,7 +512,11 @@ pub(crate) fn settled<L: Ledger + Send + Sync, R: Threads + Wait + Clock + Sync>
         &gate,
         COUNTED,
     );
-    let left = left_of(alloc, shared, ended, tally)?;
+    let replayed = match trial.pods {
+        Pods::Few => Some(settings(trial.version)),
+        Pods::One | Pods::Many(_) => None,
+    };
+    let left = left_of(alloc, shared, ended, tally, replayed)?;
     if trial.holds && !gate.has_passed() {
         return Err("the first call was not held up")?;
     }

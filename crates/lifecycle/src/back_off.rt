@@ -1,7 +1,7 @@
 ghost use Rattle.std.specs.Prelude.{◌≡◌, ◌-◌, ◌<◌, ◌≤◌, ◌^◌, length};
 ghost use Rattle.lifecycle.specs.BackOff.{later, next_row, ready_at, row_of, wait_of};
 
-use crate::runs::PastRun;
+use crate::past_run::PastRun;
 
 // A run of so many seconds or more begins the back-off anew.
 const LONG_RUN: u64 = 600;
@@ -15,9 +15,8 @@ pub(crate) fn next_row(row: usize, run: &PastRun) -> usize
 }
 
 // How many of the runs count: those from the latest long one on.
-pub(crate) fn row(runs: &[PastRun]) -> usize
-    ensures value { result ≡ row_of runs.now }
-    ensures few { result ≤ length runs.now }
+fn row(runs: &[PastRun]) -> usize
+    ensures { result ≡ row_of runs.now }
 {
     let mut row = 0;
     for run in runs {

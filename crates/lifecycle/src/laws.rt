@@ -1,8 +1,9 @@
-ghost use Rattle.std.specs.Prelude.{◌≡◌, ◌<◌, ◌≤◌, ◌+◌, ◌++◌, ◌∷◌, List, Bool, true, false, length};
+ghost use Rattle.std.specs.Prelude.{◌≡◌, ◌<◌, ◌≤◌, ◌+◌, ◌^◌, ◌++◌, ◌∷◌, List, Bool, true, false, length};
 ghost use Rattle.std.specs.List.{All};
 ghost use Rattle.lifecycle.specs.declared.policy.RestartPolicy.{RestartPolicy};
 ghost use Rattle.lifecycle.specs.declared.track.Track.{Track};
 ghost use Rattle.lifecycle.specs.declared.phases.Phase.{Phase};
+ghost use Rattle.lifecycle.specs.declared.runs.TheConstants.{MAX_RUNS};
 ghost use Rattle.lifecycle.specs.BackOff.{Run, lasted, row_of};
 ghost use Rattle.lifecycle.specs.Phases.{has_failed_init, phase_of};
 ghost use Rattle.lifecycle.specs.Restart.{may_restart};
@@ -26,4 +27,10 @@ pub fn init_containers_alone_succeed()
     ensures { (policy : RestartPolicy) (lost : Bool) (tracks : List Track)
         → All (λ track. track.init ≡ true) tracks
         → has_failed_init policy tracks ≡ false → phase_of policy lost tracks ≡ Phase.Succeeded }
+{}
+
+/// What the constants of this crate are.
+pub fn constants_are_as_stated()
+    // that many, and one more that is going on, are below 2 ^ 64
+    ensures { MAX_RUNS + 2 ≡ 2 ^ 64 }
 {}

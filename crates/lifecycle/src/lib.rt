@@ -6,7 +6,9 @@
 #![tactic(auto)]
 
 mod back_off;
+mod history;
 mod laws;
+mod past_run;
 mod phases;
 mod policy;
 mod rules;
@@ -16,12 +18,13 @@ mod track;
 
 pub use back_off::ready_at;
 pub use laws::{
-    back_off_counts_from_the_last_long_run, finished_init_stays_finished,
+    back_off_counts_from_the_last_long_run, constants_are_as_stated, finished_init_stays_finished,
     init_containers_alone_succeed,
 };
+pub use past_run::PastRun;
 pub use phases::Phase;
 pub use policy::{RestartPolicy, may_restart};
 pub use rules::phase;
-pub use runs::{PastRun, Runs};
+pub use runs::{MAX_RUNS, Runs};
 pub use state::ContainerState;
 pub use track::{Stage, Track};

@@ -1,140 +1,114 @@
-ghost use Rattle.std.specs.Prelude.{◌≡◌, ◌≤◌, ◌<◌, ◌++◌, [], ◌∷◌, length, OnOk, OnErr};
-ghost use Rattle.lifecycle.specs.BackOff.{Run, lasted, ready_at};
+ghost use Rattle.std.specs.Prelude.{◌≡◌, ◌↔◌, ◌<◌, ◌≤◌, ◌+◌, ◌++◌, [], ◌∷◌, length, nat_le};
+ghost use Rattle.std.specs.Prelude.{IsOk, OnErr, OnOk, Some};
+ghost use Rattle.std.specs.Option.{option_copied};
+ghost use Rattle.lifecycle.specs.BackOff.{last_of, next_row, ready_at, row_of};
+ghost use Rattle.lifecycle.specs.declared.runs.TheConstants.{MAX_RUNS};
 
-use crate::back_off::{next_row, ready_behind, row};
-use std::alloc::{AllocError, Global};
+use crate::back_off::{next_row, ready_behind};
+use crate::history::History;
+use crate::past_run::PastRun;
+use std::alloc::AllocError;
 use std::marker::Model;
 
-/// A run of a container that ended: when its start was answered, the code with which it ended, and when
-/// that exit was recorded. It was not recorded before it was started.
-#[derive(Drop)]
-pub struct PastRun {
-    started: u64,
-    code: u8,
-    recorded: u64,
-}
+/// So many runs of a container can be counted, and one more that is going on. No container comes near it.
+pub const MAX_RUNS: usize = usize::MAX - 1;
 
-impl Model for PastRun {
-    ghost use Rattle.std.specs.Prelude.{◌≤◌};
-    ghost use Rattle.lifecycle.specs.BackOff.{Run};
-
-    ghost Value = { Run };
-
-    ghost view = { λ r. record { started = r.started; code = r.code; recorded = r.recorded } };
-
-    ghost invariant = { λ r. r.started ≤ r.recorded };
-}
-
-impl PastRun {
-    /// The run from `started` to `recorded`, both in seconds.
-    pub fn new(started: u64, code: u8, recorded: u64) -> PastRun
-        requires { started ≤ recorded }
-        ensures { result ≡ record { started = started; code = code; recorded = recorded } }
-    {
-        PastRun {
-            started,
-            code,
-            recorded,
-        }
-    }
-
-    /// The moment at which its start was answered.
-    pub fn started(&self) -> u64
-        ensures value { result ≡ self.now.started }
-        ensures ordered { result ≤ self.now.recorded }
-    {
-        self.started
-    }
-
-    /// The code with which it ended.
-    pub fn code(&self) -> u8
-        ensures { result ≡ self.now.code }
-    {
-        self.code
-    }
-
-    /// The moment at which its exit was recorded.
-    pub fn recorded(&self) -> u64
-        ensures { result ≡ self.now.recorded }
-    {
-        self.recorded
-    }
-
-    /// How many seconds it lasted.
-    pub fn lasted(&self) -> u64
-        ensures { result ≡ lasted self.now }
-    {
-        self.recorded - self.started
-    }
-}
-
-/// The runs of a container that ended, the oldest first, with how many of them the back-off counts.
+/// The runs of a container that ended, the oldest first. However many they are, they take no memory: what is
+/// kept is how many there are, the last one, and how many of them the back-off counts.
 #[derive(Drop)]
 pub struct Runs {
-    runs: Vec<PastRun>,
+    count: usize,
     row: usize,
+    last: Option<PastRun>,
+    all: History,
 }
 
 impl Model for Runs {
     ghost use Rattle.std.specs.Prelude.{◌≡◌, ◌≤◌, List, length};
-    ghost use Rattle.lifecycle.specs.BackOff.{Run, row_of};
+    ghost use Rattle.lifecycle.specs.BackOff.{Run, last_of, row_of};
+    ghost use Rattle.lifecycle.specs.declared.runs.TheConstants.{MAX_RUNS};
 
     ghost Value = { List Run };
 
-    ghost view = { λ r. r.runs.items };
+    ghost view = { λ r. r.all.runs };
 
-    ghost invariant = { λ r. (r.row ≡ row_of r.runs.items) × (r.row ≤ length r.runs.items) };
+    ghost invariant = { λ r. (r.count ≡ length r.all.runs) × (r.count ≤ MAX_RUNS)
+        × (r.row ≡ row_of r.all.runs) × (r.row ≤ r.count) × (r.last ≡ last_of r.all.runs) };
+}
+
+// These runs and one more, with what is kept of them.
+fn one_more(earlier: &History, run: &PastRun) -> History
+    ensures all { result.runs ≡ earlier.now.runs ++ run.now ∷ [] }
+    ensures last { last_of result.runs ≡ Some run.now }
+    ensures row { row_of result.runs ≡ next_row (row_of earlier.now.runs) run.now }
+    ensures longer { length result.runs ≡ length earlier.now.runs + 1 }
+{
+    earlier.and(run)
 }
 
 impl Runs {
     /// None yet.
-    pub fn new(alloc: Global) -> Runs
+    pub fn new() -> Runs
         ensures { result ≡ [] }
     {
         Runs {
-            runs: Vec::new(alloc),
+            count: 0,
             row: 0,
+            last: None,
+            all: History::none(),
         }
     }
 
-    /// Those of a list, which has the oldest first.
-    pub fn of(runs: Vec<PastRun>) -> Runs
-        ensures { result ≡ runs.items }
-    {
-        let row = row(&runs);
-        Runs { runs, row }
-    }
-
-    /// Adds the latest run. Where there is no memory for it, it is dropped and the rest is as it was.
+    /// Adds the latest run. That takes no memory; it is refused as if it did where there are [`MAX_RUNS`],
+    /// and then the run is dropped and the rest is as it was.
     pub fn push(&mut self, run: PastRun) -> Result<(), AllocError>
         ensures ok { OnOk result (self.new ≡ self.old ++ run ∷ []) }
         ensures err { OnErr result (self.new ≡ self.old) }
+        ensures room { IsOk result ↔ length self.old < MAX_RUNS }
     {
+        if self.is_full() {
+            return Err(AllocError);
+        }
+        let all = one_more(&self.all, &run);
         let row = next_row(self.row, &run);
-        self.runs.push(run)?;
-        self.row = row;
+        *self = Runs {
+            count: self.count + 1,
+            row,
+            last: Some(run),
+            all,
+        };
         Ok(())
     }
 
-    /// The runs, the oldest first.
-    pub fn as_slice(&self) -> &[PastRun]
-        ensures { result.now ≡ self.now }
+    /// How many there are.
+    pub fn count(&self) -> usize
+        ensures value { result ≡ length self.now }
+        ensures few { result ≤ MAX_RUNS }
     {
-        self.runs.as_slice()
+        self.count
     }
 
-    /// What [`ready_at`](crate::ready_at) says of them, which takes as long however many they are.
+    /// Whether there are [`MAX_RUNS`], so that no other can be added.
+    pub fn is_full(&self) -> bool
+        ensures { result ≡ nat_le MAX_RUNS (length self.now) }
+    {
+        MAX_RUNS <= self.count
+    }
+
+    /// The latest run.
+    pub fn last(&self) -> Option<&PastRun>
+        ensures { option_copied result ≡ last_of self.now }
+    {
+        self.last.as_ref()
+    }
+
+    /// What [`ready_at`](crate::ready_at) says of them, and 0 where there are none.
     pub fn ready_at(&self) -> u64
-        requires { 0 < length self.now }
         ensures { result ≡ ready_at self.now }
     {
-        ready_behind(&self.runs[self.runs.len() - 1], self.row)
-    }
-
-    /// The list itself.
-    pub fn into_vec(self) -> Vec<PastRun>
-        ensures { result.items ≡ self }
-    {
-        self.runs
+        match self.last() {
+            None => 0,
+            Some(last) => ready_behind(last, self.row),
+        }
     }
 }

@@ -50,7 +50,7 @@ impl Track {
     {
         match self.stage {
             Stage::Running { .. } => None,
-            _ => self.runs.as_slice().last().map(|run| run.code()),
+            _ => self.runs.last().map(|run| run.code()),
         }
     }
 
@@ -59,8 +59,8 @@ impl Track {
         ensures { result ≡ started_of self.now }
     {
         match self.stage {
-            Stage::Running { .. } => self.runs.as_slice().len() + 1,
-            _ => self.runs.as_slice().len(),
+            Stage::Running { .. } => self.runs.count() + 1,
+            _ => self.runs.count(),
         }
     }
 

@@ -13,6 +13,7 @@ mod profile_uses;
 mod profiles;
 mod replies;
 mod requests;
+mod runs;
 mod scripts;
 mod serving;
 mod stacks;
@@ -73,9 +74,12 @@ fn of_texts(rt: &HostRuntime, name: &str) -> Option<Told> {
     of_agents(rt, name)
 }
 
-/// The same of a call of what an agent tells of its pods, and of what brings them.
+/// The same of a call of what an agent tells of its pods, of their past runs, and of what brings them.
 fn of_agents(rt: &HostRuntime, name: &str) -> Option<Told> {
     if let Some(told) = watching::told(rt, name) {
+        return Some(told);
+    }
+    if let Some(told) = runs::told(rt, name) {
         return Some(told);
     }
     folders::told(rt, name)

@@ -1,7 +1,8 @@
 //! A node that takes events.
+use crate::runs::{same_run, same_runs};
 use crate::trial::{Came, Told, Trial, tried};
 use cri_msgs::{Reply, Version};
-use lifecycle::{Phase, RestartPolicy, Track, may_restart, phase, ready_at};
+use lifecycle::{PastRun, Phase, RestartPolicy, Track, may_restart, phase, ready_at};
 use manifest::{Pod, Uid};
 use profile_pick::{Choice, pick};
 use std::alloc::Global;
@@ -84,7 +85,8 @@ pub(crate) fn begun(alloc: Global) -> Option<Node> {
 }
 
 fn same_track(a: &Track, b: &Track) -> bool {
-    a.init == b.init && a.stage == b.stage && a.worked == b.worked && a.started() == b.started()
+    let same_stage = a.init == b.init && a.stage == b.stage && a.worked == b.worked;
+    same_stage && a.started() == b.started() && same_runs(&a.runs, &b.runs)
 }
 
 fn same_view(a: PodView<'_>, b: PodView<'_>) -> bool {
@@ -250,11 +252,15 @@ impl Shows {
 
 /// Whether a container ended at moment 0, and is not started again.
 fn has_ended(track: &Track, policy: RestartPolicy) -> bool {
-    let runs = track.runs.as_slice();
-    if runs.is_empty() {
+    let wanted = PastRun::new(0, 3, 0);
+    let Some(run) = track.runs.last() else {
         return false;
-    }
-    ready_at(runs) == 10 && !may_restart(policy, track.init, 3)
+    };
+    same_run(run, &wanted)
+        && track.runs.count() == 1
+        && track.runs.ready_at() == 10
+        && ready_at(&[wanted]) == 10
+        && !may_restart(policy, track.init, 3)
 }
 
 /// Whether this is a pod that failed, and whose container is not confined.

@@ -15,6 +15,21 @@ fn runs_of(rt: &impl AllocGlobal, rows: &[(u64, u8, u64)]) -> Result<Vec<PastRun
     Ok(runs)
 }
 
+// The same, of which the last is kept.
+fn kept_of(rows: &[(u64, u8, u64)]) -> Result<Runs, AllocError> {
+    let mut runs = Runs::new();
+    for &(started, code, recorded) in rows {
+        if started <= recorded {
+            runs.push(PastRun::new(started, code, recorded))?;
+        }
+    }
+    Ok(runs)
+}
+
+fn told_of(run: &PastRun) -> (u64, u8, u64) {
+    (run.started(), run.code(), run.recorded())
+}
+
 #[test]
 fn back_off(rt: HostRuntime) -> Result<(), Fail> {
     let end = 18_446_744_073_709_551_610;
@@ -34,7 +49,16 @@ fn back_off(rt: HostRuntime) -> Result<(), Fail> {
             assert_eq!(rt; ready_at(&runs), want);
         }
         assert_eq!(rt; runs.len(), rows.len());
+        let kept = kept_of(rows)?;
+        assert_eq!(rt; kept.ready_at(), want);
+        assert_eq!(rt; kept.count(), rows.len());
+        assert_eq!(rt; kept.last().map(told_of), rows.last().copied());
     }
+    let none = Runs::new();
+    assert_eq!(rt; none.ready_at(), 0);
+    assert_eq!(rt; none.count(), 0);
+    assert!(rt; none.last().is_none());
+    assert!(rt; !none.is_full());
     Ok(())
 }
 
@@ -68,8 +92,8 @@ enum Came {
     To(u8),
 }
 
-fn track_of(rt: &impl AllocGlobal, init: bool, came: Came) -> Result<Track, AllocError> {
-    let mut runs = Runs::new(rt.alloc());
+fn track_of(init: bool, came: Came) -> Result<Track, AllocError> {
+    let mut runs = Runs::new();
     let stage = match came {
         Came::Nowhere => Stage::Made { attempt: 0 },
         Came::Going => Stage::Running {
@@ -90,14 +114,9 @@ fn track_of(rt: &impl AllocGlobal, init: bool, came: Came) -> Result<Track, Allo
     })
 }
 
-fn add_tracks(
-    rt: &impl AllocGlobal,
-    tracks: &mut Vec<Track>,
-    init: bool,
-    came: &[Came],
-) -> Result<(), AllocError> {
+fn add_tracks(tracks: &mut Vec<Track>, init: bool, came: &[Came]) -> Result<(), AllocError> {
     for came in came {
-        tracks.push(track_of(rt, init, *came)?)?;
+        tracks.push(track_of(init, *came)?)?;
     }
     Ok(())
 }
@@ -213,8 +232,8 @@ fn phases(rt: HostRuntime) -> Result<(), Fail> {
     ];
     for (inits, others, policy, lost, want) in cases {
         let mut tracks = Vec::new(rt.alloc());
-        add_tracks(&rt, &mut tracks, true, inits)?;
-        add_tracks(&rt, &mut tracks, false, others)?;
+        add_tracks(&mut tracks, true, inits)?;
+        add_tracks(&mut tracks, false, others)?;
         let now: Phase = phase(&tracks, policy, lost);
         let states = states_of(&rt, &tracks, policy)?;
         let text = format!(in rt.alloc(); "{now} {states}")?;

@@ -204,7 +204,7 @@ pub(crate) fn claimed_at(slots: &mut Vec<Slot>, place: usize, held: Held)
     }
 }
 
-// The claim of the pod ends. Only the records of exits take memory.
+// The claim of the pod ends. Only the record of an exit can be refused.
 fn ended(slot: &mut Slot, now: u64, outcome: Outcome) -> Result<(), AllocError>
     requires { slot.old.state.latest ≤ now }
     ensures ok { OnOk result (slot.new ≡ ended now outcome slot.old) }

@@ -221,8 +221,8 @@ impl PodState {
         call_by(self.alloc, &self.pod, self.settings, chosen)
     }
 
-    /// The claim of this request ends at this moment, in seconds. Where there is no memory to record all
-    /// exits that were told, nothing changes.
+    /// The claim of this request ends at this moment, in seconds. No memory is taken. Where a container has
+    /// [`MAX_RUNS`](lifecycle::MAX_RUNS) past runs, and an exit of it was told, nothing changes.
     #[tactic(auto, using(crate::proofs::Silent::given_up, crate::proofs::Fresh::all_later))]
     pub fn ended(&mut self, now: u64, request: &Request, outcome: Outcome) -> Result<(), AllocError>
         requires { self.old.latest ≤ now }
@@ -232,12 +232,11 @@ impl PodState {
             (record { moment = now; request = request.now; outcome = outcome }))) }
         ensures err { OnErr result (self.new ≡ self.old) }
 
-        // Only the records of exits take memory.
+        // Only a record of an exit can be refused.
         ensures free { OnErr result (records_exit now request.now outcome self.old ≡ true) }
         ensures abandoned { outcome ≡ Outcome.Abandoned → IsOk result }
     {
         tracks_ended(
-            self.alloc,
             self.pod.containers.as_slice(),
             self.tracks.as_mut_slice(),
             now,

@@ -1,5 +1,6 @@
 ghost use Rattle.std.specs.Prelude.{◌≡◌, ◌<◌, ◌≤◌, ◌++◌, ◌∷◌, [], IfOk, OnOk, OnErr, true, length, map};
-ghost use Rattle.std.specs.Prelude.{option_map, vec_len, vec_capacity};
+ghost use Rattle.std.specs.Prelude.{option_map};
+ghost use Rattle.lifecycle.specs.declared.runs.TheConstants.{MAX_RUNS};
 ghost use Rattle.std.specs.Option.{option_copied};
 ghost use Rattle.worker_pod.specs.Past.{fresh_tracks};
 ghost use Rattle.worker_pod.specs.Tracks.{AllStartedBy, StartedBy, fresh, named_in, number_after, records_in};
@@ -9,19 +10,18 @@ ghost use Rattle.worker_pod.specs.Tracks.{worked_in};
 use crate::news::{News, told_of};
 use crate::settings::Outcome;
 use cri_msgs::{Call, Key, Request};
-use lifecycle::{PastRun, Runs, Stage, Track};
+use lifecycle::{MAX_RUNS, PastRun, Runs, Stage, Track};
 use manifest::{Container, Containers, Label};
 use std::alloc::{AllocError, Global};
-use std::mem;
 
 // A container that nothing was told of.
-fn fresh(alloc: Global, init: bool) -> Track
+fn fresh(init: bool) -> Track
     ensures { result ≡ fresh init }
 {
     Track {
         init,
         stage: Stage::Absent,
-        runs: Runs::new(alloc),
+        runs: Runs::new(),
         worked: 0,
     }
 }
@@ -31,9 +31,7 @@ pub(crate) fn fresh_tracks(alloc: Global, containers: &Containers) -> Result<Vec
 {
     let inits = containers.inits();
     let count = containers.as_slice().len();
-    (0..count)
-        .map(|place| fresh(alloc, place < inits))
-        .collect(alloc)
+    (0..count).map(|place| fresh(place < inits)).collect(alloc)
 }
 
 // What was told of the attempt `of` moves the container on only where it is the current one.
@@ -157,9 +155,9 @@ fn moved(track: &mut Track, name: &Label, now: u64, request: &Request, outcome: 
     }
 }
 
-fn put(runs: &mut Vec<PastRun>, run: PastRun)
-    requires { vec_len runs.old < vec_capacity runs.old }
-    ensures { runs.new.items ≡ runs.old.items ++ run ∷ [] }
+fn put(runs: &mut Runs, run: PastRun)
+    requires { length runs.old < MAX_RUNS }
+    ensures { runs.new ≡ runs.old ++ run ∷ [] }
 {
     let pushed = runs.push(run);
     let held = pushed.is_ok();
@@ -167,11 +165,10 @@ fn put(runs: &mut Vec<PastRun>, run: PastRun)
     drop(pushed);
 }
 
-// What the end of the request's claim makes of the containers. Only the records of exits take memory: there
-// is room for all of them before anything changes.
+// What the end of the request's claim makes of the containers. Only a record of an exit can be refused, where
+// no further run can be counted: that is asked of all containers before anything changes.
 #[tactic(auto, unfolding(crate::specs::Tracks::AllStartedBy))]
 pub(crate) fn tracks_ended(
-    alloc: Global,
     containers: &[Container],
     tracks: &mut [Track],
     now: u64,
@@ -191,20 +188,13 @@ pub(crate) fn tracks_ended(
     let Some((track, tracks)) = tracks.split_first_mut() else {
         return Ok(());
     };
-    match run_after(&container.name, track.stage, now, request, outcome) {
-        Some(run) => {
-            let mut runs = mem::replace(&mut track.runs, Runs::new(alloc)).into_vec();
-            let others = match runs.reserve(1) {
-                Ok(()) => tracks_ended(alloc, containers, tracks, now, request, outcome),
-                Err(refused) => Err(refused),
-            };
-            if others.is_ok() {
-                put(&mut runs, run);
-            }
-            track.runs = Runs::of(runs);
-            others?;
-        }
-        None => tracks_ended(alloc, containers, tracks, now, request, outcome)?,
+    let run = run_after(&container.name, track.stage, now, request, outcome);
+    if run.is_some() && track.runs.is_full() {
+        return Err(AllocError);
+    }
+    tracks_ended(containers, tracks, now, request, outcome)?;
+    if let Some(run) = run {
+        put(&mut track.runs, run);
     }
     moved(track, &container.name, now, request, outcome);
     Ok(())

@@ -44,7 +44,7 @@ fn again(policy: RestartPolicy, track: &Track, attempt: u32) -> Option<u64>
     ensures value { result ≡ again policy track.now attempt }
     ensures more { IfSome result (λ _. attempt < LAST_ATTEMPT) }
 {
-    let code = track.runs.as_slice().last()?.code();
+    let code = track.runs.last()?.code();
     if may_restart(policy, track.init, code) && attempt < LAST_ATTEMPT {
         Some(track.runs.ready_at())
     } else {

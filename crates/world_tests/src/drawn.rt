@@ -216,7 +216,7 @@ impl Drawn {
                 Ok(self.recorded.looks(&self.world))
             }
             Kind::Reports => {
-                let same = self.recorded.runs_are_of_cells(&self.world);
+                let same = self.recorded.runs_are_of_cells(&self.world)?;
                 Ok(wrong_unless(same, "a run is no cell's"))
             }
             Kind::Steps => Ok(self.recorded.looks(&self.world)),

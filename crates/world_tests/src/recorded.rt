@@ -1,6 +1,8 @@
 use cri_msgs::{Answer, Call};
+use lifecycle::Runs;
 use runtime_cell::State;
 use std::alloc::{AllocError, Global};
+use std::mem;
 use world::{Exchange, World};
 
 // A cell as it was seen: the attempt that it is of, whether it was started, and with which code it ended.
@@ -22,12 +24,21 @@ struct Removed {
     served: bool,
 }
 
+// How many runs of a container were seen.
+#[derive(Drop)]
+struct Counted {
+    uid: String,
+    name: String,
+    runs: usize,
+}
+
 // All that was seen of a world, by plain code, and how often what is rare came.
 #[derive(Drop)]
 pub(crate) struct Recorded {
     alloc: Global,
     cells: Vec<Seen>,
     removed: Vec<Removed>,
+    counted: Vec<Counted>,
     // the greatest id of a cell
     last: u64,
     pub(crate) second_attempts: u32,
@@ -79,6 +90,7 @@ impl Recorded {
             alloc,
             cells: Vec::new(alloc),
             removed: Vec::new(alloc),
+            counted: Vec::new(alloc),
             last: 0,
             second_attempts: 0,
             refused_creations: 0,
@@ -197,23 +209,53 @@ impl Recorded {
         found.and_then(|c| c.code)
     }
 
-    // Whether the runs that the node holds are those of the cells, the first one attempt 0's.
-    pub(crate) fn runs_are_of_cells(&self, world: &World) -> bool {
+    // How many runs of the container were seen before, where there are so many now.
+    fn counts(&mut self, uid: &str, name: &str, runs: usize) -> Result<usize, AllocError> {
+        for counted in self.counted.as_mut_slice() {
+            if counted.uid.as_str() == uid && counted.name.as_str() == name {
+                return Ok(mem::replace(&mut counted.runs, runs));
+            }
+        }
+        let counted = Counted {
+            uid: String::from_str(self.alloc, uid)?,
+            name: String::from_str(self.alloc, name)?,
+            runs,
+        };
+        self.counted.push(counted)?;
+        Ok(0)
+    }
+
+    // Whether the container has as many runs as were seen before, or one more, and the last one is of the
+    // cell of the last attempt of so many, the first one being 0.
+    fn is_of_cell(&mut self, uid: &str, name: &str, runs: &Runs) -> Result<bool, AllocError> {
+        let count = runs.count();
+        let before = self.counts(uid, name, count)?;
+        let last = runs.last().map(|run| run.code());
+        Ok(match count.checked_sub(1) {
+            Some(attempt) => {
+                let is_next = before == count || before == attempt;
+                is_next && last.is_some() && last == self.code_of(uid, name, attempt)
+            }
+            None => before == 0 && last.is_none(),
+        })
+    }
+
+    // Whether the runs that the node counts are those of the cells. It is asked behind each report, which
+    // records one run of a container at most.
+    pub(crate) fn runs_are_of_cells(&mut self, world: &World) -> Result<bool, AllocError> {
         for i in 0..worker_core::MAX_PODS {
             let Some(view) = world.node().pod(i) else {
-                return true;
+                return Ok(true);
             };
             let containers = view.pod.containers.as_slice();
             for (container, track) in containers.iter().zip(view.tracks) {
                 let (uid, name) = (view.pod.uid.as_str(), container.name.as_str());
-                for (attempt, run) in track.runs.as_slice().iter().enumerate() {
-                    if self.code_of(uid, name, attempt) != Some(run.code()) {
-                        return false;
-                    }
+                if !self.is_of_cell(uid, name, &track.runs)? {
+                    return Ok(false);
                 }
             }
         }
-        true
+        Ok(true)
     }
 
     // Whether no two of these workers hold one pod.
