@@ -3,8 +3,8 @@ ghost use Rattle.action.specs.Verdict.{action_of, code_of, name_of, rank_of};
 
 use std::fmt;
 
-/// What is done with a system call, the strictest first: where filters differ, the first one of their
-/// actions is taken.
+/// What is done with a system call, strictest first: where filters differ, the strictest of their actions is
+/// taken.
 #[derive(Clone, Copy, Debug, PartialEq, Eq)]
 pub enum Action {
     /// The process is ended.
@@ -17,7 +17,7 @@ pub enum Action {
     Errno,
     /// A supervisor is asked.
     UserNotif,
-    /// A tracer is told.
+    /// A tracer is notified.
     Trace,
     /// The call is performed, and logged.
     Log,
@@ -59,7 +59,7 @@ impl Action {
         }
     }
 
-    /// Its place in the order of actions, from 0 for the strictest to 7.
+    /// The action's place in the order of strictness, from 0 for the strictest to 7.
     pub fn rank(self) -> u8
         ensures { result ≡ rank_of self }
     {

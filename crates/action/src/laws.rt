@@ -11,8 +11,8 @@ pub fn verdicts_round_trip()
         → verdict_of (value_of verdict) ≡ verdict }
 {}
 
-/// A value is the one of its verdict where its action is known. Any other ends the process, and keeps
-/// its data.
+/// A value is its verdict's value if its action is known. Any other value ends the process, and keeps its
+/// data.
 #[tactic(auto, unfolding(crate::specs::Verdict::action_of))]
 pub fn values_round_trip()
     ensures known { (value : ℕ) (action : Action) → value / 2 ^ 16 ≡ code_of action
@@ -29,7 +29,7 @@ pub fn ranks_are_an_order()
         → IsTrue (performs_of action) ↔ (rank_of Action.Log ≤ rank_of action) }
 {}
 
-/// What the constants of this crate are, in the standards' own numbers.
+/// The values of this crate's constants, in the standards' own numbers.
 pub fn constants_are_as_stated()
     // linux/err.h, as seccomp(2) caps it
     ensures max_errno { MAX_ERRNO ≡ 4095 }

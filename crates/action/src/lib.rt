@@ -1,7 +1,7 @@
 //! What a seccomp filter decides of a system call: the actions of seccomp(2), and the 32-bit values
 //! that stand for them.
 //!
-//! Every value has a verdict, an unknown action that of the strictest one. The tables stand in
+//! Every value has a verdict; an unknown action counts as the strictest one. The tables are in
 //! `specs/Verdict.antt`.
 #![tactic(auto)]
 

@@ -5,10 +5,10 @@ use crate::action::Action;
 /// The greatest errno that a call returns.
 pub const MAX_ERRNO: u16 = 4095;
 
-/// The errno of a call that nobody answers: the function is not there.
+/// ENOSYS, function not implemented: the errno of a call for which no supervisor or tracer answers.
 pub const ENOSYS: u16 = 38;
 
-/// What a filter's value says of a call.
+/// What a filter's value decides about a call.
 #[derive(Clone, Copy, Debug, PartialEq, Eq)]
 pub struct Verdict {
     pub action: Action,
@@ -37,7 +37,7 @@ impl Verdict {
         (u32::from(self.action.code()) << 16) | u32::from(self.ret_data)
     }
 
-    /// Its action's place in the order of actions, from 0 for the strictest to 7.
+    /// The place of its action in the order of strictness, from 0 for the strictest to 7.
     pub fn rank(self) -> u8
         ensures { result ≡ rank_of self.action }
     {
@@ -51,7 +51,7 @@ impl Verdict {
         matches!(self.action, Action::Log | Action::Allow)
     }
 
-    /// The errno that the call returns in place of being performed, if it returns one.
+    /// The errno that the call returns instead of being performed, if it returns one.
     pub fn errno(self) -> Option<u16>
         ensures { result ≡ errno_of self }
     {

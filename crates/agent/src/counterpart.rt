@@ -6,15 +6,15 @@ use std::thread;
 use std::time::{Clock, Duration};
 use worker_crew::Counterpart;
 
-/// The runtime of a run of pods, with what is open to it: in this process, with so many runners, or one of
-/// which nothing is known.
+/// The runtime of a run of pods, with the open connections to it: in this process, with this number of
+/// runners, or an external one, of which nothing is known.
 #[derive(Clone, Copy)]
 pub(crate) enum RuntimeBehind<'r, 'o, 'e, B: Baseline, R: Wait> {
     Own(&'r R, &'o Connections, &'e Engine<B>, u32),
     Other(&'r R, &'o Connections),
 }
 
-// Calls whose peers are quick come back by themselves; the others are cut off a second later.
+// Gives calls in progress a second to come back, and then cuts off their connections.
 fn end_calls<R: Wait + Clock>(rt: &R, open: &Connections) {
     for _ in 0..LOOKS {
         if open.is_empty(rt) {

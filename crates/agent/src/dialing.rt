@@ -1,5 +1,4 @@
-//! The connection of one call: it is made, written to and read within one span of time, however slow whoever
-//! is behind it may be.
+//! The connection of one call: connecting, writing and reading share one deadline, however slow the peer is.
 
 use runtime_server::Connections;
 use std::io::{self, ErrorKind, Read, Write};
@@ -8,10 +7,10 @@ use std::sync::Wait;
 use std::thread;
 use std::time::{Clock, Duration, Instant};
 
-// How many milliseconds a connection rests that finds no place in its listener's queue.
+// How many milliseconds to wait before connecting again, if the listener's queue is full.
 pub(crate) const QUEUE_REST: u64 = 10;
 
-/// Up to when a call may take.
+/// The deadline of a call.
 #[derive(Clone, Copy)]
 pub(crate) struct Deadline {
     start: Option<Instant>,
@@ -19,7 +18,7 @@ pub(crate) struct Deadline {
 }
 
 impl Deadline {
-    /// So many seconds from now.
+    /// This many seconds from now.
     pub(crate) fn in_seconds<R: Clock>(rt: &R, seconds: u64) -> Deadline {
         Deadline {
             start: Instant::now(rt).ok(),
@@ -27,7 +26,7 @@ impl Deadline {
         }
     }
 
-    // What is left, if anything is. A clock that can't be read stands still.
+    // The time that is left, if any is. A clock that can't be read stands still.
     fn left<R: Clock>(&self, rt: &R) -> Option<Duration> {
         let passed = match self.start.map(|start| start.elapsed(rt)) {
             Some(Ok(passed)) => passed,
@@ -38,8 +37,8 @@ impl Deadline {
     }
 }
 
-/// A connection to the socket at this path. Where the listener's queue is full, a place in it is waited for
-/// up to the deadline, or until calls are ended.
+/// A connection to the socket at this path. If the listener's queue is full, waits for a place in it until
+/// the deadline, or until calls are ended.
 pub(crate) fn connect<R: Wait + Clock>(
     rt: &R,
     system: &HostRuntime,
@@ -66,7 +65,7 @@ pub(crate) fn connect<R: Wait + Clock>(
     unreachable!()
 }
 
-/// A connection whose reads and writes fail behind the deadline.
+/// A connection whose reads and writes fail after the deadline.
 #[derive(Drop)]
 pub(crate) struct TimedStream<'a, R: Clock> {
     pub(crate) rt: &'a R,

@@ -1,5 +1,5 @@
-//! What worker 0 of an agent does beside telling the time: the pods of a folder come and go, changes are
-//! printed, and at the end of a run its pods are taken away, as far as the command line asks for it.
+//! What worker 0 of an agent does besides advancing the time, as far as the command line asks for it: it
+//! admits and deletes the pods of a folder, prints changes, and removes the pods at the end of a run.
 ghost use Rattle.std.specs.Prelude.{◌≡◌, IfSome};
 ghost use Rattle.node_lock.specs.Books.{worker_of};
 
@@ -36,18 +36,18 @@ pub(crate) struct AgentErrands<'s, 'a, L: Ledger, R: Wait> {
     pub(crate) system: HostRuntime,
     pub(crate) shared: &'s Shared<L>,
     pub(crate) table: TableTeller,
-    /// The folder whose manifests come and go.
+    /// The folder of manifests whose pods come and go with the files.
     pub(crate) folder: Option<PodsFolder<'s, 'a, L, R>>,
     /// When it was looked into last.
     pub(crate) looked: Option<Instant>,
-    /// What is to be done at the end, where pods are taken away then.
+    /// What is to be done at the end, if pods are removed then.
     pub(crate) removal: Option<Removal>,
     /// Where changes are printed.
     pub(crate) changes: Option<&'s Teller>,
 }
 
 impl<L: Ledger, R: Wait> AgentErrands<'_, '_, L, R> {
-    /// The table of the pods as they were before they were taken away, if they were.
+    /// The table of the pods as they were before they were removed, if they were.
     pub(crate) fn into_table(self) -> Option<String> {
         let AgentErrands {
             folder,
@@ -63,7 +63,7 @@ impl<L: Ledger, R: Wait> AgentErrands<'_, '_, L, R> {
 }
 
 impl<L: Ledger, R: Wait + Clock> AgentErrands<'_, '_, L, R> {
-    // Whether the folder is to be looked into now. Without a clock it is each time.
+    // Whether the folder is to be looked into now. Without a clock it always is.
     fn is_time(&self) -> bool {
         match self.looked.map(|looked| looked.elapsed(self.rt)) {
             Some(Ok(passed)) => passed >= Duration::from_secs(FOLDER_LOOK),
@@ -71,7 +71,7 @@ impl<L: Ledger, R: Wait + Clock> AgentErrands<'_, '_, L, R> {
         }
     }
 
-    // Want of memory is passed over: the folder is looked into again a second later.
+    // Lack of memory is ignored: the folder is looked into again a second later.
     fn of_folder(&mut self) -> Option<AgentEvent>
         ensures { IfSome result (λ event. worker_of event ≡ 0) }
     {

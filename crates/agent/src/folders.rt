@@ -12,7 +12,7 @@ use std::sync::ledger::Ledger;
 use worker_core::{AgentEvent, NodeRefusal};
 use worker_crew::Shared;
 
-/// Tells what is wrong with files on standard error, and knows which pods are on the node.
+/// Reports what is wrong with files on standard error, and knows which pods are on the node.
 #[derive(Drop)]
 pub(crate) struct FileTeller<'s, L: Ledger, R: Wait> {
     pub(crate) rt: &'s R,
@@ -27,7 +27,7 @@ impl<L: Ledger, R: Wait> FileTeller<'_, L, R> {
     }
 }
 
-// The line of a stop, without its end, which the teller writes.
+// The line of a stop, without its line end, which the teller writes.
 fn line_of(alloc: Global, stop: &AgentStop<'_>) -> Result<String, AllocError> {
     let text = format!(in alloc; "{stop}")?;
     let line = text.as_str();
@@ -63,7 +63,7 @@ impl<L: Ledger, R: Wait> PodReader for FileTeller<'_, L, R> {
     }
 }
 
-/// The folder, and what became of its files.
+/// The folder, and the state of its files.
 #[derive(Drop)]
 pub(crate) struct PodsFolder<'s, 'a, L: Ledger, R: Wait> {
     pub(crate) path: &'a str,
@@ -89,7 +89,7 @@ impl<'s, 'a, L: Ledger, R: Wait> PodsFolder<'s, 'a, L, R> {
         }
     }
 
-    /// Looks into the folder. One that can't be looked into changes nothing, and is told of once.
+    /// Looks into the folder. If that fails, nothing changes, and the fault is reported once.
     pub(crate) fn look(&mut self, system: &HostRuntime) -> Result<(), AllocError> {
         match look_into(system, self.path) {
             Ok(found) => {

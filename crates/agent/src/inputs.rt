@@ -24,7 +24,7 @@ pub(crate) fn pod_of<'a>(alloc: Global, path: &'a str, bytes: &[u8]) -> Result<P
     }
 }
 
-/// The pod of a manifest, and whether the manifest gives its uid. One that it does not give ends with the
+/// The pod of a manifest, and whether the manifest gives its uid. A uid that it does not give ends with the
 /// name of the run.
 pub(crate) fn pod_at<'a, R: rt::Files + AllocGlobal>(
     rt: &R,

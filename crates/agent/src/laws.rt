@@ -3,7 +3,7 @@ ghost use Rattle.agent.specs.declared.limits.TheConstants.{LAST_CALLS, LOOKS, MA
 ghost use Rattle.agent.specs.declared.limits.TheConstants.{RUNNERS, SETTLE_UNTIL};
 ghost use Rattle.agent.specs.declared.dialing.TheConstants.{QUEUE_REST};
 
-/// What the constants of this crate are.
+/// The values of this crate's constants.
 pub fn constants_are_as_stated()
     ensures runners { RUNNERS ≡ 4 }
     ensures max_workers { MAX_WORKERS ≡ 64 }

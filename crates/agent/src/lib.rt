@@ -1,7 +1,7 @@
-//! What runs pods: `nodeagent_run` admits the pods of manifests and has a crew of workers call a runtime for
-//! them over its socket, and `table` has the text that tells of a node's pods.
+//! Runs pods: `nodeagent_run` admits the pods of manifests and has a crew of workers call a runtime for them
+//! over its socket, and `table` is the text that shows a node's pods.
 //!
-//! The functions of the other programs are handed on: `seccheck`'s stands in `checker`, `scriptd`'s in
+//! The functions of the other programs are re-exported: `seccheck`'s is in `checker`, `scriptd`'s in
 //! `runtime_server`.
 #![tactic(auto)]
 

@@ -1,10 +1,10 @@
-//! Why a call was lost, in more words than its fault has.
+//! Why a call was lost, in more detail than its fault gives.
 
 use cri_frames::Lost;
 use node_io::Cause;
 use std::fmt;
 
-/// A lost call, and why it was where that is known.
+/// A lost call, and why it was lost, if that is known.
 #[derive(Clone, Copy, Debug)]
 pub(crate) struct LostCall {
     pub(crate) lost: Lost,
@@ -16,7 +16,7 @@ pub(crate) struct LostCall {
 pub(crate) enum Why {
     /// The system refused the connection.
     NotConnected(Cause),
-    /// The listener's queue had no place in time.
+    /// The listener's queue had no free place in time.
     QueueFull,
     /// The agent ends, and begins no call.
     Ending,
@@ -41,7 +41,7 @@ impl fmt::Display for Why {
     }
 }
 
-/// The fault's name, and behind it why.
+/// The fault's name, and then the cause.
 impl fmt::Display for LostCall {
     ghost use Rattle.std.specs.Prelude.{Some};
     ghost use Rattle.agent.specs.LostText.{lost_call_text};
@@ -66,8 +66,8 @@ impl LostCall {
         }
     }
 
-    /// A call that was lost on its way, with what its wire says. Only a read or a write that failed has a
-    /// cause.
+    /// A call that was lost after its connection, with the wire's cause. Only a read or a write that failed
+    /// has a cause.
     pub(crate) fn on_the_way(lost: Lost, cause: Option<Cause>) -> LostCall {
         let why = match lost {
             Lost::WriteFailed(_) | Lost::ReadFailed => cause.map(Why::Failed),

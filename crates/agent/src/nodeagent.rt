@@ -39,10 +39,10 @@ use worker_core::{AgentEvent, MAX_PODS, Node};
 use worker_crew::{Always, Coordinator, CrewEnd, Ended, Observed, Pace, Shared, crew};
 use worker_pod::Settings;
 
-/// The program `nodeagent`: runs pods by the containers of a runtime behind a socket. `words` are the command
-/// line's, the program's name first. The answer is the program's status: 0 done, 1 input refused, 2 command
-/// line refused, 3 file or socket fault, 4 out of memory or of history, 5 the last moment was reached. What
-/// became of the pods is told on `out`, why it ends on `err`.
+/// The program `nodeagent`: runs pods in the containers of a runtime behind a socket. `words` are the command
+/// line's, the program's name first. Returns the exit status: 0 done, 1 input refused, 2 command line
+/// refused, 3 file or socket fault, 4 out of memory or of history, 5 the last moment was reached. The table
+/// of the pods is written to `out`, the reason for the end to `err`.
 pub fn nodeagent_run<R: Threads + Wait + Clock + Copy + Send + Sync + 'static, O: Write, E: Write>(
     rt: &R,
     system: &HostRuntime,
@@ -65,18 +65,18 @@ pub fn nodeagent_run<R: Threads + Wait + Clock + Copy + Send + Sync + 'static, O
     }
 }
 
-// Tells why the program ends, and gives its status, also where nobody hears it.
+// Reports why the program ends, and returns its status, even if the report can't be written.
 fn tell_stop<E: Write>(stop: &AgentStop<'_>, err: &mut E) -> u8 {
     let _ = write!(err, "{stop}");
     stop.status()
 }
 
-// With what a run that was not stopped ends.
+// The end of a run that was not stopped.
 #[derive(Drop)]
 struct RunEnd {
     status: u8,
     text: String,
-    // What is said of it on standard error.
+    // What is written about it to standard error.
     note: String,
 }
 
@@ -103,7 +103,8 @@ fn run<'a, R: Threads + Wait + Clock + Copy + Send + Sync + 'static>(
     run_line::<Brand, R>(rt, system, &line, Blank::new(PARTS))
 }
 
-// That standard output is open. A file that is opened later would take the place of one that is not.
+// Checks that standard output is open. If it were closed, a file that is opened later would get its
+// descriptor.
 fn look_at_output<'a>(system: &HostRuntime) -> Result<(), AgentStop<'a>> {
     match system.write_some("".as_bytes()) {
         Ok(_) => Ok(()),
@@ -235,14 +236,15 @@ fn run_line<'a, L: Ledger + Send + Sync, R: Threads + Wait + Clock + Copy + Send
     run_end(system, line, ended, &book, &reasons, table, note)
 }
 
-// What a run leaves: why it ended, and the table of the pods as they were before they were taken away.
+// What a run leaves: why it ended, and the table of the pods as they were before they were removed.
 #[derive(Drop)]
 struct Left {
     ended: Ended,
     table: Option<String>,
 }
 
-// Who writes lines while the agent works: those of standard error, where any are asked for, and changes.
+// The writers of lines while the agent works: of those for standard error, if any are asked for, and of
+// changes.
 #[derive(Drop)]
 struct Tellers {
     lines: Option<Arc<Teller, Global>>,
@@ -274,7 +276,7 @@ impl Tellers {
         Ok(Tellers { lines, changes })
     }
 
-    // The one that writes lines on standard error, if there is one.
+    // The one that writes lines to standard error, if there is one.
     fn of_lines(&self) -> Result<Option<Arc<Teller, Global>>, AllocError> {
         match &self.lines {
             Some(teller) => Ok(Some(Arc::try_clone(teller)?)),
@@ -324,7 +326,7 @@ fn admit<'a, L: Ledger, R: Wait>(
     }
 }
 
-// What worker 0 does beside telling the time.
+// What worker 0 does besides advancing the time.
 fn errands_of<'s, 'a, L: Ledger, R: Wait + Clock>(
     rt: &'s R,
     system: &HostRuntime,
@@ -369,7 +371,7 @@ fn errands_of<'s, 'a, L: Ledger, R: Wait + Clock>(
     }
 }
 
-// How calls are made. They are told where that is asked for.
+// How calls are made, and logged if that is asked for.
 fn calls_by<'a, L: Ledger, R: Wait>(
     rt: &'a R,
     open: &'a Connections,
@@ -449,7 +451,7 @@ fn run_crew<L: Ledger + Send + Sync, B: Baseline + Send + Sync, R: Threads + Wai
     Ok(Left { ended, table })
 }
 
-// The calls of a runtime beside the agent are told by the agent. The runtime tells which file is wrong.
+// If the runtime is in this process, the agent logs the calls. The runtime only reports which file is wrong.
 fn address_of<'a>(line: &NodeagentLine<'a>) -> Address<'a>
     ensures socket { result.socket ≡ line.now.socket }
     ensures scripts { result.scripts ≡ line.now.scripts }
@@ -468,7 +470,7 @@ fn address_of<'a>(line: &NodeagentLine<'a>) -> Address<'a>
     }
 }
 
-// The same, with the runtime in threads beside the workers.
+// Runs the crew with the runtime in threads beside the workers.
 fn run_beside<
     'a,
     L: Ledger + Send + Sync,
@@ -553,7 +555,7 @@ fn start_site<'s, 'e, B: Baseline + Send + Sync, R: Threads + Wait + Clock + Syn
     Ok(())
 }
 
-// What is said of an end beside its status: that time stood still, and that pods could not be taken away.
+// What is said of an end besides its status: that time stood still, and that pods could not be removed.
 fn note_of(
     system: &HostRuntime,
     line: &NodeagentLine<'_>,
@@ -576,7 +578,7 @@ fn note_of(
     Ok(note)
 }
 
-// With what the program ends.
+// The status and the output with which the program ends.
 fn run_end<'a, L: Ledger>(
     system: &HostRuntime,
     line: &NodeagentLine<'a>,
@@ -605,7 +607,7 @@ fn run_end<'a, L: Ledger>(
     Ok(RunEnd { status, text, note })
 }
 
-// The table, where one is printed.
+// The table, if one is printed.
 fn text_of(
     alloc: Global,
     line: &NodeagentLine<'_>,

@@ -1,4 +1,4 @@
-//! Who answers an agent's requests.
+//! Answers an agent's requests.
 ghost use Rattle.std.specs.Prelude.{◌≡◌, IfOk};
 
 use crate::dialing::{Deadline, TimedStream, connect};
@@ -16,7 +16,7 @@ use std::sync::ledger::Ledger;
 use std::time::Clock;
 use worker_crew::{Peer, Shared};
 
-/// To whom calls are told, and whose moments are told with them.
+/// Where calls are logged, and whose moments are logged with them.
 #[derive(Drop)]
 pub(crate) struct Told<'a, L: Ledger, R: Wait> {
     pub(crate) rt: &'a R,
@@ -24,14 +24,14 @@ pub(crate) struct Told<'a, L: Ledger, R: Wait> {
     pub(crate) shared: &'a Shared<L>,
 }
 
-/// How an agent's calls are made: what is open of them, and how each is told, if that is asked for.
+/// How an agent's calls are made: their open connections, and how each is logged, if that is asked for.
 #[derive(Drop)]
 pub(crate) struct Calls<'a, L: Ledger, R: Wait> {
     pub(crate) open: &'a Connections,
     pub(crate) told: Option<Told<'a, L, R>>,
 }
 
-// A connection to a listener whose queue has no place would have to be waited for.
+// Connecting to a listener with a full queue would have to wait.
 fn not_connected(error: &io::Error) -> Why {
     match Cause::of(error) {
         Cause::WouldBlock => Why::QueueFull,
@@ -39,21 +39,21 @@ fn not_connected(error: &io::Error) -> Why {
     }
 }
 
-/// The runtime behind the socket at a path. Each call has a connection of its own. What it lends has a
-/// lifetime each, as it comes from different places.
+/// The runtime behind the socket at a path. Each call has a connection of its own. Each borrow has its own
+/// lifetime, as they come from different places.
 #[derive(Drop)]
 pub(crate) struct SocketPeer<'r, 'p, 'c, 'a, L: Ledger, R: Wait> {
     pub(crate) rt: &'r R,
     pub(crate) system: HostRuntime,
     pub(crate) alloc: Global,
     pub(crate) path: &'a str,
-    // The version in which it is spoken to.
+    // The version of the messages to it.
     pub(crate) version: Version,
     pub(crate) calls: &'p Calls<'c, L, R>,
 }
 
 impl<L: Ledger, R: Wait + Clock> SocketPeer<'_, '_, '_, '_, L, R> {
-    // A call may take so long from its connection to its reply.
+    // Makes a call, which has one deadline from its connection to its reply.
     fn ask(&self, request: &Request) -> Result<Reply, LostCall>
         ensures { IfOk result (λ reply. reply.id ≡ request.now.id) }
     {

@@ -1,4 +1,4 @@
-//! How an agent that ends by itself takes its pods away.
+//! How an agent that ends by itself removes its pods.
 
 use crate::limits::REMOVAL;
 use manifest::Uid;
@@ -14,9 +14,9 @@ pub(crate) struct Removal {
     alloc: Global,
     // Why the run ended, once it has.
     ended: Option<Ended>,
-    // Until when pods may leave.
+    // The last moment at which pods may leave.
     until: u64,
-    // The pods that are to be deleted yet.
+    // The pods that are still to be deleted.
     uids: Vec<Uid>,
     // The table of the pods as they were before.
     table: Option<String>,
@@ -47,15 +47,15 @@ impl Removal {
         }
     }
 
-    /// The table of the pods as they were before they were taken away, if they were.
+    /// The table of the pods as they were before they were removed, if they were.
     pub(crate) fn into_table(self) -> Option<String> {
         let Removal { uids, table, .. } = self;
         drop(uids);
         table
     }
 
-    /// The run has come to this end at this moment. With what it ends at last; none where pods are to leave
-    /// first.
+    /// Called when the run has come to this end at this moment. Returns how it ends at last, or `None` if
+    /// pods are to leave first.
     pub(crate) fn at_end<L: Ledger, R: Wait, T: NodeTeller>(
         &mut self,
         rt: &R,
@@ -94,7 +94,7 @@ impl Removal {
         Ok(())
     }
 
-    /// Until which moment is counted, where the run was to count up to this one.
+    /// The last moment of the virtual clock, where the run's own would be this one.
     pub(crate) fn until(&self, until: u64) -> u64 {
         match self.ended {
             Some(_) => self.until,
@@ -107,7 +107,7 @@ impl Removal {
         self.uids.last()?.try_clone(self.alloc).ok()
     }
 
-    /// That pod was deleted.
+    /// Says that the pod was deleted.
     pub(crate) fn recorded(&mut self) {
         drop(self.uids.pop());
     }

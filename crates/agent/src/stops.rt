@@ -7,10 +7,10 @@ use std::fmt;
 /// Why `nodeagent` ends before its work is done.
 #[derive(Debug, Drop)]
 pub(crate) enum AgentStop<'a> {
-    /// What may stop a program that serves a runtime, too: its line, its baseline, a file, the socket, what
-    /// can't be written, and memory.
+    /// What may also stop a program that serves a runtime: its command line, its baseline, a file, the
+    /// socket, output that can't be written, or memory.
     Server(ServerStop<'a>),
-    /// A manifest is refused, for what stands in it: where, and why.
+    /// A manifest is refused for its text: where, and why.
     Text(&'a str, String),
     /// A manifest is refused.
     Manifest(&'a str, PodFault),
@@ -39,7 +39,7 @@ impl AgentStop<'_> {
     }
 }
 
-/// A refused command line is told in clap's own words.
+/// A refused command line is reported with clap's own message.
 impl fmt::Display for AgentStop<'_> {
     ghost use Rattle.agent.specs.StopText.{stop_text};
 

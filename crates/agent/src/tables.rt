@@ -11,7 +11,7 @@ use runtime_server::refusal_name;
 use std::alloc::{AllocError, Global};
 use worker_core::{MAX_PODS, Node};
 
-/// What became of a node's pods: a line for each, in order of admission, with uid and phase, and below it one
+/// The table of a node's pods: a line for each, in order of admission, with uid and phase, and below it one
 /// for each of its containers, init ones first, with name, state, code and restarts.
 pub fn table(alloc: Global, node: &Node) -> Result<String, AllocError>
     ensures { IfOk result (λ text. string_bytes text ≡ table_text node.now) }
@@ -19,7 +19,8 @@ pub fn table(alloc: Global, node: &Node) -> Result<String, AllocError>
     told_table(alloc, node, Form::Text, &Reasons::new(alloc))
 }
 
-/// The same in a form, and behind each container that is not over why it waits, by these reasons.
+/// The table in a form, as words or JSON, which says after each container that is not over why it waits, by
+/// these reasons.
 pub(crate) fn told_table(
     alloc: Global,
     node: &Node,
@@ -171,7 +172,7 @@ fn add_members(text: &mut String, state: ContainerState, restarts: usize) -> Res
     Ok(())
 }
 
-// Why a container waits that is not over.
+// Adds why a container waits, if it is not over.
 fn add_why(
     text: &mut String,
     form: Form,
@@ -216,7 +217,7 @@ fn add_trouble(text: &mut String, trouble: Trouble) -> Result<(), AllocError>
     Ok(())
 }
 
-/// How many attempts were started behind the first one.
+/// How many attempts were started after the first one.
 fn restarts(track: &Track) -> usize
     ensures { result ≡ restarts_of track.now }
 {

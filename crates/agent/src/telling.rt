@@ -1,5 +1,5 @@
-//! What is told where that is asked for: on what the agent works, and of each call the moment at which it was
-//! claimed, which pod, the request, and what came of it.
+//! The log of an agent, if it is asked for: what it works on, and for each call the moment at which it was
+//! claimed, the pod, the request, and the result.
 ghost use Rattle.std.specs.Prelude.{◌≡◌, IfOk, string_bytes};
 ghost use Rattle.agent.specs.Lines.{working_text};
 
@@ -8,7 +8,7 @@ use cri_msgs::{Reply, Request};
 use runtime_server::{answered, asked};
 use std::alloc::{AllocError, Global};
 
-/// The line with which an agent begins.
+/// The first log line of an agent.
 pub(crate) fn working_line(alloc: Global, socket: &str, pods: usize) -> Result<String, AllocError>
     ensures { IfOk result (λ line. string_bytes line ≡ working_text socket.now pods) }
 {
@@ -22,7 +22,7 @@ fn outcome(alloc: Global, outcome: &Result<Reply, LostCall>) -> Result<String, A
     }
 }
 
-/// What an agent called at a moment, and what came of it.
+/// The log line of an agent's call at a moment, with its result.
 pub(crate) fn call_line(
     alloc: Global,
     moment: u64,

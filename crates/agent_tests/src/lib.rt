@@ -1,4 +1,4 @@
-//! Tests of what an agent holds of all its pods: the node, and the book of its history.
+//! Tests of what an agent keeps of all its pods: the node, and the book of its history.
 #![tactic(auto)]
 
 #[cfg(test)]

@@ -121,7 +121,7 @@ impl<L: Ledger> Play<L> {
         }
     }
 
-    // Records the events of the words, and tells what was answered to each.
+    // Records the events of the words, and returns the answer to each.
     pub(crate) fn plays(&mut self, words: &str) -> Result<String, PodFault> {
         let mut text = String::new(self.alloc);
         for word in words.split_whitespace() {
@@ -142,7 +142,7 @@ impl<L: Ledger> Play<L> {
     }
 }
 
-// Whether all receipts of a play stand in another one's history.
+// Whether all receipts of a play match another one's history.
 pub(crate) fn agree<L: Ledger, M: Ledger>(play: &Play<L>, other: &Play<M>) -> bool {
     other.stand(play.receipts())
 }

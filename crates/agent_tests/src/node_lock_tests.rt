@@ -35,7 +35,7 @@ fn limits(alloc: Global, limit: usize, words: String) -> Result<String, PodFault
     limited::<Brand>(alloc, limit, words, Blank::new(PARTS))
 }
 
-// A claim that is held keeps one entry's room, and a claim needs room for two whatever it is answered.
+// A held claim reserves room for one entry, and a claim needs room for two whatever its answer.
 #[test]
 fn rooms(rt: HostRuntime) -> Result<(), Fail> {
     let rows = [
@@ -56,7 +56,7 @@ fn rooms(rt: HostRuntime) -> Result<(), Fail> {
             "c1: 1 nothing; c1: 7 HistoryFull; t1: 2 done; t2: 7 HistoryFull; ",
         ),
         (0, "t0 c1", "t0: 7 HistoryFull; c1: 7 HistoryFull; "),
-        // What the node refuses stands in the history.
+        // What the node refuses is in the history.
         (
             5,
             "t5 t4 Aa Aa l1 t6",
@@ -72,7 +72,7 @@ fn rooms(rt: HostRuntime) -> Result<(), Fail> {
 
 const CREATED: &str = "Aa c1 d1 c1";
 
-// Whether the receipts of a book that confines by default stand in another one's history.
+// Whether the receipts of a book that confines by default match another one's history.
 fn agreed<L: Ledger, M: Ledger>(
     alloc: Global,
     seccomp_default: bool,
@@ -99,7 +99,7 @@ fn agrees(alloc: Global, seccomp_default: bool, words: String) -> Result<bool, P
     )
 }
 
-// Against another book's history: the same, one that differs in the answer to the last claim alone, one with
+// Against another book's history: the same, one that differs only in the answer to the last claim, one with
 // another event, a shorter one, and a longer one.
 #[test]
 fn audits(rt: HostRuntime) -> Result<(), Fail> {
@@ -127,7 +127,7 @@ fn one(alloc: Global, receipt: Receipt) -> Result<Vec<Receipt>, AllocError>
     Ok(one)
 }
 
-// Worker 0 tells the time, and worker 1 asks in vain. Together their tallies are the book's entries.
+// Worker 0 advances the time, and worker 1 asks in vain. Together their tallies are the book's entries.
 fn joined<L: Ledger>(alloc: Global, blank: Blank) -> Result<Option<(u64, usize)>, BookFault>
     requires name { blank.name ≡ L.name }
     requires parts { blank.parts ≡ L.parts }
@@ -155,7 +155,7 @@ fn tallies(rt: HostRuntime) -> Result<(), Fail> {
     Ok(())
 }
 
-// A part without entries does not end. Behind one that ended the book is open, and numbers go on.
+// A part without entries does not end. After one that ended the book is open, and numbers go on.
 fn parted<L: Ledger>(alloc: Global, blank: Blank) -> Result<String, BookFault>
     requires name { blank.name ≡ L.name }
     requires parts { blank.parts ≡ L.parts }

@@ -92,7 +92,7 @@ fn said(call: &Call, letter: u8) -> cri_msgs::Answer {
     }
 }
 
-// What the worker tells: l a loss, r a refusal, o a reply to request 1, e an exit with 0, else what is
+// What the worker reports: l a loss, r a refusal, o a reply to request 1, e an exit with 0, else what is
 // wanted.
 fn reported(letter: u8, request: &Request) -> Reported {
     let id = if letter == b'o' { 1 } else { request.id };
@@ -146,7 +146,8 @@ impl Play {
         text
     }
 
-    // Takes the event, once it was foreseen, and tells what was answered. Events and answers are copied.
+    // Applies the event, after `answer` foretold the result, and returns what was answered. Events and
+    // answers are copied.
     pub(crate) fn take(&mut self, event: &AgentEvent) -> Result<String, AllocError> {
         let foreseen = self.foreseen(event)?;
         let text = self.taken(event)?;
@@ -199,7 +200,7 @@ impl Play {
         }
     }
 
-    // Plays the words, and tells what was answered to each.
+    // Plays the words, and returns the answer to each.
     pub(crate) fn plays(&mut self, words: &str, spec: &str) -> Result<String, PodFault> {
         let mut text = String::new(self.alloc);
         for word in words.split_whitespace() {
@@ -210,7 +211,7 @@ impl Play {
         Ok(text)
     }
 
-    // How many are held, from when on one is due, and the phases.
+    // How many are held, the moment from which on one is due, and the phases.
     pub(crate) fn held_and_phases(&self) -> Result<String, AllocError> {
         let mut text = match self.node.next_due() {
             Some(due) => format!(in self.alloc; "{} held, due {due}", self.node.held())?,

@@ -64,7 +64,7 @@ fn events(rt: HostRuntime) -> Result<(), Fail> {
             "Aa: done; c1: default.a 1 1 run default.a; Da: done; d1: done; \
              c1: default.a 2 2 stop default.a; l1: done; 0 held, due 10, default.a Unknown",
         ),
-        // It is deleted behind its success.
+        // It is deleted after its success.
         (
             "Aa c1 d1 c1 d1 c1 d1 c1 e1 c1 Da c1 d1 c1 d1",
             "Aa: done; c1: default.a 1 1 run default.a; d1: done; \
@@ -90,8 +90,8 @@ const TWELVE: &str =
     c1: default.b 11 11 create default.b z 0; d1: done; c1: default.c 12 12 create default.c z 0; d1: done; \
     ";
 
-// Of three pods with three containers the one that was worked on longest ago is given, and in it the
-// container.
+// Of three pods with three containers, the pod that was worked on longest ago is given, and in it the
+// container that was.
 #[test]
 fn longest_wait(rt: HostRuntime) -> Result<(), Fail> {
     let mut play = begun(rt.alloc());
@@ -146,7 +146,7 @@ fn filled(alloc: Global) -> Result<Play, PodFault> {
     Ok(play)
 }
 
-// A uid that was admitted before is told first.
+// A uid that was admitted before is reported first.
 #[test]
 fn full_of_pods(rt: HostRuntime) -> Result<(), Fail> {
     let mut play = filled(rt.alloc())?;

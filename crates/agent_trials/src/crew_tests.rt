@@ -32,7 +32,7 @@ fn tried<R: Threads + Wait + Clock + Sync>(
     settled::<Brand, R>(rt, alloc, trial, Blank::new(PARTS))
 }
 
-// One pod by four workers, whose first call is held up.
+// One pod and four workers. The first call is held up.
 fn held_up<R: Threads + Wait + Clock + Sync>(
     rt: &R,
     alloc: Global,
@@ -49,7 +49,7 @@ fn held_up<R: Threads + Wait + Clock + Sync>(
     entries_at_call::<Brand, R>(rt, alloc, held_up, Blank::new(PARTS))
 }
 
-// Whatever number of workers there is, what is told in the end is the same, and each entry has its receipt.
+// The table at the end is the same for any number of workers, and each entry has its receipt.
 #[test]
 fn workers_settle(rt: HostRuntime) -> Result<(), Fail> {
     for version in [Version::V1, Version::V2] {
@@ -90,8 +90,8 @@ fn failures_change_nothing(rt: HostRuntime) -> Result<(), Fail> {
     Ok(())
 }
 
-// The first attempt begins where its script can be read: at once, or behind the rest of a refusal. The others
-// come behind their back-off. One worker reads the first pod's script first.
+// The first attempt begins when its script can be read: immediately, or after the delay of a refusal. The
+// others come after their back-off. One worker reads the first pod's script first.
 #[test]
 fn runs_are_recorded_behind_back_off(rt: HostRuntime) -> Result<(), Fail> {
     for (scripts, wanted) in [(0, [0, 10, 30]), (1, [10, 20, 40])] {
@@ -107,9 +107,8 @@ fn runs_are_recorded_behind_back_off(rt: HostRuntime) -> Result<(), Fail> {
     Ok(())
 }
 
-// A node with as many pods as it takes, by as many workers as there may be, settled once for each of these
-// reads and writes of the wires, which fails: the first of them behind which something else is told in the
-// end.
+// Settles a node with the most pods, by the most workers, once for each of these reads and writes of the
+// wires, which then fails. Returns the first one after which the table at the end differs.
 fn unsettled<R: Threads + Wait + Clock + Sync>(
     rt: &R,
     alloc: Global,
@@ -190,8 +189,8 @@ fn a_full_node_settles_where_many_calls_fail(rt: HostRuntime) -> Result<(), Fail
     Ok(())
 }
 
-// A part of the history that is full is followed by another, however little a part holds: what is told in the
-// end is the same, and the receipts of the last part stand in it.
+// A full part of the history is followed by another, however small a part is: the table at the end is the
+// same, and the receipts of the last part match it.
 #[test]
 fn parts_follow_each_other(rt: HostRuntime) -> Result<(), Fail> {
     for workers in [1, 64] {
@@ -208,7 +207,7 @@ fn parts_follow_each_other(rt: HostRuntime) -> Result<(), Fail> {
     Ok(())
 }
 
-// Where a part has no room for a claim and its end, a second one takes nothing, and that stops all.
+// If a part has no room for a claim and its end, neither has a second part, and that stops the crew.
 #[test]
 fn a_part_without_room_for_a_claim_stops_all(rt: HostRuntime) -> Result<(), Fail> {
     let trial = Trial {
@@ -221,7 +220,7 @@ fn a_part_without_room_for_a_claim_stops_all(rt: HostRuntime) -> Result<(), Fail
     Ok(())
 }
 
-// Calls are in flight at once: they are made by threads of their own, and under no lock.
+// Several calls are in flight at the same time: they are made by threads of their own, and under no lock.
 #[test]
 fn two_calls_are_in_flight(rt: HostRuntime) -> Result<(), Fail> {
     let trial = Trial {
@@ -245,8 +244,8 @@ fn workers_without_work_wait(rt: HostRuntime) -> Result<(), Fail> {
     Ok(())
 }
 
-// By the machine's clock a call that is held up costs an entry a second: there are those of the admission, of
-// the claim, and of the moments up to 4.
+// By the machine's clock a call that is held up costs one entry per second: there are those of the admission,
+// of the claim, and of the moments up to 4.
 #[test]
 fn a_second_makes_one_entry(rt: HostRuntime) -> Result<(), Fail> {
     let entries = held_up(&rt, rt.alloc(), Pace::Machine(Some(4)), 2_500, 0)?;
@@ -254,8 +253,8 @@ fn a_second_makes_one_entry(rt: HostRuntime) -> Result<(), Fail> {
     Ok(())
 }
 
-// Behind a call that was lost nothing is due for ten seconds: there are the entries of the admission, of one
-// claim and its end, and of a few seconds at most in which the workers begin.
+// After a lost call nothing is due for ten seconds: there are the entries of the admission, of one claim and
+// its end, and of at most a few seconds in which the workers begin.
 #[test]
 fn time_makes_no_entries_where_nothing_is_due(rt: HostRuntime) -> Result<(), Fail> {
     let entries = held_up(&rt, rt.alloc(), Pace::Machine(Some(8)), 0, 1)?;

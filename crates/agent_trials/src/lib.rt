@@ -1,5 +1,5 @@
 //! Trials of crews: workers settle pods over a runtime that they reach without a socket, whose reads and
-//! writes can be made to fail. There is nothing here but tests and what they are made from.
+//! writes can be made to fail. It has only tests and their parts.
 #![tactic(auto)]
 
 #[cfg(test)]

@@ -14,7 +14,7 @@ use std::sync::atomic::{AtomicU64, Ordering};
 use std::sync::{Mutex, Wait};
 use worker_crew::{Counterpart, Peer};
 
-// For how many bytes of a reply a wire has place.
+// How many bytes of a reply a wire has room for.
 const PLACE: usize = 1 << 14;
 
 /// A runtime whose files are in memory, and the count of the reads and writes of all wires to it.
@@ -25,13 +25,13 @@ pub(crate) struct Loop {
     scripts: Mutex<MemoryFiles>,
     profiles: Mutex<MemoryFiles>,
     moves: AtomicU64,
-    // The number of the one that fails, and of how many one does (0: none).
+    // The number of the one that fails, and every how many one fails (0: none).
     failing: AtomicU64,
     every: AtomicU64,
 }
 
 impl Loop {
-    /// A runtime without containers, on a node without a filter of its own. No move fails.
+    /// A runtime without containers, on a node without a filter of its own. No read or write fails.
     pub(crate) fn new(alloc: Global, scripts: MemoryFiles, profiles: MemoryFiles) -> Loop {
         Loop {
             alloc,
@@ -49,7 +49,7 @@ impl Loop {
         self.failing.store(n, Ordering::SeqCst);
     }
 
-    /// Of so many reads and writes, of whichever wire, each last one fails and moves nothing.
+    /// Every n-th read or write, of whichever wire, fails and moves nothing.
     pub(crate) fn fail_every(&self, n: u64) {
         self.every.store(n, Ordering::SeqCst);
     }
@@ -59,7 +59,7 @@ impl Loop {
         self.moves.load(Ordering::SeqCst)
     }
 
-    // Counts a read or a write, and tells whether it fails.
+    // Counts a read or a write, and returns whether it fails.
     fn fails(&self) -> bool {
         let number = self.moves.fetch_add(1, Ordering::SeqCst).wrapping_add(1);
         let every = self.every.load(Ordering::SeqCst);
@@ -79,7 +79,7 @@ impl Loop {
     }
 }
 
-/// What the clock waits for: that each of so many runners is idle.
+/// What the clock waits for: that each of this many runners is idle.
 #[derive(Drop)]
 pub(crate) struct Idle<'a, R: Wait> {
     pub(crate) rt: &'a R,
@@ -120,7 +120,7 @@ impl<R: Wait> Files for SharedFiles<'_, R> {
     }
 }
 
-/// A wire to a runtime in this process: the first read behind a whole frame serves it.
+/// A wire to a runtime in this process. The first read after a whole frame serves it.
 #[derive(Drop)]
 pub(crate) struct LoopWire<'a, R: Wait> {
     rt: &'a R,
@@ -140,7 +140,7 @@ impl<'a, R: Wait> LoopWire<'a, R> {
         WireFault
     }
 
-    // What the runtime writes to a frame.
+    // What the runtime answers to a frame.
     fn served(&self, version: Version, text: &[u8]) -> Result<Vec<u8>, AllocError>
         requires { IsLength (length text.now) }
     {
@@ -170,7 +170,7 @@ impl<'a, R: Wait> LoopWire<'a, R> {
     }
 }
 
-// Moves the bytes that were not taken yet to the front of `buf`, and tells how many.
+// Moves bytes that were not taken yet to the front of `buf`, and returns how many.
 fn give(reply: &[u8], buf: &mut [u8]) -> usize
     ensures within { result ≤ length buf.new }
     ensures room { length buf.new ≡ length buf.old }
@@ -180,7 +180,7 @@ fn give(reply: &[u8], buf: &mut [u8]) -> usize
     count
 }
 
-// A wire of this kind tells nothing of its bytes.
+// The model of such a wire says nothing about its bytes.
 impl<R: Wait> Wire for LoopWire<'_, R> {
     ghost failed = { λ wire. wire.failures };
 
@@ -225,7 +225,7 @@ pub(crate) struct LoopPeer<'a, R: Wait> {
 }
 
 impl<'a, R: Wait> LoopPeer<'a, R> {
-    /// Who answers by this runtime, which is spoken to in this version.
+    /// A peer that answers by this runtime, with messages of this version.
     pub(crate) fn new(rt: &'a R, runtime: &'a Loop, version: Version) -> LoopPeer<'a, R> {
         LoopPeer {
             rt,

@@ -101,7 +101,7 @@ fn keepers<'a, R: Wait>(
     Ok(peers)
 }
 
-// The number of the request that the worker was given last, in front of this place.
+// The number of the request that the worker was given last before this place.
 fn given(history: &[Entry], place: usize, worker: u32) -> Option<u64> {
     let before = history.get(..place)?;
     for entry in before.iter().rev() {
@@ -120,7 +120,7 @@ fn reply_in(alloc: Global, frame: &[u8]) -> Option<Reply> {
     Reply::read(alloc, Version::V1, frame.get(4..)?).ok()
 }
 
-// Whether this was told of a request whose reply came in this frame.
+// Whether this is the right report for a request whose reply came in this frame.
 fn is_told(alloc: Global, told: &Reported, frame: &[u8]) -> bool {
     match (told, reply_in(alloc, frame)) {
         (Reported::Replied(reply), Some(came)) => came.same(reply),
@@ -129,7 +129,7 @@ fn is_told(alloc: Global, told: &Reported, frame: &[u8]) -> bool {
     }
 }
 
-// How many reports there are, and how many of them tell what came in their frames.
+// How many reports there are, and how many of them say what came in their frames.
 fn reports(alloc: Global, history: &[Entry], frames: &[Came]) -> (u32, u32) {
     let mut all: u32 = 0;
     let mut right: u32 = 0;
@@ -184,8 +184,9 @@ fn compares<R: Threads + Wait + Clock + Sync>(
     compared::<Brand, R>(rt, alloc, failing, Blank::new(PARTS))
 }
 
-// Each report tells the reply that came in its call's frame, or that none did. There are twenty at least: the
-// sandboxes of three pods, and of five attempts the creation, the start and a status, and two removals.
+// Each report gives the reply that came in its call's frame, or says that none did. There are at least
+// twenty: the sandboxes of three pods, and of five attempts the creation, the start and a status, and two
+// removals.
 #[test]
 fn reports_are_what_came(rt: HostRuntime) -> Result<(), Fail> {
     for failing in 0..30 {

@@ -1,4 +1,4 @@
-//! What tests run crews by: pods over a loop, and what is left of it all.
+//! Crews for tests: pods over a loop, and what is left at the end.
 ghost use Rattle.std.specs.Prelude.{◌≡◌, ◌<◌, ◌≤◌, IfOk, vec_len};
 ghost use Rattle.node_lock.specs.declared.limits.TheConstants.{MAX_ENTRIES, PARTS};
 
@@ -22,13 +22,13 @@ use worker_crew::{
 };
 use worker_pod::Settings;
 
-/// The clock of a settle, up to moment 3600.
+/// The virtual clock, up to moment 3600.
 pub(crate) const COUNTED: Pace = Pace::Counted(3_600);
 
 // How many runners step the containers.
 const RUNNERS: u32 = 4;
 
-/// The scripts of the pods below, each in a line behind its path.
+/// The scripts of the pods below, each in a line after its path.
 pub(crate) const SCRIPTS: &str = r#"flaky.s {"steps":[{"call":"getpid"},{"exitByAttempt":[1,1,0]}]}
 bad.s {"steps":[{"call":"ptrace"},{"exit":0}]}
 three.s {"steps":[{"exit":3}]}
@@ -39,7 +39,7 @@ ends.json {"steps":[{"exit":0}]}"#;
 pub(crate) const PROFILES: &str =
     r#"kill.p {"defaultAction":"SCMP_ACT_ALLOW","syscalls":[{"names":["ptrace"],"action":"SCMP_ACT_KILL_PROCESS"}]}"#;
 
-/// The fields of the pods' `spec`, each in a line behind its name.
+/// The fields of the pods' `spec`, each in a line after its name.
 pub(crate) const PODS: &str =
     r#"flaky "restartPolicy":"OnFailure","containers":[{"name":"main","image":"flaky.s"}]
 bad "restartPolicy":"Never","containers":[{"name":"main","image":"bad.s","securityContext":{"seccompProfile":{"type":"Localhost","localhostProfile":"kill.p"}}}]
@@ -76,7 +76,7 @@ fn many(alloc: Global, containers: u32) -> Result<String, AllocError> {
     Ok(text)
 }
 
-/// What is told of as many pods as a node takes, of that many containers each, in the end.
+/// The table at the end of the most pods that a node takes, with that many containers each.
 pub(crate) fn many_told(alloc: Global, containers: u32) -> Result<String, AllocError> {
     let mut text = String::new(alloc);
     for pod in 0..MAX_PODS {
@@ -103,7 +103,8 @@ fn files(alloc: Global, lines: &str, failing: u64) -> Result<MemoryFiles, AllocE
     Ok(files)
 }
 
-/// A loop with the files above. This read or write of its wires fails, and these reads of its files.
+/// A loop with the files above. The read or write of its wires with this number fails, and so do these reads
+/// of its files.
 pub(crate) fn runtime(
     alloc: Global,
     failing: u64,
@@ -117,6 +118,7 @@ pub(crate) fn runtime(
     Ok(runtime)
 }
 
+<<<<<<< HEAD
 // The settings of an agent that speaks this version.
 fn settings(version: Version) -> Settings {
     Settings {
@@ -127,6 +129,9 @@ fn settings(version: Version) -> Settings {
 }
 
 /// A shared book of so many entries at most, with these pods, of an agent that speaks this version, and
+=======
+/// A shared book with this limit of entries, with these pods, of an agent that speaks this version, and
+>>>>>>> bd032dc8f0d2713c50bbeac46d5fb301af964d03
 /// worker 0's coordinator.
 pub(crate) fn begun<L: Ledger, R: Wait>(
     rt: &R,
@@ -158,7 +163,7 @@ pub(crate) fn begun<L: Ledger, R: Wait>(
     Ok((shared, coordinator))
 }
 
-/// Peers for so many workers, 64 at most.
+/// Peers for this many workers, at most 64.
 fn peers<'a, R: Wait>(
     rt: &'a R,
     alloc: Global,
@@ -233,8 +238,8 @@ pub(crate) fn worked<
 /// What is left of a trial.
 #[derive(Drop)]
 pub(crate) struct Left {
-    /// How the crew ended, whether there is a receipt for each entry and each stands where it says, and the
-    /// pods' table.
+    /// How the crew ended, whether there is a receipt for each entry and each entry is where its receipt
+    /// says, and the pods' table.
     pub(crate) text: String,
     /// At which moments the runs of the first pod's first container were recorded, where there are few pods.
     pub(crate) recorded: Vec<u64>,
@@ -300,10 +305,10 @@ fn left_of<L: Ledger>(
     })
 }
 
-// How long anything is waited for: so many turns of a millisecond.
+// The longest wait, in turns of a millisecond.
 const TURNS: u32 = 10_000;
 
-// A gate that holds the first call until the second one came back, if it is to.
+// A gate that holds the first call until the second one came back, if it is asked to.
 #[derive(Drop)]
 struct Hold<'a, R: Clock> {
     rt: &'a R,
@@ -350,7 +355,7 @@ impl<R: Clock> Gate for Hold<'_, R> {
     }
 }
 
-// A gate that holds the first call for so many turns, and keeps how many entries the history has then.
+// A gate that holds the first call for this many turns, and keeps how many entries the history has then.
 #[derive(Drop)]
 struct Watch<'a, L: Ledger, R: Wait + Clock> {
     rt: &'a R,
@@ -381,14 +386,14 @@ pub(crate) struct HeldUp {
     pub(crate) pace: Pace,
     /// For how many milliseconds.
     pub(crate) turns: u32,
-    /// Of how many reads and writes of the wires one fails (0: none).
+    /// Every how many reads and writes of the wires one fails (0: none).
     pub(crate) every: u64,
 }
 
 /// What is left then.
 #[derive(Drop)]
 pub(crate) struct Entries {
-    /// How many entries there were behind the wait.
+    /// How many entries there were after the wait.
     pub(crate) held: u64,
     /// How many there were in the end.
     pub(crate) all: u64,
@@ -441,13 +446,13 @@ pub(crate) enum Pods {
     One,
     /// Three, which end in three ways.
     Few,
-    /// As many as a node takes, of so many containers each.
+    /// The most that a node takes, with this many containers each.
     Many(u32),
 }
 
-/// What is tried: with which pods, by how many workers, with how long a history, in which version the runtime
-/// is spoken to, and whether the first call is to be held up. And what is to fail, each by its number (0:
-/// none): a read or write of the wires, one of every so many of them, a read of a script, one of a profile.
+/// What is tried: which pods, how many workers, how long a history, which version of the messages, and
+/// whether the first call is held up. And what fails, each by its number (0: none): a read or write of the
+/// wires, every n-th of them, a read of a script, or of a profile.
 #[derive(Clone, Copy)]
 pub(crate) struct Trial {
     pub(crate) version: Version,
@@ -476,8 +481,8 @@ fn pods_of(alloc: Global, pods: Pods) -> Result<String, AllocError> {
     Ok(lines)
 }
 
-/// What is left of the pods once workers settled them over a loop. Where the first call was to be held up and
-/// was not, that is told in front.
+/// What is left of the pods once workers settled them over a loop. If the first call was to be held up and
+/// was not, the text begins with that.
 pub(crate) fn settled<L: Ledger + Send + Sync, R: Threads + Wait + Clock + Sync>(
     rt: &R,
     alloc: Global,

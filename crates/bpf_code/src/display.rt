@@ -6,8 +6,8 @@ use crate::insn::Insn;
 use crate::operation::Operation;
 use std::fmt;
 
-/// Assembler text as the kernel's `bpf_asm` takes it, with the numbers of instructions that a jump
-/// skips in the place of labels: `ld [4]`, `jeq #0xc000003e, 0, 1`, `ret #0x7fff0000`.
+/// Assembler text as the kernel's `bpf_asm` takes it, with the number of instructions that a jump skips in
+/// place of a label: `ld [4]`, `jeq #0xc000003e, 0, 1`, `ret #0x7fff0000`.
 impl fmt::Display for Insn {
     ghost use Rattle.std.specs.Prelude.{Some};
     ghost use Rattle.bpf_code.specs.Text.{text_of};
@@ -22,7 +22,7 @@ impl fmt::Display for Insn {
     }
 }
 
-/// What stands behind an instruction's mnemonic.
+/// The operand after an instruction's mnemonic.
 #[derive(Clone, Copy)]
 enum Operand {
     Constant(u32),
@@ -34,7 +34,7 @@ enum Operand {
     Length,
     X,
     A,
-    /// So many instructions to skip.
+    /// The number of instructions to skip.
     Skip(u32),
     Nothing,
 }
@@ -59,7 +59,7 @@ impl fmt::Display for Operand {
     }
 }
 
-/// How many instructions a conditional jump skips, where its test holds and where it fails.
+/// How many instructions a conditional jump skips if its test holds, and if it fails.
 #[derive(Clone, Copy)]
 enum Targets {
     Two(u8, u8),

@@ -2,16 +2,16 @@ use std::alloc::{AllocError, AllocFailed};
 use std::fmt;
 use thiserror::Error;
 
-/// Why bytes are no filter file, in the order in which it is looked for.
+/// Why bytes are not a filter file, in the order of the checks.
 #[derive(Clone, Copy, Debug, PartialEq, Eq, Error)]
 pub enum CodeFault {
-    /// The length is no multiple of 8.
+    /// The length is not a multiple of 8.
     Length,
     /// There are more than [`MAX_BYTES`](crate::MAX_BYTES).
     TooLong,
     /// The lowest place, counted in instructions from 0, whose code is not in the table.
     BadCode(usize),
-    /// A growth was refused.
+    /// An allocation failed.
     Memory,
 }
 

@@ -10,7 +10,7 @@ pub enum Flow {
     Returns,
     /// k instructions are skipped.
     Jumps,
-    /// jt or jf instructions are skipped, as the data tell.
+    /// jt or jf instructions are skipped, depending on the data.
     Branches,
     /// To the next instruction. A division by X may end the filter instead.
     Continues,

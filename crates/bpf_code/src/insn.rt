@@ -10,15 +10,15 @@ use std::mem::size_of;
 pub struct Insn {
     /// What it does.
     pub op: Operation,
-    /// How many instructions a conditional jump skips where its test holds.
+    /// How many instructions a conditional jump skips if its test holds.
     pub jt: u8,
-    /// How many instructions a conditional jump skips where its test fails.
+    /// How many instructions a conditional jump skips if its test fails.
     pub jf: u8,
     /// The number that the operation works with.
     pub k: u32,
 }
 
-// An instruction is as long as its bytes: the machine's loop rests on it.
+// An instruction in memory is as long as its encoding: the speed of the machine's loop rests on it.
 const _: () = prove!(size_of::<Insn>() == 8);
 
 impl Insn {

@@ -9,8 +9,8 @@ ghost use Rattle.bpf_code.specs.Reading.{HasFault};
 
 use crate::insn::Insn;
 
-/// What was written is read again: a text of instructions has no fault, and no other instructions
-/// have it.
+/// What is written can be read back: the bytes of instructions have no fault, and no other instructions have
+/// the same bytes.
 pub fn written_is_read()
     ensures fine { (code : List Insn) (fault : CodeFault) → 8 * length code ≤ MAX_BYTES
         → HasFault (bytes_of_code code) fault → ⊥ }
@@ -30,7 +30,7 @@ pub fn codes_are_small()
     ensures { (op : Operation) → code_of op < 2 ^ 8 }
 {}
 
-/// What the constants of this crate are, in the standards' own numbers.
+/// The values of this crate's constants, in the standards' own numbers.
 pub fn constants_are_as_stated()
     // BPF_MAXINSNS of linux/bpf_common.h
     ensures max_insns { MAX_INSNS ≡ 4096 }

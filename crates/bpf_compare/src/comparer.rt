@@ -11,10 +11,10 @@ use bpf_verify::Filter;
 use call_data::SysCall;
 use std::alloc::{AllocError, Global};
 
-/// Compares two filters on all calls of the scope, by following so many instructions at most.
+/// Compares two filters on all calls of the scope, following at most `budget` instructions.
 ///
 /// A path runs the first filter to its return and then the second one. At a test that may go either way for
-/// its calls it splits in two, and one of them waits. The error is want of memory.
+/// its calls it splits in two, and one part waits. The error is a failed allocation.
 pub fn compare(
     alloc: Global,
     first: &Filter,
@@ -52,7 +52,7 @@ pub fn compare(
     Ok(Comparison::Undecided(Doubt::Budget))
 }
 
-/// What is found where no difference was.
+/// The result if no difference was found.
 fn ending(doubt: Option<Doubt>) -> Comparison
     ensures told { IfSome doubt (λ why. result ≡ Comparison.Undecided why) }
     ensures none { IfNone doubt (result ≡ Comparison.Same) }
@@ -63,7 +63,7 @@ fn ending(doubt: Option<Doubt>) -> Comparison
     }
 }
 
-/// A call of the scope on which the filters return different values, by running both on one of these calls.
+/// Runs both filters on one of these calls, and reports it if it is in the scope and their values differ.
 fn difference(first: &Filter, second: &Filter, scope: Scope, known: &Known) -> Option<Comparison>
     ensures { IfSome result (λ found. Says found scope first.now second.now) }
 {

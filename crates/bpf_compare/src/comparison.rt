@@ -3,18 +3,18 @@ use call_data::SysCall;
 /// How two filters compare.
 #[derive(Clone, Copy, Debug, PartialEq, Eq)]
 pub enum Comparison {
-    /// They return the same value on every call that was asked about.
+    /// They return the same value on every call of the scope.
     Same,
-    /// On this call, one of those, the first returns the one value and the second the other.
+    /// On this call of the scope the first filter returns the first value, and the second filter the second.
     Differs(SysCall, u32, u32),
-    /// It was not found out.
+    /// No answer was found.
     Undecided(Doubt),
 }
 
 /// Why a comparison is undecided.
 #[derive(Clone, Copy, Debug, PartialEq, Eq)]
 pub enum Doubt {
-    /// It takes more instructions than were to be followed.
+    /// The comparison takes more instructions than the budget.
     Budget,
     /// A filter computes with what it loaded, other than by masks.
     Arithmetic,

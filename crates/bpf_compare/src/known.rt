@@ -18,14 +18,14 @@ pub(crate) struct Known {
     pub(crate) excluded: Vec<Excluded>,
 }
 
-/// How a set of calls falls in two by a question.
+/// How a question splits a set of calls.
 #[derive(Drop)]
 pub(crate) enum Split {
     /// The test holds on all.
     Holds,
     /// It fails on all.
     Fails,
-    /// It may do either. It fails on these, and holds on those that are left.
+    /// It may do either. It fails on these calls, and holds on those that stay in the set.
     Both(Known),
 }
 
@@ -46,7 +46,7 @@ impl Known {
         }
     }
 
-    /// Whether this number is excluded of the word at this place.
+    /// Whether this number is excluded for the word at this place.
     pub(crate) fn excludes(&self, place: usize, number: u32) -> bool {
         let excluded = self.excluded.as_slice();
         excluded
@@ -63,7 +63,7 @@ impl Known {
         })
     }
 
-    /// Splits the set by a question. Where the test may do either, those are left on which it holds.
+    /// Splits the set by a question. If the test may do either, the calls on which it holds stay.
     pub(crate) fn split(&mut self, alloc: Global, question: Question) -> Result<Split, AllocError>
         ensures { IfOk result (λ split. (call : SysCall) → IsAmong self.old call
             → FallsIn split call question self.new) }
@@ -80,7 +80,7 @@ impl Known {
         Ok(Split::Both(other))
     }
 
-    /// The numbers that the question's word may be where this is the answer, if there may be one.
+    /// The numbers that the question's word may have if this is the answer. `None` if there are none.
     fn part(&self, question: Question, holds: bool) -> Option<Range>
         ensures { (call : SysCall) → IsAmong self.now call → answer_on call question ≡ holds
             → IsSomeAnd result (λ range. IsIn range (number_at call question.word.place)) }
@@ -93,7 +93,7 @@ impl Known {
         }
     }
 
-    /// Takes in that this is the answer, so that the question's word is in this range.
+    /// Records this answer, by which the question's word is in this range.
     fn narrow(&mut self, question: Question, range: Range, holds: bool) -> Result<(), AllocError>
         ensures { IfOk result (λ _. (call : SysCall) → IsAmong self.old call → answer_on call question ≡ holds
             → IsIn range (number_at call question.word.place) → IsAmong self.new call) }
@@ -108,7 +108,7 @@ impl Known {
     }
 }
 
-/// Whether all numbers of the range are excluded of this word, where that is soon found out.
+/// Whether all numbers of the range are excluded for this word, as far as a quick check can tell.
 fn is_ruled_out(excluded: &[Excluded], word: Word, range: Range) -> bool
     ensures { IsTrue result → (call : SysCall) → All (Avoids call) excluded.now
         → IsIn range (number_at call word.place) → ⊥ }
@@ -127,7 +127,7 @@ fn is_ruled_out(excluded: &[Excluded], word: Word, range: Range) -> bool
     true
 }
 
-/// Whether the number is excluded of this word, or does not have the range's bits.
+/// Whether the number is excluded for this word, or does not have the range's bits.
 fn lacks_number(excluded: &[Excluded], word: Word, range: Range, number: u32) -> bool
     ensures { IsTrue result → (call : SysCall) → All (Avoids call) excluded.now
         → IsIn range (number_at call word.place)
@@ -145,7 +145,7 @@ fn lacks_number(excluded: &[Excluded], word: Word, range: Range, number: u32) ->
     is_excluded(excluded, word, single)
 }
 
-/// Whether what is excluded of this word has all numbers of the range at once.
+/// Whether a single exclusion of this word covers the whole range.
 fn is_excluded(excluded: &[Excluded], word: Word, range: Range) -> bool
     ensures { IsTrue result → (call : SysCall) → All (Avoids call) excluded.now
         → IsIn range (number_at call word.place) → ⊥ }

@@ -1,8 +1,8 @@
 //! Compares two seccomp filters on every call, or on every native one: classic BPF over a call's data,
 //! seccomp(2).
 //!
-//! What is said of two filters stands in `specs/Agree.antt`. `compare` follows paths through both, each for
-//! a set of calls (`path.rt`, `walk.rt`, `step.rt`), of which it knows bounds and bits word by word
+//! `specs/Agree.antt` defines what a result says about two filters. `compare` follows paths through both,
+//! each for a set of calls (`path.rt`, `walk.rt`, `step.rt`), of which it knows bounds and bits word by word
 //! (`known.rt`, `range.rt`, `question.rt`).
 #![tactic(auto)]
 

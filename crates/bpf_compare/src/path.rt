@@ -22,23 +22,23 @@ pub(crate) struct Path {
     pub(crate) walk: Walk,
 }
 
-/// What became of a path.
+/// The result of a step of a path.
 #[derive(Drop)]
 pub(crate) enum Progress {
     /// It goes on.
     Goes,
-    /// It goes on with a part of its calls, and this one with the others.
+    /// It goes on with some of its calls, and this new path with the others.
     Splits(Path),
     /// Both filters returned the same value.
     Agrees,
     /// They returned different values.
     Differs,
-    /// It came to what is not followed.
+    /// It depends on a value that is not tracked.
     Unclear,
 }
 
 impl Path {
-    /// The calls that are asked about, at the start of the first filter.
+    /// All calls of the scope, at the start of the first filter.
     pub(crate) fn start(alloc: Global, scope: Scope) -> Path
         ensures { (first second : List Insn) (call : SysCall) → IsOf scope call
             → Takes first second call result }

@@ -7,7 +7,7 @@ use crate::word::Word;
 /// How a number is compared with another one.
 #[derive(Clone, Copy)]
 pub(crate) enum Test {
-    /// It is that one.
+    /// It is equal.
     Equal,
     /// It is greater.
     Greater,
@@ -25,7 +25,7 @@ impl Test {
     }
 }
 
-/// A question about a word of the call's data: whether a test holds of what a mask leaves of it.
+/// A question about a word of the call's data: whether a test holds for the word under a mask.
 #[derive(Clone, Copy)]
 pub(crate) struct Question {
     pub(crate) word: Word,
@@ -43,7 +43,7 @@ pub(crate) struct Excluded {
 }
 
 impl Question {
-    /// Those numbers of a range for which this is the answer, if there may be one.
+    /// The numbers of a range for which this is the answer. `None` if there are none.
     pub(crate) fn narrow(self, range: Range, holds: bool) -> Option<Range>
         ensures { (n : ℕ) → IsIn range n → answer self n ≡ holds
             → IsSomeAnd result (λ narrowed. IsIn narrowed n) }
@@ -56,7 +56,7 @@ impl Question {
         }
     }
 
-    /// The bits that the word lacks for which this is the answer, where that is all that follows.
+    /// The bits that the word does not have if this is the answer, where the answer implies just that.
     pub(crate) fn excluded(self, holds: bool) -> Option<Excluded>
         ensures word { IfSome result (λ it. it.word ≡ self.word) }
         ensures lacks { (n : ℕ) → answer self n ≡ holds → IfSome result (λ it. Lacks it n) }

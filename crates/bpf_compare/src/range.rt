@@ -60,7 +60,7 @@ impl Range {
         })
     }
 
-    /// Those of its numbers that are at least this one.
+    /// Its numbers that are at least this one.
     fn from(self, least: u32) -> Option<Range>
         ensures { (n : ℕ) → IsIn self n → least ≤ n → IsSomeAnd result (λ range. IsIn range n) }
     {
@@ -73,7 +73,7 @@ impl Range {
         range.settled()
     }
 
-    /// Those of its numbers that are at most this one.
+    /// Its numbers that are at most this one.
     fn to(self, most: u32) -> Option<Range>
         ensures { (n : ℕ) → IsIn self n → n ≤ most → IsSomeAnd result (λ range. IsIn range n) }
     {
@@ -86,7 +86,7 @@ impl Range {
         range.settled()
     }
 
-    /// Those of its numbers that have these bits under the mask.
+    /// Its numbers that have these bits under the mask.
     pub(crate) fn with_bits(self, mask: u32, bits: u32) -> Option<Range>
         ensures { (n : ℕ) → IsIn self n → bit_and n mask ≡ bits → IsSomeAnd result (λ range. IsIn range n) }
     {
@@ -112,7 +112,7 @@ impl Range {
         mask & self.mask == mask && self.bits & mask == bits
     }
 
-    /// Those of its numbers that do not have these bits under the mask, and maybe others.
+    /// Its numbers that do not have these bits under the mask, and maybe others.
     pub(crate) fn without_bits(self, mask: u32, bits: u32) -> Option<Range>
         ensures { (n : ℕ) → IsIn self n → bit_and n mask ≢ bits → IsSomeAnd result (λ range. IsIn range n) }
     {
@@ -129,7 +129,7 @@ impl Range {
         }
     }
 
-    /// Those of its numbers that are not this one, and maybe this one where it is no bound.
+    /// Its numbers that are not this one, and maybe this one too, if it is not a bound.
     fn without(self, number: u32) -> Option<Range>
         ensures { (n : ℕ) → IsIn self n → n ≢ number → IsSomeAnd result (λ range. IsIn range n) }
     {
@@ -144,7 +144,7 @@ impl Range {
         }
     }
 
-    /// Those of its numbers that are greater than this one under the mask, and maybe others.
+    /// Its numbers that are greater than this one under the mask, and maybe others.
     pub(crate) fn above(self, mask: u32, number: u32) -> Option<Range>
         ensures { (n : ℕ) → IsIn self n → number < bit_and n mask → IsSomeAnd result (λ range. IsIn range n) }
     {
@@ -157,7 +157,7 @@ impl Range {
         }
     }
 
-    /// Those of its numbers that are at most this one under the mask, and maybe others.
+    /// Its numbers that are at most this one under the mask, and maybe others.
     pub(crate) fn at_most(self, mask: u32, number: u32) -> Option<Range>
         ensures { (n : ℕ) → IsIn self n → bit_and n mask ≤ number → IsSomeAnd result (λ range. IsIn range n) }
     {

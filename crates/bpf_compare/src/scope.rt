@@ -5,7 +5,7 @@ use call_data::{NATIVE_ARCH, SysCall, fields_fit};
 /// Numbers from this one on are none of x86-64's own: `__X32_SYSCALL_BIT` of asm/unistd.h.
 const X32_BIT: u32 = 0x4000_0000;
 
-/// Which calls are asked about.
+/// The calls on which filters are compared.
 #[derive(Clone, Copy, Debug, PartialEq, Eq)]
 pub enum Scope {
     /// Every call.

@@ -40,7 +40,7 @@ impl Registers {
         }
     }
 
-    /// Past so many instructions behind this one.
+    /// This many instructions past the next one.
     pub(crate) fn skip(self, count: u32) -> Registers
         requires { self.place < MAX_INSNS }
         ensures { result ≡ record { place = self.place + 1 + count; a = self.a; x = self.x } }
@@ -55,23 +55,23 @@ impl Registers {
 
 /// What an instruction leads to.
 pub(crate) enum After {
-    /// On to the next instruction, with these values in A and X.
+    /// Goes on to the next instruction, with these values in A and X.
     Goes(Value, Value),
-    /// On past jt instructions, as a test holds.
+    /// A test holds: skips jt instructions.
     Holds,
-    /// On past jf instructions, as a test fails.
+    /// A test fails: skips jf instructions.
     Fails,
-    /// Past jt or jf instructions, as the data tell.
+    /// Skips jt or jf instructions, depending on the data.
     Asks(Question),
-    /// On past k instructions.
+    /// Skips k instructions.
     Skips,
-    /// The end, with this value.
+    /// Ends, with this value.
     Ends(u32),
-    /// To what is not followed.
+    /// Depends on a value that is not tracked.
     Unclear,
 }
 
-/// What a test of this value leads to.
+/// The result of a test of this value.
 fn asked(value: Value, test: Test, against: u32) -> After
     ensures { (call : SysCall) (n : ℕ) → Denotes call value n
         → Answers call result (answer_of test n against) }
@@ -94,7 +94,7 @@ fn asked(value: Value, test: Test, against: u32) -> After
     }
 }
 
-/// What a test whether A is at least this number leads to.
+/// The result of testing whether A is at least this number.
 fn at_least(a: Value, least: u32) -> After
     ensures { (call : SysCall) (n : ℕ) → Denotes call a n → Answers call result (nat_le least n) }
 {
@@ -105,7 +105,7 @@ fn at_least(a: Value, least: u32) -> After
     }
 }
 
-/// What a test whether A has one of these bits leads to.
+/// The result of testing whether A has one of these bits.
 fn any_bit(a: Value, bits: u32) -> After
     ensures { (call : SysCall) (n : ℕ) → Denotes call a n → Answers call result (not (bit_and n bits == 0)) }
 {

@@ -11,7 +11,7 @@ use crate::word::Word;
 pub(crate) enum Value {
     /// It is this number.
     Constant(u32),
-    /// It is what a mask leaves of a word of the call's data.
+    /// It is a word of the call's data under a mask.
     Data(Word, u32),
     /// It may be any number.
     Unknown,

@@ -18,16 +18,16 @@ pub(crate) struct Walk {
     pub(crate) known: Known,
 }
 
-/// What became of a walk.
+/// The result of a step of a walk.
 #[derive(Drop)]
 pub(crate) enum Turn {
     /// It goes on.
     Goes,
-    /// It goes on with a part of its calls, and this one with the others.
+    /// It goes on with some of its calls, and this new walk with the others.
     Splits(Walk),
     /// The filter returned this value.
     Ends(u32),
-    /// It came to what is not followed.
+    /// It depends on a value that is not tracked.
     Unclear,
 }
 

@@ -7,7 +7,7 @@ use call_data::SysCall;
 /// How many numbers are tried for a word: more than two filters have instructions.
 const TRIES: u32 = 8_192;
 
-/// A call that is likely in the set. Nothing is promised of it: who uses it runs both filters on it.
+/// A call that is likely in the set. That is not guaranteed: the caller runs both filters on it.
 pub(crate) fn witness(known: &Known) -> SysCall {
     SysCall {
         nr: number(known, 0),
@@ -31,7 +31,7 @@ fn double(known: &Known, place: usize) -> u64
     u64::from(number(known, place)) | u64::from(number(known, place + 1)) << 32
 }
 
-/// A number for the word at this place: the lowest one that is left, mostly.
+/// A number for the word at this place: mostly the lowest that is left.
 fn number(known: &Known, place: usize) -> u32
     requires { place < 16 }
 {

@@ -7,7 +7,7 @@ ghost use Rattle.bpf_machine.specs.Runs.{NeverStuck, Reaches, Runs};
 
 use bpf_verify::walks_stay_inside;
 
-/// A step leads to one thing, so code has at most one run on a call, sound or not.
+/// A step has at most one result, so code has at most one run on a call, sound or not.
 pub fn runs_are_determined()
     ensures step { (code : List Insn) (call : SysCall) (s : State) (next other : Next)
         → Step call code s next → Step call code s other → next ≡ other }

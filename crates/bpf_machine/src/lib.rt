@@ -1,7 +1,7 @@
 //! The machine that runs seccomp filters: classic BPF over a call's data, seccomp(2).
 //!
-//! What a step is stands in `specs/Machine.antt`, where a state may be stuck, and what a run is in
-//! `specs/Runs.antt`. Sound code never gets stuck, so `run` tests nothing.
+//! `specs/Machine.antt` defines a step, in a semantics in which a state may be stuck, and `specs/Runs.antt` a
+//! run. Sound code never gets stuck, so `run` tests nothing.
 #![tactic(auto)]
 
 mod laws;

@@ -7,7 +7,7 @@ use bpf_code::SCRATCH_WORDS;
 use bpf_verify::{Filter, walks_stay_inside};
 use call_data::SysCall;
 
-/// What the run of a filter on a call gives.
+/// The result of running a filter on a call.
 #[derive(Clone, Copy, Debug, PartialEq, Eq)]
 pub struct Ran {
     /// The filter's value.

@@ -31,7 +31,7 @@ impl Registers {
         }
     }
 
-    /// Past so many instructions behind this one.
+    /// This many instructions past the next one.
     #[inline(always)]
     pub(crate) fn skip(self, count: u32) -> Registers
         requires { self.place < MAX_INSNS }
@@ -47,18 +47,18 @@ impl Registers {
 
 /// What an instruction leads to.
 ///
-/// A jump tells only which of its numbers counts. So where a test leads is a branch of the machine's
-/// loop, which a processor foresees; as a number that it looks up it would be waited for.
+/// A jump says only which of its numbers applies. So the result of a test is a branch in the machine's loop,
+/// which the processor predicts; if it were a number to look up, the loop would wait for the load.
 pub(crate) enum After {
-    /// On to the next instruction, with these numbers in A and X.
+    /// Goes on to the next instruction, with these numbers in A and X.
     Goes(u32, u32),
-    /// On past jt instructions, as a test holds.
+    /// A test holds: skips jt instructions.
     Holds,
-    /// On past jf instructions, as a test fails.
+    /// A test fails: skips jf instructions.
     Fails,
-    /// On past k instructions.
+    /// Skips k instructions.
     Skips,
-    /// The end, with this value.
+    /// Ends, with this value.
     Ends(u32),
 }
 
@@ -71,7 +71,7 @@ fn branch(holds: bool) -> After
 
 /// Executes one instruction that keeps the rules of sound code.
 ///
-/// k is read where it is used, so that it goes from memory straight into the arithmetic.
+/// k is read where it is used, so that it is a memory operand of the arithmetic.
 #[inline(always)]
 pub(crate) fn step(
     registers: Registers,

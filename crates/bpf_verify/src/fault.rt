@@ -1,15 +1,15 @@
 use std::fmt;
 use thiserror::Error;
 
-/// Why code is no sound filter, in the order in which it is looked for. The five faults of a place
-/// are looked for together, the lowest place first. Places count from 0.
+/// Why code is not a sound filter, in the order of the checks. The five faults of a place are checked
+/// together, lowest place first. Places count from 0.
 #[derive(Clone, Copy, Debug, PartialEq, Eq, Error)]
 pub enum Fault {
     /// There are no instructions.
     Empty,
     /// There are more than [`MAX_INSNS`](bpf_code::MAX_INSNS).
     TooLong,
-    /// A load from the call's data that is not of one of its words.
+    /// A load from the call's data at an offset that is not that of a word.
     BadOffset(usize),
     /// A jump to a place outside the code.
     BadJump(usize),
@@ -19,7 +19,7 @@ pub enum Fault {
     BadShift(usize),
     /// A division by the constant 0.
     ZeroDivisor(usize),
-    /// The last instruction is no return.
+    /// The last instruction is not a return.
     NoFinalReturn,
     /// A load of a scratch word that some walk to it did not store.
     Unstored(usize),

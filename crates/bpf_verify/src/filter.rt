@@ -6,7 +6,7 @@ use bpf_code::Insn;
 use std::alloc::{AllocError, Global};
 use std::marker::Model;
 
-/// A sound filter. Whoever holds one needs to check nothing of it.
+/// A sound filter. Its holder has nothing left to check.
 #[derive(Drop)]
 pub struct Filter {
     insns: Vec<Insn>,
@@ -44,7 +44,7 @@ impl Filter {
         self.insns.as_slice()
     }
 
-    /// An equal filter in memory of its own.
+    /// A copy of the filter.
     pub fn try_clone(&self, alloc: Global) -> Result<Filter, AllocError>
         ensures { IfOk result (λ copy. copy ≡ self.now) }
     {

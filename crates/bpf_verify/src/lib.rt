@@ -1,8 +1,8 @@
 //! The verifier of seccomp filters: accepts exactly the sound ones, seccomp(2).
 //!
-//! A `Filter` is sound code, and `verify` alone makes one of a list of instructions; `filter_of` reads
-//! the list first. What sound code is, over all walks through it, stands in `specs/Sound.antt`, which
-//! fault comes first in `specs/Faults.antt`, and for bytes in `specs/Refused.antt`.
+//! A `Filter` is sound code, and `verify` alone makes one of a list of instructions; `filter_of` reads the
+//! list first. `specs/Sound.antt` defines sound code, over all walks through it; `specs/Faults.antt` which
+//! fault comes first, and `specs/Refused.antt` which comes first in bytes.
 #![tactic(auto)]
 
 mod fault;

@@ -12,7 +12,7 @@ use bpf_code::{Flow, Insn, MAX_INSNS};
 impl Filter {
     ghost use Rattle.bpf_verify.specs.Longest.{IsLongest};
 
-    /// The number of places of the longest walk through the code, so that no run takes more steps.
+    /// The number of places on the longest walk through the code. No run takes more steps.
     pub fn longest(&self) -> u32
         ensures { IsLongest self.now result }
     {
@@ -21,10 +21,10 @@ impl Filter {
     }
 }
 
-/// The same, with room for a number for each place.
+/// Computes `longest`, given an array with a number for each place.
 ///
-/// Jumps only go forward, so one pass from the end is enough. It keeps for each place how many places
-/// the longest way on from it has.
+/// Jumps only go forward, so one pass from the end is enough. For each place it keeps how many places the
+/// longest walk from there has.
 fn longest_by(code: &[Insn], ahead: &mut [u16]) -> u32
     requires sound { IsSound code.now }
     requires room { length ahead.old ≡ MAX_INSNS }
@@ -37,7 +37,7 @@ fn longest_by(code: &[Insn], ahead: &mut [u16]) -> u32
     u32::from(ahead[0])
 }
 
-/// The most places of the ways on from the places that may come next.
+/// The most places on a walk from any of the places that may come next.
 fn most_ahead(ahead: &[u16], at: usize, insn: &Insn) -> u16
     requires small { at < MAX_INSNS }
     requires targets { GoesBelow (flow_of insn.now.op) insn.now at (length ahead.now) }

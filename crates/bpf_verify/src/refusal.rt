@@ -19,9 +19,9 @@ use thiserror::Error;
 /// Why the bytes of a filter are refused.
 #[derive(Clone, Copy, Debug, PartialEq, Eq, Error)]
 pub enum Refusal {
-    /// They are no list of instructions, or there was no memory to read them.
+    /// They are not a list of instructions, or there was no memory to read them.
     Code(CodeFault),
-    /// Their instructions are no sound filter.
+    /// Their instructions are not a sound filter.
     Filter(Fault),
 }
 
@@ -41,8 +41,8 @@ impl fmt::Display for Refusal {
 }
 
 /// The filter that these bytes spell, if it is sound: those of its `struct sock_filter`s, one after the
-/// other, little-endian. A fault of the bytes comes before one of the code that they spell.
-/// `Code(Memory)` where a growth was refused, and only for bytes that spell code.
+/// other, little-endian. A fault of the bytes comes before one of the code that they spell. `Code(Memory)` if
+/// an allocation fails, and only for bytes that spell code.
 pub fn filter_of(alloc: Global, bytes: &[u8]) -> Result<Filter, Refusal>
     ensures text { IfOk result (λ filter. IsTextOf bytes.now filter) }
     ensures sound { IfOk result (λ filter. IsSound filter) }
@@ -51,7 +51,7 @@ pub fn filter_of(alloc: Global, bytes: &[u8]) -> Result<Filter, Refusal>
     // A text with a fault is refused for it, whether there is memory or not.
     ensures told { (fault : CodeFault) → HasFault bytes.now fault → result ≡ Err (Refusal.Code fault) }
 
-    // Sound code is accepted, and of other code the first fault is told, where there is memory.
+    // If there is memory, sound code is accepted, and the first fault of other code is reported.
     ensures accepts { (code : List Insn) → IsTextOf bytes.now code → IsSound code
         → result ≢ Err (Refusal.Code CodeFault.Memory) → IsOk result }
     ensures first { (code : List Insn) (fault : Fault) → IsTextOf bytes.now code → length code ≤ MAX_INSNS

@@ -10,7 +10,7 @@ use crate::place::first_broken;
 use crate::words::first_unstored;
 use bpf_code::{Flow, Insn, MAX_INSNS};
 
-/// Takes sound code, and no other. Refused code comes back with its first fault.
+/// Accepts sound code, and no other. Refused code is returned with its first fault.
 pub fn verify(insns: Vec<Insn>) -> Result<Filter, (Vec<Insn>, Fault)>
     ensures sound { IsOk result ↔ IsSound insns.items }
     ensures same { IfOk result (λ filter. filter ≡ insns.items) }
@@ -19,7 +19,7 @@ pub fn verify(insns: Vec<Insn>) -> Result<Filter, (Vec<Insn>, Fault)>
     ensures back { IfErr result (λ refused. refused.0.items ≡ insns.items) }
     ensures first { IfErr result (λ refused. IsFirstFault insns.items refused.1) }
 
-    // Where there is a first fault, it is told.
+    // If there is a first fault, it is reported.
     ensures told { (fault : Fault) → IsFirstFault insns.items fault
         → IsErrAnd result (λ refused. refused.1 ≡ fault) }
 {

@@ -25,10 +25,10 @@ pub(crate) fn first_unstored(code: &[Insn]) -> Option<usize>
     first_unstored_by(code, &mut masks)
 }
 
-/// The same, with room for a mask for each place, all bits of which are set.
+/// Computes `first_unstored`, given an array with a mask for each place, all of whose bits are set.
 ///
-/// Jumps only go forward, so one pass is enough. It keeps for each place a bit for each word that
-/// every walk so far stored; a place that no walk came to has all bits.
+/// Jumps only go forward, so one pass is enough. For each place it keeps a bit for each word that every walk
+/// so far stored; a place that no walk reached has all bits.
 fn first_unstored_by(code: &[Insn], masks: &mut [u16]) -> Option<usize>
     requires some { 0 < length code.now }
     requires short { length code.now ≤ MAX_INSNS }
@@ -75,7 +75,7 @@ fn after(mask: u16, insn: &Insn) -> u16
     }
 }
 
-/// Tells the places that may come next which words are stored on the way through this one.
+/// Passes the words that are stored on the way through this place on to the places that may come next.
 fn pass_on(masks: &mut [u16], at: usize, insn: &Insn, stored: u16)
     requires small { at < MAX_INSNS }
     requires targets { GoesBelow (flow_of insn.now.op) insn.now at (length masks.old) }

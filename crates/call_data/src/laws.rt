@@ -4,7 +4,7 @@ ghost use Rattle.call_data.specs.CallData.{IsCall};
 
 use crate::sys_call::SysCall;
 
-/// What the constants of this crate are, in the standard's own numbers.
+/// The values of this crate's constants, in the standard's own numbers.
 pub fn constants_are_as_stated()
     // linux/audit.h: EM_X86_64 (62), 64 bits, little-endian.
     ensures native_arch { NATIVE_ARCH ≡ 62 + 0x8000_0000 + 0x4000_0000 }

@@ -1,8 +1,7 @@
 //! The data of a system call as a seccomp filter reads it: `struct seccomp_data` of seccomp(2).
 //!
-//! `SysCall` has the fields, `to_bytes` writes the 64 bytes that they are, and `word` and `word_of`
-//! read the 32-bit words that an absolute load can reach. What bytes and words are stands in
-//! `specs/CallData.antt`.
+//! `SysCall` has the fields, `to_bytes` writes the 64 bytes that they are, and `word` and `word_of` read the
+//! 32-bit words that an absolute load can reach. `specs/CallData.antt` defines the bytes and words.
 #![tactic(auto)]
 
 mod laws;

@@ -1,6 +1,6 @@
 use crate::{SysCall, word_of, words_of_fields};
 
-// `clone` of x86-64, each byte of ip and of the second argument another one.
+// `clone` of x86-64. No two bytes of ip are the same, nor of the second argument.
 const CALL: SysCall = SysCall {
     nr: 56,
     arch: 0xc000_003e,

@@ -4,7 +4,8 @@ ghost use Rattle.call_data.specs.CallData.{bytes_of_call, word_at, word_in};
 
 use byteorder::{ByteOrder, LittleEndian};
 
-/// The word at this offset of a call's data that was written before, for who reads many of them.
+/// The word at this offset, in bytes, of a call's data: for callers that write the 64 bytes once and read
+/// many words.
 #[inline]
 pub fn word_of(bytes: &[u8; 64], offset: u32) -> u32
     requires inside { offset < 64 }
@@ -14,8 +15,8 @@ pub fn word_of(bytes: &[u8; 64], offset: u32) -> u32
     LittleEndian::read_u32(&bytes[offset as usize..])
 }
 
-/// Where the fields stand among the words: a call's number and architecture are one word each, an
-/// address and an argument two, the low half first.
+/// Where the fields are among the words: a call's number and architecture are one word each, an address and
+/// an argument two, the low half first.
 pub fn words_of_fields()
     ensures whole { (call : SysCall) → length call.args ≡ 6 → length (bytes_of_call call) ≡ 64 }
     ensures nr { (call : SysCall) → call.nr < 2 ^ 32 → word_at call 0 ≡ call.nr }

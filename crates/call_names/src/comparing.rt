@@ -7,8 +7,8 @@ ghost use Rattle.call_names.specs.Tests.{AreNumberTests, compares_constant, writ
 use bpf_code::{Flow, Insn, MAX_INSNS, Operation};
 use std::alloc::{AllocError, Global};
 
-/// Which instructions compare the call's number with a constant, whatever the way to them. Code need not be
-/// sound; a jump out of it leads nowhere.
+/// Which instructions compare the call's number with a constant, on every walk that reaches them. Code need
+/// not be sound; a jump out of it leads nowhere.
 pub fn number_tests(alloc: Global, code: &[Insn]) -> Result<Vec<bool>, AllocError>
     requires { length code.now ≤ MAX_INSNS }
     ensures { IfOk result (λ tests. AreNumberTests code.now tests.items) }
@@ -20,7 +20,7 @@ pub fn number_tests(alloc: Global, code: &[Insn]) -> Result<Vec<bool>, AllocErro
     tests_by(alloc, code, reached.as_slice(), others.as_slice())
 }
 
-/// The comparisons of a constant that a walk comes to, and with nothing else in A.
+/// The comparisons with a constant that a walk reaches, with nothing but the call's number in A.
 fn tests_by(
     alloc: Global,
     code: &[Insn],
@@ -40,14 +40,14 @@ fn tests_by(
     Ok(tests)
 }
 
-/// Whether a walk comes to it, it compares A with a constant, and nothing but the call's number can be there.
+/// Whether a walk reaches it, it compares A with a constant, and A can only have the call's number.
 fn is_test(insn: &Insn, reached: bool, other: bool) -> bool
     ensures { result ≡ is_test insn.now reached other }
 {
     reached && compares_constant(insn.op) && !other
 }
 
-/// Marks the places that a walk comes to.
+/// Marks the places that a walk reaches.
 fn mark_reached(code: &[Insn], reached: &mut [bool])
     requires short { length code.now ≤ MAX_INSNS }
     requires room { length reached.old ≡ length code.now }
@@ -75,7 +75,7 @@ fn mark_others(code: &[Insn], others: &mut [bool])
     }
 }
 
-/// Goes past the instruction at this place.
+/// Passes on what the instruction at this place does.
 fn pass(others: &mut [bool], at: usize, insn: &Insn)
     requires short { at < MAX_INSNS }
     requires inside { at < length others.old }
@@ -86,7 +86,7 @@ fn pass(others: &mut [bool], at: usize, insn: &Insn)
     }
 }
 
-/// Whether A may hold something else behind the instruction, where it may or may not before.
+/// Whether A may hold something else after the instruction, given whether it may before.
 fn other_after(insn: &Insn, other: bool) -> bool
     ensures { result ≡ other_after insn.now other }
 {
@@ -96,7 +96,7 @@ fn other_after(insn: &Insn, other: bool) -> bool
     }
 }
 
-/// Whether A may be another behind it.
+/// Whether it may change A.
 fn writes_a(op: Operation) -> bool
     ensures { result ≡ writes_a op }
 {
@@ -122,7 +122,7 @@ fn writes_a(op: Operation) -> bool
     }
 }
 
-/// Whether it asks how A stands to a constant; a test of bits is none.
+/// Whether it compares A with a constant. A test of bits does not count.
 fn compares_constant(op: Operation) -> bool
     ensures { result ≡ compares_constant op }
 {

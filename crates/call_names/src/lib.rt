@@ -1,7 +1,7 @@
-//! Where code compares the number of a call, so that its name may stand beside, and calls as they are told by
-//! name: struct seccomp_data of seccomp(2), whose word at offset 0 is the number.
+//! Finds where code compares the number of a call, so that the name can be shown beside it, and shows calls
+//! by name: struct seccomp_data of seccomp(2), whose word at offset 0 is the number.
 //!
-//! Which comparisons are of the number stands in `specs/Tests.antt`, and the texts in `specs/Text.antt`.
+//! `specs/Tests.antt` defines which comparisons are of the number, and `specs/Text.antt` the texts.
 #![tactic(auto)]
 
 mod comparing;

@@ -2,16 +2,16 @@ ghost use Rattle.std.specs.Prelude.{◌≡◌};
 
 use std::fmt;
 
-/// How a call is told.
+/// How a call is shown.
 #[derive(Clone, Copy, Debug, PartialEq, Eq)]
 pub enum Naming {
     /// By its number, decimal.
     Number,
-    /// By its name, where the call table has one.
+    /// By its name, if the call table has one.
     Name,
 }
 
-/// A call, as it is told.
+/// A call, as it is shown.
 #[derive(Clone, Copy, Debug, PartialEq, Eq)]
 pub struct CallWord {
     pub nr: u32,

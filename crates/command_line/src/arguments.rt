@@ -7,7 +7,7 @@ ghost use Rattle.command_line.specs.Arguments.{flag_rule, option_rule, required_
 use clap::{Arg, ArgAction, Command};
 use std::alloc::{AllocError, Global};
 
-/// The version of the programs, as `--version` tells it.
+/// The version of the programs, as `--version` prints it.
 pub const VERSION: &str = "0.1.0";
 
 /// The command line of a program, with `--version`.
@@ -30,7 +30,7 @@ pub(crate) fn with_option<'a>(
     command.arg(Arg::new(alloc, id).long(id).value_name(value).help(help))
 }
 
-/// An option with a value that has to be there.
+/// A required option, with a value.
 pub(crate) fn with_required<'a>(
     alloc: Global,
     command: Command<'a>,
@@ -66,7 +66,7 @@ pub(crate) fn with_flag<'a>(
     )
 }
 
-/// Words that stand by themselves.
+/// Positional arguments.
 pub(crate) fn with_words<'a>(
     alloc: Global,
     command: Command<'a>,

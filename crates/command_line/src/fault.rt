@@ -1,7 +1,7 @@
 use std::alloc::AllocError;
 use std::fmt;
 
-/// Why a word does not go with the rest of its line.
+/// Why an option does not go with the rest of the line.
 #[derive(Clone, Copy, Debug, PartialEq, Eq)]
 pub enum Misfit {
     /// The option is for a runtime in the same process, which the line does not ask for.
@@ -10,13 +10,13 @@ pub enum Misfit {
     WithoutSettle,
     /// The option is for a run that goes on, and the line asks for one that ends once its pods are over.
     WithSettle,
-    /// The option says how something is told, and nothing is.
+    /// The option says how something is printed, and nothing is.
     NothingToTell,
-    /// The line has to have such a word.
+    /// The line requires such a word.
     Missing,
 }
 
-/// The misfit's name.
+/// The name of the fault.
 impl fmt::Display for Misfit {
     ghost use Rattle.std.specs.Prelude.{Some};
     ghost use Rattle.command_line.specs.Faults.{misfit_text};
@@ -34,16 +34,16 @@ impl fmt::Display for Misfit {
     }
 }
 
-/// Why a command line says nothing that a program could do.
+/// Why a command line is refused.
 #[derive(Debug, Drop)]
 pub enum LineFault<'a> {
-    /// clap refuses it, in clap's own words; that help was asked for counts as refused.
+    /// clap refuses it, with clap's message. A request for help counts as refused.
     Refused(clap::Error),
-    /// The first word that writes no number, or one out of its range.
+    /// The first word that is not a number, or is out of its range.
     BadNumber(&'a str),
-    /// This word does not go with the others, or has to be there.
+    /// This option does not go with the others, or is required and missing.
     Misfit(&'static str, Misfit),
-    /// A growth was refused.
+    /// An allocation failed.
     Memory,
 }
 

@@ -1,6 +1,6 @@
-//! Command lines of the programs: the numbers that their words write, and what the lines of `scriptd` and
-//! `nodeagent` say. Which words a line takes is clap's; what it says of them stands in `specs/`, over the
-//! matches that clap's definition of a simple command gives.
+//! Command lines of the programs: how numbers are read, and the options of `scriptd` and `nodeagent`. clap
+//! decides which words a line may have; `specs/` defines what they mean, over the matches that clap's
+//! definition of a simple command gives.
 #![tactic(auto)]
 
 mod arguments;

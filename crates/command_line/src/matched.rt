@@ -6,7 +6,7 @@ ghost use Rattle.command_line.specs.Arguments.{folder_of, has_words, is_set, is_
 
 use clap::ArgMatches;
 
-/// The word behind an option.
+/// The value of an option.
 #[tactic(auto, using(crate::proofs::Rows::first))]
 pub(crate) fn word_at<'a>(matches: &ArgMatches<'a>, id: &str) -> Option<&'a str>
     ensures { option_map (λ w. w.now) result ≡ first_of id.now (rows_of (found_of matches.now)) }
@@ -14,7 +14,7 @@ pub(crate) fn word_at<'a>(matches: &ArgMatches<'a>, id: &str) -> Option<&'a str>
     matches.get_str(id)
 }
 
-/// The word behind an option that clap wants to be there.
+/// The value of a required option.
 pub(crate) fn required_at<'a>(matches: &ArgMatches<'a>, id: &str) -> &'a str
     ensures { result.now ≡ word_of id.now (rows_of (found_of matches.now)) }
 {
@@ -28,28 +28,28 @@ pub(crate) fn folder_at<'a>(matches: &ArgMatches<'a>, id: &str) -> &'a str
     word_at(matches, id).unwrap_or(".")
 }
 
-/// Whether a flag stands on the line. clap gives it the word true or false.
+/// Whether a flag is given. clap gives it the value true or false.
 pub(crate) fn is_set(matches: &ArgMatches, id: &str) -> bool
     ensures { result ≡ is_set id.now (rows_of (found_of matches.now)) }
 {
     word_at(matches, id).unwrap_or("") == "true"
 }
 
-/// Whether an option with a word behind it stands on the line.
+/// Whether an option with a value is given.
 pub(crate) fn is_there(matches: &ArgMatches, id: &str) -> bool
     ensures { result ≡ is_there id.now (rows_of (found_of matches.now)) }
 {
     word_at(matches, id).is_some()
 }
 
-/// Whether a word stands by itself.
+/// Whether there are positional arguments.
 pub(crate) fn has_words(matches: &ArgMatches, id: &str) -> bool
     ensures { result ≡ has_words id.now (rows_of (found_of matches.now)) }
 {
     words_at(matches, id).is_some()
 }
 
-/// The words that stand by themselves.
+/// The positional arguments.
 #[tactic(auto, using(crate::proofs::Rows::all))]
 pub(crate) fn words_at<'m, 'a>(matches: &'m ArgMatches<'a>, id: &str) -> Option<&'m [&'a str]>
     ensures { option_map (λ s. map (λ w. w.now) s.now) result

@@ -19,7 +19,7 @@ use crate::written::{number_if_there, number_within};
 use clap::{ArgMatches, Command};
 use std::alloc::{AllocError, Global};
 
-/// The numbers of a line.
+/// The numeric options of a line.
 #[derive(Clone, Copy, Debug)]
 pub struct Numbers {
     /// How many threads make the pods' requests, from 1 to 64.
@@ -45,37 +45,36 @@ pub struct NodeagentLine<'a> {
     pub profiles: &'a str,
     /// The file of the node's own filter.
     pub baseline: Option<&'a str>,
-    /// Whether a container that says nothing gets RuntimeDefault.
+    /// Whether a container without a seccomp profile gets RuntimeDefault.
     pub seccomp_default: bool,
     pub numbers: Numbers,
-    /// Whether the clock is a counter, and the program ends once every pod is over.
+    /// Whether the clock is virtual, and the program ends once every pod is over.
     pub settle: bool,
-    /// The folder whose manifests come and go with their files.
+    /// The folder of manifests whose pods come and go with the files.
     pub pods: Option<&'a str>,
-    /// What the uids end with that no manifest gives.
+    /// The suffix of uids that no manifest gives.
     pub run: Option<&'a str>,
-    /// Whether the pods are taken away again at the end.
+    /// Whether the pods are removed from the runtime at the end.
     pub remove: bool,
-    /// Whether the table tells why containers wait.
+    /// Whether the table shows why containers wait.
     pub reasons: bool,
-    /// Whether each change of a pod or a container is told.
+    /// Whether each change of a pod or a container is printed.
     pub watch: bool,
-    /// Whether the table and the changes are told as JSON.
+    /// Whether the table and the changes are printed as JSON.
     pub json: bool,
-    /// Whether each event is told on standard error.
+    /// Whether each event is logged on standard error.
     pub verbose: bool,
-    /// The files of the pods' manifests, one at least where there is no folder of them.
+    /// The files of the pods' manifests: at least one, unless there is a folder of them.
     pub manifests: Vec<&'a str>,
 }
 
-/// What the words say, the program's name first.
+/// Reads the words of a command line, the program's name first.
 #[tactic(auto, using(crate::proofs::Simple::nodeagent_is_simple, crate::proofs::Simple::nodeagent_is_free))]
 pub fn nodeagent_line<'a>(
     alloc: Global,
     words: &'a [String],
 ) -> Result<NodeagentLine<'a>, LineFault<'a>>
-    // A line is said exactly where clap takes the words and all of their numbers are in range, but for want
-    // of memory.
+    // A line is returned exactly if clap takes the words and all of their numbers are in range, memory aside.
     ensures taken { IfOk result (λ _. fault_of nodeagent (map string_bytes words.now) ≡ []) }
     ensures line { IfOk result (λ line. nodeagent_in (matches_of nodeagent (map string_bytes words.now))
         ≡ Ok (nodeagent_of line)) }
@@ -263,7 +262,7 @@ fn misfit(matches: &ArgMatches) -> Option<(&'static str, Misfit)>
     }
 }
 
-// Whether the folder is named, and no runtime would look into it.
+// Whether the folder is given although no runtime would use it.
 fn reads_nothing(matches: &ArgMatches, folder: &str) -> bool
     ensures { result ≡ reads_nothing folder.now (rows_of (found_of matches.now)) }
 {
@@ -342,7 +341,7 @@ fn said<'a>(
     })
 }
 
-/// A list of the words that were lent.
+/// A list of the borrowed words.
 fn listed<'a>(alloc: Global, words: Option<&[&'a str]>) -> Result<Vec<&'a str>, AllocError>
     ensures { IfOk result (λ list. map (λ w. w.now) list.items
         ≡ unwrap_or (option_map (λ s. map (λ w. w.now) s.now) words.entry) []) }

@@ -28,18 +28,17 @@ pub struct ScriptdLine<'a> {
     pub baseline: Option<&'a str>,
     /// How many threads step the containers, from 1 to 64.
     pub runners: u32,
-    /// Whether each event is told on standard error.
+    /// Whether each event is logged on standard error.
     pub verbose: bool,
 }
 
-/// What the words say, the program's name first.
+/// Reads the words of a command line, the program's name first.
 #[tactic(auto, using(crate::proofs::Simple::scriptd_is_simple, crate::proofs::Simple::scriptd_is_free))]
 pub fn scriptd_line<'a>(
     alloc: Global,
     words: &'a [String],
 ) -> Result<ScriptdLine<'a>, LineFault<'a>>
-    // A line is said exactly where clap takes the words and all of their numbers are in range, but for want
-    // of memory.
+    // A line is returned exactly if clap takes the words and all of their numbers are in range, memory aside.
     ensures taken { IfOk result (λ _. fault_of scriptd (map string_bytes words.now) ≡ []) }
     ensures line { IfOk result (λ line. scriptd_in (matches_of scriptd (map string_bytes words.now))
         ≡ Ok (scriptd_of line)) }
@@ -81,7 +80,7 @@ fn stepping<'a>(alloc: Global, command: Command<'a>) -> Result<Command<'a>, Allo
     )
 }
 
-/// The options of whoever runs containers.
+/// The options of a program that runs containers.
 pub(crate) fn serving<'a>(alloc: Global, command: Command<'a>) -> Result<Command<'a>, AllocError>
     ensures { IfOk result (λ c. app_of c ≡ serving (app_of command.entry)) }
 {

@@ -1,10 +1,10 @@
-// Each answers, where a word writes no number of its range, that word.
+// Each returns as its error the word that is not a number in the range.
 ghost use Rattle.std.specs.Prelude.{◌≡◌, ◌^◌, option_map};
 ghost use Rattle.command_line.specs.Words.{between, told, written_if_there, written_or, written_within};
 
 use crate::number::{number_of, word_of};
 
-/// The number of a word below 2^32, or the default where it is left out.
+/// The number of a word below 2^32, or the default if it is left out.
 pub fn word_or(default: u32, word: Option<&str>) -> Result<u32, &str>
     ensures { told result ≡ written_or (2 ^ 32) default (option_map (λ w. w.now) word.entry) }
 {
@@ -14,7 +14,7 @@ pub fn word_or(default: u32, word: Option<&str>) -> Result<u32, &str>
     }
 }
 
-/// The number of a word below 2^64, or the default where it is left out.
+/// The number of a word below 2^64, or the default if it is left out.
 pub fn number_or(default: u64, word: Option<&str>) -> Result<u64, &str>
     ensures { told result ≡ written_or (2 ^ 64) default (option_map (λ w. w.now) word.entry) }
 {
@@ -24,7 +24,7 @@ pub fn number_or(default: u64, word: Option<&str>) -> Result<u64, &str>
     }
 }
 
-/// The number of a word, from the least to the most, or the default where the word is left out.
+/// The number of a word, from the least to the most, or the default if the word is left out.
 pub fn number_within(least: u32, most: u32, default: u32, word: Option<&str>) -> Result<u32, &str>
     ensures { told result ≡ written_within least most default (option_map (λ w. w.now) word.entry) }
 {

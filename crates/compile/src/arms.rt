@@ -11,13 +11,13 @@ ghost use Rattle.compile.specs.Sizes.{added_of, steps_at};
 use oci_profile::{Cond, Entry, Op};
 use std::alloc::{AllocError, Global};
 
-/// An entry that asks for nothing but where one argument lies.
+/// An entry whose only condition compares one argument without a mask.
 #[derive(Clone, Copy)]
 pub(crate) struct Arm {
     pub(crate) op: Op,
     /// What the argument is compared with.
     pub(crate) with: u64,
-    /// What is returned where it compares so.
+    /// What is returned if the comparison holds.
     pub(crate) value: u32,
 }
 
@@ -36,7 +36,7 @@ impl Arm {
         }
     }
 
-    /// A number up to which the arm holds as it does at this one, or does not hold as it does not here.
+    /// A number up to which the arm gives the same answer as at this one.
     fn reach(&self, from: u64) -> u64
         ensures from_in { from ≤ result }
         ensures alike { (arg : ℕ) → from ≤ arg → arg ≤ result
@@ -63,7 +63,7 @@ impl Arm {
     }
 }
 
-/// The last number below an edge, or the last of all behind it.
+/// The last number below an edge, or the last of all if `from` is not below it.
 fn below(from: u64, edge: u64) -> u64
     ensures from_in { from ≤ result }
     ensures before { from < edge → result + 1 ≡ edge }
@@ -83,7 +83,7 @@ pub(crate) fn value_at(arms: &[Arm], arg: u64, other: u32) -> u32
     other
 }
 
-/// The last argument, up to one, to which from this one on the same is returned.
+/// The last argument, at most `last`, such that the same is returned for all arguments from `from` to it.
 pub(crate) fn alike_to(arms: &[Arm], from: u64, last: u64) -> u64
     requires { from ≤ last }
     ensures inside { (from ≤ result) × (result ≤ last) }
@@ -97,7 +97,7 @@ pub(crate) fn alike_to(arms: &[Arm], from: u64, last: u64) -> u64
     end
 }
 
-/// The entry as an arm, if it asks this argument where it lies, and nothing else.
+/// The entry as an arm, if its only condition compares this argument without a mask.
 fn arm_of(entry: &Entry, index: u32) -> Option<Arm>
     ensures index_in { IfSome result (λ _. index < 6) }
     ensures one { IfSome result (λ _. length entry.now.conds ≡ 1) }
@@ -116,7 +116,7 @@ fn arm_of(entry: &Entry, index: u32) -> Option<Arm>
     })
 }
 
-/// The argument that the first of these entries asks that names the number and has conditions.
+/// The argument that is compared by the first of these entries that names the number and has conditions.
 fn asked(entries: &[Entry], nr: u32) -> u32 {
     for entry in entries {
         if let ([cond, ..], true) = (entry.conds.as_slice(), entry.names(nr)) {
@@ -134,8 +134,8 @@ pub(crate) struct Arms {
     pub(crate) arms: Vec<Arm>,
 }
 
-/// The entries that name the number as arms, if each of them asks the same argument where it lies, and
-/// nothing else.
+/// The entries that name the number, as arms, if each has just one condition, on the same argument and
+/// without a mask.
 pub(crate) fn asked_arms(
     alloc: Global,
     entries: &[Entry],

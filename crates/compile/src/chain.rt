@@ -15,27 +15,27 @@ use crate::halves::{high, low, test_word, words};
 use oci_profile::{Cond, Entry, Op};
 use std::alloc::AllocError;
 
-/// What a place asks for that tests the low half of an argument without loading it.
+/// What a place relies on that tests the low half of an argument without loading it.
 #[derive(Clone, Copy)]
 pub(crate) struct Known {
     /// Which argument: A has to hold its low half.
     pub(crate) index: u32,
-    /// The high half that is checked for behind the low one.
+    /// The high half that is checked for after the low one.
     pub(crate) high: u32,
-    /// What is returned where the high half is that.
+    /// What is returned if the high half matches.
     pub(crate) value: u32,
     /// The place of this check.
     pub(crate) check: usize,
 }
 
-/// The entries of a number that were put so far. The next one is put in front of this place.
+/// The entries of a number emitted so far. The next one is put in front of this place.
 #[derive(Clone, Copy)]
 pub(crate) struct Chain {
     pub(crate) place: usize,
     pub(crate) known: Option<Known>,
 }
 
-/// The place of a chain whatever is in A: the load that is still to come is put in front.
+/// The place of a chain whatever is in A: a pending load is put in front.
 pub(crate) fn settle(code: &mut Code, chain: Chain) -> Result<usize, AllocError>
     requires stands { Stands code.old chain.known chain.place }
     ensures gives { IfOk result (λ at. (call : SysCall) (value most : ℕ)
@@ -53,8 +53,8 @@ pub(crate) fn settle(code: &mut Code, chain: Chain) -> Result<usize, AllocError>
     }
 }
 
-/// Tests the conditions from this one on, the last one first: goes on at one place where all hold, else at
-/// the other.
+/// Tests the conditions from this one on, the last one first: branches to one place if all hold, else to the
+/// other.
 fn test_all(
     code: &mut Code,
     conds: &[Cond],
@@ -85,7 +85,7 @@ fn test_all(
     test_condition(code, &conds[from], rest, miss)
 }
 
-/// The argument and the number of an entry that asks for nothing but that they are equal.
+/// The argument and the number of an entry whose only condition is that they are equal.
 fn only_equal(entry: &Entry) -> Option<(u32, u64)>
     ensures index_in { IfSome result (λ asked. asked.0 < 6) }
     ensures one { IfSome result (λ _. length entry.now.conds ≡ 1) }
@@ -105,7 +105,7 @@ fn is_equal(op: Op) -> bool
     matches!(op, Op::Equal)
 }
 
-/// The place of the check that the chain makes already, if it is this one and is near.
+/// The place of the check that the chain has already, if it is this one and is near enough.
 fn shared(known: Option<Known>, len: usize, index: u32, high: u32, value: u32) -> Option<usize>
     ensures same { IfSome result (λ check.
         known ≡ Some (record { index = index; high = high; value = value; check = check })) }
@@ -120,8 +120,8 @@ fn shared(known: Option<Known>, len: usize, index: u32, high: u32, value: u32) -
     }
 }
 
-/// The place of a check of the high half of an argument, and one for where its low half, which is in A, is
-/// another one already. Where the chain makes this check, it is shared.
+/// The place of a check of an argument's high half, and the place to go to if its low half, which is in A,
+/// already differs. If the chain has this check, it is shared.
 fn check_of(
     code: &mut Code,
     chain: Chain,
@@ -154,8 +154,9 @@ fn check_of(
     Ok((check, miss))
 }
 
-/// Puts an entry in front that asks for an argument to be a number. Where the one before asks for the same
-/// high half of the same argument, and returns the same, the check of the high half is shared.
+/// Puts an entry in front whose condition is that an argument equals a number. If the one before compares the
+/// same argument with a number of the same high half, and returns the same, the check of the high half is
+/// shared.
 fn equal_link(
     code: &mut Code,
     index: u32,
@@ -189,7 +190,7 @@ fn equal_link(
     Ok(Chain { place, known })
 }
 
-/// Puts an entry in front that the number leads to.
+/// Puts in front an entry that names the number.
 pub(crate) fn add_link(code: &mut Code, entry: &Entry, chain: Chain) -> Result<Chain, AllocError>
     requires stands { Stands code.old chain.known chain.place }
     ensures gives { IfOk result (λ next. (call : SysCall) (other most : ℕ) → IsCall call → 0 < most

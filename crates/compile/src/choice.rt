@@ -7,7 +7,8 @@ ghost use Rattle.compile.specs.Ranges.{IsBetween};
 use crate::code::{Code, REACH, Test};
 use std::alloc::AllocError;
 
-/// Whether these are three ranges of which the outer ones lead to one place and the inner one has one number.
+/// Whether these are three ranges, the outer two leading to the same place and the inner one having one
+/// number.
 fn is_point(starts: &[u32], places: &[usize], from: usize, to: usize) -> bool
     requires some { from < to }
     requires to_in { to ≤ length starts.now }
@@ -22,7 +23,7 @@ fn is_point(starts: &[u32], places: &[usize], from: usize, to: usize) -> bool
     starts[from + 2] - starts[from + 1] == 1 && places[from] == places[from + 2]
 }
 
-/// The place between two that leaves as many on both sides, or one more on the second.
+/// The middle between two places. The second half may have one more.
 fn half_way(from: usize, to: usize) -> usize
     requires { from + 1 < to }
     ensures inside { (from < result) × (result < to) }
@@ -31,7 +32,7 @@ fn half_way(from: usize, to: usize) -> usize
     from + (to - from) / 2
 }
 
-/// Goes on at the place of the range, of these from one to another, in which the word lies that is in A.
+/// Branches to the place of the range, among these, that contains the word in A.
 pub(crate) fn choice(
     code: &mut Code,
     starts: &[u32],

@@ -19,8 +19,8 @@ use std::marker::Model;
 /// How many instructions a branch can skip.
 pub(crate) const REACH: usize = 255;
 
-/// Among how many of the latest instructions a return is looked for to be shared: so few that the
-/// branches that are put in front of it next reach it.
+/// How many of the latest instructions are searched for a return to share: few enough that the branches that
+/// are put in front next still reach it.
 pub(crate) const RECENT: usize = 200;
 
 /// What a branch tests of A.
@@ -43,8 +43,8 @@ impl Test {
     }
 }
 
-/// Code that is built from its last instruction to its first. A place is the number of instructions
-/// behind one, so that it stays as it is while more is put in front.
+/// Code that is built from its last instruction to its first. A place is the number of instructions after
+/// one, so it does not change while more are put in front.
 #[derive(Drop)]
 pub(crate) struct Code {
     insns: Vec<Insn>,
@@ -156,7 +156,7 @@ impl Code {
         })
     }
 
-    /// Keeps these bits of A alone, and goes on with the code.
+    /// Keeps only these bits of A, and goes on with the code.
     pub(crate) fn mask(&mut self, bits: u32) -> Result<usize, AllocError>
         requires some { 0 < length self.old }
         ensures gives { OnOk result ((call : SysCall) (a value most : ℕ)
@@ -175,7 +175,7 @@ impl Code {
         })
     }
 
-    /// Goes on at one place where the test of A holds, else at the other.
+    /// Branches to one place if the test of A holds, else to the other.
     pub(crate) fn jump(
         &mut self,
         test: Test,
@@ -204,8 +204,8 @@ impl Code {
         })
     }
 
-    /// A place that does what this one does, with at most so many instructions between it and the next
-    /// one that is put in front.
+    /// A place that does what this one does, with at most `reach` instructions between it and the next one
+    /// that is put in front.
     pub(crate) fn near(&mut self, place: usize, reach: usize) -> Result<usize, AllocError>
         requires inside { place < length self.old }
         requires within { reach ≤ REACH }
@@ -237,7 +237,7 @@ impl Code {
         })
     }
 
-    /// The filter that it is, from the instruction that was put last.
+    /// The finished filter, which starts at the instruction that was put last.
     pub(crate) fn filter(self) -> Filter
         requires some { 0 < length self }
         requires short { length self ≤ MAX_INSNS }

@@ -65,7 +65,7 @@ fn assemble(
     Ok(code.filter())
 }
 
-/// For how many ranges the tree has room: where there are conditions two levels more than are needed, so
+/// How many ranges the tree has room for. If there are conditions, it has two levels more than are needed, so
 /// that numbers with conditions can be found by fewer tests than the others.
 fn room(profile: &Profile, many: usize) -> usize
     ensures bare { AreBare profile.now.entries → result ≡ many }
@@ -118,9 +118,10 @@ fn light_filter(alloc: Global, profile: &Profile) -> Result<Filter, AllocError>
 /// Compiles a profile to a filter.
 ///
 /// A tree finds the call's number among ranges of numbers that the profile treats alike; a number with
-/// conditions leads to its entries in order, or to a choice among ranges of the one argument that they ask.
+/// conditions leads to its entries in order, or to a choice among ranges of the one argument that they
+/// compare.
 pub fn compile(alloc: Global, profile: &Profile) -> Result<Filter, CompileFault>
-    // Told whether there is memory or not; what else is refused is refused for want of memory.
+    // Reported even if memory runs out. The only other reason for a refusal is lack of memory.
     ensures long { (result ≡ Err CompileFault.TooLong) ↔ (MAX_INSNS < weight profile.now) }
     ensures sound { IfOk result (λ filter. IsSound filter) }
 
@@ -131,14 +132,14 @@ pub fn compile(alloc: Global, profile: &Profile) -> Result<Filter, CompileFault>
     ensures means { IfOk result (λ filter. (call : SysCall) → IsCall call → (steps : ℕ)
         × Runs filter call (meaning profile.now call) steps) }
 
-    // Where no entry has conditions, two steps for each binary digit of 2 w + 1 are enough, and five more;
-    // w counts the numbers that are named, each once.
+    // If no entry has conditions, two steps for each binary digit of 2 w + 1, and five more, are enough; w
+    // counts the numbers that are named, each once.
     ensures few { IfOk result (λ filter. AreBare profile.now.entries → (call : SysCall) (d : ℕ) → IsCall call
         → HasDigits (2 * named_below profile.now.entries NUMBER_LIMIT + 1) d → (steps : ℕ)
         × (steps ≤ 5 + 2 * d) × Runs filter call (meaning profile.now call) steps) }
 
-    // Where the entries that name a number have at most m conditions, whatever the number is, it is six steps
-    // more for each of these, and five more in all.
+    // If the entries that name a number have at most m conditions, for every number, there are six steps more
+    // for each of these, and five more in all.
     ensures bounded { IfOk result (λ filter. (call : SysCall) (d m : ℕ) → IsCall call
         → HasDigits (2 * named_below profile.now.entries NUMBER_LIMIT + 1) d
         → ((nr : ℕ) → conditions_at profile.now.entries nr ≤ m)

@@ -10,8 +10,8 @@ use crate::halves::{test_equal, test_from, test_masked};
 use oci_profile::{Cond, Op};
 use std::alloc::AllocError;
 
-/// Tests a condition: goes on at one place where it holds of the call, else at the other. Of each two
-/// opposites one is tested.
+/// Tests a condition: branches to one place if it holds of the call, else to the other. Of each two opposite
+/// comparisons only one is emitted.
 pub(crate) fn test_condition(
     code: &mut Code,
     cond: &Cond,

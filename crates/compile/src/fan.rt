@@ -13,7 +13,7 @@ use crate::halves::{test_word, words};
 use crate::plan::Plan;
 use std::alloc::{AllocError, Global};
 
-/// What is returned in a range: where the upper half is not the plan's, what is returned for others.
+/// Returns the value of a range, or the value for other upper halves if the upper half is not the plan's.
 fn checked(code: &mut Code, plan: &Plan, value: u32) -> Result<usize, AllocError>
     requires index_in { plan.now.index < 6 }
     ensures gives { IfOk result (λ at. (call : SysCall)
@@ -33,7 +33,7 @@ fn checked(code: &mut Code, plan: &Plan, value: u32) -> Result<usize, AllocError
     test_word(code, 20 + 8 * plan.index, Test::Equal, plan.high, hit, miss)
 }
 
-/// A place of these values where this one stands.
+/// An index at which these values have this one.
 fn earlier(values: &[u32], value: u32) -> Option<usize>
     ensures some { IfSome result (λ at. (at < length values.now) × (slice_index values.now at ≡ value)) }
     ensures none { result ≡ None → list_any (λ other. other == value) values.now ≡ false }
@@ -95,8 +95,8 @@ fn leaves(code: &mut Code, alloc: Global, plan: &Plan) -> Result<Vec<usize>, All
     Ok(places)
 }
 
-/// Puts the choice that a plan is: by the lower half first, and where something else is returned than for
-/// other upper halves, by the upper one.
+/// Emits a plan's choice: by the lower half first, and by the upper half where the value differs from that of
+/// other upper halves.
 pub(crate) fn fan(code: &mut Code, alloc: Global, plan: &Plan) -> Result<usize, AllocError>
     requires index_in { plan.now.index < 6 }
     requires whole { AreWhole plan.now.starts.items plan.now.values.items }

@@ -26,7 +26,7 @@ pub(crate) fn low(number: u64) -> u32
     (number & 0xffff_ffff) as u32
 }
 
-/// Where a call's number, its architecture and the halves of its arguments stand among its words.
+/// Where a call's number, its architecture and the halves of its arguments are among its words.
 #[tactic(auto, unfolding(crate::specs::Backward::data_word))]
 pub(crate) fn words()
     ensures nr { (call : SysCall) → IsCall call → data_word call 0 ≡ call.nr }
@@ -66,7 +66,7 @@ pub(crate) fn test_word(
     code.load(offset)
 }
 
-/// Tests whether the bits of a word that stand in the mask are a number.
+/// Tests whether a word under a mask is a number.
 fn test_bits(
     code: &mut Code,
     offset: u32,
@@ -95,7 +95,7 @@ fn test_bits(
     code.load(offset)
 }
 
-/// Goes on at one of three places, as a word is above, equal to or below a number.
+/// Branches to one of three places, as a word is above, equal to or below a number.
 fn test_order(
     code: &mut Code,
     offset: u32,
@@ -156,7 +156,8 @@ pub(crate) fn test_equal(
 
 /// Tests whether an argument is above a number, or at least as large.
 ///
-/// An argument is at least a number with a lower half of 0 where its upper half is at least that one's.
+/// If the number's lower half is 0, the argument is at least that number exactly if its upper half is at
+/// least the number's.
 pub(crate) fn test_from(
     code: &mut Code,
     index: u32,
@@ -196,8 +197,8 @@ fn is_from(test: Test) -> bool
     matches!(test, Test::GreaterOrEqual)
 }
 
-/// Tests whether the bits of an argument that stand in the mask are a number. A half of which nothing is
-/// asked is left out.
+/// Tests whether an argument under a mask is a number. A half whose mask is 0 is left out where the number's
+/// half is 0.
 pub(crate) fn test_masked(
     code: &mut Code,
     index: u32,

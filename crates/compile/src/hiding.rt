@@ -7,8 +7,8 @@ ghost use Rattle.compile.specs.Chains.{IsHidden};
 
 use oci_profile::{Cond, Entry, Op};
 
-/// Whether an entry before this one applies wherever this one does, as it does to no call of a number that it
-/// does not name.
+/// Whether an earlier entry applies wherever this one does, or this one does not name the number and so never
+/// applies.
 pub(crate) fn is_hidden(before: &[Entry], entry: &Entry, nr: u32) -> bool
     ensures { IsTrue result → (call : SysCall) → IsHidden before.now entry.now nr call }
 {
@@ -23,7 +23,7 @@ pub(crate) fn is_hidden(before: &[Entry], entry: &Entry, nr: u32) -> bool
     false
 }
 
-/// Whether an entry has one condition alone, which the other one has too.
+/// Whether the earlier entry has just one condition, which the other one has too.
 fn hides(earlier: &Entry, entry: &Entry) -> bool
     ensures { IsTrue result → (call : SysCall) → all_hold entry.now call ≡ true
         → all_hold earlier.now call ≡ true }

@@ -20,7 +20,7 @@ use crate::plan::plan_for;
 use oci_profile::{Decision, Entry, Profile, X32_BIT};
 use std::alloc::{AllocError, Global};
 
-/// Whether the entry decides of the number without a condition.
+/// Whether the entry decides the number without a condition.
 pub(crate) fn decides(entry: &Entry, nr: u32) -> bool
     ensures yes { IsTrue result → (names entry.now nr ≡ true) × IsBare entry.now }
     ensures no { OnFalse result (IsBare entry.now → names entry.now nr ≡ false) }
@@ -28,8 +28,8 @@ pub(crate) fn decides(entry: &Entry, nr: u32) -> bool
     entry.names(nr) && entry.conds.as_slice().is_empty()
 }
 
-/// How many entries come before the first that decides of the number without a condition, and what is
-/// decided behind them. What follows it is never asked.
+/// How many entries come before the first that decides the number without a condition, and the decision after
+/// them. Later entries are never reached.
 fn bare_end(entries: &[Entry], default: Decision, nr: u32) -> (usize, Decision)
     ensures same { (call : SysCall) → decision_of entries.now default nr call
         ≡ decision_of (take result.0 entries.now) result.1 nr call }
@@ -118,7 +118,7 @@ fn chain_leaf(
     settle(code, chain)
 }
 
-/// The same, as a choice by one argument where that is no longer.
+/// Emits what `chain_leaf` does, as a choice by one argument if that is no longer.
 fn entries_leaf(
     code: &mut Code,
     alloc: Global,

@@ -1,7 +1,7 @@
 //! Compiles seccomp profiles to classic BPF filters: OCI runtime-spec 1.1, config-linux, seccomp.
 //!
 //! A filter's value is what its profile says, `specs/Meaning.antt` of `oci_profile`, at every call. Code is
-//! built from its end, where a place stays as it is while more is put in front (`code.rt`): first a number's
+//! built from its end, so that places do not change while more is put in front (`code.rt`): first a number's
 //! entries (`leaf.rt`), in tests of 32-bit halves, one after another (`chain.rt`) or as a choice by one
 //! argument (`fan.rt`), then a tree over ranges of numbers that are treated alike (`tree.rt`), then the test
 //! of the architecture (`compiler.rt`).

@@ -16,14 +16,14 @@ use bpf_code::MAX_INSNS;
 use oci_profile::{Decision, Entry, Op};
 use std::alloc::{AllocError, Global};
 
-/// A choice by one argument: by its lower half, where its upper half is one number.
+/// A choice by one argument: by its lower half, if its upper half is one certain number.
 #[derive(Drop)]
 pub(crate) struct Plan {
     /// Which argument.
     pub(crate) index: u32,
     /// The upper half.
     pub(crate) high: u32,
-    /// What is returned where the upper half is another one.
+    /// What is returned if the upper half is another one.
     pub(crate) beyond: u32,
     /// The starts of ranges of lower halves, and what is returned in each.
     pub(crate) starts: Vec<u32>,
@@ -75,7 +75,7 @@ fn stands_in(values: &[u32], value: u32) -> bool
     values.iter().any(|other| *other == value)
 }
 
-/// How many instructions a plan's returns take, checks of the upper half with them.
+/// How many instructions a plan's returns take, including checks of the upper half.
 #[tactic(auto, unfolding(crate::specs::Arms::leaf_sizes))]
 fn size(values: &[u32], beyond: u32) -> usize
     requires { length values.now ≤ 2 ^ 32 }
@@ -89,7 +89,7 @@ fn size(values: &[u32], beyond: u32) -> usize
     size
 }
 
-/// How many the value of one range takes: none where a range before returns the same.
+/// How many the value of one range takes: none if a range before returns the same.
 fn returned(values: &[u32], beyond: u32, at: usize) -> usize
     requires { at < length values.now }
     ensures size { result ≡ leaf_size values.now beyond at }
@@ -101,7 +101,7 @@ fn returned(values: &[u32], beyond: u32, at: usize) -> usize
     if values[at] == beyond { 1 } else { 4 }
 }
 
-/// Whether a chain is as short: a few equalities that share their check of the upper half.
+/// Whether a chain is as short, as for a few equalities that share their check of the upper half.
 fn is_chain(arms: &[Arm]) -> bool
     ensures { OnFalse result (0 < length arms.now) }
 {
@@ -151,7 +151,7 @@ fn plan_of(alloc: Global, asked: &Arms, other: u32) -> Result<Option<Plan>, Allo
     }))
 }
 
-/// Whether a choice among these ranges is no longer than so many links of a chain may be, and no slower.
+/// Whether a choice among these ranges is no longer than a chain of `links` links may be, and no slower.
 fn is_small(lows: &Lows, beyond: u32, links: usize) -> bool
     requires values { length lows.now.values.items ≤ 2 ^ 32 }
     requires starts { length lows.now.starts.items ≤ 2 ^ 32 }
@@ -166,8 +166,8 @@ fn is_small(lows: &Lows, beyond: u32, links: usize) -> bool
     size(lows.values.as_slice(), beyond) + 3 * many <= 7 * links + 3
 }
 
-/// The plan for the entries that name a number, if they ask one argument alone where it lies, and it is
-/// no longer and no slower than their chain may be.
+/// The plan for the entries that name a number, if all compare just one argument without a mask, and the plan
+/// is no longer and no slower than their chain may be.
 pub(crate) fn plan_for(
     alloc: Global,
     entries: &[Entry],

@@ -57,7 +57,7 @@ pub(crate) fn are_alike(one: Option<u32>, other: Option<u32>) -> bool
 const SCANNED: u32 = NUMBER_LIMIT as u32 + 1;
 
 /// The starts of ranges of numbers that are treated alike, the x32 interface being the last one. The whole
-/// table is gone through, so nothing is sorted.
+/// table is scanned, so nothing is sorted.
 pub(crate) fn ranges(alloc: Global, profile: &Profile) -> Result<Vec<u32>, AllocError>
     ensures ranges { IfOk result (λ starts. AreRanges profile.now starts.items) }
     ensures many { IfOk result (λ starts. 2 ≤ length starts.items) }

@@ -4,16 +4,16 @@ use crate::ranges::decided;
 use oci_profile::Profile;
 use std::alloc::{AllocError, Global};
 
-/// What a number with conditions counts beside one without: since Linux 5.11 no filter runs for a number
-/// that is always allowed, so that steps are paid for by the others.
+/// The weight of a number with conditions, where one without weighs nothing: since Linux 5.11 no filter runs
+/// for a number that is always allowed, so only the others pay for steps.
 const CONDITIONAL: u64 = 100;
 
-/// What a range counts by itself, and how many of its numbers count at most.
+/// The weight of a range by itself, and the most of its numbers that count.
 const RANGE: u64 = 8;
 
 const NUMBERS: u64 = 64;
 
-/// What each range counts where the tree is parted in two: the more it does, the fewer tests lead to it.
+/// The weight of each range where the tree is split in two: the heavier it is, the fewer tests lead to it.
 pub(crate) fn shares(
     alloc: Global,
     profile: &Profile,
@@ -55,8 +55,8 @@ fn of_conditions(profile: &Profile, nr: u32) -> u64
     }
 }
 
-/// The place between two where the shares on both sides are nearest to each other, of those with no more
-/// ranges on either side than there is room for.
+/// The split that balances the weights on both sides best, among those with no more ranges on either side
+/// than there is room for.
 pub(crate) fn parting(shares: &[u64], from: usize, to: usize, room: usize) -> usize
     requires some { from + 1 < to }
     requires to_in { to ≤ length shares.now }

@@ -9,13 +9,13 @@ use crate::shares::shares;
 use oci_profile::Profile;
 use std::alloc::{AllocError, Global};
 
-/// Ranges of numbers that are treated alike, save one number in each, which may be treated in its own way.
-/// Where there is none, a range's single number is its start.
+/// Ranges of numbers that are treated alike, save one number in each, which may be treated in its own way. If
+/// there is none, a range's single number is its start.
 #[derive(Drop)]
 pub(crate) struct Ranges {
     pub(crate) starts: Vec<u32>,
     pub(crate) singles: Vec<u32>,
-    /// What each range counts where the tree over them is parted.
+    /// The weight of each range where the tree over them is split.
     pub(crate) shares: Vec<u64>,
 }
 
@@ -71,8 +71,8 @@ fn next_range(profile: &Profile, starts: &[u32], at: usize) -> (u32, usize)
     }
 }
 
-/// Whether the range behind this one has one number, and the range behind that is treated as this one. The
-/// last range is no such one: it stays apart.
+/// Whether the next range has one number, and the range after that is treated like this one. The last range
+/// does not count: it stays apart.
 fn has_single(profile: &Profile, starts: &[u32], at: usize) -> bool
     requires at_in { at < length starts.now }
     ensures inside { IsTrue result → at + 3 < length starts.now }

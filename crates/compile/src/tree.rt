@@ -41,7 +41,7 @@ fn range_leaf(
 }
 
 /// The tree over the ranges from one to another, the number being in A. Each level has half the room of the
-/// one above it, so that no way is long, however the ranges are parted.
+/// one above it, so no path is long, however the ranges are split.
 pub(crate) fn tree(
     code: &mut Code,
     alloc: Global,

@@ -102,7 +102,7 @@ struct Built {
 }
 
 fn compiled(alloc: Global, profile: Profile) -> Result<Built, Refusal>
-    // Told whether there is memory or not.
+    // Reported even if memory runs out.
     ensures told { MAX_INSNS < weight profile → result ≡ Err Refusal.InvalidArgument }
     ensures made { IfOk result (λ made. (made.profile ≡ profile) × GivesMeaning made.filter profile) }
     ensures refused { IfErr result (λ refusal.
@@ -129,7 +129,7 @@ fn profile_in(alloc: Global, bytes: &[u8]) -> Result<Profile, Refusal>
     }
 }
 
-/// The profile of a container's own, and its filter; none where it is unconfined.
+/// The container's own profile and its filter. `None` if it is unconfined.
 fn own(
     alloc: Global,
     choice: &SeccompProfile,
@@ -194,8 +194,8 @@ fn own_in(alloc: Global, bytes: &[u8]) -> Result<Option<Built>, Refusal>
     }
 }
 
-/// The filters of a container's start: the node's own, then that of the profile. Both together are far
-/// shorter than a stack may be.
+/// The filters at a container's start: the node's own, then that of the profile. Both together are far below
+/// a stack's limit.
 fn stack_of(
     alloc: Global,
     baseline: Option<&Filter>,
@@ -310,7 +310,7 @@ fn cell_of(
     }
 }
 
-/// The same cell, with what its type keeps said of it.
+/// The same cell. The contract states what its type keeps.
 fn kept(cell: Cell) -> Cell
     ensures same { result ≡ cell }
     ensures follows { FollowsScript result }

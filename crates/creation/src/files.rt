@@ -25,7 +25,7 @@ impl Contents {
         Contents { bytes }
     }
 
-    /// The bytes, lent.
+    /// The bytes.
     pub fn as_slice(&self) -> &[u8]
         ensures { result.now ≡ self.now }
     {
@@ -33,11 +33,11 @@ impl Contents {
     }
 }
 
-/// What the reads of a request's files gave. A read that is needed and not there counts as failed.
+/// The results of reading a request's files. A result that is needed and missing counts as a failed read.
 #[derive(Drop)]
 pub struct FileAnswers {
     /// The file of the script, for CreateContainer.
     pub script: Option<Result<Contents, FileFault>>,
-    /// The file of the profile, where that is Localhost.
+    /// The file of the profile, if that is Localhost.
     pub profile: Option<Result<Contents, FileFault>>,
 }

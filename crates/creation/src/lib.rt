@@ -1,5 +1,5 @@
-//! What a container is made from: what the reads of its files gave, its script, its profile and the filter of
-//! that, and the stack under which it starts.
+//! What a container is made from: the results of reading its files, its script, its profile with its filter,
+//! and the stack under which it starts.
 #![tactic(auto)]
 
 mod building;

@@ -13,8 +13,8 @@ use cri_msgs::{MessageFault, Reply, Request, Version};
 use node_io::Wire;
 use std::alloc::Global;
 
-/// Sends a request in a frame of this version and reads one frame, the reply with its number. All that is
-/// left is offered at each write and asked for at each read, and no byte behind the frame is taken.
+/// Sends a request in a frame of this version and reads one frame, the reply with its number. Each write
+/// offers, and each read asks for, all that is left. No byte after the frame is read.
 pub fn call_over<W: Wire>(
     alloc: Global,
     wire: &mut W,
@@ -27,11 +27,11 @@ pub fn call_over<W: Wire>(
     ensures read { IfOk result (TakesReply version (W.input wire.old) (W.input wire.new)) }
     ensures number { IfOk result (λ reply. reply.id ≡ request.now.id) }
 
-    // Otherwise what was written and what was taken is told by the cause.
+    // Otherwise the cause says what was written and what was read.
     ensures sent { IfErr result (Sends version request.now (W.output wire.old) (W.output wire.new)) }
     ensures taken { IfErr result (Takes version request.now.id (W.input wire.old) (W.input wire.new)) }
 
-    // A fault of the wire is told only where it failed.
+    // A fault of the wire is reported only if it failed.
     ensures failed { IfErr result (λ lost. IsOfWire lost → HasRisen (W.failed wire.old) (W.failed wire.new)) }
     ensures counted { W.failed wire.old ≤ W.failed wire.new }
 {
@@ -62,7 +62,7 @@ fn send<W: Wire>(
     }
 }
 
-// The reply that a text is, if it has this number.
+// The reply in a text, if it has this number.
 fn reply_to(alloc: Global, version: Version, id: u64, text: &[u8]) -> Result<Reply, Lost>
     ensures found { IfOk result (ReadsReply version text.now) }
     ensures number { IfOk result (λ reply. reply.id ≡ id) }

@@ -3,13 +3,13 @@ use std::alloc::AllocError;
 use std::fmt;
 use thiserror::Error;
 
-/// Why a feed took no piece.
+/// Why a feed refused a piece.
 #[derive(Clone, Copy, Debug, PartialEq, Eq, Error)]
 pub enum FeedFault {
-    /// Four bytes that stand where a frame begins are the head of none: their first byte is no version's, or
-    /// the length is 0 or above [`MAX_TEXT`](cri_msgs::MAX_TEXT).
+    /// Four bytes where a frame begins are not a frame's head: the first byte is not a version's, or the
+    /// length is 0 or above [`MAX_TEXT`](cri_msgs::MAX_TEXT).
     BadLength,
-    /// A growth was refused.
+    /// An allocation failed.
     Memory,
 }
 
@@ -39,24 +39,24 @@ impl From<AllocError> for FeedFault {
     }
 }
 
-/// Why a call came to no reply. Whatever it is, the wire is of no further use.
+/// Why a call got no reply. In each case the wire is of no further use.
 #[derive(Clone, Copy, Debug, PartialEq, Eq, Error)]
 pub enum Lost {
-    /// A write failed, behind so many bytes of the request's frame.
+    /// A write failed after this many bytes of the request's frame.
     WriteFailed(usize),
     /// A read failed.
     ReadFailed,
-    /// The input was at its end before a whole frame was read.
+    /// The input ended before a whole frame was read.
     Ended,
-    /// What came is no frame of the request's version, or its text is no reply.
+    /// What came is not a frame of the request's version, or its text is not a reply.
     BadFrame,
-    /// It is a reply with another number than the request's.
+    /// The reply has another number than the request.
     WrongNumber,
-    /// A growth was refused.
+    /// An allocation failed.
     Memory,
 }
 
-/// The fault's name, and the count behind `WriteFailed at`.
+/// The fault's name, and the count after `WriteFailed at`.
 impl fmt::Display for Lost {
     ghost use Rattle.std.specs.Prelude.{Some};
     ghost use Rattle.cri_frames.specs.FaultText.{lost_text};

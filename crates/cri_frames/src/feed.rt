@@ -11,8 +11,8 @@ use std::alloc::{AllocError, Global};
 use std::collections::VecDeque;
 use std::marker::Model;
 
-/// Takes a stream in whatever pieces it comes and gives its frames. It stands for the bytes that were
-/// pushed and not yet taken.
+/// Splits a stream, in whatever pieces it comes, into frames. Its model is the bytes that were pushed and not
+/// yet taken.
 #[derive(Drop)]
 pub struct Feed {
     alloc: Global,
@@ -33,7 +33,7 @@ impl Model for Feed {
 }
 
 impl Feed {
-    /// A feed into which nothing was pushed.
+    /// An empty feed.
     pub fn new(alloc: Global) -> Feed
         ensures { result ≡ [] }
     {
@@ -45,10 +45,10 @@ impl Feed {
         }
     }
 
-    /// Adds a piece of the stream. Once four bytes that stand where a frame begins are the head of none, the
-    /// feed has failed for good: it answers so from then on, and takes in no further piece.
+    /// Adds a piece of the stream. Once four bytes where a frame begins are not a frame's head, the feed has
+    /// failed for good: each later push returns that fault and adds nothing.
     pub fn push(&mut self, piece: &[u8]) -> Result<(), FeedFault>
-        // The piece is added, its frames are there to be taken.
+        // The piece is added, and its frames can be taken.
         ensures ok { OnOk result (self.new ≡ self.old ++ piece.now) }
         ensures good { OnOk result (HasBadRest (self.old ++ piece.now) → ⊥) }
 
@@ -69,7 +69,7 @@ impl Feed {
         Ok(())
     }
 
-    /// The oldest frame that is whole: its version and its text. It takes no memory.
+    /// Takes out the oldest whole frame: its version and its text. Allocates nothing.
     pub fn take(&mut self) -> Option<(Version, Vec<u8>)>
         ensures text { IfSome result (λ frame. IsLength (length frame.1.items)) }
         ensures first { IfSome result (λ frame. self.old ≡ frame_of frame.0 frame.1.items ++ self.new) }
@@ -80,7 +80,7 @@ impl Feed {
         Some((version, text))
     }
 
-    /// Whether four bytes were pushed that stand where a frame begins and are the head of none.
+    /// Whether four bytes were pushed that are where a frame begins and are not a frame's head.
     pub fn has_failed(&self) -> bool
         ensures { IsTrue result ↔ HasBadRest self.now }
     {
@@ -96,7 +96,7 @@ impl Feed {
     }
 }
 
-// Takes the first so many bytes away.
+// Removes the first `count` bytes.
 fn drop_front(bytes: &mut Vec<u8>, count: usize)
     requires { count ≤ length bytes.old.items }
     ensures { bytes.new.items ≡ drop count bytes.old.items }
@@ -104,8 +104,8 @@ fn drop_front(bytes: &mut Vec<u8>, count: usize)
     bytes.drain(..count);
 }
 
-// Adds a piece behind what came of the next frame, and tells whether what is left is bad. A refused growth
-// changes nothing.
+// Appends a piece to what has come of the next frame, and returns whether the rest is bad. A failed
+// allocation changes nothing.
 fn take_in(
     alloc: Global,
     done: &mut VecDeque<Frame>,

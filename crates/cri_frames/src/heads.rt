@@ -4,7 +4,7 @@ ghost use Rattle.cri_frames.specs.Frames.{IsBad, IsLength, head_of};
 use byteorder::{BigEndian, ByteOrder};
 use cri_msgs::{MAX_TEXT, Version};
 
-/// What the four bytes before a text say.
+/// A frame's head: the four bytes before its text.
 #[derive(Clone, Copy)]
 pub(crate) struct Head {
     pub(crate) version: Version,
@@ -12,7 +12,7 @@ pub(crate) struct Head {
 }
 
 impl Head {
-    /// What the first four bytes say, if they are a frame's head.
+    /// The head in the first four bytes, if they are one.
     pub(crate) fn read(bytes: &[u8]) -> Option<Head>
         requires { 4 ≤ length bytes.now }
         ensures fit { IfSome result (λ head. IsLength head.length) }

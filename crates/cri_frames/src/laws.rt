@@ -2,7 +2,7 @@ ghost use Rattle.std.specs.Prelude.{◌≡◌, ◌↔◌, ℕ, ◌+◌, ◌*◌,
 ghost use Rattle.cri_frames.specs.Frames.{IsBad, IsLength};
 ghost use Rattle.cri_frames.specs.Streams.{Frame, Splits};
 
-/// A stream of bytes is frames and a rest that begins no whole one, and is so in one way only.
+/// A stream of bytes splits in exactly one way into whole frames and a rest that begins with none.
 pub fn streams_split_one_way()
     ensures some { (stream : List ℕ) → ((at : ℕ) → slice_index stream at < 256) → (frames : List Frame)
         × (rest : List ℕ) × Splits stream frames rest }
@@ -10,7 +10,7 @@ pub fn streams_split_one_way()
         → Splits stream frames rest → Splits stream others other → (frames ≡ others) × (rest ≡ other) }
 {}
 
-/// Four bytes are the head of no frame where the first is neither 0 nor 2, or the other three are no length.
+/// Four bytes are not a frame's head if the first is neither 0 nor 2, or the other three are not a length.
 pub fn bad_heads_are_as_stated()
     ensures { (first high middle low : ℕ) (more : List ℕ) → high < 256 → middle < 256 → low < 256
         → IsBad (first ∷ high ∷ middle ∷ low ∷ more) ↔ (((first ≡ 0) ⊎ (first ≡ 2))

@@ -5,16 +5,16 @@ ghost use Rattle.cri_frames.specs.Steps.{Stops};
 
 use node_io::Wire;
 
-/// Why bytes were not read to the last.
+/// Why not all bytes were read.
 #[derive(Clone, Copy)]
 pub(crate) enum Stop {
     /// A read failed.
     Failed,
-    /// The input was at its end.
+    /// The input ended.
     Ended,
 }
 
-/// Writes all bytes, and offers all that is left at each write. Where a write fails, it tells how many were
+/// Writes all bytes. Each write offers all that is left. If one fails, the error is how many bytes were
 /// written before.
 pub fn write_all<W: Wire>(wire: &mut W, bytes: &[u8]) -> Result<(), usize>
     ensures ok { OnOk result (Appends (W.output wire.old) (W.output wire.new) bytes.now) }

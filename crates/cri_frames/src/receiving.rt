@@ -10,8 +10,8 @@ use cri_msgs::Version;
 use node_io::Wire;
 use std::alloc::Global;
 
-/// Reads one frame of this version, and no byte past it, and gives its text. A head is judged before room is
-/// made for its text.
+/// Reads one frame of this version, and no byte past it, and returns its text. The head is checked before
+/// memory is allocated for the text.
 pub(crate) fn receive<W: Wire>(
     alloc: Global,
     wire: &mut W,
@@ -29,7 +29,7 @@ pub(crate) fn receive<W: Wire>(
     read_text(alloc, wire, count)
 }
 
-// Reads four bytes, the head of a frame of this version, and tells how long the text is.
+// Reads four bytes, the head of a frame of this version, and returns the length of the text.
 fn read_head<W: Wire>(wire: &mut W, version: Version) -> Result<usize, Lost>
     ensures fits { IfOk result IsLength }
     ensures taken { IfOk result (λ count. Consumes (W.input wire.old) (W.input wire.new)
@@ -47,7 +47,7 @@ fn read_head<W: Wire>(wire: &mut W, version: Version) -> Result<usize, Lost>
     }
 }
 
-// Reads so many bytes, for which room is made first.
+// Reads `count` bytes into memory that is allocated first.
 fn read_text<W: Wire>(alloc: Global, wire: &mut W, count: usize) -> Result<Vec<u8>, Lost>
     ensures all { IfOk result (λ text. length text.items ≡ count) }
     ensures taken { IfOk result (λ text. Consumes (W.input wire.old) (W.input wire.new) text.items) }

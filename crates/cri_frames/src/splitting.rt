@@ -11,13 +11,13 @@ use std::alloc::{AllocError, Global};
 use std::collections::VecDeque;
 use std::marker::Model;
 
-/// What bytes begin with.
+/// What the next bytes are.
 pub(crate) enum Next {
-    /// A whole frame of this version, whose text has so many bytes.
+    /// A whole frame of this version, whose text has this length in bytes.
     Whole(Version, usize),
     /// Less than a whole frame.
     Part,
-    /// Four bytes that are the head of no frame.
+    /// Four bytes that are not a frame's head.
     Bad,
 }
 
@@ -38,7 +38,7 @@ impl Next {
     }
 }
 
-/// A frame that has come whole.
+/// A whole frame.
 #[derive(Drop)]
 pub(crate) struct Frame {
     pub(crate) version: Version,
@@ -54,14 +54,14 @@ impl Model for Frame {
     ghost view = { λ f. (f.version, f.text.items) };
 }
 
-/// Where the whole frames of some bytes end, and whether four bytes that stand there are the head of none.
+/// Where the whole frames of some bytes end, and whether the four bytes there are not a frame's head.
 #[derive(Clone, Copy)]
 pub(crate) struct Cut {
     pub(crate) at: usize,
     pub(crate) is_bad: bool,
 }
 
-// Adds the frame that bytes begin with, whose text has so many bytes.
+// Adds the frame that the bytes begin with, whose text has this length in bytes.
 fn keep(
     alloc: Global,
     bytes: &[u8],
@@ -80,8 +80,8 @@ fn keep(
     Ok(())
 }
 
-/// Adds the whole frames that bytes begin with, and tells where they end. What was there stays in front, also
-/// where a growth is refused.
+/// Appends the whole frames that the bytes begin with, and returns where they end. The frames before stay,
+/// even if an allocation fails.
 pub(crate) fn split(
     alloc: Global,
     bytes: &[u8],

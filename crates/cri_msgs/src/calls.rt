@@ -18,13 +18,13 @@ use json_tree::TextFault;
 use manifest::{DescendingPath, SeccompProfile, Uid};
 use std::alloc::{AllocError, Global};
 
-/// What is asked of a runtime, by the names of CRI v1. A grace is a number of seconds.
+/// A call to a runtime, by its name in CRI v1. A grace period is in seconds.
 #[derive(Debug, Drop)]
 pub enum Call {
     RunPodSandbox {
         uid: Uid,
     },
-    /// CRI's has no grace: this project's own.
+    /// CRI's has no grace period; this project adds one.
     StopPodSandbox {
         uid: Uid,
         grace: u64,
@@ -55,7 +55,7 @@ pub enum Call {
     ListContainers {
         uid: Uid,
     },
-    /// The statuses of all containers of a sandbox: this project's own, in version 2 alone.
+    /// The statuses of all containers of a sandbox. This project's own call, only in version 2.
     ContainerStatuses {
         uid: Uid,
     },
@@ -98,7 +98,7 @@ impl Call {
         }
     }
 
-    /// The same call once more.
+    /// A copy of the call.
     pub fn try_clone(&self, alloc: Global) -> Result<Call, AllocError>
         ensures { IfOk result (λ copy. copy ≡ self.now) }
     {
@@ -181,7 +181,7 @@ impl Request {
         self.id == other.id && self.call.same(&other.call)
     }
 
-    /// The request in the text of a frame of this version. A text that is none is told with its number.
+    /// Reads the request in the text of a frame of this version. Any other text is reported with its number.
     pub fn read(alloc: Global, version: Version, bytes: &[u8]) -> Result<Request, MessageFault>
         // What is read is the text's request.
         ensures found { IfOk result (λ request. ReadsRequest version bytes.now request) }
@@ -190,7 +190,7 @@ impl Request {
         ensures only { (request : Request) → ReadsRequest version bytes.now request
             → Gives MessageFault.Memory (λ r. r) result (Ok request) }
 
-        // Any other text is told with its number.
+        // Any other text is reported with its number.
         ensures refused { IfErr result (λ fault. fault ≢ MessageFault.Memory
             → fault ≡ MessageFault.NoMessage (number_of bytes.now)) }
     {
@@ -198,7 +198,7 @@ impl Request {
     }
 
     /// The text of the request in a frame of this version: compact JSON, keys in the order of their bytes.
-    /// Version 1 has no ContainerStatuses, so what is written of it then reads as no message.
+    /// Version 1 has no ContainerStatuses: what is written of that call then does not read as a message.
     #[tactic(auto, using(crate::proofs::WrittenRequest::no_float))]
     pub fn write(&self, alloc: Global, version: Version) -> Result<Vec<u8>, AllocError>
         ensures text { IfOk result (λ bytes. bytes.items ≡ request_text version self.now) }
@@ -215,7 +215,7 @@ impl Request {
         tree.to_vec(alloc)
     }
 
-    /// The same request once more.
+    /// A copy of the request.
     pub fn try_clone(&self, alloc: Global) -> Result<Request, AllocError>
         ensures { IfOk result (λ copy. copy ≡ self.now) }
     {

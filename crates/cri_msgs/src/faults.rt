@@ -8,13 +8,13 @@ use thiserror::Error;
 /// Why a text was not read as a message.
 #[derive(Clone, Copy, Debug, PartialEq, Eq, Error)]
 pub enum MessageFault {
-    /// It is none. Its number is told, 0 where none can be read as a whole number.
+    /// It is not a message. The field is its number, 0 if none can be read as a whole number.
     NoMessage(u64),
-    /// A growth was refused.
+    /// An allocation failed.
     Memory,
 }
 
-/// The fault's name, and the text's number behind `NoMessage`.
+/// The fault's name, and the text's number after `NoMessage`.
 impl fmt::Display for MessageFault {
     ghost use Rattle.std.specs.Prelude.{Some};
     ghost use Rattle.cri_msgs.specs.FaultText.{fault_text};

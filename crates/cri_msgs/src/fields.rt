@@ -128,14 +128,14 @@ pub(crate) fn numbered(version: Version, tree: &Value) -> Result<u64, FieldFault
     required_whole(tree, "id")
 }
 
-// The number of a text, also of one that is no message.
+// The number of a text, even if it is not a message.
 fn number(tree: &Value) -> Option<u64>
     ensures { result ≡ number_in (view tree.now) }
 {
     whole(tree.get("id")?)
 }
 
-// Why the tree is no message.
+// Why the tree is not a message.
 pub(crate) fn message_fault(fault: FieldFault, tree: &Value) -> MessageFault
     ensures { result ≡ message_fault (unwrap_or (number_in (view tree.now)) 0) fault }
 {

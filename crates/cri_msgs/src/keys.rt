@@ -23,7 +23,7 @@ impl ContainerMetadata {
         self.attempt == other.attempt && self.name.as_str() == other.name.as_str()
     }
 
-    /// The same once more.
+    /// A copy of it.
     pub fn try_clone(&self, alloc: Global) -> Result<ContainerMetadata, AllocError>
         ensures { IfOk result (λ copy. copy ≡ self.now) }
     {
@@ -83,7 +83,7 @@ impl Eq for ContainerMetadata {
     ghost laws = { Prim.search (comparing, rules) };
 }
 
-/// What names a container on a node: the uid of its pod's sandbox, and the attempt in it.
+/// The key of a container on a node: the uid of its pod's sandbox, and the attempt in it.
 #[derive(Debug, Drop)]
 pub struct Key {
     pub uid: Uid,
@@ -98,7 +98,7 @@ impl Key {
         self.uid.as_str() == other.uid.as_str() && self.container.same(&other.container)
     }
 
-    /// The same key once more.
+    /// A copy of the key.
     pub fn try_clone(&self, alloc: Global) -> Result<Key, AllocError>
         ensures { IfOk result (λ copy. copy ≡ self.now) }
     {

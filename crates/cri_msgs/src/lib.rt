@@ -1,10 +1,10 @@
 //! The messages that agent and runtime exchange: the calls of CRI v1 that this project has, and their
 //! answers, as JSON texts.
 //!
-//! The types keep the rules of the format: a uid, a name or a path that is none can't be held, an exit code
-//! stands only where a container has exited, and a list has at most [`MAX_LISTED`] entries. Which text is
-//! which message stands in `specs/Requests.antt` and `specs/Replies.antt`, how a message is written in
-//! `specs/Written.antt`.
+//! The types keep the rules of the format: an invalid uid, name or path can't be held, there is an exit code
+//! only if a container has exited, and a list has at most [`MAX_LISTED`] entries. `specs/Requests.antt` and
+//! `specs/Replies.antt` define which text is which message, and `specs/Written.antt` how a message is
+//! written.
 #![tactic(auto)]
 
 mod calls;

@@ -9,7 +9,7 @@ use std::marker::Model;
 /// How many containers a reply may list.
 pub const MAX_LISTED: usize = 1_024;
 
-/// A container of a sandbox and where it is.
+/// A container of a sandbox and its state.
 #[derive(Debug, Drop)]
 pub struct ListedContainer {
     pub container: ContainerMetadata,
@@ -24,14 +24,14 @@ pub struct ListedStatus {
 }
 
 impl ListedContainer {
-    /// Whether both tell the same.
+    /// Whether both are the same entry.
     pub fn same(&self, other: &ListedContainer) -> bool
         ensures { IsTrue result ↔ (self.now ≡ other.now) }
     {
         self.state == other.state && self.container.same(&other.container)
     }
 
-    /// The same once more.
+    /// A copy of it.
     pub fn try_clone(&self, alloc: Global) -> Result<ListedContainer, AllocError>
         ensures { IfOk result (λ copy. copy ≡ self.now) }
     {
@@ -44,14 +44,14 @@ impl ListedContainer {
 }
 
 impl ListedStatus {
-    /// Whether both tell the same.
+    /// Whether both are the same entry.
     pub fn same(&self, other: &ListedStatus) -> bool
         ensures { IsTrue result ↔ (self.now ≡ other.now) }
     {
         self.status.same(&other.status) && self.container.same(&other.container)
     }
 
-    /// The same once more.
+    /// A copy of it.
     pub fn try_clone(&self, alloc: Global) -> Result<ListedStatus, AllocError>
         ensures { IfOk result (λ copy. copy ≡ self.now) }
     {
@@ -97,7 +97,7 @@ impl Listing {
         Listing { list }
     }
 
-    /// The containers, lent.
+    /// The containers.
     pub fn as_slice(&self) -> &[ListedContainer]
         ensures value { result.now ≡ self.now }
         ensures few { length self.now ≤ MAX_LISTED }
@@ -105,7 +105,7 @@ impl Listing {
         self.list.as_slice()
     }
 
-    /// The same list once more.
+    /// A copy of the list.
     pub fn try_clone(&self, alloc: Global) -> Result<Listing, AllocError>
         ensures { IfOk result (λ copy. copy ≡ self.now) }
     {
@@ -148,7 +148,7 @@ impl Statuses {
         Statuses { list }
     }
 
-    /// The statuses, lent.
+    /// The statuses.
     pub fn as_slice(&self) -> &[ListedStatus]
         ensures value { result.now ≡ self.now }
         ensures few { length self.now ≤ MAX_LISTED }
@@ -156,7 +156,7 @@ impl Statuses {
         self.list.as_slice()
     }
 
-    /// The same list once more.
+    /// A copy of the list.
     pub fn try_clone(&self, alloc: Global) -> Result<Statuses, AllocError>
         ensures { IfOk result (λ copy. copy ≡ self.now) }
     {

@@ -5,7 +5,7 @@ use crate::refusals::Refusal;
 use crate::states::ContainerState;
 use json_tree::FieldFault;
 
-// What names and numbers stand for.
+// What the names and numbers in messages mean.
 
 // A call without its fields.
 #[derive(Clone, Copy)]

@@ -6,8 +6,8 @@ ghost use Rattle.cri_msgs.specs.Written.{whole_number};
 use serde_json::{Map, Value};
 use std::alloc::{AllocError, Global};
 
-// A JSON object that is being built. Each step takes it and gives it back with one member more, so a step
-// that finds no memory leaves its caller nothing to drop.
+// A JSON object that is being built. Each step takes it and returns it with one member more, so a step that
+// runs out of memory leaves its caller nothing to drop.
 #[derive(Drop)]
 pub(crate) struct Object {
     alloc: Global,

@@ -11,12 +11,12 @@ pub enum Refusal {
     FailedPrecondition,
     /// A file could not be read.
     Internal,
-    /// A growth was refused: this project's own.
+    /// An allocation failed. This project's own code.
     Memory,
 }
 
 impl Refusal {
-    /// The number that stands in the text.
+    /// The number in the text of a message.
     pub fn number(self) -> u64
         ensures { result ≡ refusal_number self }
     {

@@ -23,14 +23,14 @@ use std::alloc::{AllocError, Global};
 #[derive(Debug, Drop)]
 pub enum Answer {
     Refused(Refusal),
-    /// The call was carried out, and there is nothing to tell.
+    /// The call was carried out, and has no result.
     Done,
     /// The id of the container that CreateContainer made, or had made before.
     Container(u64),
     Status(Status),
     /// The containers of a sandbox.
     List(Listing),
-    /// The statuses of a sandbox's containers, which version 1 has no name for.
+    /// The statuses of a sandbox's containers, which version 1 does not have.
     Statuses(Statuses),
 }
 
@@ -50,7 +50,7 @@ impl Answer {
         }
     }
 
-    /// The same answer once more.
+    /// A copy of the answer.
     pub fn try_clone(&self, alloc: Global) -> Result<Answer, AllocError>
         ensures { IfOk result (λ copy. copy ≡ self.now) }
     {
@@ -80,7 +80,7 @@ impl Reply {
         self.id == other.id && self.answer.same(&other.answer)
     }
 
-    /// The reply in the text of a frame of this version. A text that is none is told with its number.
+    /// Reads the reply in the text of a frame of this version. Any other text is reported with its number.
     pub fn read(alloc: Global, version: Version, bytes: &[u8]) -> Result<Reply, MessageFault>
         // What is read is the text's reply.
         ensures found { IfOk result (λ reply. ReadsReply version bytes.now reply) }
@@ -89,7 +89,7 @@ impl Reply {
         ensures only { (reply : Reply) → ReadsReply version bytes.now reply
             → Gives MessageFault.Memory (λ r. r) result (Ok reply) }
 
-        // Any other text is told with its number.
+        // Any other text is reported with its number.
         ensures refused { IfErr result (λ fault. fault ≢ MessageFault.Memory
             → fault ≡ MessageFault.NoMessage (number_of bytes.now)) }
     {
@@ -97,7 +97,7 @@ impl Reply {
     }
 
     /// The text of the reply in a frame of this version: compact JSON, keys in the order of their bytes.
-    /// Version 1 has no statuses, so what is written of them then reads as no message.
+    /// Version 1 has no statuses: what is written of them then does not read as a message.
     #[tactic(auto, using(crate::proofs::WrittenReply::no_float))]
     pub fn write(&self, alloc: Global, version: Version) -> Result<Vec<u8>, AllocError>
         ensures text { IfOk result (λ bytes. bytes.items ≡ reply_text version self.now) }
@@ -114,7 +114,7 @@ impl Reply {
         tree.to_vec(alloc)
     }
 
-    /// The same reply once more.
+    /// A copy of the reply.
     pub fn try_clone(&self, alloc: Global) -> Result<Reply, AllocError>
         ensures { IfOk result (λ copy. copy ≡ self.now) }
     {

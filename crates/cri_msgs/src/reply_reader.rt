@@ -17,7 +17,7 @@ use json_tree::{FieldFault, has, required_list, required_object, required_text, 
 use serde_json::Value;
 use std::alloc::Global;
 
-// Replies, read of their trees.
+// Reads replies from their trees.
 
 #[tactic(auto, unfolding(crate::specs::Reading::reply_of))]
 pub(crate) fn reply(alloc: Global, version: Version, tree: &Value) -> Result<Reply, FieldFault>

@@ -19,7 +19,7 @@ use crate::version::Version;
 use serde_json::Value;
 use std::alloc::{AllocError, Global};
 
-// The trees of replies. Beside its tree each tells what the types keep of the answer.
+// The trees of replies. Besides its tree, each contract states what the types keep of the answer.
 
 #[tactic(auto, unfolding(crate::specs::Written::answer_tree))]
 pub(crate) fn answer_tree(
@@ -97,7 +97,7 @@ fn status_tree(alloc: Global, status: Status) -> Result<Value, AllocError>
     Ok(object.done())
 }
 
-// What is told of a container.
+// The status of a container.
 fn with_status(object: Object, status: Status) -> Result<Object, AllocError>
     ensures members { IfOk result (λ o. members_view o.members.entries
         ≡ put (codes "state") (string (state_name (kind_of status.state)))

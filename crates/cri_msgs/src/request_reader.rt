@@ -13,7 +13,7 @@ use json_tree::{FieldFault, required_text, required_whole};
 use serde_json::Value;
 use std::alloc::Global;
 
-// Requests, read of their trees.
+// Reads requests from their trees.
 
 #[tactic(auto, unfolding(crate::specs::Reading::request_of))]
 pub(crate) fn request(alloc: Global, version: Version, tree: &Value) -> Result<Request, FieldFault>

@@ -16,7 +16,7 @@ use manifest::{DescendingPath, SeccompProfile, Uid};
 use serde_json::Value;
 use std::alloc::{AllocError, Global};
 
-// The trees of requests. Beside its tree each tells what the types keep of the call.
+// The trees of requests. Besides its tree, each contract states what the types keep of the call.
 
 #[tactic(auto, unfolding(crate::specs::Written::call_tree))]
 pub(crate) fn call_tree(

@@ -1,8 +1,7 @@
 ghost use Rattle.std.specs.Prelude.{◌≡◌, ◌↔◌, IsTrue};
 ghost use Rattle.cri_msgs.specs.Names.{kind_of};
 
-/// Where a container is in its life, as `ContainerState` of CRI v1 names it. `CONTAINER_UNKNOWN` is never
-/// told.
+/// The state of a container, as `ContainerState` of CRI v1 names it. `CONTAINER_UNKNOWN` is never sent.
 #[derive(Clone, Copy, Debug, PartialEq, Eq)]
 pub enum ContainerState {
     Created,
@@ -10,7 +9,7 @@ pub enum ContainerState {
     Exited,
 }
 
-/// The same, with the code that the container exited with.
+/// The state of a container, with its exit code if it has exited.
 #[derive(Clone, Copy, Debug, PartialEq, Eq)]
 pub enum State {
     Created,
@@ -31,7 +30,7 @@ impl State {
     }
 }
 
-/// What is told of a container: where it is, and how many of its calls were performed, and were judged and
+/// The status of a container: its state, how many of its calls were performed, and how many were judged and
 /// not performed.
 #[derive(Clone, Copy, Debug, PartialEq, Eq)]
 pub struct Status {
@@ -41,7 +40,7 @@ pub struct Status {
 }
 
 impl Status {
-    /// Whether both tell the same.
+    /// Whether both are the same status.
     pub fn same(&self, other: &Status) -> bool
         ensures { IsTrue result ↔ (self.now ≡ other.now) }
     {

@@ -11,12 +11,12 @@ use crate::states::State;
 use manifest::Uid;
 
 impl Answer {
-    /// The exit code that this answer to the call tells of the container, if it tells one. A container that
-    /// is listed twice is told as it is listed first.
+    /// The exit code of the container that this answer to the call reports, if it reports one. If a container
+    /// is listed twice, the first entry counts.
     pub fn exit_told(&self, call: &Call, key: &Key) -> Option<u8>
         ensures told { IfSome result (λ code. TellsExit call.now self.now key.now code) }
 
-        // Where no code is given, none is told.
+        // If no code is returned, none is reported.
         ensures silent { IfNone result ((code : ℕ) → TellsExit call.now self.now key.now code → ⊥) }
     {
         match self {

@@ -1,7 +1,7 @@
 ghost use Rattle.std.specs.Prelude.{◌≡◌};
 ghost use Rattle.cri_msgs.specs.Names.{version_number};
 
-/// How many bytes the text of a frame may have.
+/// The most bytes of a frame's text.
 pub const MAX_TEXT: usize = 1_048_576;
 
 /// The version of a frame and of the text in it. Version 2 has the call ContainerStatuses, version 1 does
@@ -13,7 +13,7 @@ pub enum Version {
 }
 
 impl Version {
-    /// The number that stands in the text.
+    /// The number in the text of a message.
     pub fn number(self) -> u64
         ensures { result ≡ version_number self }
     {

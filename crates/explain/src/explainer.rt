@@ -11,7 +11,7 @@ use call_data::{NATIVE_ARCH, SysCall};
 use oci_profile::{Decision, Entry, Profile, X32_BIT};
 use std::alloc::{AllocError, Global};
 
-/// Why the profile says of the call what it says.
+/// Explains what the profile says of the call.
 pub fn explain(alloc: Global, profile: &Profile, call: &SysCall) -> Result<Explanation, AllocError>
     // Another architecture, the bit of x32, the first entry that applies, or the default.
     ensures decides { IfOk result (λ e. Decides profile.now call.now e.decider e.decision) }
@@ -19,7 +19,7 @@ pub fn explain(alloc: Global, profile: &Profile, call: &SysCall) -> Result<Expla
     // What is decided is what the profile means, and so what its filter returns.
     ensures means { IfOk result (λ e. value_of e.decision ≡ meaning profile.now call.now) }
 
-    // Each entry before that names the number is told, with its first condition that fails.
+    // Each earlier entry that names the number is listed, with its first condition that fails.
     ensures passed { IfOk result (λ e. e.passed.items ≡ passed_over profile.now call.now e.decider) }
 {
     let (decider, decision) = decided(profile, call);
@@ -92,7 +92,7 @@ fn passed_over(
     Ok(passed)
 }
 
-/// What is told of the entry at this place, if it names the number.
+/// The line for the entry at this place, if it names the number.
 fn told(place: usize, entry: &Entry, call: &SysCall) -> Option<PassedOver>
     ensures { result ≡ told call.now (place, entry.now) }
 {

@@ -3,13 +3,13 @@ use oci_profile::{Cond, Decision};
 /// What decides a call.
 #[derive(Clone, Copy, Debug, PartialEq, Eq)]
 pub enum Decider {
-    /// That it is of another architecture than x86-64.
+    /// Its architecture is not x86-64.
     Architecture,
-    /// That its number is one of the x32 interface.
+    /// Its number is one of the x32 interface.
     X32Bit,
     /// The entry at this place of `syscalls`, from 0.
     Entry(usize),
-    /// That no entry applies: `defaultAction`.
+    /// No entry applies: `defaultAction`.
     Default,
 }
 
@@ -24,12 +24,12 @@ pub struct PassedOver {
     pub argument: u64,
 }
 
-/// Why a profile says of a call what it says.
+/// Why a profile decides a call as it does.
 #[derive(Drop)]
 pub struct Explanation {
-    /// What is decided.
+    /// The decision.
     pub decision: Decision,
-    /// What decides it.
+    /// What makes the decision.
     pub decider: Decider,
     /// The entries before it that name the number, in order.
     pub passed: Vec<PassedOver>,

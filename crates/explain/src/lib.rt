@@ -2,8 +2,8 @@
 //! 1.1, config-linux, seccomp, where the first entry that names the number and whose conditions all hold
 //! decides.
 //!
-//! What an explanation says stands in `specs/Explained.antt`, the lines that are printed of it in
-//! `specs/Text.antt`, and the same as objects of JSON in `specs/Objects.antt`.
+//! `specs/Explained.antt` defines what an explanation says, `specs/Text.antt` the lines that are printed of
+//! it, and `specs/Objects.antt` the same as JSON objects.
 #![tactic(auto)]
 
 mod conditions;

@@ -6,7 +6,7 @@ use oci_profile::Op;
 use std::alloc::{AllocError, Global};
 use std::fmt;
 
-/// `not syscalls[1]: args[0] is 5, wanted GE 9`, and of a mask `wanted MASKED_EQ VALUE VALUETWO`.
+/// `not syscalls[1]: args[0] is 5, wanted GE 9`, and for a mask `wanted MASKED_EQ VALUE VALUETWO`.
 impl fmt::Display for PassedOver {
     ghost use Rattle.std.specs.Prelude.{Some};
     ghost use Rattle.explain.specs.Text.{passed_text};

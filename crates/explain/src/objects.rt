@@ -7,7 +7,7 @@ use oci_profile::{Cond, Op};
 use std::alloc::{AllocError, Global};
 use std::fmt;
 
-/// What is behind the mask of a condition.
+/// The member `valueTwo` of a condition with a mask, and nothing of others.
 #[derive(Clone, Copy)]
 struct Masked(Cond);
 
@@ -29,7 +29,7 @@ impl fmt::Display for Masked {
 #[derive(Clone, Copy)]
 struct Object(PassedOver);
 
-/// `{"not":"syscalls[1]","arg":0,"is":5,"wanted":"GE","value":9}`, and of a mask `"valueTwo"` behind it.
+/// `{"not":"syscalls[1]","arg":0,"is":5,"wanted":"GE","value":9}`, and for a mask `"valueTwo"` after it.
 impl fmt::Display for Object {
     ghost use Rattle.std.specs.Prelude.{Some};
     ghost use Rattle.explain.specs.Objects.{passed_object};
@@ -48,7 +48,7 @@ impl fmt::Display for Object {
     }
 }
 
-/// The same as [`explanation_lines`](crate::explanation_lines) says, an object of JSON (RFC 8259) a line:
+/// What [`explanation_lines`](crate::explanation_lines) says, as one JSON object (RFC 8259) per line:
 /// `{"action":"ERRNO","data":13,"by":"syscalls[3]"}`.
 pub fn explanation_objects(alloc: Global, explanation: &Explanation) -> Result<String, AllocError>
     ensures { IfOk result (λ text. string_bytes text ≡ explanation_objects explanation.now) }

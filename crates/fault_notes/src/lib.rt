@@ -1,8 +1,7 @@
-//! What is told a person of a text that is refused, behind the name of its file: where in it the fault is,
-//! the fault's name, what stands there, and what was wanted.
+//! The note on a text that is refused, for a person, after the name of its file: where in the text the fault
+//! is, the fault's name, the value there, and what was wanted.
 //!
-//! Texts are profiles, manifests and scripts. All programs tell them by the same lines, which stand in
-//! `specs/`.
+//! Texts are profiles, manifests and scripts. All programs print the same lines, which `specs/` defines.
 #![tactic(auto)]
 
 mod named;

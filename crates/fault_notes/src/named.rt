@@ -35,18 +35,18 @@ impl fmt::Display for Named {
     }
 }
 
-/// What of a text can be told beside a fault of it.
+/// What can be said of a text besides its fault.
 #[derive(Clone, Copy)]
 pub(crate) enum Kind {
-    /// The text is no JSON: where it ceases to be.
+    /// The text is not JSON: where it stops being JSON.
     NoJson,
-    /// The text is not looked at.
+    /// The text is too large to be read.
     TooLarge,
-    /// What stands at the fault's place.
+    /// The value at the fault's place.
     Placed,
 }
 
-/// What can be told beside this fault.
+/// What can be said besides this fault.
 pub(crate) fn kind_of(fault: Named) -> Kind
     ensures { result ≡ kind_of fault }
 {

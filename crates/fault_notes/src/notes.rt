@@ -15,8 +15,7 @@ use script::ScriptFaultAt;
 use serde_json::Value;
 use std::alloc::{AllocError, Global};
 
-/// What is told behind the name of a file whose text is no profile, for this fault:
-/// `: syscalls[1].names[2]: UnknownCall: "ptrce"`.
+/// The note after the name of a file that is not a profile: `: syscalls[1].names[2]: UnknownCall: "ptrce"`.
 pub fn profile_note(
     alloc: Global,
     bytes: &[u8],
@@ -28,7 +27,7 @@ pub fn profile_note(
     note(alloc, bytes, Named::Profile(found.fault), &found.place)
 }
 
-/// The same where the text is no template of a profile.
+/// The note on a text that is not a template of a profile.
 pub fn template_note(
     alloc: Global,
     bytes: &[u8],
@@ -40,13 +39,13 @@ pub fn template_note(
     note(alloc, bytes, Named::Template(found.fault), &found.place)
 }
 
-/// What is told behind the name of a template's file, which has this tree, of a name that the profile is
-/// written without: `: syscalls[6].names[0]: LeftOut: "umount"`.
+/// The note after the name of a template's file, which has this tree, on a name that the profile is written
+/// without: `: syscalls[6].names[0]: LeftOut: "umount"`.
 pub fn left_out_note(alloc: Global, tree: &Value, place: &Place) -> Result<String, AllocError> {
     place_line(alloc, Named::LeftOut, place, shown_at(tree, place))
 }
 
-/// The same where the text is no manifest.
+/// The note on a text that is not a manifest.
 pub fn manifest_note(alloc: Global, bytes: &[u8], found: &PodFaultAt) -> Result<String, AllocError>
     ensures { IfOk result (λ text. IsNote bytes.now (Named.Manifest found.now.fault) found.now.place
         (string_bytes text)) }
@@ -54,7 +53,7 @@ pub fn manifest_note(alloc: Global, bytes: &[u8], found: &PodFaultAt) -> Result<
     note(alloc, bytes, Named::Manifest(found.fault), &found.place)
 }
 
-/// The same where the text is no script.
+/// The note on a text that is not a script.
 pub fn script_note(alloc: Global, bytes: &[u8], found: &ScriptFaultAt) -> Result<String, AllocError>
     ensures { IfOk result (λ text. IsNote bytes.now (Named.Script found.now.fault) found.now.place
         (string_bytes text)) }
@@ -72,7 +71,7 @@ fn note(alloc: Global, bytes: &[u8], fault: Named, place: &Place) -> Result<Stri
     }
 }
 
-// What stands there is read off the text once more.
+// The text is parsed again, to show the value there.
 fn noted_place(
     alloc: Global,
     bytes: &[u8],

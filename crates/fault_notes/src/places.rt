@@ -8,7 +8,7 @@ use json_place::{Place, Shown, stands_at};
 use serde_json::Value;
 use std::fmt;
 
-/// What is told of a text with a fault at a place: `: syscalls[1].names[2]: UnknownCall: "ptrce"`.
+/// The note on a text with a fault at a place: `: syscalls[1].names[2]: UnknownCall: "ptrce"`.
 #[derive(Clone, Copy)]
 pub(crate) struct PlaceNote<'p, 't> {
     pub(crate) place: &'p Place,
@@ -17,7 +17,7 @@ pub(crate) struct PlaceNote<'p, 't> {
     pub(crate) wanted: &'static str,
 }
 
-/// A place behind a path, unless it is the whole text's.
+/// A place after a path, unless it is the root.
 #[derive(Clone, Copy)]
 struct Behind<'a>(&'a Place);
 
@@ -36,7 +36,7 @@ impl fmt::Display for Behind<'_> {
     }
 }
 
-/// What was wanted, if that is told, and what joins it to the words before it.
+/// What was wanted, if that is said, and what joins it to the words before it.
 #[derive(Clone, Copy)]
 struct Wanted(&'static str, &'static str);
 
@@ -75,7 +75,7 @@ impl fmt::Display for PlaceNote<'_, '_> {
     }
 }
 
-/// What is shown of what stands at a place of a tree.
+/// What is shown of the value at a place of a tree.
 pub(crate) fn shown_at<'v>(tree: &'v Value, place: &Place) -> Option<Shown<'v>>
     ensures { IsShownOf (stands_at place.now (view tree.now)) result }
 {

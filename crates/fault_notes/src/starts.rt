@@ -2,7 +2,7 @@
 ghost use Rattle.std.specs.Prelude.{◌≡◌, ◌<◌, IfSome, length, not, position};
 ghost use Rattle.fault_notes.specs.Starts.{begins_object, begins_yaml, is_letter, is_space, is_yaml_start};
 
-/// Whether the first byte that is no white space of JSON (RFC 8259) begins an object.
+/// Whether the first byte that is not JSON white space (RFC 8259) begins an object.
 pub fn begins_object(bytes: &[u8]) -> bool
     ensures { result ≡ begins_object bytes.now }
 {
@@ -12,7 +12,7 @@ pub fn begins_object(bytes: &[u8]) -> bool
     }
 }
 
-/// Whether a text begins as YAML does: its first byte that is no white space is a letter, `-`, `#` or `%`.
+/// Whether a text begins as YAML does: its first byte that is not white space is a letter, `-`, `#` or `%`.
 pub(crate) fn begins_yaml(bytes: &[u8]) -> bool
     ensures { result ≡ begins_yaml bytes.now }
 {
@@ -34,7 +34,7 @@ fn is_letter(byte: u8) -> bool
     (b'A' <= byte && byte <= b'Z') || (b'a' <= byte && byte <= b'z')
 }
 
-/// Where the first byte is that is no white space.
+/// The index of the first byte that is not white space.
 fn begin(bytes: &[u8]) -> Option<usize>
     ensures first { result ≡ position (λ byte. not (is_space byte)) bytes.now }
     ensures inside { IfSome result (λ at. at < length bytes.now) }

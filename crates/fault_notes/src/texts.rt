@@ -7,10 +7,10 @@ use serde_json::Value;
 use std::alloc::Global;
 use std::fmt;
 
-/// Where a text ceases to be JSON.
+/// Where a text stops being JSON.
 #[derive(Clone, Copy, Debug, PartialEq, Eq)]
 pub(crate) enum Spot {
-    /// Nowhere that could be told.
+    /// The parser gives no position.
     Whole,
     /// At this line and this column, from 1.
     At(usize, usize),
@@ -30,7 +30,7 @@ impl fmt::Display for Spot {
     }
 }
 
-/// What is said besides of a text that is no JSON: that it begins as YAML, if it does.
+/// What else is said of a text that is not JSON: that it begins like YAML, if it does.
 #[derive(Clone, Copy)]
 pub(crate) struct Hint {
     pub(crate) is_yaml: bool,
@@ -51,7 +51,7 @@ impl fmt::Display for Hint {
     }
 }
 
-/// What is told of a text that is no JSON: `: line 1, column 9: NotJson`.
+/// The note on a text that is not JSON: `: line 1, column 9: NotJson`.
 #[derive(Clone, Copy)]
 pub(crate) struct TextNote {
     spot: Spot,
@@ -63,7 +63,7 @@ impl TextNote {
     ghost use Rattle.std.specs.Prelude.{◌≡◌};
     ghost use Rattle.fault_notes.specs.Starts.{begins_yaml};
 
-    /// What is told of these bytes.
+    /// The note on these bytes.
     pub(crate) fn of(alloc: Global, bytes: &[u8], fault: Named) -> TextNote
         ensures fault { result.fault ≡ fault }
         ensures hint { result.hint.is_yaml ≡ begins_yaml bytes.now }
@@ -88,7 +88,7 @@ impl fmt::Display for TextNote {
     }
 }
 
-// Where a text ceases to be JSON, by its parser.
+// Where a text stops being JSON, by its parser.
 fn spot_in(alloc: Global, bytes: &[u8]) -> Spot {
     match Value::from_slice(alloc, bytes) {
         Err(error) if error.line() > 0 => Spot::At(error.line(), error.column()),

@@ -1,4 +1,4 @@
-//! What is to stand at a place of a text, in a few words for a person.
+//! What is wanted at a place of a text, in a few words for a person.
 
 use crate::named::Named;
 use json_place::{Place, Step};
@@ -7,8 +7,7 @@ use oci_profile::ProfileFault;
 use profile_template::TemplateFault;
 use script::ScriptFault;
 
-/// What was wanted where a fault is: a type, or the rule for a name. Nothing where the fault's own name says
-/// it.
+/// What was wanted where a fault is: a type, or the rule for a name. Empty if the fault's own name says it.
 pub(crate) fn wanted_at(fault: Named, place: &Place) -> &'static str {
     match fault {
         Named::Profile(ProfileFault::WrongType) => type_at(place),
@@ -38,7 +37,7 @@ fn type_in_list(list: Option<Step>) -> &'static str {
     }
 }
 
-// The step behind which so many stand.
+// The step with this many steps after it.
 fn step_from_end(place: &Place, behind: usize) -> Option<Step> {
     let steps = place.steps();
     let index = steps.len().checked_sub(1)?.checked_sub(behind)?;
@@ -124,7 +123,7 @@ fn script_type_in_list(list: Option<Step>) -> &'static str {
     }
 }
 
-// What is missing where a step is none, or where a list has no item.
+// What is missing if a step has no known member, or a list has no item.
 fn missing_in_script(place: &Place) -> &'static str {
     match step_from_end(place, 0) {
         Some(Step::Item(_)) => STEP,

@@ -9,7 +9,7 @@ use crate::place::{Place, Step};
 use json_tree::FieldFault;
 use serde_json::Value;
 
-// The fields of an object, as `json_tree` reads them, and where a fault of one is: at the field.
+// The fields of an object, as `json_tree` reads them. A fault is placed at its field.
 
 /// What is wrong with a field, and where.
 #[derive(Debug, Drop)]
@@ -33,7 +33,7 @@ impl FieldFaultAt {
     }
 }
 
-/// The whole number of a field that has to be there.
+/// The whole number of a required field.
 #[tactic(auto, unfolding(crate::specs::Fields::required))]
 pub fn required_whole(tree: &Value, key: &'static str) -> Result<u64, FieldFaultAt>
     ensures { result ≡ required kind.whole key.now (view tree.now) }
@@ -41,7 +41,7 @@ pub fn required_whole(tree: &Value, key: &'static str) -> Result<u64, FieldFault
     json_tree::required_whole(tree, key).map_err(|fault| FieldFaultAt::of_member(key, fault))
 }
 
-/// The text of a field that has to be there.
+/// The text of a required field.
 #[tactic(auto, unfolding(crate::specs::Fields::required))]
 pub fn required_text<'v>(tree: &'v Value, key: &'static str) -> Result<&'v str, FieldFaultAt>
     ensures { as_read (λ t. t.now) result ≡ required kind.text key.now (view tree.now) }
@@ -49,7 +49,7 @@ pub fn required_text<'v>(tree: &'v Value, key: &'static str) -> Result<&'v str, 
     json_tree::required_text(tree, key).map_err(|fault| FieldFaultAt::of_member(key, fault))
 }
 
-/// The items of the list of a field that has to be there.
+/// The items of the list of a required field.
 #[tactic(auto, unfolding(crate::specs::Fields::required))]
 pub fn required_list<'v>(tree: &'v Value, key: &'static str) -> Result<&'v [Value], FieldFaultAt>
     ensures { as_read (λ items. map view items.now) result ≡ required kind.list key.now (view tree.now) }
@@ -57,7 +57,7 @@ pub fn required_list<'v>(tree: &'v Value, key: &'static str) -> Result<&'v [Valu
     json_tree::required_list(tree, key).map_err(|fault| FieldFaultAt::of_member(key, fault))
 }
 
-/// The object of a field that has to be there.
+/// The object of a required field.
 #[tactic(auto, unfolding(crate::specs::Fields::required))]
 pub fn required_object<'v>(tree: &'v Value, key: &'static str) -> Result<&'v Value, FieldFaultAt>
     ensures { as_read (λ v. view v.now) result ≡ required kind.object key.now (view tree.now) }
@@ -65,7 +65,7 @@ pub fn required_object<'v>(tree: &'v Value, key: &'static str) -> Result<&'v Val
     json_tree::required_object(tree, key).map_err(|fault| FieldFaultAt::of_member(key, fault))
 }
 
-/// The value, whatever it is but null, of a field that has to be there.
+/// The value, whatever it is but null, of a required field.
 #[tactic(auto, unfolding(crate::specs::Fields::required))]
 pub fn required_value<'v>(tree: &'v Value, key: &'static str) -> Result<&'v Value, FieldFaultAt>
     ensures { as_read (λ v. view v.now) result ≡ required kind.value key.now (view tree.now) }
@@ -73,7 +73,7 @@ pub fn required_value<'v>(tree: &'v Value, key: &'static str) -> Result<&'v Valu
     json_tree::required_value(tree, key).map_err(|fault| FieldFaultAt::of_member(key, fault))
 }
 
-/// The `bool` of a field that may be left out, also as null.
+/// The `bool` of an optional field, which may be null.
 #[tactic(auto, unfolding(crate::specs::Fields::optional))]
 pub fn optional_flag(tree: &Value, key: &'static str) -> Result<Option<bool>, FieldFaultAt>
     ensures { result ≡ optional kind.flag key.now (view tree.now) }
@@ -81,7 +81,7 @@ pub fn optional_flag(tree: &Value, key: &'static str) -> Result<Option<bool>, Fi
     json_tree::optional_flag(tree, key).map_err(|fault| FieldFaultAt::of_member(key, fault))
 }
 
-/// The whole number of a field that may be left out, also as null.
+/// The whole number of an optional field, which may be null.
 #[tactic(auto, unfolding(crate::specs::Fields::optional))]
 pub fn optional_whole(tree: &Value, key: &'static str) -> Result<Option<u64>, FieldFaultAt>
     ensures { result ≡ optional kind.whole key.now (view tree.now) }
@@ -89,7 +89,7 @@ pub fn optional_whole(tree: &Value, key: &'static str) -> Result<Option<u64>, Fi
     json_tree::optional_whole(tree, key).map_err(|fault| FieldFaultAt::of_member(key, fault))
 }
 
-/// The whole number below 2^32 of a field that may be left out, also as null.
+/// The whole number below 2^32 of an optional field, which may be null.
 #[tactic(auto, unfolding(crate::specs::Fields::optional))]
 pub fn optional_word(tree: &Value, key: &'static str) -> Result<Option<u32>, FieldFaultAt>
     ensures { result ≡ optional kind.word key.now (view tree.now) }
@@ -97,7 +97,7 @@ pub fn optional_word(tree: &Value, key: &'static str) -> Result<Option<u32>, Fie
     json_tree::optional_word(tree, key).map_err(|fault| FieldFaultAt::of_member(key, fault))
 }
 
-/// The text of a field that may be left out, also as null.
+/// The text of an optional field, which may be null.
 #[tactic(auto, unfolding(crate::specs::Fields::optional))]
 pub fn optional_text<'v>(
     tree: &'v Value,
@@ -108,7 +108,7 @@ pub fn optional_text<'v>(
     json_tree::optional_text(tree, key).map_err(|fault| FieldFaultAt::of_member(key, fault))
 }
 
-/// The items of the list of a field that may be left out, also as null.
+/// The items of the list of an optional field, which may be null.
 #[tactic(auto, unfolding(crate::specs::Fields::optional))]
 pub fn optional_list<'v>(
     tree: &'v Value,
@@ -120,7 +120,7 @@ pub fn optional_list<'v>(
     json_tree::optional_list(tree, key).map_err(|fault| FieldFaultAt::of_member(key, fault))
 }
 
-/// The object of a field that may be left out, also as null.
+/// The object of an optional field, which may be null.
 #[tactic(auto, unfolding(crate::specs::Fields::optional))]
 pub fn optional_object<'v>(
     tree: &'v Value,

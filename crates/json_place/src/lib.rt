@@ -1,6 +1,6 @@
-//! Where in a JSON text (RFC 8259) something stands, and how what stands there is shown.
+//! Places in a JSON text (RFC 8259), and how the value at a place is shown.
 //!
-//! A place is the way to it from the outside in, as `syscalls[1].names[2]`. It takes no memory.
+//! A place is a path from the root, such as `syscalls[1].names[2]`. It takes no memory.
 #![tactic(auto)]
 
 mod fields;

@@ -13,9 +13,10 @@ use json_tree::{FieldFault, list, text, whole};
 use serde_json::Value;
 use std::alloc::Global;
 
-// Fields that are lists of one kind. Where an item is of another kind, the fault is at the first such.
+// Fields that are lists with items of one type. If items have another type, the fault is placed at the first
+// of them.
 
-/// The items of the list of texts of a field that has to be there.
+/// The items of the list of texts of a required field.
 #[tactic(auto, unfolding(crate::specs::Fields::required_each))]
 pub fn required_text_list<'v>(
     tree: &'v Value,
@@ -27,7 +28,7 @@ pub fn required_text_list<'v>(
     json_tree::required_text_list(tree, key).map_err(|fault| text_fault(tree, key, fault))
 }
 
-/// The items of the list of texts of a field that may be left out, also as null.
+/// The items of the list of texts of an optional field, which may be null.
 #[tactic(auto, unfolding(crate::specs::Fields::optional_each))]
 pub fn optional_text_list<'v>(
     tree: &'v Value,
@@ -39,8 +40,8 @@ pub fn optional_text_list<'v>(
     json_tree::optional_text_list(tree, key).map_err(|fault| text_fault(tree, key, fault))
 }
 
-/// The whole numbers of the list of a field that has to be there. `Memory` comes where a growth was
-/// refused, but a fault is told as that, whether there is memory or not.
+/// The whole numbers of the list of a required field. `Memory` if an allocation fails, but a fault of the
+/// field is reported even if memory runs out.
 #[tactic(auto, unfolding(crate::specs::Fields::required_each))]
 pub fn required_wholes(
     alloc: Global,

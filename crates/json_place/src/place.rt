@@ -8,7 +8,7 @@ use std::marker::Model;
 /// How many steps of a place are kept, the outermost ones.
 pub const MAX_STEPS: usize = 6;
 
-/// A step from a tree to what stands in it.
+/// A step from a tree to one of its children.
 #[derive(Clone, Copy, Debug)]
 pub enum Step {
     /// To the member of an object with this key.
@@ -17,15 +17,14 @@ pub enum Step {
     Item(usize),
 }
 
-// What stands where a place has no step.
+// Fills the unused steps of a place.
 impl Default for Step {
     fn default() -> Step {
         Step::Item(0)
     }
 }
 
-/// A place in a JSON text: the steps from the text's tree to it, from the outside in. That of the tree
-/// itself has none.
+/// A place in a JSON text: the steps from the root to it, outermost first. The root's place has none.
 #[derive(Debug, Drop)]
 pub struct Place {
     steps: ArrayVec<Step, MAX_STEPS>,
@@ -42,7 +41,7 @@ impl Model for Place {
 }
 
 impl Place {
-    /// The place of the whole text's tree.
+    /// The place of the root, the whole text's tree.
     pub fn root() -> Place
         ensures { result ≡ [] }
     {
@@ -51,15 +50,15 @@ impl Place {
         }
     }
 
-    /// Whether it is the whole text's.
+    /// Whether it is the root.
     pub fn is_root(&self) -> bool
         ensures { result ≡ (length self.now == 0) }
     {
         self.steps.is_empty()
     }
 
-    /// This place of a tree, as one of the tree in which that one stands under a step. A step beyond
-    /// [`MAX_STEPS`] is left out, the innermost ones first.
+    /// The same place, seen from the outer tree that has this one under `step`. Beyond [`MAX_STEPS`] the
+    /// innermost steps are dropped.
     pub fn within(self, step: Step) -> Place
         ensures { result ≡ within (part_of step) self }
     {
@@ -71,7 +70,7 @@ impl Place {
         Place { steps }
     }
 
-    /// The steps, from the outside in.
+    /// The steps, outermost first.
     pub fn steps(&self) -> &[Step]
         ensures { map part_of result.now ≡ self.now }
     {
@@ -79,7 +78,7 @@ impl Place {
     }
 }
 
-/// A step behind others: `.names`, `[2]`.
+/// A step after others: `.names`, `[2]`.
 #[derive(Clone, Copy)]
 struct Behind(Step);
 
@@ -115,7 +114,7 @@ impl fmt::Display for First {
     }
 }
 
-/// The steps behind the first one.
+/// The steps after the first one.
 #[derive(Clone, Copy)]
 struct Rest<'a>(&'a [Step]);
 

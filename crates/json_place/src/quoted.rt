@@ -1,10 +1,10 @@
 use std::fmt;
 
-/// How many bytes of a text are shown at most.
+/// The most bytes of a text that are shown.
 pub const MAX_SHOWN: usize = 64;
 
-/// A text as it is shown to a person: in quotes, `"`, `\` and control characters escaped as JSON escapes
-/// them (RFC 8259). Of a text above [`MAX_SHOWN`] bytes the characters are shown that fit, and the cut is
+/// A text as it is shown to a person: in quotes, `"`, `\` and control characters escaped as JSON escapes them
+/// (RFC 8259). Of a text longer than [`MAX_SHOWN`] bytes the characters that fit are shown, and the cut is
 /// marked: `"aaaa"..`.
 #[derive(Clone, Copy)]
 pub struct Quoted<'a>(pub &'a str);
@@ -52,7 +52,7 @@ impl fmt::Display for Escaped {
     }
 }
 
-/// A character by its number.
+/// A character as an escaped number: `\u001b`.
 #[derive(Clone, Copy)]
 struct Coded(char);
 

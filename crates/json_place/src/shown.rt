@@ -33,7 +33,7 @@ impl fmt::Display for Shown<'_> {
 }
 
 impl<'v> Shown<'v> {
-    /// What is shown of a tree: nothing of a list, an object, a `bool` and null.
+    /// What is shown of a tree. `None` for a list, an object, a `bool` and null.
     pub fn of(tree: &'v Value) -> Option<Shown<'v>>
         ensures { IsShown (view tree.now) result }
     {
@@ -47,7 +47,7 @@ impl<'v> Shown<'v> {
     }
 }
 
-/// What stands at a place of a tree, if there is something.
+/// The value at a place of a tree, if there is one.
 pub fn stands_at<'v>(tree: &'v Value, place: &Place) -> Option<&'v Value>
     ensures { option_map (λ v. view v.now) result ≡ stands_at place.now (view tree.now) }
 {

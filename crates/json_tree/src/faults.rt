@@ -7,10 +7,10 @@ use thiserror::Error;
 /// What is wrong with a field.
 #[derive(Clone, Copy, Debug, PartialEq, Eq, Error)]
 pub enum FieldFault {
-    /// It has to be there.
+    /// It is required, and missing.
     #[error("Missing")]
     Missing,
-    /// It is of another kind.
+    /// It has the wrong type.
     #[error("WrongType")]
     WrongType,
     #[error("Memory")]
@@ -20,7 +20,7 @@ pub enum FieldFault {
 /// What is wrong with a text.
 #[derive(Clone, Copy, Debug, PartialEq, Eq, Error)]
 pub enum TextFault {
-    /// It is no JSON: bad UTF-8, and more than 127 arrays and objects in one another, included.
+    /// It is not JSON. Bad UTF-8 counts, and so do arrays and objects nested more than 127 deep.
     #[error("NotJson")]
     NotJson,
     #[error("Memory")]

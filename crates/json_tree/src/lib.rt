@@ -1,8 +1,8 @@
-//! What the readers of JSON (RFC 8259) share: trees of `serde_json`, what kind a tree is, and the
-//! members of an object that have to be there or may be left out.
+//! What the readers of JSON (RFC 8259) share: trees of `serde_json`, the type of a tree, and the required and
+//! optional members of an object.
 //!
-//! A member that is null is not there, unless it has to be: then it is of the wrong type. Unknown
-//! members are never looked at. A whole number is one that `serde_json` reads as `u64`.
+//! An optional member that is null counts as left out; a required one then has the wrong type. Unknown
+//! members are ignored. A whole number is one that `serde_json` reads as `u64`.
 #![tactic(auto)]
 
 mod document;

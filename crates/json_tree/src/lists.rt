@@ -6,7 +6,7 @@ use crate::kinds::{list, text, whole};
 use serde_json::Value;
 use std::alloc::{AllocError, Global};
 
-// What a list holds is looked at before anything is allocated, so that another kind is told as that.
+// The items of a list are checked before anything is allocated, so that a wrong type is reported as such.
 
 /// The whole numbers of a list, if it is a list of nothing else.
 #[tactic(auto, unfolding(crate::specs::Tree::wholes))]

@@ -11,10 +11,10 @@ use crate::members::member;
 use serde_json::Value;
 use std::alloc::Global;
 
-// Each answers `WrongType` where the field is there and of another kind. Those that allocate answer
-// `Memory` where a growth was refused, but tell a fault as that, whether there is memory or not.
+// Each returns `WrongType` if the field is there and has another type. Those that allocate return `Memory` if
+// an allocation fails, but a fault of the field is reported even if memory runs out.
 
-/// The `bool` of a field that may be left out, also as null.
+/// The `bool` of an optional field, which may be null.
 #[tactic(auto, unfolding(crate::specs::Reading::optional))]
 pub fn optional_flag(tree: &Value, key: &str) -> Result<Option<bool>, FieldFault>
     ensures { result ≡ optional kind.flag key.now (view tree.now) }
@@ -25,7 +25,7 @@ pub fn optional_flag(tree: &Value, key: &str) -> Result<Option<bool>, FieldFault
     }
 }
 
-/// The whole number of a field that may be left out, also as null.
+/// The whole number of an optional field, which may be null.
 #[tactic(auto, unfolding(crate::specs::Reading::optional))]
 pub fn optional_whole(tree: &Value, key: &str) -> Result<Option<u64>, FieldFault>
     ensures { result ≡ optional kind.whole key.now (view tree.now) }
@@ -36,7 +36,7 @@ pub fn optional_whole(tree: &Value, key: &str) -> Result<Option<u64>, FieldFault
     }
 }
 
-/// The whole number below 2^32 of a field that may be left out, also as null.
+/// The whole number below 2^32 of an optional field, which may be null.
 #[tactic(auto, unfolding(crate::specs::Reading::optional))]
 pub fn optional_word(tree: &Value, key: &str) -> Result<Option<u32>, FieldFault>
     ensures { result ≡ optional kind.word key.now (view tree.now) }
@@ -47,7 +47,7 @@ pub fn optional_word(tree: &Value, key: &str) -> Result<Option<u32>, FieldFault>
     }
 }
 
-/// The text of a field that may be left out, also as null.
+/// The text of an optional field, which may be null.
 #[tactic(auto, unfolding(crate::specs::Reading::optional))]
 pub fn optional_text<'v>(tree: &'v Value, key: &str) -> Result<Option<&'v str>, FieldFault>
     ensures { as_read (option_map (λ t. t.now)) result ≡ optional kind.text key.now (view tree.now) }
@@ -58,7 +58,7 @@ pub fn optional_text<'v>(tree: &'v Value, key: &str) -> Result<Option<&'v str>, 
     }
 }
 
-/// The items of the list of a field that may be left out, also as null.
+/// The items of the list of an optional field, which may be null.
 #[tactic(auto, unfolding(crate::specs::Reading::optional))]
 pub fn optional_list<'v>(tree: &'v Value, key: &str) -> Result<Option<&'v [Value]>, FieldFault>
     ensures { as_read (option_map (λ items. map view items.now)) result
@@ -70,7 +70,7 @@ pub fn optional_list<'v>(tree: &'v Value, key: &str) -> Result<Option<&'v [Value
     }
 }
 
-/// The object of a field that may be left out, also as null.
+/// The object of an optional field, which may be null.
 #[tactic(auto, unfolding(crate::specs::Reading::optional))]
 pub fn optional_object<'v>(tree: &'v Value, key: &str) -> Result<Option<&'v Value>, FieldFault>
     ensures { as_read (option_map (λ v. view v.now)) result ≡ optional kind.object key.now (view tree.now) }
@@ -81,7 +81,7 @@ pub fn optional_object<'v>(tree: &'v Value, key: &str) -> Result<Option<&'v Valu
     }
 }
 
-/// The whole numbers of the list of a field that may be left out, also as null.
+/// The whole numbers of the list of an optional field, which may be null.
 #[tactic(auto, unfolding(crate::specs::Reading::optional))]
 pub fn optional_wholes(
     alloc: Global,

@@ -10,11 +10,11 @@ use crate::lists::wholes;
 use serde_json::Value;
 use std::alloc::Global;
 
-// Each answers `Missing` where the field is not there, and `WrongType` where it is of another kind, as
-// null is. Those that allocate answer `Memory` where a growth was refused, but tell a fault as that,
-// whether there is memory or not.
+// Each returns `Missing` if the field is not there, and `WrongType` if it has another type, such as null.
+// Those that allocate return `Memory` if an allocation fails, but a fault of the field is reported even if
+// memory runs out.
 
-/// The whole number of a field that has to be there.
+/// The whole number of a required field.
 #[tactic(auto, unfolding(crate::specs::Reading::required))]
 pub fn required_whole(tree: &Value, key: &str) -> Result<u64, FieldFault>
     ensures { result ≡ required kind.whole key.now (view tree.now) }
@@ -23,7 +23,7 @@ pub fn required_whole(tree: &Value, key: &str) -> Result<u64, FieldFault>
     whole(found).ok_or(FieldFault::WrongType)
 }
 
-/// The whole number below 2^32 of a field that has to be there.
+/// The whole number below 2^32 of a required field.
 #[tactic(auto, unfolding(crate::specs::Reading::required))]
 pub fn required_word(tree: &Value, key: &str) -> Result<u32, FieldFault>
     ensures { result ≡ required kind.word key.now (view tree.now) }
@@ -32,7 +32,7 @@ pub fn required_word(tree: &Value, key: &str) -> Result<u32, FieldFault>
     word(found).ok_or(FieldFault::WrongType)
 }
 
-/// The text of a field that has to be there.
+/// The text of a required field.
 #[tactic(auto, unfolding(crate::specs::Reading::required))]
 pub fn required_text<'v>(tree: &'v Value, key: &str) -> Result<&'v str, FieldFault>
     ensures { as_read (λ t. t.now) result ≡ required kind.text key.now (view tree.now) }
@@ -41,7 +41,7 @@ pub fn required_text<'v>(tree: &'v Value, key: &str) -> Result<&'v str, FieldFau
     text(found).ok_or(FieldFault::WrongType)
 }
 
-/// The items of the list of a field that has to be there.
+/// The items of the list of a required field.
 #[tactic(auto, unfolding(crate::specs::Reading::required))]
 pub fn required_list<'v>(tree: &'v Value, key: &str) -> Result<&'v [Value], FieldFault>
     ensures { as_read (λ items. map view items.now) result ≡ required kind.list key.now (view tree.now) }
@@ -50,7 +50,7 @@ pub fn required_list<'v>(tree: &'v Value, key: &str) -> Result<&'v [Value], Fiel
     list(found).ok_or(FieldFault::WrongType)
 }
 
-/// The object of a field that has to be there.
+/// The object of a required field.
 #[tactic(auto, unfolding(crate::specs::Reading::required))]
 pub fn required_object<'v>(tree: &'v Value, key: &str) -> Result<&'v Value, FieldFault>
     ensures { as_read (λ v. view v.now) result ≡ required kind.object key.now (view tree.now) }
@@ -59,7 +59,7 @@ pub fn required_object<'v>(tree: &'v Value, key: &str) -> Result<&'v Value, Fiel
     object(found).ok_or(FieldFault::WrongType)
 }
 
-/// The whole numbers of the list of a field that has to be there.
+/// The whole numbers of the list of a required field.
 #[tactic(auto, unfolding(crate::specs::Reading::required))]
 pub fn required_wholes(alloc: Global, tree: &Value, key: &str) -> Result<Vec<u64>, FieldFault>
     ensures value { Gives FieldFault.Memory (λ v. v.items) result
@@ -71,7 +71,7 @@ pub fn required_wholes(alloc: Global, tree: &Value, key: &str) -> Result<Vec<u64
     wholes(alloc, found)?.ok_or(FieldFault::WrongType)
 }
 
-/// The value, whatever it is but null, of a field that has to be there.
+/// The value, whatever it is but null, of a required field.
 #[tactic(auto, unfolding(crate::specs::Reading::required))]
 pub fn required_value<'v>(tree: &'v Value, key: &str) -> Result<&'v Value, FieldFault>
     ensures { as_read (λ v. view v.now) result ≡ required kind.value key.now (view tree.now) }

@@ -9,10 +9,10 @@ use crate::lists::are_texts;
 use crate::members::member;
 use serde_json::Value;
 
-// The items of a list of texts are lent as they are, so nothing is allocated.
+// The items of a list of texts are borrowed as they are, so nothing is allocated.
 
-/// The items of the list of texts of a field that has to be there. `Missing` where the field is not
-/// there, `WrongType` where it is of another kind.
+/// The items of the list of texts of a required field. `Missing` if the field is not there, `WrongType` if it
+/// has another type.
 #[tactic(auto, unfolding(crate::specs::Reading::required))]
 pub fn required_text_list<'v>(tree: &'v Value, key: &str) -> Result<&'v [Value], FieldFault>
     ensures { as_read (λ items. map view items.now) result
@@ -22,8 +22,8 @@ pub fn required_text_list<'v>(tree: &'v Value, key: &str) -> Result<&'v [Value],
     text_list(found).ok_or(FieldFault::WrongType)
 }
 
-/// The items of the list of texts of a field that may be left out, also as null. `WrongType` where it
-/// is there and of another kind.
+/// The items of the list of texts of an optional field, which may be null. `WrongType` if it is there and has
+/// another type.
 #[tactic(auto, unfolding(crate::specs::Reading::optional))]
 pub fn optional_text_list<'v>(tree: &'v Value, key: &str) -> Result<Option<&'v [Value]>, FieldFault>
     ensures { as_read (option_map (λ items. map view items.now)) result

@@ -16,9 +16,9 @@ pub struct Container {
     pub name: Label,
     /// The file of its script, relative to the node's folder of scripts.
     pub image: DescendingPath,
-    /// No profile is put on a privileged container.
+    /// A privileged container runs without a profile.
     pub privileged: bool,
-    /// Its own `seccompProfile`, which goes before the pod's.
+    /// Its own `seccompProfile`, which takes precedence over the pod's.
     pub profile: Option<SeccompProfile>,
 }
 
@@ -33,7 +33,7 @@ impl Container {
             && is_same(&self.profile, &other.profile)
     }
 
-    /// The same container once more.
+    /// A copy of the container.
     pub fn try_clone(&self, alloc: Global) -> Result<Container, AllocError>
         ensures { IfOk result (λ copy. copy ≡ self.now) }
     {
@@ -49,8 +49,8 @@ impl Container {
     }
 }
 
-/// The containers of a pod, init ones first: 1 to [`MAX_CONTAINERS`], no two of one name, and at least one
-/// that is no init container.
+/// The containers of a pod, init ones first: 1 to [`MAX_CONTAINERS`], no two with the same name, and at least
+/// one that is not an init container.
 #[derive(Debug, Drop)]
 pub struct Containers {
     list: Vec<Container>,
@@ -76,7 +76,7 @@ impl Containers {
         Containers { list, inits }
     }
 
-    /// The containers, init ones first, lent.
+    /// The containers, init ones first.
     pub fn as_slice(&self) -> &[Container]
         ensures value { result.now ≡ self.now.all }
         ensures fit { AreContainers self.now.all self.now.inits }
@@ -99,7 +99,7 @@ impl Containers {
         self.inits == other.inits && same_list(self.list.as_slice(), other.list.as_slice())
     }
 
-    /// The same containers once more.
+    /// A copy of the containers.
     pub fn try_clone(&self, alloc: Global) -> Result<Containers, AllocError>
         ensures { IfOk result (λ copy. copy ≡ self.now) }
     {

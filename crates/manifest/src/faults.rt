@@ -3,25 +3,25 @@ use std::alloc::{AllocError, AllocFailed};
 use std::fmt;
 use thiserror::Error;
 
-/// Why a text is no manifest of a pod.
+/// Why a text is not a pod manifest.
 #[derive(Clone, Copy, Debug, PartialEq, Eq, Error)]
 pub enum PodFault {
-    /// The text is no JSON.
+    /// The text is not JSON.
     NotJson,
-    /// A field that has to be there is not, or no container is there that is no init container.
+    /// A required field is missing, or all containers are init containers.
     Missing,
-    /// A field is of another kind, or is none of the texts that it may be.
+    /// A field has the wrong type, or is not one of the texts that it may be.
     WrongType,
-    /// A name, a namespace, a uid or an image is none.
+    /// A name, a namespace, a uid or an image is invalid.
     BadName,
-    /// Two containers have one name.
+    /// Two containers have the same name.
     RepeatedName,
-    /// A seccomp profile is of no known type, has a path that it must not have, lacks the one that it has
-    /// to have, or has one that leads out of its folder.
+    /// A seccomp profile has an unknown type, has a path that it must not have, lacks a required path, or has
+    /// one that leads out of its folder.
     BadProfile,
     /// There are more than [`MAX_CONTAINERS`](crate::MAX_CONTAINERS) containers, init ones included.
     TooMany,
-    /// A growth was refused.
+    /// An allocation failed.
     Memory,
 }
 

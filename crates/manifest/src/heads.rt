@@ -25,8 +25,8 @@ use json_tree::object;
 use lifecycle::RestartPolicy;
 use serde_json::Value;
 
-// What stands in a manifest beside its containers. Nothing is allocated, so each fault is told, whether
-// there is memory or not.
+// What a manifest has besides its containers. Nothing is allocated, so each fault is reported even if memory
+// runs out.
 
 #[tactic(auto, unfolding(crate::specs::Reading::head_of))]
 pub(crate) fn head(tree: &Value) -> Result<HeadText<'_>, PodFaultAt>
@@ -179,7 +179,7 @@ fn lists(spec: &Value) -> Result<ListsText<'_>, PodFaultAt>
     Ok(ListsText { inits, others })
 }
 
-// Without a sum that might not fit.
+// Computed without a sum that could overflow.
 fn too_many(inits: usize, others: usize) -> bool
     ensures { IsTrue result ↔ (MAX_CONTAINERS < inits + others) }
 {

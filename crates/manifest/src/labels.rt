@@ -27,12 +27,12 @@ impl Model for Label {
 }
 
 impl Label {
-    /// The label of a text, if it may be one.
+    /// The label with this text, if the text is valid.
     pub fn new(alloc: Global, text: &str) -> Result<Option<Label>, AllocError>
         ensures value { IfOk result (λ label.
             label ≡ (if rule.is_label text.now then Some text.now else None)) }
 
-        // What may be none is told, whether there is memory or not.
+        // An invalid text is reported even if memory runs out.
         ensures told { rule.is_label text.now ≡ false → result ≡ Ok None }
     {
         if is_label(text) {
@@ -50,7 +50,7 @@ impl Label {
         Ok(Label { text })
     }
 
-    /// The text, lent.
+    /// The text.
     pub fn as_str(&self) -> &str
         ensures value { result.now ≡ self.now }
         ensures fit { IsTrue (rule.is_label self.now) }
@@ -58,7 +58,7 @@ impl Label {
         self.text.as_str()
     }
 
-    /// The same label once more.
+    /// A copy of the label.
     pub fn try_clone(&self, alloc: Global) -> Result<Label, AllocError>
         ensures { IfOk result (λ label. label ≡ self.now) }
     {

@@ -1,7 +1,7 @@
 ghost use Rattle.std.specs.Prelude.{◌≡◌};
 ghost use Rattle.manifest.specs.declared.containers.TheConstants.{MAX_CONTAINERS};
 
-/// What the constants of this crate are.
+/// The values of this crate's constants.
 pub fn constants_are_as_stated()
     // This project's own.
     ensures limit { MAX_CONTAINERS ≡ 16 }

@@ -7,7 +7,7 @@ use crate::profiles::ProfileText;
 use lifecycle::RestartPolicy;
 use serde_json::Value;
 
-// What is read of a manifest, lent by its tree.
+// What is read of a manifest, borrowed from its tree.
 
 // What `metadata` says.
 #[derive(Clone, Copy)]

@@ -1,7 +1,7 @@
 //! Manifests of pods: the parts of a Kubernetes 1.27 `v1` `Pod` that this project runs.
 //!
-//! A text that was found to be a name, a uid or a path has a type of its own, so it is judged once. Which
-//! trees are which pods stands in `specs/Pod.antt`, and which fault is found first in `specs/Reading.antt`.
+//! A text that was found to be a name, a uid or a path has a type of its own, so it is checked once.
+//! `specs/Pod.antt` defines which trees are which pods, and `specs/Reading.antt` which fault is found first.
 #![tactic(auto)]
 
 mod containers;

@@ -27,12 +27,12 @@ impl Model for DescendingPath {
 }
 
 impl DescendingPath {
-    /// The path of a text, if it may be one.
+    /// The path with this text, if the text is valid.
     pub fn new(alloc: Global, text: &str) -> Result<Option<DescendingPath>, AllocError>
         ensures value { IfOk result (λ path.
             path ≡ (if rule.is_descending text.now then Some text.now else None)) }
 
-        // What may be none is told, whether there is memory or not.
+        // An invalid text is reported even if memory runs out.
         ensures told { rule.is_descending text.now ≡ false → result ≡ Ok None }
     {
         if is_descending(text) {
@@ -50,7 +50,7 @@ impl DescendingPath {
         Ok(DescendingPath { text })
     }
 
-    /// The text, lent.
+    /// The text.
     pub fn as_str(&self) -> &str
         ensures value { result.now ≡ self.now }
         ensures fit { IsTrue (rule.is_descending self.now) }
@@ -58,7 +58,7 @@ impl DescendingPath {
         self.text.as_str()
     }
 
-    /// The same path once more.
+    /// A copy of the path.
     pub fn try_clone(&self, alloc: Global) -> Result<DescendingPath, AllocError>
         ensures { IfOk result (λ path. path ≡ self.now) }
     {

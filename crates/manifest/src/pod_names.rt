@@ -27,12 +27,12 @@ impl Model for PodName {
 }
 
 impl PodName {
-    /// The name of a text, if it may be one.
+    /// The name with this text, if the text is valid.
     pub fn new(alloc: Global, text: &str) -> Result<Option<PodName>, AllocError>
         ensures value { IfOk result (λ name.
             name ≡ (if rule.is_pod_name text.now then Some text.now else None)) }
 
-        // What may be none is told, whether there is memory or not.
+        // An invalid text is reported even if memory runs out.
         ensures told { rule.is_pod_name text.now ≡ false → result ≡ Ok None }
     {
         if is_pod_name(text) {
@@ -50,7 +50,7 @@ impl PodName {
         Ok(PodName { text })
     }
 
-    /// The text, lent.
+    /// The text.
     pub fn as_str(&self) -> &str
         ensures value { result.now ≡ self.now }
         ensures fit { IsTrue (rule.is_pod_name self.now) }
@@ -58,7 +58,7 @@ impl PodName {
         self.text.as_str()
     }
 
-    /// The same name once more.
+    /// A copy of the name.
     pub fn try_clone(&self, alloc: Global) -> Result<PodName, AllocError>
         ensures { IfOk result (λ name. name ≡ self.now) }
     {

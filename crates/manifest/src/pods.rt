@@ -15,7 +15,7 @@ pub struct Pod {
     pub namespace: Label,
     pub name: PodName,
     pub policy: RestartPolicy,
-    /// How many seconds its containers have to end by themselves.
+    /// The termination grace period of its containers, in seconds.
     pub grace: u64,
     /// The `seccompProfile` of those containers that have none.
     pub profile: Option<SeccompProfile>,
@@ -36,7 +36,7 @@ impl Pod {
             && self.containers.same(&other.containers)
     }
 
-    /// The same pod once more.
+    /// A copy of the pod.
     pub fn try_clone(&self, alloc: Global) -> Result<Pod, AllocError>
         ensures { IfOk result (λ copy. copy ≡ self.now) }
     {

@@ -30,7 +30,7 @@ impl SeccompProfile {
         }
     }
 
-    /// The same profile once more.
+    /// A copy of the profile.
     pub fn try_clone(&self, alloc: Global) -> Result<SeccompProfile, AllocError>
         ensures { IfOk result (λ profile. profile ≡ self.now) }
     {
@@ -44,7 +44,7 @@ impl SeccompProfile {
     }
 }
 
-// Whether a field that may be left out is the same in both.
+// Whether an optional field is the same in both.
 pub(crate) fn is_same(profile: &Option<SeccompProfile>, other: &Option<SeccompProfile>) -> bool
     ensures { IsTrue result ↔ (profile.now ≡ other.now) }
 {
@@ -55,7 +55,7 @@ pub(crate) fn is_same(profile: &Option<SeccompProfile>, other: &Option<SeccompPr
     }
 }
 
-// The profile of a field that may be left out, once more.
+// A copy of the profile of an optional field.
 pub(crate) fn copied(
     alloc: Global,
     profile: &Option<SeccompProfile>,

@@ -33,8 +33,8 @@ use serde_json::Value;
 use std::alloc::{AllocError, Global};
 
 /// The pod of a manifest's text, or the text's first fault: of the text, then of the fields in the order of
-/// docs/SEMANTICS.md, and of the containers in order, init ones first. Fields that no rule speaks of are not
-/// looked at. `Memory` takes the place of any answer where a growth was refused.
+/// docs/SEMANTICS.md, and of the containers in order, init ones first. Unknown fields are ignored. If an
+/// allocation fails, the result is `Memory`.
 pub fn read(alloc: Global, bytes: &[u8]) -> Result<Pod, PodFault>
     // What is read is the text's pod.
     ensures found { IfOk result (ReadsPod bytes.now) }
@@ -50,7 +50,7 @@ pub fn read(alloc: Global, bytes: &[u8]) -> Result<Pod, PodFault>
     Ok(read_placed(alloc, bytes)?)
 }
 
-/// The same, with the place of the first fault in the text.
+/// Reads a manifest as [`read`] does, and gives the place of the first fault in the text.
 pub fn read_placed(alloc: Global, bytes: &[u8]) -> Result<Pod, PodFaultAt>
     ensures found { IfOk result (ReadsPod bytes.now) }
     ensures only { (pod : Pod) → ReadsPod bytes.now pod → Reads (λ p. p) result (Ok pod) }
@@ -73,7 +73,7 @@ fn reading(alloc: Global, bytes: &[u8]) -> Result<Pod, PodFaultAt>
 fn pod(alloc: Global, tree: &Value) -> Result<Pod, PodFaultAt>
     ensures value { Reads (λ p. p) result (pod_of (view tree.now)) }
 
-    // What is found before a container is looked at is told, whether there is memory or not.
+    // What is found before a container is looked at is reported even if memory runs out.
     ensures told { (fault : PodFaultAt) → head_of (view tree.now) ≡ Err fault → result ≡ Err fault }
 {
     let head = head(tree)?;
@@ -91,7 +91,7 @@ fn containers(alloc: Global, lists: ListsText<'_>) -> Result<Containers, PodFaul
     Ok(Containers::new(all, count))
 }
 
-// The containers of one list, behind those of another.
+// The containers of one list, after those of another.
 fn listed(
     alloc: Global,
     key: &'static str,
@@ -122,7 +122,7 @@ fn each_container(
     Ok(done)
 }
 
-// The copies come last, so each fault is told, whether there is memory or not.
+// The copies come last, so each fault is reported even if memory runs out.
 #[tactic(auto, unfolding(crate::specs::Reading::container_of))]
 fn container(alloc: Global, done: &[Container], item: &Value) -> Result<Container, PodFaultAt>
     ensures value { Reads (λ c. c) result (container_of done.now (view item.now)) }

@@ -27,11 +27,11 @@ impl Model for Uid {
 }
 
 impl Uid {
-    /// The uid of a text, if it may be one.
+    /// The uid with this text, if the text is valid.
     pub fn new(alloc: Global, text: &str) -> Result<Option<Uid>, AllocError>
         ensures value { IfOk result (λ uid. uid ≡ (if rule.is_uid text.now then Some text.now else None)) }
 
-        // What may be none is told, whether there is memory or not.
+        // An invalid text is reported even if memory runs out.
         ensures told { rule.is_uid text.now ≡ false → result ≡ Ok None }
     {
         if is_uid(text) {
@@ -55,7 +55,7 @@ impl Uid {
         Uid { text }
     }
 
-    /// The text, lent.
+    /// The text.
     pub fn as_str(&self) -> &str
         ensures value { result.now ≡ self.now }
         ensures fit { IsTrue (rule.is_uid self.now) }
@@ -63,7 +63,7 @@ impl Uid {
         self.text.as_str()
     }
 
-    /// The same uid once more.
+    /// A copy of the uid.
     pub fn try_clone(&self, alloc: Global) -> Result<Uid, AllocError>
         ensures { IfOk result (λ uid. uid ≡ self.now) }
     {

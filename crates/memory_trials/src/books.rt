@@ -10,7 +10,7 @@ use std::marker::Brand;
 use std::sync::ledger::{Blank, Ledger, Share};
 use worker_core::AgentEvent;
 
-/// What came of recording the event of this name, of joining tallies, or of what takes no memory.
+/// Tries to record the event of this name, to join tallies, or what takes no memory.
 pub(crate) fn told(rt: &HostRuntime, name: &str, event: &str) -> Option<Told> {
     match name {
         "record" => {
@@ -57,7 +57,7 @@ fn worker_of(event: &AgentEvent) -> u32
     }
 }
 
-/// `Book::record`, in a book behind the events of a node.
+/// `Book::record`, in a book that has the events of a node.
 #[derive(Drop)]
 struct Records<L: Ledger> {
     book: Book<L>,
@@ -109,7 +109,7 @@ impl<L: Ledger> Trial for Records<L> {
                 let answer = &receipt.entry().answer;
                 match self.foreseen.came(answer, self.book.node()) {
                     Came::Right => Came::right_if(is_last),
-                    // Want of memory is a fault of the book, and no answer of the node that an entry has.
+                    // Lack of memory is a fault of the book, and not an answer of the node in an entry.
                     _ => Came::Wrong,
                 }
             }
@@ -178,7 +178,7 @@ fn are_from(receipts: &[Receipt], first: u64) -> bool {
 impl<L: Ledger> Trial for Joins<L> {
     type Answer = Option<bool>;
 
-    // A tally that is refused comes back.
+    // A tally that is refused is returned.
     fn call(&mut self) -> Option<bool> {
         let other = self.others.pop()?;
         match self.tally.join(other) {

@@ -4,7 +4,7 @@ use bpf_code::{CodeFault, Insn};
 use bpf_verify::{Filter, Refusal, filter_of};
 use std::alloc::{AllocError, Global};
 
-/// What came of the call of this name, if it is one of these.
+/// Tries the call of this name, if it is one of this module's.
 pub(crate) fn told(rt: &HostRuntime, name: &str) -> Option<Told> {
     let alloc = rt.alloc();
     match name {

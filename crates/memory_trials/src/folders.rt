@@ -1,4 +1,4 @@
-//! How pods are named whose manifests give no uid, and a folder of manifests.
+//! Naming pods whose manifests give no uid, and a folder of manifests.
 use crate::nodes::pod;
 use crate::trial::{Came, Told, Trial, tried};
 use manifest::{Pod, Uid};
@@ -7,7 +7,7 @@ use pod_folder::{Folder, Found, Naming, PodReader, gives_uid, uid_for};
 use std::alloc::{AllocError, Global};
 use worker_core::{AgentEvent, NodeRefusal};
 
-/// What came of the call of this name, if it is one of these.
+/// Tries the call of this name, if it is one of this module's.
 pub(crate) fn told(rt: &HostRuntime, name: &str) -> Option<Told> {
     let alloc = rt.alloc();
     match name {
@@ -145,7 +145,7 @@ impl PodReader for Empty {
 const WEB: &[u8] = br#"{"apiVersion":"v1","kind":"Pod","metadata":{"name":"web"},
 "spec":{"restartPolicy":"Never","containers":[{"name":"main","image":"a"}]}}"#;
 
-/// What a look finds in a folder with so many files that ask for a pod of this name.
+/// What a look finds in a folder with this many files that ask for a pod of this name.
 fn found(alloc: Global, files: usize) -> Option<Vec<Found>> {
     let mut found = Vec::new(alloc);
     for file in 0..files {
@@ -173,7 +173,7 @@ fn is_nothing(event: &Result<Option<AgentEvent>, AllocError>) -> bool {
     matches!(event, Ok(None))
 }
 
-/// `Folder::look`, the first one. What is found stands there twice, once for each call.
+/// The first `Folder::look`. What is found is there twice, once for each call.
 #[derive(Drop)]
 struct Looks {
     folder: Folder<'static>,
@@ -217,7 +217,7 @@ impl Trial for Looks {
     }
 }
 
-/// `Folder::next`, where a pod is to be admitted, behind so many others of its name.
+/// `Folder::next`, where a pod is to be admitted, after this many others of its name.
 #[derive(Drop)]
 struct Asks {
     folder: Folder<'static>,

@@ -8,7 +8,7 @@ use cri_msgs::{Answer, Reply, Request, Version};
 use node_io::{Wire, WireFault};
 use std::alloc::Global;
 
-/// What came of the call of this name, if it is one of these.
+/// Tries the call of this name, if it is one of this module's.
 pub(crate) fn told(rt: &HostRuntime, name: &str) -> Option<Told> {
     let alloc = rt.alloc();
     match name {
@@ -21,7 +21,7 @@ pub(crate) fn told(rt: &HostRuntime, name: &str) -> Option<Told> {
 
 const RUN: &str = "{\"call\":\"RunPodSandbox\",\"id\":1,\"uid\":\"u1\",\"v\":2}";
 
-/// What stands in a feed before: a frame that is whole, and the beginning of one.
+/// What a feed has before: a whole frame, and the beginning of one.
 const BEFORE: &str = "\x02\0\0\x02{}\x02\0\0\x07one";
 
 /// What is pushed: the rest of that frame, two frames more, and the beginning of another.
@@ -74,7 +74,7 @@ impl Trial for Feeds {
         }
     }
 
-    // What stands in it is told by what is taken behind the next push.
+    // What the feed has is seen by what is taken after the next push.
     fn is_unchanged(&mut self) -> bool {
         !self.feed.has_failed()
     }
@@ -110,13 +110,13 @@ impl Trial for Takes {
 /// The reply to `RUN`.
 const DONE: &str = "\x02\0\0\x16{\"id\":1,\"ok\":{},\"v\":2}";
 
-/// A wire that takes whatever is written, and on which a reply comes for each request. It takes no memory.
+/// A wire that takes whatever is written, and gives a reply for each request. Allocates nothing.
 #[derive(Clone, Copy)]
 struct Line {
     taken: usize,
 }
 
-/// Moves bytes from the front of `from` to the front of `buf`, and tells how many.
+/// Moves bytes from the front of `from` to the front of `buf`, and returns how many.
 fn give(from: &[u8], buf: &mut [u8]) -> usize
     ensures within { result ≤ length buf.new }
     ensures room { length buf.new ≡ length buf.old }
@@ -144,7 +144,7 @@ impl Wire for Line {
     }
 }
 
-/// `call_over`. A wire on which a call was lost is used no more, so each call has one of its own.
+/// `call_over`. A wire on which a call was lost is not used again, so each call has its own.
 #[derive(Drop)]
 struct Calls {
     alloc: Global,

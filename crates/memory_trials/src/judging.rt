@@ -1,4 +1,4 @@
-//! What judges calls, and takes no memory.
+//! Judging calls, which takes no memory.
 use crate::filters::{are_same, filter};
 use crate::trial::{Came, Told, Trial, tried};
 use action::{Action, Verdict};
@@ -10,7 +10,7 @@ use std::alloc::Global;
 use sys_table::{name, number};
 use verdict::Stack;
 
-/// What came of judging calls.
+/// Tries to judge calls.
 pub(crate) fn told(rt: &HostRuntime, name: &str) -> Option<Told> {
     match name {
         "judging" => Some(tried(rt, Judges::new(rt.alloc()))),

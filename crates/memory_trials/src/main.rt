@@ -1,5 +1,5 @@
 //! Makes one call of the libraries, for trials in which memory is refused: `memory_trials CALL [GIVEN]` marks
-//! on standard error where the requests of that call begin and end, and prints what came of it.
+//! on standard error where the requests of that call begin and end, and prints its result.
 #![tactic(auto)]
 
 mod books;
@@ -37,7 +37,7 @@ fn main(rt: HostRuntime) -> io::Result<()> {
     Ok(())
 }
 
-/// What came of the call of this name, on what is given for it.
+/// Tries the call of this name, with what is given for it.
 fn told(rt: &HostRuntime, name: &str, given: &str) -> Option<Told> {
     if let Some(told) = of_texts(rt, name) {
         return Some(told);
@@ -54,7 +54,7 @@ fn told(rt: &HostRuntime, name: &str, given: &str) -> Option<Told> {
     worlds::told(rt, name, given)
 }
 
-/// The same of a call that nothing is given for.
+/// Tries a call that nothing is given for.
 fn of_texts(rt: &HostRuntime, name: &str) -> Option<Told> {
     if let Some(told) = of_filters(rt, name) {
         return Some(told);
@@ -74,7 +74,11 @@ fn of_texts(rt: &HostRuntime, name: &str) -> Option<Told> {
     of_agents(rt, name)
 }
 
+<<<<<<< HEAD
 /// The same of a call of what an agent tells of its pods, of their past runs, and of what brings them.
+=======
+/// Tries a call of what an agent shows of its pods, or of its folder of manifests.
+>>>>>>> bd032dc8f0d2713c50bbeac46d5fb301af964d03
 fn of_agents(rt: &HostRuntime, name: &str) -> Option<Told> {
     if let Some(told) = watching::told(rt, name) {
         return Some(told);
@@ -85,7 +89,7 @@ fn of_agents(rt: &HostRuntime, name: &str) -> Option<Told> {
     folders::told(rt, name)
 }
 
-/// The same of a call of what judges calls.
+/// Tries a call of what judges calls.
 fn of_filters(rt: &HostRuntime, name: &str) -> Option<Told> {
     if let Some(told) = filters::told(rt, name) {
         return Some(told);

@@ -3,7 +3,7 @@ use crate::trial::{Came, Told, Trial, is_at, tried};
 use manifest::{Pod, PodFault, PodFaultAt};
 use std::alloc::{AllocError, Global};
 
-/// What came of the call of this name, if it is one of these.
+/// Tries the call of this name, if it is one of this module's.
 pub(crate) fn told(rt: &HostRuntime, name: &str) -> Option<Told> {
     let alloc = rt.alloc();
     match name {

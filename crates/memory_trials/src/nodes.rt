@@ -9,7 +9,7 @@ use std::alloc::Global;
 use worker_core::{AgentEvent, Answer, Node, Reported};
 use worker_pod::{PodView, Settings};
 
-/// What came of an event of this name, where the node takes it or foretells its answer.
+/// Tries an event of this name, which the node takes, or whose answer it foretells.
 pub(crate) fn told(rt: &HostRuntime, name: &str, event: &str) -> Option<Told> {
     let alloc = rt.alloc();
     match name {
@@ -36,11 +36,11 @@ pub(crate) fn pod(alloc: Global, name: &str) -> Option<Pod> {
     manifest::read(alloc, text.as_bytes()).ok()
 }
 
-/// What was told of the requests of the pod `a` before: it runs.
+/// The reports on the requests of the pod `a` before: it runs.
 const BEFORE: &str =
     "{\"id\":1,\"ok\":{},\"v\":2}\n{\"id\":2,\"ok\":{\"container\":1},\"v\":2}\n{\"id\":3,\"ok\":{},\"v\":2}";
 
-/// What is told of it next: it ended.
+/// The next report on it: it ended.
 const ENDED: &str =
     r#"{"id":4,"ok":{"statuses":[{"attempt":0,"denied":0,"exit":3,"name":"main","performed":1,"state":"EXITED"}]},"v":2}"#;
 
@@ -49,7 +49,7 @@ fn report(alloc: Global, text: &str) -> Option<AgentEvent> {
     Some(AgentEvent::Report(1, Reported::Replied(reply)))
 }
 
-/// The events behind which the trials begin: worker 1 has claimed what is next for `a`, nobody `b`.
+/// The events after which the trials begin: worker 1 has claimed what is next for `a`, nobody `b`.
 pub(crate) fn events_before(alloc: Global) -> Option<Vec<AgentEvent>> {
     let mut events = Vec::new(alloc);
     events.push(AgentEvent::Admit(pod(alloc, "a")?)).ok()?;
@@ -75,7 +75,7 @@ pub(crate) fn event(alloc: Global, name: &str) -> Option<AgentEvent> {
     })
 }
 
-/// A node behind these events.
+/// A node after these events.
 pub(crate) fn begun(alloc: Global) -> Option<Node> {
     let mut node = Node::new(alloc, SETTINGS);
     for event in events_before(alloc)? {
@@ -129,8 +129,8 @@ pub(crate) fn same_node(a: &Node, b: &Node) -> bool {
     a.held() == b.held() && a.next_due() == b.next_due()
 }
 
-/// What an event is to do to the node behind the events above: the node before it and behind it, and what is
-/// answered. The event stands there twice, once for each call.
+/// What an event is to do to the node after the events above: the node before it and after it, and the
+/// answer. The event is there twice, once for each call.
 #[derive(Drop)]
 pub(crate) struct Foreseen {
     pub(crate) before: Node,
@@ -156,7 +156,7 @@ impl Foreseen {
         })
     }
 
-    /// What came of the event, where this was answered and the node is this one.
+    /// The result of the event, if this was the answer and this is the node.
     pub(crate) fn came(&self, answer: &Answer, node: &Node) -> Came {
         if answer.is_memory() {
             return Came::Memory;
@@ -234,8 +234,8 @@ impl Trial for Foretells {
     }
 }
 
-/// What a node tells of itself and of its pods, and what is decided of them, where a container has ended. It
-/// takes no memory.
+/// What a node shows of itself and of its pods, and what is decided about them, where a container has ended.
+/// It takes no memory.
 #[derive(Drop)]
 struct Shows {
     alloc: Global,

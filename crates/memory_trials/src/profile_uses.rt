@@ -1,4 +1,4 @@
-//! What is told of profiles: the place of a fault, the text, and why a call is judged as it is.
+//! Uses of profiles: the place of a fault, the text, and why a call is judged as it is.
 use crate::profiles::profile;
 use crate::trial::{Came, Told, Trial, is_at, tried};
 use call_data::{NATIVE_ARCH, SysCall};
@@ -7,7 +7,7 @@ use oci_profile::{Decision, Errno, Profile, ProfileFault, ProfileFaultAt};
 use profile_text::{WriteFault, default_text, write};
 use std::alloc::{AllocError, Global};
 
-/// What came of the call of this name, if it is one of these.
+/// Tries the call of this name, if it is one of this module's.
 pub(crate) fn told(rt: &HostRuntime, name: &str) -> Option<Told> {
     let alloc = rt.alloc();
     match name {

@@ -5,7 +5,7 @@ use compile::{CompileFault, compile};
 use oci_profile::{Entry, Profile, ProfileFault, runtime_default};
 use std::alloc::{AllocError, Global};
 
-/// What came of the call of this name, if it is one of these.
+/// Tries the call of this name, if it is one of this module's.
 pub(crate) fn told(rt: &HostRuntime, name: &str) -> Option<Told> {
     let alloc = rt.alloc();
     match name {

@@ -6,7 +6,7 @@ use script::{Script, ScriptFault, ScriptFaultAt, Step};
 use std::alloc::{AllocError, Global};
 use verdict::Stack;
 
-/// What came of the call of this name, if it is one of these.
+/// Tries the call of this name, if it is one of this module's.
 pub(crate) fn told(rt: &HostRuntime, name: &str) -> Option<Told> {
     let alloc = rt.alloc();
     match name {
@@ -158,7 +158,7 @@ impl Trial for Plays {
     }
 }
 
-/// The calls of a cell that was made: a start, steps to its end, a kill behind it, and what it tells. They
+/// The calls of a cell that was made: a start, steps to its end, a kill after it, and what it shows. They
 /// take no memory.
 #[derive(Drop)]
 struct Lives {
@@ -189,7 +189,7 @@ impl Trial for Lives {
         self.cell.exit()
     }
 
-    // getpid is what the filter of the start ends the process for.
+    // The filter of the start ends the process for getpid.
     fn came(&mut self, answer: &Option<u8>) -> Came {
         let counts = self.cell.counts();
         let is_told = counts.performed == 3 && counts.denied == 1 && self.cell.record().len() == 4;

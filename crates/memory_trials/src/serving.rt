@@ -9,7 +9,7 @@ use runtime_cell::{Did, State};
 use runtime_core::{Contents, FileAnswers, Runtime};
 use std::alloc::Global;
 
-/// What came of serving the request of this text.
+/// Tries to serve the request of this text.
 pub(crate) fn told(rt: &HostRuntime, name: &str, text: &str) -> Option<Told> {
     match name {
         "serve" => Some(tried(rt, Serves::new(rt.alloc(), text))),
@@ -32,7 +32,8 @@ const BEFORE: &str = r#"{"call":"RunPodSandbox","id":1,"uid":"u1","v":2}
 {"call":"RemovePodSandbox","id":10,"uid":"u3","v":2}"#;
 
 /// What shows the state of a runtime and changes nothing: a creation without a script tells whether the
-/// sandbox is ready, stopped, removed or unknown, and a start of what isn't there whether it ever was.
+/// sandbox is ready, stopped, removed or unknown, and a start of what doesn't exist tells whether it ever
+/// did.
 const PROBES: &str = r#"{"call":"ContainerStatuses","id":1,"uid":"u1","v":2}
 {"attempt":9,"call":"CreateContainer","id":2,"image":"a","name":"a","profile":{"type":"Unconfined"},"uid":"u1","v":2}
 {"attempt":0,"call":"StartContainer","id":3,"name":"c","uid":"u1","v":2}
@@ -45,7 +46,7 @@ fn contents(alloc: Global, text: &str) -> Option<Contents> {
     Some(Contents::new(Vec::from_slice(alloc, text.as_bytes()).ok()?))
 }
 
-/// What the files of any request give.
+/// The results of reading the files of any request.
 pub(crate) fn files(alloc: Global) -> Option<FileAnswers> {
     Some(FileAnswers {
         script: Some(Ok(contents(alloc, SCRIPT)?)),
@@ -65,7 +66,7 @@ fn served(alloc: Global, runtime: &mut Runtime, text: &str, files: FileAnswers) 
     Some(runtime.serve(request, files))
 }
 
-/// A runtime behind these requests.
+/// A runtime after these requests.
 fn begun(alloc: Global) -> Option<Runtime> {
     let mut runtime = Runtime::new(alloc, Some(filter(alloc)?));
     for text in BEFORE.lines() {
@@ -74,7 +75,7 @@ fn begun(alloc: Global) -> Option<Runtime> {
     Some(runtime)
 }
 
-/// `Runtime::serve`: a runtime, another one like it, and what one call and the next one take.
+/// `Runtime::serve`: a runtime, another one like it, and the inputs of two calls.
 #[derive(Drop)]
 struct Serves {
     alloc: Global,

@@ -5,7 +5,7 @@ use bpf_verify::Filter;
 use std::alloc::{AllocError, Global};
 use verdict::{Stack, StackFault};
 
-/// What came of the call of this name, if it is one of these.
+/// Tries the call of this name, if it is one of this module's.
 pub(crate) fn told(rt: &HostRuntime, name: &str) -> Option<Told> {
     let alloc = rt.alloc();
     match name {
@@ -57,13 +57,13 @@ impl Pushes {
     }
 }
 
-/// How many filters a stack gets behind the first one. A list of filters has room for four at first.
+/// How many filters a stack gets after the first one. A list of filters has room for four at first.
 const FILLED: usize = 3;
 
 impl Trial for Pushes {
     type Answer = Option<StackFault>;
 
-    // A filter that is refused comes back.
+    // A filter that is refused is returned.
     fn call(&mut self) -> Option<StackFault> {
         let filter = self.filters.pop()?;
         match self.stack.push(filter) {
@@ -94,7 +94,7 @@ impl Trial for Pushes {
     }
 }
 
-/// Whether a stack has so many filters, each of them this one.
+/// Whether a stack has `count` filters, each of them this one.
 fn has(stack: &Stack, count: usize, filter: &Filter) -> bool {
     for it in stack.filters() {
         if !are_same(it, filter) {

@@ -1,14 +1,14 @@
-//! How a call is tried whose requests for memory can be refused.
+//! How a call is tried whose allocations can be refused.
 use json_place::Place;
 use std::alloc::Global;
 use std::io::{self, Write};
 
-/// What came of a call.
+/// The result of a call.
 #[derive(Clone, Copy, PartialEq, Eq)]
 pub(crate) enum Came {
-    /// The answer of a first call that has memory.
+    /// The answer that a first call with enough memory gives.
     Right,
-    /// Want of memory.
+    /// Lack of memory.
     Memory,
     /// Any other answer.
     Wrong,
@@ -23,13 +23,13 @@ impl Came {
 
 /// A call, and the state that it is made on.
 pub(crate) trait Trial {
-    /// What the call gives.
+    /// The answer of the call.
     type Answer: Drop;
 
-    /// Makes the call, and asks for no memory but by it. There are two calls at most.
+    /// Makes the call, and allocates nothing besides. There are at most two calls.
     fn call(&mut self) -> Self::Answer;
 
-    /// What came of it.
+    /// The result of the call.
     fn came(&mut self, answer: &Self::Answer) -> Came;
 
     /// Whether the state is as it was before the call. A call that has none changes nothing.
@@ -38,18 +38,18 @@ pub(crate) trait Trial {
     }
 }
 
-/// What is told of a trial.
+/// The result of a trial.
 #[derive(Clone, Copy, PartialEq, Eq)]
 pub(crate) enum Told {
-    /// There was no memory for the state, or it is none.
+    /// There was no memory for the state, or the state is not valid.
     NotSetUp,
     /// A line around the call was not written.
     Unmarked,
     Right,
     Wrong,
-    /// Want of memory, by which something changed.
+    /// Lack of memory, after which something had changed.
     Changed,
-    /// Want of memory, by which nothing changed, and what came of the same call then.
+    /// Lack of memory, after which nothing had changed, and the result of the same call then.
     Refused(Came),
 }
 
@@ -68,8 +68,8 @@ impl Told {
     }
 }
 
-/// Makes the call between the two lines by which whoever refuses requests knows when to count them, and tells
-/// what came of it. Behind a refusal the same call is made once more.
+/// Makes the call between the two lines that show when allocations are to be counted and refused, and returns
+/// the result. After a refusal the same call is made once more.
 pub(crate) fn tried<T: Trial + Drop>(rt: &HostRuntime, trial: Option<T>) -> Told {
     let Some(mut trial) = trial else {
         return Told::NotSetUp;
@@ -87,7 +87,7 @@ pub(crate) fn tried<T: Trial + Drop>(rt: &HostRuntime, trial: Option<T>) -> Told
     }
 }
 
-/// What is told behind a refusal.
+/// The result after a refusal.
 fn behind<T: Trial>(trial: &mut T) -> Told {
     if !trial.is_unchanged() {
         return Told::Changed;

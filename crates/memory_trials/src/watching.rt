@@ -1,4 +1,4 @@
-//! What an agent remembers and tells of its calls and pods.
+//! What an agent remembers and shows of its calls and pods.
 use crate::nodes::begun;
 use crate::trial::{Came, Told, Trial, tried};
 use cri_msgs::{Call, Refusal};
@@ -8,7 +8,7 @@ use node_watch::{Form, PodSeen, Reasons, Trouble, gone_line, pod_changes};
 use std::alloc::{AllocError, Global};
 use worker_core::Node;
 
-/// What came of the call of this name, if it is one of these.
+/// Tries the call of this name, if it is one of this module's.
 pub(crate) fn told(rt: &HostRuntime, name: &str) -> Option<Told> {
     let alloc = rt.alloc();
     match name {
@@ -32,8 +32,8 @@ fn list_of(alloc: Global, text: &str) -> Option<Call> {
     Some(Call::ListContainers { uid })
 }
 
-/// The reasons behind a list of another pod that was lost at moment 3, and one of this pod that was at moment
-/// 5.
+/// The reasons after a list of another pod that was lost at moment 3, and one of this pod that was lost at
+/// moment 5.
 fn reasons(alloc: Global) -> Option<Reasons> {
     let mut reasons = Reasons::new(alloc);
     for (moment, name) in [(3, "b"), (5, "a")] {
@@ -44,7 +44,7 @@ fn reasons(alloc: Global) -> Option<Reasons> {
     Some(reasons)
 }
 
-/// `Reasons::note`, of a call that came to nothing otherwise before.
+/// `Reasons::note`, of a call that failed in another way before.
 #[derive(Drop)]
 struct Notes {
     alloc: Global,
@@ -65,7 +65,7 @@ impl Notes {
         })
     }
 
-    /// Since when, and whether by a loss, the list of this pod comes to nothing.
+    /// Since when, and whether by a loss, the list of this pod fails.
     fn since(&self, name: &str) -> Option<(u64, bool)> {
         let uid = uid(self.alloc, name)?;
         let reason = self.reasons.reason_for(&uid, &self.container)?;

@@ -8,7 +8,7 @@ use runtime_core::Runtime;
 use std::alloc::Global;
 use world::{Act, World, WorldEvent, WorldFault};
 
-/// What came of the step by an event of this name.
+/// Tries the step by an event of this name.
 pub(crate) fn told(rt: &HostRuntime, name: &str, event: &str) -> Option<Told> {
     match name {
         "World::step" => Some(tried(rt, Steps::new(rt.alloc(), event))),
@@ -17,8 +17,8 @@ pub(crate) fn told(rt: &HostRuntime, name: &str, event: &str) -> Option<Told> {
     }
 }
 
-/// The events behind which the trials begin, by their names: the container of `a` has ended, which worker 1
-/// was told and has not reported; worker 2 is to create that of `b`; nobody has claimed `d`.
+/// The events after which the trials begin, by their names: the container of `a` has ended, which worker 1
+/// knows and has not reported; worker 2 is to create that of `b`; nobody has claimed `d`.
 const BEFORE: &str =
     "admit a\nclaim 1\nserve 0\nreport 1 0\nclaim 1\nserve 1\nreport 1 1\nclaim 1\nserve 2\nreport 1 2\n\
     step\nstep\nstep\nstep\nclaim 1\nserve 3\n\
@@ -75,7 +75,7 @@ fn same_cells(a: &Runtime, b: &Runtime) -> bool {
     true
 }
 
-/// Whether two worlds show the same, but for the replies that were given.
+/// Whether two worlds show the same, except for the replies that were given.
 fn same_world(a: &World, b: &World) -> bool {
     same_node(a.node(), b.node())
         && same_cells(a.runtime(), b.runtime())
@@ -123,8 +123,8 @@ impl Trial for Steps {
         Some(self.world.step(self.events.pop()?))
     }
 
-    // A refusal of the node or of the runtime is an answer, and the world goes on: nothing has come of the
-    // event, but that the reply was given which says so.
+    // A refusal by the node or by the runtime is an answer, and the world goes on: the event had no effect,
+    // except that the reply was given which says so.
     fn came(&mut self, answer: &Option<Result<(), WorldFault>>) -> Came {
         match answer {
             Some(Ok(())) => {

@@ -7,7 +7,7 @@ const RUN_POD: &str = "\0\0\0\x30{\"call\":\"RunPodSandbox\",\"id\":1,\"uid\":\"
 
 const DONE: &str = "\0\0\0\x16{\"id\":1,\"ok\":{},\"v\":1}";
 
-// What came of a call.
+// The result of a call.
 #[derive(Clone, Copy, PartialEq, Eq)]
 enum Came {
     Done,
@@ -31,7 +31,7 @@ fn request_in(alloc: Global, version: Version, frame: &str) -> Option<Request> {
     Request::read(alloc, version, text).ok()
 }
 
-// A wire on which these bytes come, in pieces of so many, and whose call with this number fails.
+// A wire with this input, which comes in pieces of this size, and whose call with this number fails.
 fn wire(alloc: Global, input: &[u8], piece: usize, failing: u64) -> Option<MemoryWire> {
     let input = Vec::from_slice(alloc, input).ok()?;
     let mut wire = MemoryWire::new(alloc, input, piece.max(1), 1024).ok()?;
@@ -43,7 +43,7 @@ fn over(alloc: Global, wire: &mut MemoryWire, request: &Request, version: Versio
     came_of(call_over(alloc, wire, request, version))
 }
 
-// What comes of the request in this frame, and how many of the frame's bytes were written.
+// The result for the request in this frame, and how many of the frame's bytes were written.
 fn called(
     alloc: Global,
     version: Version,
@@ -63,7 +63,7 @@ fn called(
     }
 }
 
-// What comes of two calls over one wire, on which both replies stand from the start.
+// The results of two calls over one wire, which has both replies from the start.
 fn called_twice(alloc: Global) -> Option<(Came, Came)> {
     let replies = "\0\0\0\x16{\"id\":1,\"ok\":{},\"v\":1}\x02\0\0\x16{\"id\":9,\"ok\":{},\"v\":2}";
     let asked = "\x02\0\0\x30{\"call\":\"ListContainers\",\"id\":9,\"uid\":\"u1\",\"v\":2}";
@@ -140,6 +140,6 @@ fn calls(rt: HostRuntime) {
     let found = called(rt.alloc(), Version::V2, newer, done, 20, 0);
     assert!(rt; found == Some((bad, 52)));
 
-    // No byte behind a reply is taken: the next call finds its own.
+    // No byte after a reply is read: the next call finds its own.
     assert!(rt; called_twice(rt.alloc()) == Some((Came::Done, Came::Done)));
 }

@@ -5,7 +5,7 @@ use cri_msgs::*;
 use manifest::{Label, Uid};
 use std::alloc::Global;
 
-// A request of each call as it is written, behind the versions that have it.
+// A request of each call as it is written, after the versions that have it.
 const CALLS: &str = r#"12=>{"call":"RunPodSandbox","id":1,"uid":"u1","v":2}
 12=>{"call":"StopPodSandbox","grace":30,"id":0,"uid":"u1","v":2}
 12=>{"call":"RemovePodSandbox","id":3,"uid":"U.1-","v":2}
@@ -19,7 +19,7 @@ const CALLS: &str = r#"12=>{"call":"RunPodSandbox","id":1,"uid":"u1","v":2}
 12=>{"call":"ListContainers","id":8,"uid":"u1","v":2}
 2=>{"call":"ContainerStatuses","id":9,"uid":"u1","v":2}"#;
 
-// A reply of each kind as it is written, behind the versions that have it.
+// A reply of each kind as it is written, after the versions that have it.
 const REPLIES: &str = r#"12=>{"id":1,"ok":{},"v":2}
 12=>{"id":1,"refused":3,"v":2}
 12=>{"id":1,"refused":5,"v":2}
@@ -36,8 +36,8 @@ const REPLIES: &str = r#"12=>{"id":1,"ok":{},"v":2}
 2=>{"id":9,"ok":{"statuses":[]},"v":2}
 2=>{"id":9,"ok":{"statuses":[{"attempt":0,"denied":0,"exit":null,"name":"main","performed":0,"state":"RUNNING"},{"attempt":1,"denied":7,"exit":0,"name":"main","performed":0,"state":"EXITED"}]},"v":2}"#;
 
-// Whether the text is written as it stands, also in version 1, whether version 1 reads that where it has it,
-// and whether no text of one version is one of the other.
+// Whether the text is written as it is, also in version 1, whether version 1 reads it if it has the call, and
+// whether no text of one version is one of the other.
 fn is_call_kept(alloc: Global, text: &str, first: &str, in_first: bool) -> bool {
     is_text(request_again(alloc, text, Version::V2), text)
         && is_text(request_again(alloc, text, Version::V1), first)
@@ -84,7 +84,7 @@ fn there_and_back(rt: HostRuntime) {
     }
 }
 
-// What the members of a reply say together: the text that is written of what was read, none where it is no
+// What the members of a reply say together: the text that is written of what was read, none if it is not a
 // message.
 const SAID: &str = r#"{"refused":3,"ok":{},"v":2,"id":5}=>{"id":5,"refused":3,"v":2}
 {"refused":3,"ok":1,"v":2,"id":5}=>{"id":5,"refused":3,"v":2}
@@ -155,7 +155,7 @@ fn key(alloc: Global) -> Option<Key> {
     })
 }
 
-// Whether the answer to the call tells this of the exit of attempt 1.
+// Whether the answer to the call reports this of the exit of attempt 1.
 fn tells(alloc: Global, answer: &Answer, call: &Call, want: &str) -> bool {
     match key(alloc) {
         Some(key) => is_code(answer.exit_told(call, &key), want),
@@ -174,7 +174,7 @@ fn tells_asked(alloc: Global, answer: &Answer, asked: &str, want: &str) -> bool 
     }
 }
 
-// The same of a text, where nothing is wanted of one that is no message.
+// The same of a text, where nothing is wanted of one that is not a message.
 fn is_told(alloc: Global, text: &str, asked: &str, want: &str) -> bool {
     match Reply::read(alloc, Version::V2, text.as_bytes()) {
         Ok(reply) => tells_asked(alloc, &reply.answer, asked, want),
@@ -191,7 +191,7 @@ fn is_state_told(alloc: Global, form: &str, state: &str, to_one: &str, to_all: &
     }
 }
 
-// A status, as `ok` and as an item of `statuses`: what is told of it, nothing where it is no message.
+// A status, as `ok` and as an item of `statuses`: what it reports, and nothing if it is not a message.
 const STATES: &str = r#""state":"CREATED"=>none
 "state":"RUNNING","exit":null=>none
 "state":"EXITED","exit":0=>0

@@ -2,7 +2,7 @@ use cri_frames::{Feed, FeedFault, frame_of};
 use cri_msgs::{MAX_TEXT, Version};
 use std::alloc::{AllocError, Global};
 
-// Requests and replies, each behind its frame's four bytes.
+// Requests and replies, each after its frame's four bytes.
 const FRAMES: [&str; 9] = [
     "\0\0\0\x30{\"call\":\"RunPodSandbox\",\"id\":1,\"uid\":\"u1\",\"v\":1}",
     "\0\0\0\x16{\"id\":1,\"ok\":{},\"v\":1}",
@@ -17,7 +17,7 @@ const FRAMES: [&str; 9] = [
      \"name\":\"main\",\"performed\":0,\"state\":\"RUNNING\"}]},\"v\":2}",
 ];
 
-// Pushes a piece, and once more where a growth was refused, which leaves the feed as it was.
+// Pushes a piece, and again if an allocation fails, which leaves the feed as it was.
 fn push(feed: &mut Feed, piece: &[u8]) -> Result<(), FeedFault> {
     match feed.push(piece) {
         Err(FeedFault::Memory) => feed.push(piece),
@@ -59,7 +59,7 @@ fn all_frames(alloc: Global) -> Result<Vec<u8>, AllocError> {
     Ok(stream)
 }
 
-// Whether a stream in pieces of so many bytes is taken as it is.
+// Whether a stream in pieces of this size is taken as it is.
 fn is_passed(alloc: Global, stream: &[u8], size: usize) -> bool {
     let mut feed = Feed::new(alloc);
     let mut taken = Vec::new(alloc);
@@ -83,7 +83,7 @@ fn is_taken_whole(alloc: Global, frame: &[u8], cut: usize) -> bool {
         && taken.as_slice() == frame
 }
 
-// Behind a frame: what is answered to three bytes, to the fourth, and to none; and whether the frame alone is
+// After a frame: the results of pushing three bytes, the fourth, and none; and whether just the frame is
 // taken then.
 fn answers(alloc: Global, head: u32) -> (bool, bool, bool, bool) {
     let bytes = head.to_be_bytes();

@@ -14,8 +14,8 @@ const CALLS: &str = r#"{"call":"RunPodSandbox","v":2,"id":7,"uid":"u1"}
 {"call":"ListContainers","v":2,"id":7,"uid":"u1"}
 {"call":"ContainerStatuses","v":2,"id":7,"uid":"u1"}"#;
 
-// A field as it may stand in a call, and what stands there in its place: nothing, null, another type, or a
-// value past its limits. No call has the first.
+// A field of a call, and what is put in its place: nothing, null, another type, or a value past its limits.
+// No call has the first.
 const FIELDS: &str = r#","none":0=>
 ,"uid":"u1"=>
 ,"uid":"u1"=>,"uid":null
@@ -61,7 +61,7 @@ const FIELDS: &str = r#","none":0=>
 ,"profile":{"type":"Unconfined"}=>,"profile":{"type":"RuntimeDefault","path":"a"}
 ,"profile":{"type":"Unconfined"}=>,"profile":{"type":"RuntimeDefault","path":1}"#;
 
-// Whether the call is refused with its number where it has the field, and is read where it has not.
+// Whether the call is refused with its number if it has the field, and is read if it has not.
 fn is_right(alloc: Global, call: &str, field: &str, bad: &str) -> bool {
     let want = if call.contains(field) {
         Some(MessageFault::NoMessage(7))
@@ -84,7 +84,7 @@ fn each_field(rt: HostRuntime) {
     }
 }
 
-// Texts that are no message, and the number that is told of them.
+// Texts that are not messages, and the number that is reported of them.
 const NONE: &str = r#"=>0
 {"id":7,"v":2=>0
 null=>0
@@ -131,7 +131,7 @@ fn no_messages(rt: HostRuntime) {
 
 const LISTED: &str = r#",{"attempt":0,"name":"a","state":"CREATED"}"#;
 
-// Whether a list of one container more is read.
+// Whether a list with `more` further containers is read.
 fn is_list_read(alloc: Global, more: usize) -> bool {
     match LISTED.repeat(alloc, more) {
         Ok(rest) => is_list_with(alloc, rest.as_str()),
@@ -148,7 +148,7 @@ fn is_list_with(alloc: Global, rest: &str) -> bool {
     }
 }
 
-// Whether a path of so many bytes is read.
+// Whether a path of this length is read.
 fn is_image_read(alloc: Global, count: usize) -> bool {
     match "a".repeat(alloc, count) {
         Ok(path) => is_image(alloc, path.as_str()),

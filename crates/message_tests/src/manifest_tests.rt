@@ -6,7 +6,7 @@ use std::alloc::{AllocError, Global};
 const SMALLEST: &str = "{\"apiVersion\":\"v1\",\"kind\":\"Pod\",\"metadata\":{\"name\":\"p\"},
     \"spec\":{\"containers\":[{\"name\":\"a\",\"image\":\"a.json\"}]}}";
 
-// As `kubectl run web --image=nginx:1.25 --dry-run=client -o json` and a hand behind it write it.
+// As `kubectl run web --image=nginx:1.25 --dry-run=client -o json` writes it, with changes by hand.
 const WRITTEN: &str = "{\"kind\":\"Pod\",\"apiVersion\":\"v1\",
     \"metadata\":{\"name\":\"web.0\",\"namespace\":\"shop\",\"uid\":\"0f0e-A1\",\"creationTimestamp\":null,
         \"labels\":{\"run\":\"web\"},\"annotations\":{\"a/b\":\"c\"}},
@@ -68,7 +68,7 @@ fn what_is_given(rt: HostRuntime) {
     }
 }
 
-// What may be left out and is null is left out.
+// An optional field that is null counts as left out.
 #[test]
 fn nulls(rt: HostRuntime) {
     let specs = [

@@ -8,41 +8,41 @@ use std::io::{self, ErrorKind};
 /// Why the system refused a call on a file, a folder or a socket: what it says by errno(3).
 #[derive(Clone, Copy, Debug, PartialEq, Eq)]
 pub enum Cause {
-    /// Nothing stands at the path.
+    /// Nothing is at the path.
     NotFound,
     /// The folder of the path is not there.
     NoFolder,
     /// The user may not do that.
     PermissionDenied,
-    /// A folder stands where a file was meant.
+    /// A folder is where a file was meant.
     IsFolder,
-    /// A part of the path, or what should be a folder, is none.
+    /// A part of the path, or what should be a folder, is not a folder.
     NotFolder,
-    /// What stands there is neither a regular file nor a folder.
+    /// What is there is neither a regular file nor a folder.
     NotRegular,
     /// A link leads out of the folder.
     Outside,
     /// A part of the path is too long.
     NameTooLong,
-    /// Links lead on to links without an end.
+    /// Symbolic links form a loop, or too long a chain.
     TooManyLinks,
-    /// The process, or the system, has as many open files as it may have.
+    /// The process, or the system, has reached its limit of open files.
     TooManyFiles,
     /// The device is full.
     NoSpace,
-    /// The user has as much on the device as it may have.
+    /// The user's quota on the device is used up.
     Quota,
     /// The device can't be written.
     ReadOnly,
-    /// The file is a program that runs.
+    /// The file is a program that is running.
     Busy,
     /// The device itself failed.
     Device,
-    /// The stream is closed, or open for something else.
+    /// The stream is closed, or not open for this operation.
     NotOpen,
-    /// A signal came meanwhile.
+    /// A signal interrupted the call.
     Interrupted,
-    /// It would have to be waited for, as for a place in a queue that is full.
+    /// The call would have to wait, for example for a place in a full queue.
     WouldBlock,
     /// Nobody listens.
     Refused,
@@ -50,9 +50,9 @@ pub enum Cause {
     Gone,
     /// It took too long.
     TimedOut,
-    /// Another one that the system has a number for.
+    /// Another cause, with its errno.
     Number(u32),
-    /// Another one.
+    /// Another cause, without an errno.
     Other,
 }
 

@@ -7,16 +7,16 @@ use std::fmt;
 use std::io::{self, ErrorKind};
 use thiserror::Error;
 
-/// Why a read of a file gave no bytes.
+/// Why a file was not read.
 #[derive(Clone, Copy, Debug, PartialEq, Eq, Error)]
 pub enum FileFault {
     /// There is no such file.
     NotFound,
     /// It has more bytes than were allowed.
     TooLarge,
-    /// The device failed, or what is there is no regular file.
+    /// The device failed, or what is there is not a regular file.
     Failed,
-    /// A growth was refused, or the system had no memory to open the file.
+    /// An allocation failed, or the system had no memory to open the file.
     Memory,
 }
 
@@ -48,11 +48,11 @@ impl fmt::Display for FileFault {
     }
 }
 
-/// A fault, and why it came where the system says so.
+/// A fault, and its cause if the system gives one.
 #[derive(Clone, Copy, Debug, PartialEq, Eq)]
 pub struct CausedFault {
     pub fault: FileFault,
-    /// Of a failure alone: the other faults are causes of their own.
+    /// Only `Failed` has one: the other faults are causes themselves.
     pub cause: Option<Cause>,
 }
 
@@ -107,7 +107,7 @@ impl From<io::Error> for CausedFault {
     }
 }
 
-/// The fault's name, and behind it in brackets why it came: `Failed (permission denied)`.
+/// The fault's name, and the cause in brackets: `Failed (permission denied)`.
 impl fmt::Display for CausedFault {
     ghost use Rattle.std.specs.Prelude.{Some};
     ghost use Rattle.node_io.specs.FaultText.{caused_text};

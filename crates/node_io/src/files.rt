@@ -5,12 +5,12 @@ ghost use Rattle.node_io.specs.Held.{Held, Tells};
 
 use crate::faults::FileFault;
 
-/// How many bytes a file may have that is read whole.
+/// The most bytes of a file that is read whole.
 pub const MAX_FILE_BYTES: u64 = 1_048_576;
 
 /// Files that can be read whole, by path.
 pub trait Files {
-    // What is held, where that is known.
+    // What is held, if that is known.
     ghost held: { Self → Option Held } = { λ _. None };
 
     // How many failures of the device there were.
@@ -26,13 +26,13 @@ pub trait Files {
         ensures too_large { IfErr result (λ fault. fault ≡ FileFault.TooLarge
             → Tells (held self.old) path.now (λ found. IsSomeAnd found (λ bytes. limit < length bytes))) }
 
-        // The device's fault is told only where the device failed.
+        // The device's fault is reported only if the device failed.
         ensures failed { IfErr result (λ fault. fault ≡ FileFault.Failed
             → HasRisen (failed self.old) (failed self.new)) }
         ensures counted { failed self.old ≤ failed self.new }
         ensures kept { held self.new ≡ held self.old };
 
-    /// How many failures of the device there were. The greatest number stays.
+    /// How many failures of the device there were. The count saturates.
     fn failures(&self) -> u64
         ensures { result ≡ failed self.now };
 }

@@ -1,8 +1,8 @@
 //! What a node reads and writes: files, and wires to a peer, each as a trait with a count of the failures
 //! of its device.
 //!
-//! A device's fault is told only where that count rose in the call. Devices over memory say what they
-//! hold, so that contracts of what is built on them can speak of bytes; real ones don't.
+//! A device's fault is reported only if that count rose in the call. The models of in-memory devices say what
+//! they hold, so that contracts built on them can speak of bytes; those of real devices don't.
 #![tactic(auto)]
 
 mod causes;

@@ -54,7 +54,7 @@ impl StoredFile {
     }
 }
 
-/// Files in memory, which fail when they are told to. Of several with one path the first counts.
+/// Files in memory, which can be made to fail. Of several with the same path the first counts.
 #[derive(Drop)]
 pub struct MemoryFiles {
     files: Vec<StoredFile>,
@@ -96,7 +96,7 @@ impl MemoryFiles {
         }
     }
 
-    /// Makes the read with this number fail, counted from 1 for the first. All others go on.
+    /// Makes the read with this number fail, counted from 1 for the first. All other reads work.
     pub fn fail_call(&mut self, number: u64)
         ensures { self.new ≡ record {
           files = self.old.files;

@@ -4,8 +4,8 @@ use crate::wire::{Wire, WireFault};
 use std::alloc::{AllocError, Global};
 use std::marker::Model;
 
-/// A wire in memory, which fails when it is told to. It moves at most so many bytes a call, and has place
-/// from the start for all that it takes, so that no write lacks memory.
+/// A wire in memory, which can be made to fail. It moves at most `piece` bytes a call. Room for all that it
+/// takes is allocated at the start, so no write runs out of memory.
 #[derive(Drop)]
 pub struct MemoryWire {
     input: Vec<u8>,
@@ -42,8 +42,8 @@ impl MemoryWire {
     ghost use Rattle.std.specs.Prelude.{◌≡◌, ◌<◌, ◌≤◌, IfOk, []};
     ghost use Rattle.node_io.specs.Tape.{counted, fails_next};
 
-    /// A wire on which these bytes come, and then the end, with place for so many written ones. None of its
-    /// calls is told to fail.
+    /// A wire whose input is these bytes and then the end, with room for `place` bytes of output. None of its
+    /// calls fails by request.
     pub fn new(
         alloc: Global,
         input: Vec<u8>,
@@ -74,8 +74,8 @@ impl MemoryWire {
         })
     }
 
-    /// Makes the read or write with this number fail, counted from 1 for the first call. All others go
-    /// on.
+    /// Makes the read or write with this number fail, counted from 1 for the first call. All other calls
+    /// work.
     pub fn fail_call(&mut self, number: u64)
         ensures { self.new ≡ record {
           input = self.old.input;
@@ -99,7 +99,7 @@ impl MemoryWire {
         self.written.as_slice()
     }
 
-    // Counts a call, and tells whether it is the one that is to fail.
+    // Counts a call, and returns whether it is the one to fail.
     fn fails(&mut self) -> bool
         ensures told { result ≡ fails_next self.old }
         ensures counted { self.new ≡ counted self.old }
@@ -116,8 +116,7 @@ impl MemoryWire {
     }
 }
 
-// Moves bytes from the front of `from` to the front of `buf`, at most `piece` of them, and tells how
-// many.
+// Moves bytes from the front of `from` to the front of `buf`, at most `piece` of them, and returns how many.
 fn give(from: &[u8], buf: &mut [u8], piece: usize) -> usize
     ensures count { result ≡ min (min (length buf.old) piece) (length from.now) }
     ensures bytes { take result buf.new ≡ take result from.now }
@@ -155,7 +154,7 @@ impl Wire for MemoryWire {
     ghost failed = { λ w. w.failures };
 
     fn read(&mut self, buf: &mut [u8]) -> Result<usize, WireFault>
-        // It fails where it is told to, and then moves nothing.
+        // It fails where it is made to, and then moves nothing.
         ensures fails { IsErr result ↔ (fails_next self.old ≡ true) }
         ensures err { OnErr result (self.new ≡ counted self.old) }
         ensures count { IfOk result (λ n. n ≡ readable self.old (length buf.old)) }
@@ -179,7 +178,7 @@ impl Wire for MemoryWire {
     }
 
     fn write(&mut self, bytes: &[u8]) -> Result<usize, WireFault>
-        // It fails where it is told to, and where it is full, and then moves nothing.
+        // It fails where it is made to, and where it is full, and then moves nothing.
         ensures fails { IsErr result ↔ (write_fails self.old (length bytes.now) ≡ true) }
         ensures err { OnErr result (self.new ≡ (if fails_next self.old then counted self.old
             else failed_more (counted self.old))) }

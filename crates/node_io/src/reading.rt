@@ -6,12 +6,11 @@ use crate::faults::{CausedFault, FileFault};
 use std::alloc::Global;
 use std::io::Read;
 
-// How much is asked for at once.
+// How many bytes are read at once.
 const PIECE: usize = 4096;
 
-// All the bytes that are left, if they are no more than the limit. A read that is interrupted fails, as
-// any other that does. Each read but the last gives a byte at least, so that one more read than the limit
-// has bytes shows that there are too many.
+// All remaining bytes, if they are no more than the limit. A read that is interrupted counts as failed. Each
+// read but the last gives at least one byte, so limit + 1 reads without an end show that there are too many.
 pub(crate) fn read_all<S: Read>(
     alloc: Global,
     source: &mut S,

@@ -14,11 +14,11 @@ use std::marker::Model;
 pub struct StreamWire<S> {
     stream: S,
     failures: u64,
-    // Why the last call failed that did, where the system said so.
+    // Why the last failed call failed, if the system gave a cause.
     cause: Option<Cause>,
 }
 
-// It is seen as the count of its failures.
+// Its model is the count of its failures.
 impl<S> Model for StreamWire<S> {
     ghost use Rattle.std.specs.Prelude.{ℕ};
 
@@ -39,12 +39,12 @@ impl<S: Read + Write> StreamWire<S> {
         }
     }
 
-    /// Why the last call failed that did, where the system said so.
+    /// Why the last failed call failed, if the system gave a cause.
     pub fn cause(&self) -> Option<Cause> {
         self.cause
     }
 
-    // Counts a failure, and tells it.
+    // Counts a failure, and returns the fault.
     fn fault(&mut self, cause: Option<Cause>) -> WireFault
         ensures risen { HasRisen self.old self.new }
         ensures counted { self.old ≤ self.new }
@@ -55,7 +55,8 @@ impl<S: Read + Write> StreamWire<S> {
     }
 }
 
-// A stream has a limit of time where a call that would have to wait any longer fails.
+// WouldBlock is TimedOut here: a call on a stream with a time limit fails so when it would have to wait
+// longer.
 fn cause_of(error: &io::Error) -> Option<Cause>
     ensures { result ≡ Some (waited (cause_of (error_kind error.now) (raw_os_error error.now))) }
 {

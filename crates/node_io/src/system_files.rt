@@ -32,8 +32,8 @@ impl<'a, R> Model for SystemFiles<'a, R> {
 }
 
 impl<'a, R: rt::Files + AllocGlobal> SystemFiles<'a, R> {
-    /// Those below a folder: a path that is empty, absolute or has a part `..` leads to none, and below the
-    /// empty folder none does.
+    /// The files below a folder. A path that is empty, absolute or has a part `..` leads to none; if the
+    /// folder's path is empty, no path does.
     pub fn within(rt: &'a R, folder: &'a str) -> SystemFiles<'a, R>
         ensures { result ≡ record { folder = Some folder.now; failures = 0 } }
     {
@@ -44,7 +44,7 @@ impl<'a, R: rt::Files + AllocGlobal> SystemFiles<'a, R> {
         }
     }
 
-    /// All of them, by any path, from the folder that the process runs in.
+    /// All files, by any path, relative to the working directory.
     pub fn anywhere(rt: &'a R) -> SystemFiles<'a, R>
         ensures { result ≡ record { folder = None; failures = 0 } }
     {
@@ -55,7 +55,7 @@ impl<'a, R: rt::Files + AllocGlobal> SystemFiles<'a, R> {
         }
     }
 
-    /// Why a read of this path fails now, where the system says so.
+    /// Why a read of this path fails now, if the system gives a cause.
     pub fn cause(&self, path: &str, limit: u64) -> Option<Cause> {
         let opened = self.opened(path).ok()??;
         read_file(self.rt, opened.as_str(), limit).err()?.cause
@@ -114,8 +114,8 @@ fn climbs(path: &str) -> bool
     path.split('/').any(|part| part == "..")
 }
 
-/// The bytes of a regular file of the system, by any path, if they are no more than the limit. What else
-/// stands at the path is not opened, and counts as a failure, and so does a read that is interrupted.
+/// The bytes of a regular file of the system, by any path, if they are no more than the limit. Anything else
+/// at the path is not opened and counts as a failure, and so does a read that is interrupted.
 pub fn read_file<R: rt::Files + AllocGlobal>(
     rt: &R,
     path: &str,
@@ -126,12 +126,12 @@ pub fn read_file<R: rt::Files + AllocGlobal>(
     // A pipe is not opened: that would wait for its writer.
     judge(&fs::metadata(rt, path)?, limit)?;
     let mut file = fs::open(rt, path)?;
-    // Another file may stand at the path by now.
+    // Another file may be at the path by now.
     judge(&file.metadata()?, limit)?;
     read_all(rt.alloc(), &mut file, limit)
 }
 
-// Whether a file is read.
+// Checks that a file may be read: a regular file within the limit.
 fn judge(about: &Metadata, limit: u64) -> Result<(), CausedFault> {
     if about.is_dir() {
         Err(CausedFault::failed(Cause::IsFolder))
@@ -144,7 +144,7 @@ fn judge(about: &Metadata, limit: u64) -> Result<(), CausedFault> {
     }
 }
 
-/// Whether there is a folder at a path.
+/// Checks that there is a folder at a path.
 pub fn look_at_folder<R: rt::Files>(rt: &R, path: &str) -> Result<(), CausedFault> {
     if fs::metadata(rt, path)?.is_dir() {
         Ok(())

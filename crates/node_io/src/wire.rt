@@ -23,38 +23,38 @@ impl fmt::Display for WireFault {
 
 /// A stream of bytes from a peer, and one to it. A call moves some bytes, or fails and moves none.
 pub trait Wire {
-    // The bytes that are left to be read up to the end, where they are known.
+    // The bytes that are left to be read up to the end, if they are known.
     ghost input: { Self → Option (List ℕ) } = { λ _. None };
 
-    // The bytes that were written, where they are known.
+    // The bytes that were written, if they are known.
     ghost output: { Self → Option (List ℕ) } = { λ _. None };
 
     // How many failures of the device there were.
     ghost failed: { Self → ℕ };
 
-    /// Reads some bytes into the front of `buf` and tells how many. With room in it, 0 is the end.
+    /// Reads some bytes into the front of `buf` and returns how many. If `buf` is not empty, 0 is the end.
     fn read(&mut self, buf: &mut [u8]) -> Result<usize, WireFault>
         ensures within { IfOk result (λ n. n ≤ length buf.new) }
         ensures room { length buf.new ≡ length buf.old }
         ensures input { ReadConsumes (input self.old) (input self.new) result buf.new }
         ensures output { Keeps (output self.old) (output self.new) }
 
-        // A failure is told only where the device failed.
+        // A failure is reported only if the device failed.
         ensures failed { OnErr result (HasRisen (failed self.old) (failed self.new)) }
         ensures counted { failed self.old ≤ failed self.new };
 
-    /// Writes some of the bytes, from the front, and tells how many: none only of none.
+    /// Writes some of the bytes, from the front, and returns how many: 0 only if there are none to write.
     fn write(&mut self, bytes: &[u8]) -> Result<usize, WireFault>
         ensures within { IfOk result (λ n. n ≤ length bytes.now) }
         ensures some { IfOk result (λ n. 0 < length bytes.now → 0 < n) }
         ensures output { WriteAppends (output self.old) (output self.new) result bytes.now }
         ensures input { Keeps (input self.old) (input self.new) }
 
-        // A failure is told only where the device failed.
+        // A failure is reported only if the device failed.
         ensures failed { OnErr result (HasRisen (failed self.old) (failed self.new)) }
         ensures counted { failed self.old ≤ failed self.new };
 
-    /// How many failures of the device there were. The greatest number stays.
+    /// How many failures of the device there were. The count saturates.
     fn failures(&self) -> u64
         ensures { result ≡ failed self.now };
 }

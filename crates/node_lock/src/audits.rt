@@ -12,7 +12,7 @@ fn entry_at(history: &[Entry], place: usize) -> &Entry
     &history[place]
 }
 
-// Whether the receipt's entry stands where its number says.
+// Whether the receipt's entry is where its number says.
 fn stands(before: u64, history: &[Entry], receipt: &Receipt) -> bool
     ensures { IsTrue result ↔ Stands before history.now receipt.now }
 {
@@ -23,8 +23,8 @@ fn stands(before: u64, history: &[Entry], receipt: &Receipt) -> bool
     entry_at(history, (number - before - 1) as usize).same(receipt.entry())
 }
 
-/// Whether each of the receipts stands at its number in the part of a history behind so many entries. So it
-/// is where there are none.
+/// Whether each of the receipts has its entry at its number, in the part of a history that comes after
+/// `before` entries. True if there are no receipts.
 pub fn audit(before: u64, history: &[Entry], receipts: &[Receipt]) -> bool
     ensures { IsTrue result ↔ All (Stands before history.now) receipts.now }
 {

@@ -23,8 +23,8 @@ use worker_core::{AgentEvent, Node};
 use worker_pod::Settings;
 
 /// The node that workers share, the history of what they did, and the count of its entries. A history is
-/// written in parts: the entries of a part are dropped once it has ended, and the next one goes on at the
-/// node where it ended. A book belongs behind a lock: each of its calls is one step, and uses no file and no
+/// written in parts: the entries of a part are dropped once it has ended, and the next part goes on from the
+/// node as it is then. A book belongs behind a lock: each of its calls is one step, and uses no file and no
 /// socket.
 #[derive(Drop)]
 pub struct Book<L: Ledger> {
@@ -59,8 +59,8 @@ impl<L: Ledger> Model for Book<L> {
 }
 
 impl<L: Ledger> Book<L> {
-    /// A book of a node without pods, each part of whose history may come to have `limit` entries, and the
-    /// share that counts them, with all parts of its ledger.
+    /// A book of a node without pods, whose history has at most `limit` entries in each part, and the share
+    /// that counts them, with all parts of its ledger.
     pub fn with_limit(
         alloc: Global,
         settings: Settings,
@@ -93,12 +93,12 @@ impl<L: Ledger> Book<L> {
         (book, share)
     }
 
-    /// What happened in the part that is there, the oldest entry first.
+    /// The entries of the current part, oldest first.
     pub fn history(&self) -> &[Entry]
         ensures value { result.now ≡ self.now.history }
         ensures counted { self.now.total ≡ length result.now }
 
-        // With the parts that went it is one history, which a single thread could have made, and the node is
+        // With the earlier parts it is one history, which a single thread could have made, and the node is
         // where it ends.
         ensures legal { GoesOn self.now.settings self.now.before result.now self.now.node }
     {
@@ -112,24 +112,24 @@ impl<L: Ledger> Book<L> {
         self.before
     }
 
-    /// The number of the last entry, from 1 over all parts, and 0 where there is none.
+    /// The number of the last entry, from 1 over all parts. 0 if there is none.
     pub fn last_number(&self) -> u64
         ensures value { result ≡ last_number self.now }
 
-        // There are numbers for a whole part more.
+        // There are enough numbers for a whole further part.
         ensures room { HasNumbers self.now.before }
     {
         self.before + self.history.len() as u64
     }
 
-    /// The node, lent.
+    /// The node.
     pub fn node(&self) -> &Node
         ensures { result.now ≡ self.now.node }
     {
         &self.node
     }
 
-    // How many entries have to fit behind the history: the event's, and the ends of claims.
+    // How many entries still have to fit into the history: the event's, and the ends of claims.
     fn ahead(&self, event: &AgentEvent) -> usize
         ensures { result ≡ held_in self.now.node.slots + room_for self.now.node event.now }
     {
@@ -143,8 +143,8 @@ impl<L: Ledger> Book<L> {
         self.history.len() + self.ahead(event) <= self.limit
     }
 
-    /// The node takes the worker's event, which becomes the last entry of the history. The receipt is for it,
-    /// and the share counts it. A fault changes nothing. HistoryFull is told before Memory; the end of a
+    /// Applies the worker's event to the node, and appends it to the history. The receipt is for the entry,
+    /// and the share counts it. A fault changes nothing. HistoryFull is reported before Memory; the end of a
     /// claim that is held always finds room, and giving one up takes no memory.
     #[tactic(auto, using(crate::proofs::Abandons::giving_up))]
     pub fn record(
@@ -156,7 +156,7 @@ impl<L: Ledger> Book<L> {
         requires part { 0 < share.old.parts }
         requires own { worker_of event ≡ worker }
 
-        // The entry is the worker's, and is answered what the node's step gives.
+        // The entry is the worker's, and its answer is what the node's step gives.
         ensures number { IfOk result (λ r. r.number ≡ last_number self.new) }
         ensures worker { IfOk result (λ r. r.entry.worker ≡ worker) }
         ensures event { IfOk result (λ r. r.entry.event ≡ event) }
@@ -165,7 +165,7 @@ impl<L: Ledger> Book<L> {
         ensures node { OnOk result (self.new.node ≡ after_event self.old.node event) }
         ensures counted { OnOk result (share.new.amount ≡ share.old.amount + 1) }
 
-        // Whatever went, with it in front the history goes on.
+        // Whatever the earlier parts were, the history goes on from them.
         ensures goes_on { OnOk result ((gone : List Entry)
             → EndsAt self.old.settings (gone ++ self.old.history) self.old.node
             → EndsAt self.new.settings (gone ++ self.new.history) self.new.node) }
@@ -201,8 +201,8 @@ impl<L: Ledger> Book<L> {
 
     /// Ends a part of the history, whose receipts are all here: its entries and receipts are dropped, and the
     /// next part goes on at the node where this one ended, open and with room for as many entries.
-    /// HistoryFull where the part has no entries, where a claim is held, where a receipt doesn't stand at its
-    /// number, or where there are no numbers for another part; that changes nothing. No memory is taken.
+    /// HistoryFull if the part has no entries, a claim is held, an entry isn't at its receipt's number, or
+    /// there are no numbers for another part; then nothing changes. No memory is taken.
     pub fn end_part(&mut self, tally: &mut Tally<L>) -> Result<(), BookFault>
         requires whole { tally.old.parts ≡ L.parts }
         ensures when { IsOk result ↔ MayEnd self.old tally.old.receipts }
@@ -238,7 +238,7 @@ impl<L: Ledger> Book<L> {
             && audit(self.before, self.history.as_slice(), tally.receipts())
     }
 
-    /// No worker that waits shall wait any longer.
+    /// Closes the book: workers that wait stop waiting.
     pub fn close(&mut self)
         ensures { self.new ≡ record self.old { closed = true } }
     {
@@ -252,8 +252,8 @@ impl<L: Ledger> Book<L> {
         self.closed
     }
 
-    /// How many entries the part has. That is the number of the tally's receipts too, where it has all parts
-    /// of the ledger. Nothing changes.
+    /// How many entries the part has. That is the number of the tally's receipts too, if it has all parts of
+    /// the ledger. Nothing changes.
     pub fn entries(&mut self, tally: &mut Tally<L>) -> u64
         ensures length { result ≡ length self.old.history }
         ensures all { tally.old.parts ≡ L.parts → result ≡ length tally.old.receipts }

@@ -2,8 +2,8 @@ ghost use Rattle.std.specs.Prelude.{◌≡◌, ◌↔◌, IsTrue};
 
 use worker_core::{AgentEvent, Answer};
 
-/// What a worker did under the lock, and what was answered. Worker 0 admits, deletes and tells the time, the
-/// others claim.
+/// What a worker did under the lock, and what was answered. Worker 0 admits, deletes and advances the time,
+/// the others claim.
 #[derive(Debug, Drop)]
 pub struct Entry {
     pub worker: u32,

@@ -6,12 +6,12 @@ use std::alloc::AllocError;
 use std::fmt;
 use thiserror::Error;
 
-/// Why a book takes no entry. What a node refuses stands in the history, these do not.
+/// Why a book refuses an entry. What a node refuses is in the history, these are not.
 #[derive(Clone, Copy, Debug, PartialEq, Eq, Error)]
 pub enum BookFault {
-    /// A growth was refused.
+    /// An allocation failed.
     Memory,
-    /// The history would come to have more entries than it may, with those counted that end the held claims.
+    /// The history would exceed its limit, counting the entries that end the held claims.
     HistoryFull,
 }
 
@@ -31,7 +31,7 @@ impl fmt::Display for BookFault {
 }
 
 impl BookFault {
-    /// Its number, behind those of a node's refusals: 6 is `NodeRefusal::Memory` too.
+    /// Its number, after those of a node's refusals. 6 is `NodeRefusal::Memory` too.
     pub fn number(self) -> u8
         ensures { result ≡ fault_number self }
     {

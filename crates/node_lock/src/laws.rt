@@ -1,4 +1,4 @@
-//! What holds of every history that a book has, for what stands above.
+//! What holds of every history of a book, for the crates above.
 ghost use Rattle.std.specs.Prelude.{◌≡◌, List};
 ghost use Rattle.worker_pod.specs.declared.settings.Settings.{Settings};
 ghost use Rattle.worker_core.specs.Laws.{IsNodeRun};
@@ -12,7 +12,7 @@ pub fn histories_are_runs()
         → IsRunOf settings history }
 {}
 
-/// What the constants of this crate are.
+/// The values of this crate's constants.
 pub fn constants_are_as_stated()
     ensures entries { MAX_ENTRIES ≡ 1048576 }
     ensures parts { PARTS ≡ 65 }

@@ -26,14 +26,14 @@ impl Receipt {
         Receipt { number, entry }
     }
 
-    /// Where the entry stands in the history, from 1 over all of its parts.
+    /// The entry's number in the history, from 1 over all of its parts.
     pub fn number(&self) -> u64
         ensures { result ≡ self.now.number }
     {
         self.number
     }
 
-    /// The entry, lent.
+    /// The entry.
     pub fn entry(&self) -> &Entry
         ensures { result.now ≡ self.now.entry }
     {

@@ -11,8 +11,8 @@ use crate::faults::BookFault;
 use std::alloc::{AllocError, Global};
 use worker_core::{AgentEvent, Answer, Node};
 
-// How many entries an event needs, beside those that are kept for held claims. A claim needs a second one
-// for its end, whatever it is answered, and the end of a claim has its own already.
+// How many entries an event needs, besides those that are reserved for held claims. A claim needs a second
+// one for its end, whatever its answer, and the end of a claim has its own already.
 pub(crate) fn room_for(node: &Node, event: &AgentEvent) -> usize
     ensures { result ≡ room_for node.now event.now }
 {
@@ -25,7 +25,7 @@ pub(crate) fn room_for(node: &Node, event: &AgentEvent) -> usize
     }
 }
 
-// The event once more. For what a worker gives up no memory is needed.
+// A copy of the event. Giving a claim up needs no memory.
 fn copied(alloc: Global, event: &AgentEvent) -> Result<AgentEvent, AllocError>
     ensures same { IfOk result (λ copy. copy ≡ event.now) }
     ensures only { OnErr result (is_abandon event.now ≡ false) }
@@ -36,7 +36,7 @@ fn copied(alloc: Global, event: &AgentEvent) -> Result<AgentEvent, AllocError>
     }
 }
 
-// What will be answered.
+// The answer that the node will give.
 #[tactic(auto, using(crate::proofs::Abandons::asking))]
 fn foreseen(node: &Node, event: &AgentEvent) -> Result<Answer, BookFault>
     ensures answer { IfOk result (λ answer. answer ≡ answer_of node.now event.now) }
@@ -57,7 +57,7 @@ struct Copies {
     told: Answer,
 }
 
-// All that takes memory before the node changes.
+// All that allocates, before the node changes.
 fn prepared(alloc: Global, node: &Node, event: &AgentEvent) -> Result<Copies, BookFault>
     ensures kept { IfOk result (λ c. c.kept ≡ event.now) }
     ensures copy { IfOk result (λ c. c.copy ≡ event.now) }
@@ -71,7 +71,7 @@ fn prepared(alloc: Global, node: &Node, event: &AgentEvent) -> Result<Copies, Bo
     Ok(Copies { kept, copy, told })
 }
 
-// The node takes the event. Want of memory is told apart from what it answers, and is no step.
+// Applies the event to the node. Lack of memory is reported apart from the node's answers, and is not a step.
 #[tactic(auto, using(crate::proofs::Abandons::growing, crate::proofs::Rooms::room_enough))]
 fn taken(node: &mut Node, event: AgentEvent) -> Result<Answer, BookFault>
     ensures answer { IfOk result (λ answer. answer ≡ answer_of node.old event) }
@@ -90,7 +90,7 @@ fn taken(node: &mut Node, event: AgentEvent) -> Result<Answer, BookFault>
     Ok(answer)
 }
 
-// There is room for the entry.
+// Appends the entry, for which there is room.
 fn add(history: &mut Vec<Entry>, entry: Entry)
     requires { vec_len history.old < vec_capacity history.old }
     ensures items { history.new.items ≡ history.old.items ++ entry ∷ [] }
@@ -103,8 +103,8 @@ fn add(history: &mut Vec<Entry>, entry: Entry)
     drop(pushed);
 }
 
-// The event becomes the last entry of the history, and a copy of the entry comes back. There has to be room
-// for it, and for the ends of the claims that are held then.
+// Appends the event to the history as an entry, and returns a copy of the entry. There has to be room for it,
+// and for the ends of the claims that are held then.
 pub(crate) fn entered(
     alloc: Global,
     node: &mut Node,

@@ -5,7 +5,7 @@ use std::marker::Model;
 use std::sync::ledger;
 use std::sync::ledger::{Ledger, Share};
 
-/// Receipts, and the share that counts them: so many entries of the book were made with it.
+/// Receipts, and the share that counts them: as many entries of the book were made with it.
 #[derive(Drop)]
 pub struct Tally<L: Ledger> {
     share: Share<L>,
@@ -33,7 +33,7 @@ impl<L: Ledger> Tally<L> {
         Tally { share, receipts }
     }
 
-    /// The receipts, lent.
+    /// The receipts.
     pub fn receipts(&self) -> &[Receipt]
         ensures { result.now ≡ self.now.receipts }
     {
@@ -50,8 +50,8 @@ impl<L: Ledger> Tally<L> {
         (share, receipts)
     }
 
-    /// Takes in another tally of the same book: its receipts come last. Where there is no memory for them it
-    /// comes back.
+    /// Adds another tally of the same book: its receipts come last. If there is no memory for them, it is
+    /// returned.
     pub fn join(&mut self, other: Tally<L>) -> Result<(), Tally<L>>
         ensures parts { OnOk result (self.new.parts ≡ self.old.parts + other.parts) }
         ensures receipts { OnOk result (self.new.receipts ≡ self.old.receipts ++ other.receipts) }
@@ -68,7 +68,7 @@ impl<L: Ledger> Tally<L> {
         Ok(())
     }
 
-    // Changes nothing, and tells how many receipts there are where the share is the whole.
+    // Changes nothing. Shows that there are as many receipts as the count says, if the share is the whole.
     pub(crate) fn counted(&mut self, count: &mut ledger::Book<L>)
         ensures whole { self.old.parts ≡ L.parts → length self.old.receipts ≡ count.old.total }
         ensures count { count.new.total ≡ count.old.total }
@@ -77,8 +77,7 @@ impl<L: Ledger> Tally<L> {
         count.audit(&mut self.share);
     }
 
-    // Drops the receipts, and counts their entries no longer. The share is the whole, so nothing is counted
-    // then.
+    // Drops the receipts, and no longer counts their entries. The share is the whole, so the count is then 0.
     pub(crate) fn clear(&mut self, count: &mut ledger::Book<L>)
         requires whole { self.old.parts ≡ L.parts }
         ensures none { count.new.total ≡ 0 }

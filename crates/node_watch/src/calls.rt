@@ -6,7 +6,7 @@ ghost use Rattle.node_watch.specs.Calls.{is_same_container};
 use cri_msgs::Call;
 use manifest::{Label, Uid};
 
-/// The name of a call, as CRI v1 has it where CRI has the call.
+/// The name of a call, as in CRI v1 if CRI has the call.
 pub fn call_name(call: &Call) -> &'static str
     ensures { result.now ≡ call_name call.now }
 {
@@ -42,7 +42,7 @@ pub fn uid_of(call: &Call) -> &Uid
     }
 }
 
-/// The container that a call is about. None where it is about all of the pod.
+/// The container that a call is about. `None` if it is about the whole pod.
 pub fn container_of(call: &Call) -> Option<&Label>
     ensures { option_map (λ name. name.now) result ≡ container_of call.now }
 {
@@ -71,7 +71,7 @@ fn is_same_container(name: Option<&Label>, other: Option<&Label>) -> bool
     }
 }
 
-/// Whether both calls are about the same container, or about all of the same pod.
+/// Whether both calls are about the same container, or about the same whole pod.
 pub(crate) fn are_about_one(call: &Call, other: &Call) -> bool
     ensures { result ≡ are_about_one call.now other.now }
 {
@@ -88,7 +88,7 @@ fn is_all_or(name: &Label, other: Option<&Label>) -> bool
     }
 }
 
-/// Whether the call is about this container of the pod, by itself or among all of its pod.
+/// Whether the call is about this container of the pod, or about the whole pod.
 pub(crate) fn concerns(uid: &Uid, name: &Label, call: &Call) -> bool
     ensures { result ≡ concerns uid.now name.now call.now }
 {

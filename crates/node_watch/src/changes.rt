@@ -216,8 +216,8 @@ fn add_phase(
     }
 }
 
-/// What changed of a pod at a moment, in seconds: a line for its phase, and one for each container whose
-/// state or restarts changed; all of them where nothing was seen of it before.
+/// What changed in a pod at a moment, in seconds: a line for its phase, and one for each container whose
+/// state or restarts changed. All of them if the pod was not seen before.
 pub fn pod_changes(
     alloc: Global,
     form: Form,
@@ -251,7 +251,7 @@ pub fn pod_changes(
     Ok(text)
 }
 
-/// That a pod has left the node, at a moment in seconds.
+/// The line for a pod that has left the node, at a moment in seconds.
 pub fn gone_line(alloc: Global, form: Form, moment: u64, uid: &Uid) -> Result<String, AllocError>
     ensures { IfOk result (λ text. string_bytes text ≡ gone_line form moment uid.now) }
 {

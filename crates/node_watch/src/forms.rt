@@ -3,6 +3,6 @@
 pub enum Form {
     /// As words.
     Text,
-    /// As an object of JSON (RFC 8259) a line. Neither a uid nor a name has a byte that JSON would escape.
+    /// As one JSON object (RFC 8259) per line. Neither a uid nor a name has a byte that JSON would escape.
     Json,
 }

@@ -1,6 +1,6 @@
-//! What is seen of a node's pods from event to event: which phase and which states changed, in lines of text,
-//! and why containers wait. The names are those of Kubernetes 1.27, pod lifecycle; the lines and the reasons
-//! are this project's own.
+//! Watches a node's pods from event to event: lines for the phases and states that changed, and why
+//! containers wait. The names are those of Kubernetes 1.27, pod lifecycle; the lines and the reasons are this
+//! project's own.
 #![tactic(auto)]
 
 mod calls;

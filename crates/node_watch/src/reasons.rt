@@ -9,26 +9,26 @@ use manifest::{Label, Uid};
 use std::alloc::{AllocError, Global};
 use std::marker::Model;
 
-/// Why a call came to nothing.
+/// Why a call failed.
 #[derive(Clone, Copy, Debug)]
 pub enum Trouble {
     /// The runtime refused it.
     Refused(Refusal),
-    /// No reply came that counts, or the call was given up.
+    /// No valid reply came, or the call was given up.
     Lost,
 }
 
-/// A call that came to nothing.
+/// A failed call.
 #[derive(Debug, Drop)]
 pub struct Reason {
     pub call: Call,
     pub trouble: Trouble,
-    /// The moment, in seconds, since which each such call came to nothing in the same way.
+    /// The moment, in seconds, since which each such call has failed in the same way.
     pub since: u64,
 }
 
-/// Why the containers of a node wait: the calls that came to nothing last, at most one of each container, and
-/// one of each pod as a whole. Contracts see them, the newest one first.
+/// Why the containers of a node wait: the latest failed calls, at most one for each container, and one for
+/// each pod as a whole. Contracts see them newest first.
 #[derive(Drop)]
 pub struct Reasons {
     alloc: Global,
@@ -107,7 +107,7 @@ fn put_first(reasons: &mut Vec<Reason>, reason: Reason)
 }
 
 impl Reasons {
-    /// No call came to nothing yet.
+    /// No call has failed yet.
     pub fn new(alloc: Global) -> Reasons
         ensures { result ≡ [] }
     {
@@ -117,8 +117,8 @@ impl Reasons {
         }
     }
 
-    /// A call ended at this moment, in seconds: in trouble, or in none. Want of memory changes nothing, and
-    /// comes only where there is trouble.
+    /// Records that a call ended at this moment, in seconds, with or without trouble. A failed allocation
+    /// changes nothing, and can only come with trouble.
     pub fn note(
         &mut self,
         moment: u64,
@@ -139,7 +139,7 @@ impl Reasons {
         }
     }
 
-    // All that takes memory comes before the first change.
+    // All that allocates comes before the first change.
     fn add(&mut self, moment: u64, call: &Call, trouble: Trouble) -> Result<(), AllocError>
         ensures ok { OnOk result (self.new ≡ noted moment call.now (Some trouble) self.old) }
         ensures err { OnErr result (self.new ≡ self.old) }
@@ -160,7 +160,7 @@ impl Reasons {
         Ok(())
     }
 
-    /// The last call about this container of the pod that came to nothing, by itself or among all of its pod.
+    /// The last failed call about this container of the pod, or about the whole pod.
     pub fn reason_for(&self, uid: &Uid, name: &Label) -> Option<&Reason>
         ensures { option_copied result ≡ reason_for uid.now name.now self.now }
     {

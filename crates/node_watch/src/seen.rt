@@ -11,7 +11,7 @@ use worker_pod::PodView;
 pub struct ContainerSeen {
     pub name: Label,
     pub state: ContainerState,
-    /// How many attempts were started behind the first one.
+    /// How many attempts were started after the first one.
     pub restarts: usize,
 }
 
@@ -39,7 +39,7 @@ fn container_seen(
     })
 }
 
-// Those of the other containers come behind.
+// Those of the other containers come after.
 fn add_containers(
     alloc: Global,
     policy: RestartPolicy,

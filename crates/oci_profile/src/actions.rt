@@ -27,7 +27,7 @@ pub(crate) fn decision(
     }
 }
 
-/// The decision of the action with this name, where no errno is given.
+/// The decision of the action with this name, if no errno is given.
 #[tactic(auto, unfolding(crate::specs::Reading::action_of))]
 pub fn named_action(name: &str) -> Result<Decision, ProfileFault>
     ensures { result ≡ action_of name.now }

@@ -4,7 +4,7 @@ ghost use Rattle.oci_profile.specs.Conditions.{AreConds};
 
 use std::marker::Model;
 
-/// How an argument is compared, without sign, on 64 bits: SCMP_CMP_NE, LT, LE, EQ, GE, GT and MASKED_EQ.
+/// How an argument is compared, as an unsigned 64-bit number: SCMP_CMP_NE, LT, LE, EQ, GE, GT and MASKED_EQ.
 #[derive(Clone, Copy, Debug, PartialEq, Eq)]
 pub enum Op {
     /// The argument is not `value`.
@@ -19,7 +19,7 @@ pub enum Op {
     GreaterOrEqual,
     /// The argument is above `value`.
     Greater,
-    /// The bits of the argument that stand in `value` are `value_two`.
+    /// The argument under the mask `value` is `value_two`.
     MaskedEqual,
 }
 
@@ -30,11 +30,11 @@ pub struct Cond {
     pub index: u8,
     pub op: Op,
     pub value: u64,
-    /// For [`Op::MaskedEqual`] what the masked argument has to be; without effect elsewhere.
+    /// For [`Op::MaskedEqual`] what the masked argument has to be; ignored otherwise.
     pub value_two: u64,
 }
 
-/// The conditions of an entry, in order: each of an argument that a call has, and no two of the same.
+/// The conditions of an entry, in order: each on an argument from 0 to 5, no two on the same.
 #[derive(Drop)]
 pub struct Conds {
     conds: Vec<Cond>,
@@ -53,7 +53,7 @@ impl Model for Conds {
 }
 
 impl Conds {
-    /// The conditions of a list that has them in order.
+    /// The conditions of this list, in order.
     pub fn new(conds: Vec<Cond>) -> Conds
         requires { AreConds conds.items }
         ensures { result ≡ conds.items }
@@ -61,7 +61,7 @@ impl Conds {
         Conds { conds }
     }
 
-    /// The conditions in order, lent.
+    /// The conditions in order.
     pub fn as_slice(&self) -> &[Cond]
         ensures value { result.now ≡ self.now }
         ensures fit { AreConds self.now }

@@ -37,7 +37,7 @@ impl Errno {
         }
     }
 
-    /// EPERM, which a call returns where a profile gives no errno.
+    /// EPERM, which a call returns if a profile gives no errno.
     pub fn eperm() -> Errno
         ensures { result ≡ 1 }
     {
@@ -71,7 +71,7 @@ pub enum Decision {
     Trap,
     /// SCMP_ACT_ERRNO: the call returns this errno.
     Errno(Errno),
-    /// SCMP_ACT_TRACE: a tracer is told, with this message.
+    /// SCMP_ACT_TRACE: a tracer is notified, with this message.
     Trace(u16),
     /// SCMP_ACT_ALLOW.
     Allow,
@@ -96,14 +96,14 @@ impl Decision {
         Verdict { action, ret_data }
     }
 
-    /// Its place in the order of actions, from 0 for the strictest to 7: `Action::rank`.
+    /// The place of its action in the order of strictness, from 0 for the strictest to 7: `Action::rank`.
     pub fn rank(self) -> u8
         ensures { result ≡ rank_of (verdict_of self).action }
     {
         self.verdict().rank()
     }
 
-    /// The value with which a filter says this.
+    /// The filter value for this decision.
     pub fn value(self) -> u32
         ensures { result ≡ value_of self }
     {

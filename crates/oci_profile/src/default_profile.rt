@@ -28,13 +28,13 @@ static EXCLUDED: [&str; 62] = [
     "unshare", "uselib", "userfaultfd", "ustat", "vhangup", "_sysctl",
 ];
 
-// What `personality` may ask for: PER_LINUX, PER_LINUX32, UNAME26 with each, and to be told only.
+// What `personality` may ask for: PER_LINUX, PER_LINUX32, UNAME26 with each, and 0xffffffff, which only asks.
 static PERSONALITIES: [u64; 5] = [0, 8, 131_072, 131_080, 4_294_967_295];
 
 // CLONE_NEWNS and the other flags that make a namespace.
 const CLONE_NAMESPACES: u64 = 0x7e02_0000;
 
-/// The profile of a container that asks for RuntimeDefault: calls are refused with EPERM but for those
+/// The profile of a container that asks for RuntimeDefault: every call is refused with EPERM, except those
 /// that a container may make.
 pub fn runtime_default(alloc: Global) -> Result<Profile, AllocError>
     ensures { IfOk result (λ profile. profile ≡ runtime_default) }
@@ -102,7 +102,8 @@ fn allowed_entry(alloc: Global) -> Result<Entry, AllocError>
     Ok(Entry::new(numbers, Decision::Allow, none))
 }
 
-// The condition that compares the first argument with this value, and with 0 what is left by a mask.
+// The condition that compares the first argument with this value, or, for MaskedEqual, the argument under
+// this mask with 0.
 #[tactic(auto, using(crate::proofs::CondLists::one_fits))]
 fn first_argument(alloc: Global, op: Op, value: u64) -> Result<Conds, AllocError>
     ensures { IfOk result (λ conds. conds

@@ -3,18 +3,18 @@ use std::alloc::{AllocError, AllocFailed};
 use std::fmt;
 use thiserror::Error;
 
-/// Why a text is no profile.
+/// Why a text is not a profile.
 #[derive(Clone, Copy, Debug, PartialEq, Eq, Error)]
 pub enum ProfileFault {
     /// The text has more than [`MAX_PROFILE_BYTES`](crate::MAX_PROFILE_BYTES) bytes.
     TooLarge,
-    /// The text is no JSON.
+    /// The text is not JSON.
     NotJson,
-    /// The text is JSON, but no object.
+    /// The text is JSON, but not an object.
     NotObject,
-    /// A field that has to be there is not.
+    /// A required field is missing.
     Missing,
-    /// A field is of another kind.
+    /// A field has the wrong type.
     WrongType,
     /// The action is SCMP_ACT_NOTIFY, for which there is no listener.
     Notify,
@@ -22,7 +22,7 @@ pub enum ProfileFault {
     UnknownAction,
     /// An errno is given for an action that takes none.
     ErrnoNotAllowed,
-    /// An errno is above what its action takes.
+    /// An errno is above its action's limit.
     ErrnoTooLarge,
     /// An entry names no call.
     EmptyNames,
@@ -34,7 +34,7 @@ pub enum ProfileFault {
     UnknownOp,
     /// An entry that is stricter than the default names a call that is not in the table.
     UnknownCall,
-    /// A growth was refused.
+    /// An allocation failed.
     Memory,
 }
 

@@ -6,7 +6,7 @@ ghost use Rattle.oci_profile.specs.Decision.{value_of};
 ghost use Rattle.oci_profile.specs.Meaning.{weight};
 ghost use Rattle.oci_profile.specs.RuntimeDefault.{runtime_default};
 
-/// What the constants of this crate are.
+/// The values of this crate's constants.
 pub fn constants_are_as_stated()
     // asm/unistd.h.
     ensures x32 { X32_BIT ≡ 2 ^ 30 }

@@ -1,8 +1,8 @@
 //! Seccomp profiles of containers: the `linux.seccomp` object of the OCI runtime specification 1.1.
 //!
-//! What a profile says of a call stands in `specs/Meaning.antt`, and `Profile::value_on` answers it by
-//! going over the entries. Which trees are which profiles stands in `specs/Profile.antt`, and which
-//! fault is found first in `specs/Reading.antt`.
+//! `specs/Meaning.antt` defines what a profile says of a call; `Profile::value_on` computes it by going over
+//! the entries. `specs/Profile.antt` defines which trees are which profiles, and `specs/Reading.antt` which
+//! fault is found first.
 #![tactic(auto)]
 
 mod actions;

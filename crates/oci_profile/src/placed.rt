@@ -7,11 +7,11 @@ use json_place::{FieldFaultAt, Place, Step};
 use json_tree::TextFault;
 use std::alloc::{AllocError, AllocFailed};
 
-/// Why a text is no profile, and where in it.
+/// Why a text is not a profile, and where in it.
 #[derive(Debug, Drop)]
 pub struct ProfileFaultAt {
     pub fault: ProfileFault,
-    /// The place at which the fault is: the whole text's where it has no narrower one.
+    /// The fault's place: the root if there is no narrower one.
     pub place: Place,
 }
 
@@ -20,7 +20,7 @@ impl ProfileFaultAt {
     ghost use Rattle.json_place.specs.Places.{part_of};
     ghost use Rattle.oci_profile.specs.Faults.{fault_at, fault_here, fault_within};
 
-    /// A fault of the tree that is read.
+    /// A fault at the root of the tree that is read.
     pub(crate) fn here(fault: ProfileFault) -> ProfileFaultAt
         ensures { result ≡ fault_here fault }
     {
@@ -37,7 +37,7 @@ impl ProfileFaultAt {
         ProfileFaultAt::here(fault).within(Step::Member(key))
     }
 
-    /// The fault of a tree, as one of the tree in which that one stands.
+    /// The same fault, placed in the outer tree that has this one under the step.
     pub(crate) fn within(self, step: Step) -> ProfileFaultAt
         ensures { result ≡ fault_within (part_of step) self }
     {
@@ -48,7 +48,7 @@ impl ProfileFaultAt {
     }
 }
 
-/// What was made of the member with this key.
+/// The result of reading the member with this key, a fault placed at that member.
 pub(crate) fn at<T>(key: &'static str, made: Result<T, ProfileFault>) -> Result<T, ProfileFaultAt>
     ensures { result ≡ at key.now made }
 {
@@ -58,7 +58,7 @@ pub(crate) fn at<T>(key: &'static str, made: Result<T, ProfileFault>) -> Result<
     }
 }
 
-/// What was read of what stands under a step.
+/// The result of reading what is under a step, a fault placed under that step.
 pub(crate) fn under<T>(step: Step, read: Result<T, ProfileFaultAt>) -> Result<T, ProfileFaultAt>
     ensures { result ≡ under (part_of step) read }
 {
@@ -82,7 +82,7 @@ impl From<FieldFaultAt> for ProfileFaultAt {
     }
 }
 
-/// What it is, wherever.
+/// The fault without its place.
 impl From<ProfileFaultAt> for ProfileFault {
     ghost use Rattle.std.specs.Prelude.{◌≡◌};
 

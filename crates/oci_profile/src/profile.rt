@@ -23,7 +23,7 @@ impl Model for Numbers {
 }
 
 impl Numbers {
-    /// The numbers of a list that has them in order.
+    /// The numbers of this list, in order.
     pub fn new(numbers: Vec<u32>) -> Numbers
         requires { AreNumbers numbers.items }
         ensures { result ≡ numbers.items }
@@ -31,7 +31,7 @@ impl Numbers {
         Numbers { numbers }
     }
 
-    /// The numbers in order, lent.
+    /// The numbers in order.
     pub fn as_slice(&self) -> &[u32]
         ensures value { result.now ≡ self.now }
         ensures fit { AreNumbers self.now }
@@ -40,8 +40,8 @@ impl Numbers {
     }
 }
 
-/// What is decided of the calls with these numbers, where all the conditions hold. An entry whose names
-/// were all skipped has no numbers, and decides nothing.
+/// The decision on the calls with these numbers, if all conditions hold. An entry whose names were all
+/// skipped has no numbers, and decides nothing.
 #[derive(Drop)]
 pub struct Entry {
     pub numbers: Numbers,
@@ -83,7 +83,7 @@ impl Entries {
     ghost use Rattle.std.specs.Prelude.{◌≡◌};
     ghost use Rattle.oci_profile.specs.Entries.{AreEntries};
 
-    /// The entries of a list that has them in order.
+    /// The entries of this list, in order.
     pub fn new(entries: Vec<Entry>) -> Entries
         requires { AreEntries entries.items }
         ensures { result ≡ entries.items }
@@ -91,7 +91,7 @@ impl Entries {
         Entries { entries }
     }
 
-    /// The entries in order, lent.
+    /// The entries in order.
     pub fn as_slice(&self) -> &[Entry]
         ensures value { result.now ≡ self.now }
         ensures fit { AreEntries self.now }
@@ -103,7 +103,7 @@ impl Entries {
 /// A seccomp profile.
 #[derive(Drop)]
 pub struct Profile {
-    /// What is decided of a call that no entry decides.
+    /// The decision on a call that no entry decides.
     pub default: Decision,
     /// The first of these that applies to a call decides.
     pub entries: Entries,

@@ -23,12 +23,12 @@ use serde_json::Value;
 use std::alloc::{AllocError, Global};
 use sys_table::names_and_numbers_agree;
 
-/// How many bytes a profile's text may have.
+/// The most bytes of a profile's text.
 pub const MAX_PROFILE_BYTES: usize = 262_144;
 
 /// The profile of a text, or its first fault: of the text, then of the fields in the order of
-/// docs/SEMANTICS.md, and of the entries in order. Fields that no profile has are not looked at.
-/// `Memory` takes the place of any answer but `TooLarge` where a growth was refused.
+/// docs/SEMANTICS.md, and of the entries in order. Unknown fields are ignored. If an allocation fails, the
+/// result is `Memory`, unless it is `TooLarge`.
 pub fn read(alloc: Global, bytes: &[u8]) -> Result<Profile, ProfileFault>
     // What is read is the text's profile.
     ensures found { IfOk result (ReadsProfile bytes.now) }
@@ -42,13 +42,13 @@ pub fn read(alloc: Global, bytes: &[u8]) -> Result<Profile, ProfileFault>
     ensures first { IfErr result (λ fault. fault ≢ ProfileFault.Memory
         → first_fault bytes.now ≡ Some fault) }
 
-    // How long a text is, is told before anything is allocated.
+    // The length of a text is checked before anything is allocated.
     ensures large { (result ≡ Err ProfileFault.TooLarge) ↔ (MAX_PROFILE_BYTES < length bytes.now) }
 {
     Ok(read_placed(alloc, bytes)?)
 }
 
-/// The same, with the place of the first fault in the text.
+/// Reads a profile as [`read`] does, and gives the place of the first fault in the text.
 pub fn read_placed(alloc: Global, bytes: &[u8]) -> Result<Profile, ProfileFaultAt>
     ensures found { IfOk result (ReadsProfile bytes.now) }
     ensures only { (profile : Profile) → ReadsProfile bytes.now profile → Reads (λ p. p) result (Ok profile) }
@@ -75,7 +75,7 @@ fn short(alloc: Global, bytes: &[u8]) -> Result<Profile, ProfileFaultAt>
 fn profile(alloc: Global, tree: &Value) -> Result<Profile, ProfileFaultAt>
     ensures value { Reads (λ p. p) result (profile_of (view tree.now)) }
 
-    // What is found before an entry is looked at is told, whether there is memory or not.
+    // What is found before an entry is looked at is reported even if memory runs out.
     ensures told { (fault : ProfileFaultAt) → all_but_entries_of (view tree.now) ≡ Err fault
         → result ≡ Err fault }
 {
@@ -85,7 +85,7 @@ fn profile(alloc: Global, tree: &Value) -> Result<Profile, ProfileFaultAt>
     Ok(Profile::new(default, entries))
 }
 
-// The default, once all fields but the entries are judged.
+// The default, once all fields but the entries are checked.
 #[tactic(auto, unfolding(crate::specs::Reading::head_of))]
 fn head(tree: &Value) -> Result<Decision, ProfileFaultAt>
     ensures { result ≡ head_of (view tree.now) }
@@ -103,7 +103,7 @@ fn default(tree: &Value) -> Result<Decision, ProfileFaultAt>
     decision(tree, "defaultAction", "defaultErrnoRet")
 }
 
-// The entries as they stand there.
+// The entries, not read yet.
 #[tactic(auto, unfolding(crate::specs::Reading::items_of))]
 fn items(tree: &Value) -> Result<&[Value], ProfileFaultAt>
     ensures { as_read (λ items. map view items.now) result ≡ items_of (view tree.now) }
@@ -141,7 +141,7 @@ fn each_entry(alloc: Global, default: &Decision, items: &[Value]) -> Result<Entr
 fn entry(alloc: Global, default: &Decision, item: &Value) -> Result<Entry, ProfileFaultAt>
     ensures value { Reads (λ e. e) result (entry_of default.now (view item.now)) }
 
-    // What is found before the arguments is told, whether there is memory or not.
+    // What is found before the arguments is reported even if memory runs out.
     ensures told { (fault : ProfileFaultAt) → all_but_args_of (view item.now) ≡ Err fault
         → result ≡ Err fault }
 {
@@ -171,7 +171,7 @@ fn is_stricter(decision: &Decision, default: &Decision) -> bool
     decision.rank() < default.rank()
 }
 
-// Where the table has to have each name, the first that it lacks is refused.
+// If the call table has to have each name, refuses the first that it lacks.
 fn known_if(is_needed: bool, names: &[Value]) -> Result<(), ProfileFaultAt>
     ensures { result ≡ known_if is_needed (map view names.now) }
 {

@@ -1,4 +1,4 @@
-//! What is remembered of a folder's files from look to look.
+//! What is remembered of a folder's files from one look to the next.
 
 use manifest::{Pod, Uid};
 use sha2::{Digest, Sha256};
@@ -10,7 +10,7 @@ pub(crate) struct Admitted {
     pub(crate) uid: Uid,
     // As its manifest was read.
     pub(crate) manifest: Pod,
-    // Whether it was asked to leave.
+    // Whether its deletion was requested.
     pub(crate) deleted: bool,
 }
 
@@ -20,9 +20,9 @@ pub(crate) struct Wanted {
     pub(crate) manifest: Pod,
     // Whether the manifest gives its uid.
     pub(crate) gives_uid: bool,
-    // Whether the node was found full, which is tried again at the next look.
+    // Whether the node was full. The pod is tried again at the next look.
     pub(crate) waits: bool,
-    // Whether that was told.
+    // Whether that was reported.
     pub(crate) told: bool,
 }
 
@@ -30,7 +30,7 @@ pub(crate) struct Wanted {
 #[derive(Drop)]
 pub(crate) struct ManifestFile {
     pub(crate) path: String,
-    // What was found when it was judged last: the digest of its bytes, or of why it can't be read.
+    // What was found when it was last read: the digest of its bytes, or of why it can't be read.
     pub(crate) judged: Option<[u8; 32]>,
     // Whether the last look found it.
     pub(crate) is_there: bool,
@@ -38,7 +38,7 @@ pub(crate) struct ManifestFile {
     pub(crate) wanted: Option<Wanted>,
 }
 
-/// What is compared of a file's bytes from look to look, FIPS 180-4.
+/// The digest by which a file's bytes are compared from one look to the next: SHA-256, FIPS 180-4.
 pub(crate) fn digest_of(bytes: &[u8]) -> [u8; 32] {
     let mut hasher = Sha256::new();
     hasher.update(bytes);
@@ -56,7 +56,7 @@ impl ManifestFile {
         })
     }
 
-    /// Whether the file's pod is to leave: the file went, or asks for another one.
+    /// Whether the file's pod is to be deleted: the file is gone, or asks for another pod.
     pub(crate) fn is_to_leave(&self) -> bool {
         match &self.admitted {
             Some(admitted) => !admitted.deleted && (!self.is_there || self.wanted.is_some()),

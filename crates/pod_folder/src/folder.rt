@@ -1,4 +1,4 @@
-//! Which pods of a folder's manifests come to a node, and which leave it.
+//! Which pods of a folder's manifests are admitted to a node, and which are deleted.
 ghost use Rattle.std.specs.Prelude.{◌≡◌, IfOk, IfSome};
 ghost use Rattle.node_lock.specs.Books.{worker_of};
 
@@ -10,18 +10,18 @@ use node_io::CausedFault;
 use std::alloc::{AllocError, Global};
 use worker_core::{AgentEvent, NodeRefusal};
 
-/// Reads manifests, hears what is wrong with them, and knows which pods are on the node.
+/// Reads manifests, reports what is wrong with them, and knows which pods are on the node.
 pub trait PodReader {
-    /// The pod of a manifest. What is wrong with a refused one is told by this, but for want of memory.
+    /// The pod of a manifest. Reports what is wrong with a refused one, except for lack of memory.
     fn pod(&self, path: &str, bytes: &[u8]) -> Result<Option<Pod>, AllocError>;
 
-    /// The file can't be read.
+    /// Reports that the file can't be read.
     fn unread(&self, path: &str, fault: CausedFault);
 
-    /// The node does not admit the pod of the file.
+    /// Reports that the node does not admit the pod of the file.
     fn refused(&self, path: &str, refusal: NodeRefusal);
 
-    /// No uid can be made for the pod of the file: it would be too long.
+    /// Reports that no uid can be made for the pod of the file: it would be too long.
     fn unnamed(&self, path: &str);
 
     /// Whether a pod of this uid is on the node.
@@ -32,20 +32,20 @@ pub trait PodReader {
 #[derive(Clone, Copy)]
 enum Asked {
     Nothing,
-    // The pod of the file at this place is to leave.
+    // The pod of the file at this place is to be deleted.
     Delete(usize),
-    // It is to come.
+    // It is to be admitted.
     Admit(usize),
 }
 
-/// The manifests of a folder, and what became of them.
+/// The manifests of a folder, and the state of their pods.
 #[derive(Drop)]
 pub struct Folder<'a> {
     alloc: Global,
     naming: Naming<'a>,
     files: Vec<ManifestFile>,
     asked: Asked,
-    // The uid of the pod that is to come.
+    // The uid of the pod that is to be admitted.
     uid: Option<Uid>,
 }
 
@@ -77,7 +77,7 @@ impl<'a> Folder<'a> {
         }
     }
 
-    /// Takes in what a look into the folder found.
+    /// Compares what a look into the folder found with what is known.
     pub fn look<T: PodReader>(&mut self, found: Vec<Found>, reader: &T) -> Result<(), AllocError> {
         for file in self.files.as_mut_slice() {
             file.is_there = false;
@@ -142,7 +142,7 @@ impl<'a> Folder<'a> {
         Ok(None)
     }
 
-    // The pod that the file at this place asks for, with its uid. A pod that can't have one is told of, and
+    // The pod that the file at this place asks for, with its uid. A pod that can't have one is reported, and
     // no longer wanted.
     fn named<T: PodReader>(&mut self, place: usize, reader: &T) -> Result<Option<Pod>, AllocError> {
         let Some(file) = self.files.get_mut(place) else {
@@ -166,8 +166,8 @@ impl<'a> Folder<'a> {
         Ok(Some(pod))
     }
 
-    /// The next event that the folder asks of the node, if there is one. It is asked for again until it was
-    /// recorded.
+    /// The next event that the folder asks of the node, if there is one. The same event is returned until it
+    /// was recorded.
     pub fn next<T: PodReader>(&mut self, reader: &T) -> Result<Option<AgentEvent>, AllocError>
         ensures { IfOk result (λ event. IfSome event (λ event. worker_of event ≡ 0)) }
     {
@@ -225,12 +225,12 @@ impl<'a> Folder<'a> {
                     deleted: false,
                 });
             }
-            // Another manifest gave this uid: the next one of the name is tried.
+            // Another manifest gave this uid: the next uid for the name is tried.
             (Some(NodeRefusal::KnownUid), _) if !wanted.gives_uid => {
                 self.naming.count(&wanted.manifest)?;
                 file.wanted = Some(wanted);
             }
-            // There may be room at another time.
+            // There may be room later.
             (Some(NodeRefusal::Full), _) => {
                 if !wanted.told {
                     reader.refused(file.path.as_str(), NodeRefusal::Full);
@@ -246,8 +246,8 @@ impl<'a> Folder<'a> {
     }
 }
 
-// Judges what was found of a file, if it is something else than before. What is refused is told, and changes
-// nothing: the pod that is there for the file stays.
+// Reads what was found of a file, if it differs from before. What is refused is reported, and changes
+// nothing: the file's current pod stays.
 fn judge<T: PodReader>(
     alloc: Global,
     file: &mut ManifestFile,
@@ -279,7 +279,7 @@ fn judge<T: PodReader>(
     Ok(())
 }
 
-// What a file asks for by this pod: nothing where it is on the node already, or gives the uid of one that is.
+// What a file asks for by this pod: nothing if it is on the node already, or gives the uid of one that is.
 fn wanted_of<T: PodReader>(
     alloc: Global,
     file: &ManifestFile,

@@ -1,5 +1,5 @@
-//! What manifests ask of a node that come and go: which uid a pod gets whose manifest gives none, and which
-//! pods of a folder's files are to be admitted and deleted. All of it is this project's own.
+//! Manifests that come and go as files of a folder: which of their pods are to be admitted and deleted, and
+//! which uid a pod gets if its manifest gives none. All of it is this project's own.
 #![tactic(auto)]
 
 mod files;

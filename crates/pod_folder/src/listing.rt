@@ -2,15 +2,15 @@ use node_io::{Cause, CausedFault, MAX_FILE_BYTES, read_file};
 use std::alloc::{AllocError, Global};
 use std::{fs, io, rt};
 
-/// How many files of a folder are looked at, those whose names come first.
+/// The most files of a folder that are read: those whose names come first.
 pub const MAX_FILES: usize = 4_096;
 
-/// What a look into a folder found under a name that ends with `.json`.
+/// What a look into a folder found at a name that ends with `.json`.
 #[derive(Drop)]
 pub struct Found {
     /// The path: the folder, `/` and the name.
     pub path: String,
-    /// The bytes, or why they can't be read: what leads out of the folder is not.
+    /// The bytes, or why they can't be read. A link that leads out of the folder is not read.
     pub bytes: Result<Vec<u8>, CausedFault>,
 }
 
@@ -18,7 +18,7 @@ fn is_manifest(name: &str) -> bool {
     name.len() > ".json".len() && name.ends_with(".json") && !name.starts_with('.')
 }
 
-// The names that are looked at, in order.
+// The names of the files that are read, in order.
 fn names_in<R: rt::Files + AllocGlobal + Clone + Drop>(
     rt: &R,
     folder: &str,
@@ -26,7 +26,7 @@ fn names_in<R: rt::Files + AllocGlobal + Clone + Drop>(
     let alloc = rt.alloc();
     let mut names = Vec::new(alloc);
     for entry in fs::read_dir(rt, folder)? {
-        // A name that is no text is no manifest's.
+        // A name that is not UTF-8 is not a manifest's.
         let Ok(entry) = entry else {
             continue;
         };
@@ -41,7 +41,7 @@ fn names_in<R: rt::Files + AllocGlobal + Clone + Drop>(
     Ok(names)
 }
 
-// The bytes of what stands under a name, links followed as long as they stay in the folder.
+// The bytes of the file of this name. Links are followed as long as they stay in the folder.
 fn bytes_of<R: rt::Files + AllocGlobal>(
     rt: &R,
     root: &str,
@@ -59,7 +59,7 @@ fn bytes_of<R: rt::Files + AllocGlobal>(
 }
 
 /// Reads the manifests of a folder, its files `*.json`, in the order of their names. Names that begin with a
-/// dot are passed over.
+/// dot are skipped.
 pub fn look_into<R: rt::Files + AllocGlobal + Clone + Drop>(
     rt: &R,
     folder: &str,

@@ -21,18 +21,18 @@ struct Count {
     pods: u32,
 }
 
-/// How the pods are named whose manifests give no uid: by namespace, name, how many there were of that name
-/// in this run of the program, and the run's own name.
+/// Makes the uids of pods whose manifests give none: from the namespace, the name, how many pods had that
+/// name in this run of the program, and the run's own name.
 #[derive(Drop)]
 pub struct Naming<'a> {
     alloc: Global,
     run: Option<&'a str>,
-    // How many pods there were of each name, named as their first one would be without a run's name.
+    // How many pods there were of each name, by the uid that the first one would have without a run's name.
     counts: Vec<Count>,
 }
 
 impl<'a> Naming<'a> {
-    /// In a run of this name, in which no pod was named yet.
+    /// For a run of this name, in which no pod was named yet.
     pub fn new(alloc: Global, run: Option<&'a str>) -> Naming<'a> {
         Naming {
             alloc,
@@ -53,7 +53,7 @@ impl<'a> Naming<'a> {
         }
     }
 
-    /// The uid for the next pod of this pod's name. None where it would be too long.
+    /// The uid for the next pod of this pod's name. `None` if it would be too long.
     pub fn uid(&self, pod: &Pod) -> Result<Option<Uid>, AllocError> {
         let pods = match self.first(pod)? {
             Some(first) => self.pods_named(&first),

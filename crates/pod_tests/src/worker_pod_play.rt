@@ -150,7 +150,7 @@ fn outcome(request: &Request, answer: Answer, letter: u8) -> Outcome {
 }
 
 impl Play {
-    // Claims the pod and ends the claim, and tells what was asked for. At h it is deleted while it is held,
+    // Claims the pod and ends the claim, and returns what was asked for. At h it is deleted while it is held,
     // at w it is held for two seconds.
     pub(crate) fn claim(&mut self, letter: u8) -> Result<String, AllocError> {
         self.number = self.number.saturating_add(1);
@@ -231,7 +231,7 @@ impl Play {
         }
     }
 
-    // The phase, and from when on a request is due.
+    // The phase, and the moment from which on a request is due.
     fn phase_and_due(&self) -> Result<String, AllocError> {
         let phase: Phase = self.state.view().phase;
         match self.state.due() {
@@ -241,8 +241,8 @@ impl Play {
         }
     }
 
-    // Does what the letters say: D deletes the pod, t waits, any other is a claim and how it ends. What was
-    // asked for is told, with what holds behind it.
+    // Does what the letters say: D deletes the pod, t waits, any other is a claim and how it ends. Returns
+    // what was asked for, and what holds after it.
     pub(crate) fn plays(&mut self, letters: &str) -> Result<String, AllocError> {
         let mut text = String::new(self.alloc);
         for letter in letters.as_bytes() {

@@ -159,7 +159,7 @@ fn deletions(rt: HostRuntime) -> Result<(), Fail> {
             "run default.p: Pending 0; create default.p setup 0 s unconfined: Pending 0; \
              stop default.p 30: Pending 0; remove default.p: Unknown 10; remove default.p: Pending gone; ",
         ),
-        // Behind its end.
+        // After its end.
         (
             "dddxdDdd",
             "run default.p: Pending 0; create default.p setup 0 s unconfined: Pending 0; \
@@ -235,7 +235,7 @@ fn turns(rt: HostRuntime) -> Result<(), Fail> {
     Ok(())
 }
 
-// Between bars stand the cells of a list of statuses, each its container's name, its attempt and r, e or x:
+// The cells of a list of statuses are between bars, each as its container's name, its attempt and r, e or x:
 // it runs, or exited with 0 or 1.
 fn scripted(alloc: Global, spec: &str, poll: u64, script: &str) -> Result<String, PodFault> {
     let settings = Settings { poll, ..TOGETHER };

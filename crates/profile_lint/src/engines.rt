@@ -1,4 +1,4 @@
-//! Where engines read a profile otherwise: `specs/Engines.antt` says how they read it.
+//! Where engines read a profile differently: `specs/Engines.antt` says how they read it.
 ghost use Rattle.std.specs.Prelude.{◌≡◌, ◌&&◌, ◌++◌, IfOk, IfSome, filter, slice_get, Some};
 ghost use Rattle.oci_profile.specs.Entries.{IsFit};
 ghost use Rattle.profile_lint.specs.Engines.{AreBoth, IsReadOtherwise, Overlap, as_engines_read, is_kept};
@@ -74,7 +74,7 @@ fn is_of(kind: Kind, entry: &Entry) -> bool
     }
 }
 
-/// A call that the entry at this place decides, and engines otherwise, if one is found.
+/// A call that the entry at this place decides, and engines decide differently, if one is found.
 pub(crate) fn read_otherwise(
     alloc: Global,
     profile: &Profile,
@@ -104,8 +104,8 @@ pub(crate) fn read_otherwise(
     }
 }
 
-/// A call that is likely so: one on which it matters whether the entry stands behind those before it and in
-/// front of those that engines have.
+/// A call that is likely decided differently: one on which it matters whether the entry comes after those
+/// before it, and before those that engines have.
 fn decided_otherwise(
     alloc: Global,
     profile: &Profile,
@@ -126,7 +126,7 @@ fn decided_otherwise(
     }
 }
 
-/// Those before the entry, what stands in its place, and those that engines have: of each those alone that
+/// The entries before this one, what replaces it, and the entries that engines have: of each only those that
 /// share a call with the entry.
 fn queue(
     alloc: Global,
@@ -169,7 +169,8 @@ fn judged(
     }
 }
 
-/// A call to which both entries apply, if both have conditions, engines have both, and they decide otherwise.
+/// A call to which both entries apply, if both have conditions, engines have both, and they decide it
+/// differently.
 pub(crate) fn overlap(
     alloc: Global,
     profile: &Profile,
@@ -203,7 +204,7 @@ pub(crate) fn is_asked(profile: &Profile, entry: &Entry) -> bool {
     is_kept(profile, entry) && is_of(Kind::Asking, entry)
 }
 
-/// The call, if both apply to it, and decide it otherwise.
+/// The call, if both apply to it and decide it differently.
 fn both(one: &Entry, other: &Entry, call: SysCall) -> Option<SysCall>
     ensures { IfSome result (AreBoth one.now other.now) }
 {
@@ -215,7 +216,7 @@ fn both(one: &Entry, other: &Entry, call: SysCall) -> Option<SysCall>
     }
 }
 
-/// The profile of these two alone.
+/// The profile with just these two entries.
 fn pair(alloc: Global, profile: &Profile, one: &Entry, other: &Entry) -> Result<Profile, AllocError>
     requires one_fit { IsFit one.now }
     requires other_fit { IsFit other.now }

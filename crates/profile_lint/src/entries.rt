@@ -13,7 +13,7 @@ use std::alloc::{AllocError, Global};
 /// How many entries that share a call are compared at most.
 const MAX_NEAR: usize = 12;
 
-/// What stands in the place of an entry.
+/// What replaces an entry in a comparison.
 #[derive(Clone, Copy, Debug, PartialEq, Eq)]
 pub(crate) enum Middle {
     /// The entry itself.
@@ -24,7 +24,7 @@ pub(crate) enum Middle {
     LeftOut,
 }
 
-/// How the entry at this place stands.
+/// Whether the entry at this place is needed.
 pub fn standing(alloc: Global, profile: &Profile, place: usize) -> Result<Standing, AllocError>
     ensures { IfOk result (λ s. Stands profile.now place s) }
 {
@@ -62,7 +62,7 @@ fn standing_of(
     }
 }
 
-/// A likely call, if it shows that the entry is needed.
+/// A likely candidate call, if it shows that the entry is needed.
 fn needed_on(
     alloc: Global,
     profile: &Profile,
@@ -78,7 +78,7 @@ fn needed_on(
     }
 }
 
-/// The call, if the profile says something else of it without the entry.
+/// The call, if the profile decides it differently without the entry.
 fn differ_on(
     alloc: Global,
     profile: &Profile,
@@ -99,7 +99,7 @@ fn differ_on(
     }
 }
 
-/// How the profile compares with that in which this stands in the place of the entry.
+/// How the profile compares with the one that has this in place of the entry.
 fn compared_with(
     alloc: Global,
     profile: &Profile,
@@ -116,7 +116,7 @@ fn compared_with(
     compared(alloc, &kept, &other)
 }
 
-/// Whether so many entries share a call with this one that they are not compared.
+/// Whether too many entries share a call with this one to be compared.
 pub(crate) fn has_many_near(entries: &[Entry], entry: &Entry) -> bool {
     let mut left = MAX_NEAR;
     for other in entries {
@@ -130,7 +130,7 @@ pub(crate) fn has_many_near(entries: &[Entry], entry: &Entry) -> bool {
     false
 }
 
-/// The profile of those entries alone that share a call with the one at this place, and what stands in its
+/// The profile with only the entries that share a call with the one at this place, and with this in its
 /// place.
 fn around(
     alloc: Global,

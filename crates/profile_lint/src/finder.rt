@@ -11,11 +11,11 @@ use action::ENOSYS;
 use oci_profile::{Decision, Entry, Profile};
 use std::alloc::{AllocError, Global};
 
-/// How many names the entries have together at most where they are compared: a profile with more is too long
-/// to be compiled.
+/// The most names of all entries together for which entries are compared: a profile with more is too long to
+/// be compiled.
 const MAX_NAMES: usize = 511;
 
-/// What is found of a profile: of its entries in order, then of its default.
+/// The findings about a profile: about its entries in order, then about its default.
 pub fn findings(alloc: Global, profile: &Profile) -> Result<Vec<Finding>, AllocError>
     ensures { IfOk result (λ v. All (IsSo profile.now) v.items) }
 {
@@ -46,7 +46,8 @@ fn add_newer_calls(found: &mut Vec<Finding>, profile: &Profile) -> Result<(), Al
     Ok(())
 }
 
-/// The errno of calls above the table's last number, unless programs fall back at it.
+/// The errno of calls above the table's last number, unless it is ENOSYS, on which programs fall back to
+/// older calls.
 pub fn newer_calls(profile: &Profile) -> Option<u16>
     ensures { result ≡ newer_of profile.now.default }
 {
@@ -78,7 +79,7 @@ fn of_entries(alloc: Global, profile: &Profile) -> Result<Vec<Finding>, AllocErr
     Ok(found)
 }
 
-/// Adds what is found of the entry at this place.
+/// Adds the findings about the entry at this place.
 fn add_at(
     alloc: Global,
     found: &mut Vec<Finding>,
@@ -97,7 +98,7 @@ fn add_at(
     add_overlaps(alloc, found, profile, engines, place)
 }
 
-/// Adds what is so.
+/// Adds the finding, if there is one.
 fn add(found: &mut Vec<Finding>, profile: &Profile, one: Option<Finding>) -> Result<(), AllocError>
     requires one_so { IfSome one (IsSo profile.now) }
     requires so { All (IsSo profile.now) found.old.items }
@@ -147,7 +148,7 @@ fn reading_at(place: usize, reading: Option<Reading>) -> Option<Finding>
     Some(Finding::ReadOtherwise(place, reading.call, reading.here, reading.there))
 }
 
-/// The entries behind this one that overlap with it.
+/// Adds the overlaps of this entry with later ones.
 fn add_overlaps(
     alloc: Global,
     found: &mut Vec<Finding>,
@@ -176,7 +177,7 @@ fn may_overlap(profile: &Profile, place: usize) -> bool {
     }
 }
 
-/// The two entries, if the second one is behind the first, and they overlap on a call that no entry without
+/// The two entries, if the second comes after the first, and they overlap on a call that no entry without
 /// conditions decides for engines.
 #[tactic(auto, using(crate::proofs::Near::fit_at))]
 fn of_two(

@@ -1,20 +1,21 @@
 use call_data::SysCall;
 
-/// Something of a profile's entries or of its default that its author may not have meant.
+/// Something in a profile's entries or its default that its author may not have meant.
 #[derive(Clone, Copy, Debug, PartialEq, Eq)]
 pub enum Finding {
     /// The entry at this place decides no call.
     NeverDecides(usize),
     /// Without the entry at this place the profile means the same.
     SameWithout(usize),
-    /// Whether the entry at this place ever decides a call was not found out.
+    /// It is not known whether the entry at this place ever decides a call.
     NotFoundOut(usize),
-    /// Whether the entries from this place on ever decide a call was not looked at.
+    /// It was not checked whether the entries from this place on ever decide a call.
     NotLookedAt(usize),
-    /// Of the call, which the entry at this place decides, the profile says the first value, and the filter
-    /// that engines make of it the second one.
+    /// The entry at this place decides the call. The profile's value for it is the first one; the filter that
+    /// engines make of the profile returns the second one.
     ReadOtherwise(usize, SysCall, u32, u32),
-    /// The entries at both places apply to the call and decide it otherwise, and engines keep no order.
+    /// The entries at both places apply to the call and decide it differently, and engines don't keep their
+    /// order.
     Overlap(usize, usize, SysCall),
     /// Calls above the table's last number return this errno, and not ENOSYS.
     NewerCalls(u16),

@@ -1,10 +1,10 @@
-//! What is told of a seccomp profile that is read and compiled all the same: what of its text decides
-//! nothing, entries without which it means the same, and such as engines read otherwise. OCI runtime-spec
-//! 1.1, config-linux, seccomp.
+//! Finds what is suspicious in a valid seccomp profile: parts of its text that decide nothing, entries
+//! without which it means the same, and entries that engines read differently. OCI runtime-spec 1.1,
+//! config-linux, seccomp.
 //!
-//! What is told of a text stands in `specs/Passed.antt`, what is found of a profile in `specs/Findings.antt`,
-//! `specs/Entries.antt` and `specs/Engines.antt`, and the lines in `specs/Text.antt`. An entry is judged by
-//! comparing filters, of the entries alone that share a call with it (`entries.rt`).
+//! `specs/Passed.antt` defines the findings about a text; `specs/Findings.antt`, `specs/Entries.antt` and
+//! `specs/Engines.antt` those about a profile; `specs/Text.antt` the lines. An entry is judged by comparing
+//! filters, made of only the entries that share a call with it (`entries.rt`).
 #![tactic(auto)]
 
 mod copies;

@@ -12,7 +12,7 @@ use json_place::{MAX_SHOWN, Quoted};
 use std::alloc::{AllocError, Global};
 use std::fmt;
 
-/// What stands before a member's key: nothing, `syscalls[3].`, `syscalls[3].args[1].`
+/// The prefix of a member's key: nothing, `syscalls[3].`, `syscalls[3].args[1].`
 impl fmt::Display for Holder {
     ghost use Rattle.std.specs.Prelude.{Some};
     ghost use Rattle.profile_lint.specs.Text.{holder_text};
@@ -47,7 +47,7 @@ impl fmt::Display for Key<'_> {
     }
 }
 
-/// Whether it has ASCII letters, digits and `_` alone, and not too many.
+/// Whether it has only ASCII letters, digits and `_`, and not too many.
 #[tactic(auto, unfolding(crate::specs::Text::is_plain))]
 fn is_plain(key: &str) -> bool
     ensures { result ≡ is_plain key.now }
@@ -91,7 +91,7 @@ fn words_of(key: &str) -> &'static str
     }
 }
 
-/// `PLACE: KIND: WORDS`, or what stands there.
+/// `PLACE: KIND: WORDS`, where the words may be the name that is there.
 impl fmt::Display for Passed<'_> {
     ghost use Rattle.std.specs.Prelude.{Some};
     ghost use Rattle.profile_lint.specs.Passed.{told};
@@ -126,7 +126,7 @@ impl fmt::Display for Passed<'_> {
     }
 }
 
-/// A call, in the words in which `run` takes it.
+/// A call, in the words that `seccheck run` takes.
 #[derive(Clone, Copy)]
 struct Words(SysCall);
 
@@ -215,7 +215,7 @@ impl fmt::Display for Finding {
     }
 }
 
-/// A line for each thing that is told of a profile's text, and then for each that is found of the profile.
+/// A line for each finding about a profile's text, and then for each about the profile.
 pub fn lint_lines(
     alloc: Global,
     passed: &[Passed<'_>],

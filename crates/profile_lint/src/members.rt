@@ -9,7 +9,7 @@ use json_tree::{list, text, value};
 use serde_json::{Map, Value};
 use std::alloc::{AllocError, Global};
 
-/// The members of what the holder is that decide nothing, in the order of their keys.
+/// The holder's members that decide nothing, in the order of their keys.
 pub(crate) fn ignored_in<'v>(
     alloc: Global,
     holder: Holder,
@@ -62,7 +62,7 @@ fn is_deciding(holder: Holder, key: &str) -> bool
     }
 }
 
-/// Whether it is null, or has nothing in it.
+/// Whether it is null or empty.
 #[tactic(auto, unfolding(crate::specs::Passed::says_nothing))]
 fn says_nothing(tree: &Value) -> bool
     ensures { result ≡ says_nothing (view tree.now) }

@@ -11,7 +11,7 @@ use json_tree::text;
 use serde_json::Value;
 use std::alloc::{AllocError, Global};
 
-/// The names of an entry that the call table lacks, or that stand before.
+/// The names of an entry that the call table lacks, or that are repeated.
 pub(crate) fn names_in<'v>(
     alloc: Global,
     entry: usize,
@@ -37,7 +37,7 @@ fn tell<'v>(found: &mut Vec<Passed<'v>>, one: Option<Passed<'v>>) -> Result<(), 
     Ok(())
 }
 
-/// What is told of the name at this index, behind names of which these numbers were seen.
+/// The finding about the name at this index, after names with these numbers.
 fn name_at<'v>(entry: usize, index: usize, item: &'v Value, seen: &[u32]) -> Option<Passed<'v>>
     ensures { (before : List Data) → AreSeen before seen.now
         → option_map told result ≡ told_text entry index (text (view item.now)) before }

@@ -1,4 +1,4 @@
-/// Whose member something is.
+/// The holder of a member.
 #[derive(Clone, Copy, Debug, PartialEq, Eq)]
 pub enum Holder {
     Profile,
@@ -17,6 +17,6 @@ pub enum Passed<'v> {
     OtherArchitectures,
     /// Of the entry at the first place, the name at the second one, which the call table lacks.
     UnknownName(usize, usize, &'v str),
-    /// The same of a name that stands before in the entry.
+    /// Of the entry at the first place, the name at the second one, which the entry already has before.
     RepeatedName(usize, usize, &'v str),
 }

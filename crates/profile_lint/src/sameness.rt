@@ -9,7 +9,7 @@ use compile::{CompileFault, compile};
 use oci_profile::Profile;
 use std::alloc::{AllocError, Global};
 
-/// How many instructions are followed at most where two profiles are compared, which takes milliseconds.
+/// The most instructions that are followed to compare two profiles, which takes milliseconds.
 const BUDGET: u64 = 20_000;
 
 /// How two profiles compare on every call.
@@ -17,9 +17,9 @@ const BUDGET: u64 = 20_000;
 pub(crate) enum Sameness {
     /// They say the same.
     Same,
-    /// Of this call they say different things.
+    /// They say different things of this call.
     Differ(SysCall),
-    /// It was not found out.
+    /// No answer was found.
     Unknown,
 }
 

@@ -1,14 +1,14 @@
 use call_data::SysCall;
 
-/// How an entry of a profile stands.
+/// Whether an entry of a profile is needed.
 #[derive(Clone, Copy, Debug, PartialEq, Eq)]
 pub enum Standing {
-    /// Of this call the profile says something else without it.
+    /// The profile decides this call differently without it.
     Needed(SysCall),
     /// It decides no call.
     NeverDecides,
     /// Without it the profile means the same.
     SameWithout,
-    /// It was not found out, or it is not there.
+    /// No answer was found, or there is no such entry.
     Unknown,
 }

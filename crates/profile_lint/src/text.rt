@@ -11,7 +11,7 @@ use json_tree::{list, member, text};
 use serde_json::Value;
 use std::alloc::{AllocError, Global};
 
-/// What decides nothing in the tree of a profile's text, in the order of the entries.
+/// What decides nothing in the tree of a profile's text, in order of the entries.
 pub fn passed_in<'v>(alloc: Global, tree: &'v Value) -> Result<Vec<Passed<'v>>, AllocError>
     ensures { IfOk result (λ v. map told v.items ≡ passed_in (view tree.now)) }
 {

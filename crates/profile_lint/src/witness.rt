@@ -2,11 +2,11 @@ use call_data::{NATIVE_ARCH, SysCall};
 use explain::applies;
 use oci_profile::{Cond, Entry, Op, Profile};
 
-// Calls that are tried before anything is compared. Nothing is promised of them: who uses one looks at what
-// the profile says of it.
+// Calls that are tried before anything is compared. They come without a guarantee: the caller checks what the
+// profile says of them.
 
 /// One of the entry's calls, with arguments that it is likely to apply to, if what follows the entry decides
-/// it otherwise.
+/// it differently.
 pub(crate) fn likely_needed(profile: &Profile, place: usize, entry: &Entry) -> Option<SysCall> {
     for number in entry.numbers.as_slice() {
         let call = likely_call(entry, *number);
@@ -44,7 +44,7 @@ fn likely_argument(cond: &Cond) -> u64 {
 }
 
 /// Whether the entry at this place is the first that applies to the call, and what follows decides it
-/// otherwise.
+/// differently.
 fn is_decided_alone(profile: &Profile, place: usize, call: &SysCall) -> bool {
     let mut decided = None;
     for (at, entry) in profile.entries.as_slice().iter().enumerate() {

@@ -14,8 +14,8 @@ pub enum Choice<'p> {
     Unconfined,
 }
 
-/// What the container at this place gets, init ones first: on a node whose seccomp default is on, one for
-/// which nothing is said gets the profile of the runtime.
+/// The profile of the container at this place, counting init containers first. If the node's seccomp default
+/// is on, a container for which no profile is given gets that of the runtime.
 pub fn pick(pod: &Pod, at: usize, seccomp_default: bool) -> Choice<'_>
     requires { at < length pod.now.containers.all }
     ensures { IfSome (slice_get pod.now.containers.all at) (λ container.

@@ -99,7 +99,7 @@ fn family(alloc: Global, item: &Value) -> Result<Texts, TemplateFaultAt>
     Ok(headed(alloc, own, others)?)
 }
 
-/// The texts of a list behind another text.
+/// The texts of a list after another text.
 fn headed(alloc: Global, own: &str, others: &[Value]) -> Result<Texts, AllocError>
     ensures { IfOk result (λ t. t ≡ own.now ∷ filter_map kind.text (map view others.now)) }
 {
@@ -113,7 +113,7 @@ fn headed(alloc: Global, own: &str, others: &[Value]) -> Result<Texts, AllocErro
     Ok(Texts::new(family))
 }
 
-/// The first family that the architecture heads, else what stands there without conditions.
+/// The first family that the architecture heads, else the plain `architectures`.
 fn chosen_family(arch: Option<&str>, plain: Texts, families: Vec<Texts>) -> Texts
     ensures { result ≡ chosen_family (option_map (λ t. t.now) arch.entry) plain families.items }
 {

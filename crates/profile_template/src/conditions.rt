@@ -111,7 +111,7 @@ fn has_one(settings: &Settings<'_>, caps: &[Value]) -> bool
     caps.iter().any(|cap| has_cap(settings, cap))
 }
 
-/// The texts of a list that may be left out.
+/// The texts of an optional list.
 #[tactic(auto, unfolding(crate::specs::Reading::items_of))]
 pub(crate) fn items<'v>(tree: &'v Value, key: &'static str) -> Result<&'v [Value], TemplateFaultAt>
     ensures { as_read (λ items. map view items.now) result ≡ items_of key.now (view tree.now) }

@@ -10,7 +10,7 @@ use json_place::{optional_text, optional_whole, required_text};
 use oci_profile::{Decision, ProfileFault, given_errno, named_action};
 use serde_json::Value;
 
-/// The decision of the fields with these keys: OCI's, and podman's name of an errno beside them.
+/// The decision of the fields with these keys: OCI's, and podman's, which names an errno.
 #[tactic(auto, unfolding(crate::specs::Reading::decision_of))]
 pub(crate) fn decision(
     tree: &Value,
@@ -40,7 +40,7 @@ fn named_errno(tree: &Value, key: &'static str) -> Result<Option<u64>, TemplateF
     }
 }
 
-// An empty name is none.
+// An empty name counts as none.
 fn numbered(key: &'static str, name: &str) -> Result<Option<u64>, TemplateFaultAt>
     ensures { result ≡ numbered key.now name.now }
 {
@@ -53,7 +53,7 @@ fn numbered(key: &'static str, name: &str) -> Result<Option<u64>, TemplateFaultA
     }
 }
 
-// The decision with the errno that is given, if one is.
+// The decision with the given errno, if there is one.
 fn with_given(decision: Decision, given: Option<u64>) -> Result<Decision, ProfileFault>
     ensures { result ≡ with_given decision given }
 {

@@ -5,8 +5,8 @@ ghost use Rattle.profile_template.specs.Errnos.{alias_of, errno_number, errnos, 
 /// How many numbers have errnos, 0 included.
 pub(crate) const ERRNO_LIMIT: usize = 134;
 
-// The name of each errno at its number on x86-64, as errno(3) and asm-generic/errno.h have them. An empty
-// text stands where no errno has the number.
+// The name of each errno at its number on x86-64, as errno(3) and asm-generic/errno.h have them. The text is
+// empty if no errno has the number.
 #[rattlefmt::skip]
 pub(crate) static ERRNOS: [&str; ERRNO_LIMIT] = [
     "", "EPERM", "ENOENT", "ESRCH", "EINTR", "EIO", "ENXIO", "E2BIG", "ENOEXEC", "EBADF", "ECHILD",

@@ -4,16 +4,16 @@ use oci_profile::ProfileFault;
 use std::fmt;
 use thiserror::Error;
 
-/// Why a text is no template.
+/// Why a text is not a template.
 #[derive(Clone, Copy, Debug, PartialEq, Eq, Error)]
 pub enum TemplateFault {
-    /// What a profile is refused for, too.
+    /// A fault for which a plain profile is refused too.
     Profile(ProfileFault),
-    /// Two fields stand there of which one may: `name` and `names`, `architectures` and `archMap`.
+    /// Both of two exclusive fields are given: `name` and `names`, `architectures` and `archMap`.
     Both,
     /// No errno has this name.
     UnknownErrno,
-    /// It is no version of a kernel.
+    /// It is not a kernel version.
     BadKernel,
 }
 

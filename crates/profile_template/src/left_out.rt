@@ -21,8 +21,8 @@ impl Template {
     ghost use Rattle.oci_profile.specs.Profile.{ReadsProfile};
     ghost use Rattle.profile_template.specs.Resolved.{left_out, profile_of};
 
-    /// The plain profile: its text reads as the profile in which exactly the entries stand whose conditions
-    /// are met, in their order, but for the names that are left out.
+    /// Writes the plain profile: its text reads as the profile with exactly the entries whose conditions are
+    /// met, in their order, without the names that are left out.
     pub fn write(self, alloc: Global) -> Result<String, WriteFault>
         ensures { IfOk result (λ text. ReadsProfile (string_bytes text) (profile_of self)) }
     {

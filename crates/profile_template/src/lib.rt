@@ -1,8 +1,8 @@
 //! Templates of seccomp profiles, as Docker, podman and containerd keep them: OCI's `linux.seccomp` with
-//! conditions on entries, which hold or not for a container's capabilities, an architecture and a kernel.
+//! conditions on entries, which depend on a container's capabilities, an architecture and a kernel version.
 //!
-//! When the conditions of an entry are met stands in `specs/Settings.antt`, and which fault of a template is
-//! found first in `specs/Reading.antt`. What is read is written as a plain profile by `profile_text`.
+//! `specs/Settings.antt` defines when the conditions of an entry are met, and `specs/Reading.antt` which
+//! fault of a template is found first. What is read is written as a plain profile by `profile_text`.
 #![tactic(auto)]
 
 mod architectures;

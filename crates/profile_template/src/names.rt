@@ -58,7 +58,7 @@ fn refused(fault: ProfileFault) -> TemplateFaultAt
     TemplateFaultAt::at("names", TemplateFault::Profile(fault))
 }
 
-/// The texts of a list of them.
+/// The texts of a list of texts.
 pub(crate) fn texts(alloc: Global, items: &[Value]) -> Result<Texts, AllocError>
     ensures { IfOk result (λ t. t ≡ filter_map kind.text (map view items.now)) }
 {

@@ -8,11 +8,11 @@ use json_tree::TextFault;
 use oci_profile::{ProfileFault, ProfileFaultAt};
 use std::alloc::{AllocError, AllocFailed};
 
-/// Why a text is no template, and where in it.
+/// Why a text is not a template, and where in it.
 #[derive(Debug, Drop)]
 pub struct TemplateFaultAt {
     pub fault: TemplateFault,
-    /// The place at which the fault is: the whole text's where it has no narrower one.
+    /// The fault's place: the root if there is no narrower one.
     pub place: Place,
 }
 
@@ -21,7 +21,7 @@ impl TemplateFaultAt {
     ghost use Rattle.json_place.specs.Places.{part_of};
     ghost use Rattle.profile_template.specs.Faults.{fault_at, fault_here, fault_within};
 
-    /// A fault of the tree that is read.
+    /// A fault at the root of the tree that is read.
     pub(crate) fn here(fault: TemplateFault) -> TemplateFaultAt
         ensures { result ≡ fault_here fault }
     {
@@ -38,7 +38,7 @@ impl TemplateFaultAt {
         TemplateFaultAt::here(fault).within(Step::Member(key))
     }
 
-    /// The fault of a tree, as one of the tree in which that one stands.
+    /// The same fault, placed in the outer tree that has this one under the step.
     pub(crate) fn within(self, step: Step) -> TemplateFaultAt
         ensures { result ≡ fault_within (part_of step) self }
     {
@@ -49,7 +49,7 @@ impl TemplateFaultAt {
     }
 }
 
-/// What was made of the member with this key, as of a profile.
+/// The result of reading the member with this key, a fault placed at that member, as of a profile.
 pub(crate) fn at<T>(key: &'static str, made: Result<T, ProfileFault>) -> Result<T, TemplateFaultAt>
     ensures { result ≡ at key.now made }
 {
@@ -59,7 +59,7 @@ pub(crate) fn at<T>(key: &'static str, made: Result<T, ProfileFault>) -> Result<
     }
 }
 
-/// What was read of what stands under a step.
+/// The result of reading what is under a step, a fault placed under that step.
 pub(crate) fn under<T>(step: Step, read: Result<T, TemplateFaultAt>) -> Result<T, TemplateFaultAt>
     ensures { result ≡ under (part_of step) read }
 {

@@ -25,8 +25,8 @@ use serde_json::Value;
 use std::alloc::Global;
 
 /// The template of a text, for these settings, or its first fault: of the text, then of the fields in the
-/// order of docs/SEMANTICS.md, and of the entries in order, also of those whose conditions are not met.
-/// `Memory` takes the place of any answer but `TooLarge` where a growth was refused.
+/// order of docs/SEMANTICS.md, and of the entries in order, including those whose conditions are not met. If
+/// an allocation fails, the result is `Memory`, unless it is `TooLarge`.
 #[tactic(auto, unfolding(crate::specs::Reading::reading_of))]
 pub fn read(
     alloc: Global,

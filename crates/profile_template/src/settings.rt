@@ -6,14 +6,14 @@ use crate::version::Version;
 use json_tree::text;
 use serde_json::Value;
 
-/// For what a template is resolved.
+/// The settings for which a template is resolved.
 #[derive(Clone, Copy)]
 pub struct Settings<'a> {
-    /// The capabilities of the container's bounding set, as `CAP_SYS_ADMIN`.
+    /// The capabilities of the container's bounding set, such as `CAP_SYS_ADMIN`.
     pub caps: &'a [&'a str],
     /// The architecture, as templates name it: `amd64`.
     pub arch: &'a str,
-    /// The kernel. Where there is none, it is newer than each that is asked for.
+    /// The kernel's version. `None` stands for a kernel that is newer than any that is asked for.
     pub kernel: Option<Version>,
 }
 
@@ -34,7 +34,7 @@ pub(crate) fn has_cap(settings: &Settings<'_>, item: &Value) -> bool
     settings.caps.iter().any(|cap| is_word(cap, item))
 }
 
-/// Whether the kernel is as new as is asked for, and what is said where nothing is.
+/// Whether the kernel is at least as new as is asked for. `otherwise` if no version is asked for.
 pub(crate) fn is_new_enough(
     otherwise: bool,
     kernel: Option<Version>,

@@ -4,8 +4,7 @@ use oci_profile::Decision;
 use profile_text::{NamedEntry, Texts};
 use std::marker::Model;
 
-/// The entries of a template, in order: each whose conditions are met, and that there is another one where
-/// they are not.
+/// The entries of a template, in order. `None` stands for one whose conditions are not met.
 #[derive(Drop)]
 pub struct TemplateEntries {
     entries: Vec<Option<NamedEntry>>,
@@ -29,7 +28,7 @@ impl TemplateEntries {
         TemplateEntries { entries }
     }
 
-    /// The entries in order, lent.
+    /// The entries in order.
     pub fn as_slice(&self) -> &[Option<NamedEntry>]
         ensures { result.now ≡ self.now }
     {
@@ -44,10 +43,10 @@ impl TemplateEntries {
     }
 }
 
-/// A template, as it is for its settings.
+/// A template, resolved for its settings.
 #[derive(Drop)]
 pub struct Template {
-    /// What is decided of a call that no entry decides.
+    /// The decision on a call that no entry decides.
     pub default: Decision,
     /// The architectures for which an engine is to use the profile.
     pub architectures: Texts,

@@ -10,7 +10,7 @@ pub struct Version {
 }
 
 impl Version {
-    /// The version that a text writes: two decimal numbers below 2^32, joined by a dot.
+    /// The version that a text spells: two decimal numbers below 2^32, joined by a dot.
     pub fn of(text: &str) -> Option<Version>
         ensures { result ≡ version_of text.now }
     {
@@ -42,7 +42,7 @@ fn version_at(bytes: &[u8], dot: usize) -> Option<Version>
     Some(Version { major, minor })
 }
 
-/// The number that these digits write.
+/// The number that these digits spell.
 fn number(digits: &[u8]) -> Option<u32>
     ensures { result ≡ number_of digits.now }
 {

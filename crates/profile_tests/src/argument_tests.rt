@@ -28,7 +28,8 @@ fn asks(alloc: Global, action: &str, op: &str, value: u64) -> Result<String, All
     entry(alloc, "\"read\"", action, args.as_str())
 }
 
-// Each operator against each on one argument, at numbers that overlap, touch, and stand at the halves' edges.
+// Each operator against each on one argument, at numbers that overlap, touch, and lie at the edges of the
+// halves.
 #[test]
 fn operators_against_each_other(rt: HostRuntime) -> Result<(), Fail> {
     let values = [1, 0xffff_ffff, 0x1_0000_0000];
@@ -132,7 +133,7 @@ fn drawn_conditions(rt: HostRuntime) -> Result<(), Fail> {
     Ok(())
 }
 
-// What was said before is said again, in an entry that can't be reached: it costs nothing.
+// An entry that repeats an earlier one, and so can't be reached, costs nothing.
 #[test]
 fn entries_that_are_hidden(rt: HostRuntime) -> Result<(), Fail> {
     let pair = "{\"names\":[\"read\"],\"action\":\"SCMP_ACT_TRAP\",\"args\":[

@@ -33,7 +33,7 @@ pub(crate) fn filter_of(rt: &HostRuntime, profile: &Profile) -> Result<Filter, F
     }
 }
 
-/// An entry of these names, with what stands behind its action.
+/// An entry of these names, with what follows its action.
 pub(crate) fn entry(
     alloc: Global,
     names: &str,

@@ -93,7 +93,7 @@ fn drawn_profiles(rt: HostRuntime) -> Result<(), Fail> {
     Ok(())
 }
 
-/// So many entries on one number, each with six conditions.
+/// `count` entries on one number, each with six conditions.
 fn deep(alloc: Global, count: u32) -> Result<String, AllocError> {
     let mut entries = String::from_str(
         alloc,
@@ -131,7 +131,7 @@ fn wide(alloc: Global, count: u32) -> Result<String, AllocError> {
     Ok(entries)
 }
 
-/// So many entries, most of which name no call of the table.
+/// `count` entries, most of which name no call of the table.
 fn many(alloc: Global, count: u32) -> Result<String, AllocError> {
     let mut entries = String::from_str(
         alloc,

@@ -4,7 +4,7 @@ use bpf_verify::Filter;
 use oci_profile::runtime_default;
 use std::test::Fail;
 
-/// The most steps over the numbers of the table and behind it, and their sum.
+/// The most steps over the numbers of the table and some after it, and their sum.
 fn steps_of(filter: &Filter) -> (u32, u32) {
     let mut most = 0;
     let mut all = 0u32;

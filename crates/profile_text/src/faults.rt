@@ -12,7 +12,7 @@ pub enum WriteFault {
     NoName,
     /// The text has more than [`MAX_PROFILE_BYTES`](oci_profile::MAX_PROFILE_BYTES) bytes.
     TooLarge,
-    /// A growth was refused.
+    /// An allocation failed.
     Memory,
 }
 

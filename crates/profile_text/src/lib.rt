@@ -1,7 +1,7 @@
 //! Profiles as text: the `linux.seccomp` object of the OCI runtime specification 1.1, written as compact JSON
 //! whose text `oci_profile::read` reads as the same profile.
 //!
-//! How a profile is written stands in `specs/Written.antt`, and which can be in `specs/Writable.antt`.
+//! `specs/Written.antt` defines how a profile is written, and `specs/Writable.antt` which profiles can be.
 #![tactic(auto)]
 
 mod default_profile;

@@ -18,7 +18,7 @@ use oci_profile::{Conds, Decision};
 use serde_json::Value;
 use std::alloc::{AllocError, Global};
 
-/// An entry with the names that stand in it, whether the table has them or not.
+/// An entry with its names, whether the table has them or not.
 #[derive(Drop)]
 pub struct NamedEntry {
     pub names: Texts,
@@ -27,8 +27,8 @@ pub struct NamedEntry {
 }
 
 /// The text of the profile with this default and these entries, and with these architectures, which the
-/// reader does not look at. Of an entry that is stricter than the default those names are left out that the
-/// table lacks, as the reader refuses them; an entry that is left with no name is left out.
+/// reader does not look at. From an entry that is stricter than the default, the names that the table lacks
+/// are left out, because the reader refuses them; an entry without any name left is left out.
 pub fn write_named(
     alloc: Global,
     default: &Decision,
@@ -41,7 +41,7 @@ pub fn write_named(
     ensures text { IfOk result (λ text. string_bytes text
         ≡ named_profile_text default.now architectures.now entries.now) }
 
-    // Each such profile can be written, but for the size of its text.
+    // Each such profile can be written, unless its text gets too large.
     ensures named { result ≢ Err WriteFault.NoName }
     ensures large { result ≡ Err WriteFault.TooLarge
         → MAX_PROFILE_BYTES < length (named_profile_text default.now architectures.now entries.now) }

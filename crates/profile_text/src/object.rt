@@ -6,7 +6,7 @@ ghost use Rattle.profile_text.specs.Written.{whole_number, with_list, with_whole
 use serde_json::{Map, Value};
 use std::alloc::{AllocError, Global};
 
-/// A JSON object that is being built. Each step takes it and gives it back, so one that finds no memory
+/// A JSON object that is being built. Each step takes it and returns it, so a step that runs out of memory
 /// leaves its caller nothing to drop.
 #[derive(Drop)]
 pub(crate) struct Object {

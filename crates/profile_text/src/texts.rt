@@ -19,14 +19,14 @@ impl Model for Texts {
 impl Texts {
     ghost use Rattle.std.specs.Prelude.{◌≡◌, map, string_bytes};
 
-    /// The texts of a list that has them in order.
+    /// The texts of this list, in order.
     pub fn new(texts: Vec<String>) -> Texts
         ensures { result ≡ map string_bytes texts.items }
     {
         Texts { texts }
     }
 
-    /// The texts in order, lent.
+    /// The texts in order.
     pub fn as_slice(&self) -> &[String]
         ensures { map string_bytes result.now ≡ self.now }
     {

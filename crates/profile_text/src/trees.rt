@@ -11,7 +11,7 @@ use oci_profile::{Cond, Decision, Entry, Op, Profile};
 use serde_json::Value;
 use std::alloc::{AllocError, Global};
 
-// The trees of a profile's parts. Beside its tree each tells what the types keep of the part.
+// The trees of a profile's parts. Besides its tree, each contract states what the types keep of the part.
 
 #[tactic(auto, unfolding(crate::specs::Written::profile_tree))]
 pub(crate) fn profile_tree(alloc: Global, profile: &Profile) -> Result<Value, AllocError>
@@ -136,7 +136,7 @@ fn cond_tree(alloc: Global, cond: &Cond) -> Result<Value, AllocError>
     Ok(object.done())
 }
 
-/// `valueTwo`, which is 0 where it is left out.
+/// `valueTwo`, which is 0 if it is left out.
 fn two_of(value_two: u64) -> Option<u64>
     ensures { result ≡ two_of value_two }
 {
@@ -175,7 +175,7 @@ pub(crate) fn action_name(decision: Decision) -> &'static str
     }
 }
 
-/// The errno, or a tracer's message, that is told with the action.
+/// The errno, or a tracer's message, that is written with the action.
 pub(crate) fn errno_of(decision: Decision) -> Option<u64>
     ensures value { result ≡ errno_of decision }
     ensures fit { FitsDecision decision }

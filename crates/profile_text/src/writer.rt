@@ -19,7 +19,7 @@ pub fn write(alloc: Global, profile: &Profile) -> Result<String, WriteFault>
     ensures reads { IfOk result (λ text. ReadsProfile (string_bytes text) profile.now) }
     ensures text { IfOk result (λ text. string_bytes text ≡ profile_text profile.now) }
 
-    // A profile that can't be written is told so before memory is taken, and no other is.
+    // A profile that can't be written is refused before anything is allocated, and no other is.
     ensures no_name { (result ≡ Err WriteFault.NoName) ↔ (is_writable profile.now ≡ false) }
     ensures large { result ≡ Err WriteFault.TooLarge → MAX_PROFILE_BYTES < length (profile_text profile.now) }
 {

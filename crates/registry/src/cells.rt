@@ -45,7 +45,7 @@ impl Cells {
         }
     }
 
-    /// The cells, lent.
+    /// The cells.
     pub fn as_slice(&self) -> &[Cell]
         ensures value { result.now ≡ self.now }
         ensures few { length self.now ≤ MAX_CELLS }
@@ -61,7 +61,7 @@ impl Cells {
         self.cells.iter().find(|cell| is_of(container, cell))
     }
 
-    /// How far the cell of a container is, if it is there.
+    /// The state of a container's cell, if it is there.
     pub(crate) fn state_of(&self, container: &ContainerMetadata) -> Option<State>
         ensures { result ≡ option_map (λ cell. cell.state) (find (is_of container.now) self.now) }
     {
@@ -95,7 +95,7 @@ impl Cells {
         kill_each(&mut self.cells, code);
     }
 
-    /// Takes out the cell of a container, and gives its id.
+    /// Removes the cell of a container, and returns its id.
     #[tactic(auto, using(crate::proofs::Firsts::length_dropped, crate::proofs::Named::named_dropped))]
     pub(crate) fn remove(&mut self, container: &ContainerMetadata) -> Option<u64>
         ensures cells { self.new ≡ drop_first (is_of container.now) self.old }
@@ -105,7 +105,7 @@ impl Cells {
         remove_in(&mut self.cells, container)
     }
 
-    /// Adds a cell as the last one. Where memory is wanted it is given back.
+    /// Appends a cell. If an allocation fails, the cell is returned.
     #[tactic(auto, using(crate::proofs::Named::named_more))]
     pub(crate) fn push(&mut self, cell: Cell) -> Result<(), AllocError>
         requires few { length self.old < MAX_CELLS }
@@ -116,7 +116,7 @@ impl Cells {
         push_in(&mut self.cells, cell)
     }
 
-    /// Takes out the last cell.
+    /// Removes the last cell.
     #[tactic(auto, using(crate::proofs::Named::named_fewer))]
     pub(crate) fn pop(&mut self)
         ensures { (cells : List Cell) (cell : Cell) → self.old ≡ cells ++ cell ∷ [] → self.new ≡ cells }
@@ -124,7 +124,7 @@ impl Cells {
         pop_in(&mut self.cells);
     }
 
-    /// A step of the cell with this id, and what it came to.
+    /// Steps the cell with this id, and returns the result.
     pub fn step(&mut self, id: u64) -> Option<Did>
         ensures moves { MayStepIn self.old id result self.new }
         ensures ids { map id_of self.new ≡ map id_of self.old }
@@ -147,7 +147,7 @@ impl Cells {
         get_in(self.cells.as_slice(), id)
     }
 
-    /// Gives all cells over to another list, in the place of those that it had.
+    /// Moves all cells into another list, in place of those that it had.
     pub(crate) fn hand_over(&mut self, gone: &mut Cells)
         ensures here { self.new ≡ [] }
         ensures there { gone.new ≡ self.old }
@@ -156,7 +156,7 @@ impl Cells {
         mem::swap(self, gone);
     }
 
-    /// Takes out all cells.
+    /// Removes all cells.
     pub(crate) fn clear(&mut self)
         ensures { self.new ≡ [] }
     {
@@ -241,8 +241,8 @@ fn pop_in(cells: &mut Vec<Cell>)
     drop(cells.pop());
 }
 
-/// The place of a cell with this id. Ids rise in the list of a sandbox, so that it is found by halves. Where
-/// it is not there a walk makes sure of that.
+/// The place of a cell with this id. Ids rise in the list of a sandbox, so a binary search finds it. If the
+/// search does not, a linear one makes sure that it is not there.
 fn place_of_id(cells: &[Cell], id: u64) -> Option<usize>
     ensures inside { IfSome result (λ at. at < length cells.now) }
     ensures found { IfSome result (λ at. IsAtPlace cells.now at id) }

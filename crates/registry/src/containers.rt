@@ -1,4 +1,4 @@
-//! What a call does to a container of a sandbox that is there.
+//! What a call does to a container of an existing sandbox.
 ghost use Rattle.std.specs.Prelude.{◌≡◌, ◌⊎◌, ◌↔◌, ℕ, Option, Some, List, true, if◌then◌else◌, map, IsTrue};
 ghost use Rattle.std.specs.Prelude.{IfSome, IfNone};
 ghost use Rattle.bpf_code.specs.declared.insn.Insn.{Insn};
@@ -22,7 +22,7 @@ use cri_msgs::{Answer, ContainerMetadata, Refusal};
 use manifest::{DescendingPath, SeccompProfile};
 use runtime_cell::{Cell, State};
 
-/// The code of a container that is stopped with so many seconds of grace.
+/// The exit code of a container that is stopped with this grace period, in seconds.
 pub(crate) fn code_of_grace(grace: u64) -> u8
     ensures { result ≡ code_of_grace grace }
 {
@@ -53,7 +53,7 @@ pub(crate) fn start(live: &Live, cells: &mut Cells, container: &ContainerMetadat
     }
 }
 
-/// The answer where the container's cell is not there.
+/// The answer if the container's cell does not exist.
 fn missing(live: &Live, container: &ContainerMetadata) -> Answer
     ensures { result ≡ (if list_any (is_same container.now) live.now.used
         then Answer.Refused Refusal.FailedPrecondition else Answer.Refused Refusal.NotFound) }
@@ -88,7 +88,7 @@ pub(crate) fn stop(
     }
 }
 
-/// Tells the status of a container.
+/// The answer with the status of a container.
 pub(crate) fn status(live: &Live, cells: &Cells, container: &ContainerMetadata) -> Answer
     ensures { (made : ℕ) → Shows (slot_in (sandbox_of (Some (Known.Live live.now)) cells.now) container.now)
         (part_by made (Some (Known.Live live.now)) cells.now) result
@@ -100,7 +100,7 @@ pub(crate) fn status(live: &Live, cells: &Cells, container: &ContainerMetadata) 
     }
 }
 
-/// The answer to a creation that makes no cell, whatever its files are; none where one is to be made.
+/// The answer to a creation that makes no cell, whatever its files are. `None` if one is to be made.
 pub(crate) fn made_before(
     live: &Live,
     cells: &Cells,
@@ -135,14 +135,14 @@ pub(crate) fn made_before(
     }
 }
 
-/// Whether a sandbox has no place for another container.
+/// Whether a sandbox has no room for another container.
 fn is_crowded(live: &Live, cells: &Cells) -> bool
     ensures { IsTrue result ↔ IsCrowded (sandbox_of (Some (Known.Live live.now)) cells.now) }
 {
     cells.as_slice().len() >= MAX_CELLS || live.used.is_full()
 }
 
-/// The answer to a creation whose cell is there.
+/// The answer to a creation whose cell exists already.
 fn again(cell: &Cell, image: &DescendingPath, choice: &SeccompProfile) -> Answer
     ensures { (WasAsked cell.now image.now choice.now × (result ≡ Answer.Container cell.now.making.label.id))
         ⊎ ((WasAsked cell.now image.now choice.now → ⊥) × (result ≡ Answer.Refused Refusal.AlreadyExists)) }

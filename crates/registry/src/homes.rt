@@ -1,4 +1,4 @@
-//! In which sandbox the cell of an id is.
+//! In which sandbox the cell with an id is.
 ghost use Rattle.std.specs.Prelude.{◌≡◌, ◌==◌, ℕ, if◌then◌else◌, [], Some, None, OnOk, OnErr, option_copied};
 ghost use Rattle.std.specs.List.{list_any};
 ghost use Rattle.std.specs.BTreeMap.{get};
@@ -12,7 +12,7 @@ use std::collections::BTreeMap;
 use std::marker::Model;
 use std::ops::Bound;
 
-/// The ids of the cells that are there, with the uids of their sandboxes. Contracts see the list.
+/// The ids of the existing cells, with the uids of their sandboxes. Contracts see the list.
 #[derive(Drop)]
 pub(crate) struct Homes {
     map: BTreeMap<u64, String>,
@@ -61,7 +61,7 @@ impl Homes {
         self.map.remove(&id);
     }
 
-    /// Takes out the ids of these cells.
+    /// Removes the ids of these cells.
     pub(crate) fn forget(&mut self, cells: &[Cell])
         ensures { (i : ℕ) → home_in self.new i ≡ (if list_any (λ cell. id_of cell == i) cells.now then None
             else home_in self.old i) }

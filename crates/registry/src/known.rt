@@ -6,7 +6,7 @@ use crate::used::Used;
 use cri_msgs::ContainerMetadata;
 use std::alloc::AllocError;
 
-/// A sandbox that is there.
+/// An existing sandbox.
 #[derive(Drop)]
 pub(crate) struct Live {
     pub(crate) ready: bool,
@@ -21,7 +21,7 @@ pub(crate) enum Known {
 }
 
 impl Known {
-    /// A sandbox takes no further containers.
+    /// Stops the sandbox: it takes no further containers.
     pub(crate) fn stop(&mut self)
         ensures { self.new ≡ stopped self.old }
     {
@@ -31,14 +31,14 @@ impl Known {
         }
     }
 
-    /// A sandbox goes, with all that was made in it.
+    /// Ends the sandbox, with all that was made in it.
     pub(crate) fn end(&mut self)
         ensures { self.new ≡ dead self.old }
     {
         *self = Known::Removed;
     }
 
-    /// An attempt is made in a sandbox.
+    /// Records an attempt that is made in the sandbox.
     pub(crate) fn add(&mut self, container: ContainerMetadata) -> Result<(), AllocError>
         ensures ok { OnOk result (self.new ≡ with_used container self.old) }
         ensures err { OnErr result (self.new ≡ self.old) }

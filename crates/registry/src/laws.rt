@@ -2,9 +2,9 @@ ghost use Rattle.std.specs.Prelude.{◌≡◌, ◌+◌};
 ghost use Rattle.registry.specs.declared.limits.TheConstants.{MAX_CELLS, MAX_KEYS, MAX_UIDS, STOPPED};
 ghost use Rattle.registry.specs.declared.limits.TheConstants.{TERMINATED};
 
-/// What the constants of this crate are.
+/// The values of this crate's constants.
 pub fn constants_are_as_stated()
-    // 128 and the number of SIGKILL, and of SIGTERM, signal(7), as a shell tells a signal
+    // 128 and the number of SIGKILL, and of SIGTERM, signal(7), as a shell reports a signal
     ensures stopped { STOPPED ≡ 128 + 9 }
     ensures terminated { TERMINATED ≡ 128 + 15 }
     // these limits are this project's own

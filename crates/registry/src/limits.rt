@@ -1,15 +1,15 @@
-/// How many uids a runtime knows at most, removed ones too.
+/// The most uids that a runtime knows, including removed ones.
 pub const MAX_UIDS: usize = 65_536;
 
-/// How many cells a sandbox has at most.
+/// The most cells of a sandbox.
 pub const MAX_CELLS: usize = 1_024;
 
-/// How many attempts at containers are made in a sandbox at most.
+/// The most attempts at containers that are made in a sandbox.
 pub const MAX_KEYS: usize = 65_536;
 
-/// The exit code of a container that was stopped without a grace: 128 and the number of SIGKILL, as a
-/// shell tells a signal.
+/// The exit code of a container that was stopped without a grace period: 128 and the number of SIGKILL, as a
+/// shell reports a signal.
 pub const STOPPED: u8 = 137;
 
-/// The exit code of a container that was stopped with a grace: 128 and the number of SIGTERM.
+/// The exit code of a container that was stopped with a grace period: 128 and the number of SIGTERM.
 pub const TERMINATED: u8 = 143;

@@ -1,4 +1,4 @@
-//! What is told of cells.
+//! Listings and statuses of cells.
 ghost use Rattle.std.specs.Prelude.{◌≡◌, ◌≤◌, IfOk, IfSome, IsTrue, length, map};
 ghost use Rattle.registry.specs.declared.limits.TheConstants.{MAX_CELLS};
 ghost use Rattle.manifest.specs.Texts.{is_label};
@@ -121,8 +121,8 @@ pub(crate) fn statuses(alloc: Global, cells: &[Cell]) -> Result<Statuses, AllocE
 }
 
 /// The answer to a call that lists the cells of a sandbox, ListContainers or ContainerStatuses, by these
-/// cells alone; none where it is another call. It is what [`crate::Registry::serve_lent`] answers as long as
-/// the sandbox is there, so whoever has the cells' lock need not hold up other sandboxes meanwhile.
+/// cells alone. `None` for any other call. It is what [`crate::Registry::serve_lent`] answers as long as the
+/// sandbox exists, so a caller that holds the cells' lock need not block other sandboxes meanwhile.
 pub fn tell_cells(alloc: Global, call: &Call, cells: &Cells) -> Option<Answer>
     ensures { IfSome result (λ answer. TellsCells call.now cells.now answer) }
 {

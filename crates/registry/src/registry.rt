@@ -1,4 +1,4 @@
-//! What a runtime knows of all uids, but for their cells.
+//! What a runtime knows of all uids, except for their cells.
 ghost use Rattle.std.specs.Prelude.{◌≡◌, ◌↔◌, ◌<◌, ◌++◌, ◌∷◌, IsTrue, OnOk, OnErr, ℕ, List, [], true, length};
 ghost use Rattle.std.specs.Prelude.{Option, IfSome, IfNone, option_copied};
 ghost use Rattle.creation.specs.declared.files.FileAnswers.{FileAnswers};
@@ -31,8 +31,8 @@ use manifest::{DescendingPath, SeccompProfile, Uid};
 use runtime_cell::Cell;
 use std::alloc::{AllocError, Global};
 
-/// Which uids are known, how far their sandboxes are and what was made in them, and in which sandbox each id
-/// is. The cells themselves stand in a list for each sandbox, [`Cells`].
+/// Which uids are known, the stages of their sandboxes and what was made in them, and in which sandbox each
+/// id is. The cells themselves are in a list for each sandbox, [`Cells`].
 #[derive(Drop)]
 pub struct Registry {
     pub(crate) alloc: Global,
@@ -43,7 +43,7 @@ pub struct Registry {
 }
 
 impl Registry {
-    /// A registry that knows of nothing, of a node with this filter of its own.
+    /// An empty registry, of a node with this baseline filter.
     pub fn new(alloc: Global, baseline: Option<Filter>) -> Registry
         ensures empty { runtime_of result (λ _. []) ≡ empty baseline }
         ensures bound { AreBound result }
@@ -58,7 +58,7 @@ impl Registry {
         }
     }
 
-    /// How far the sandbox of a uid is.
+    /// The stage of a uid's sandbox.
     pub fn stage(&self, uid: &str) -> Stage
         ensures { result ≡ stages_in self.now uid.now }
     {
@@ -69,7 +69,7 @@ impl Registry {
         }
     }
 
-    /// Whether no further uid has place.
+    /// Whether there is no room for a further uid.
     pub fn is_full(&self) -> bool
         ensures { IsTrue result ↔ IsFull (stages_in self.now) }
     {
@@ -90,9 +90,9 @@ impl Registry {
         self.homes.next(above)
     }
 
-    /// Serves a request, with what the reads of its files gave. It is lent the list of the request's uid, or
-    /// an empty one where there is no sandbox of that uid, and a list that gets the cells of a sandbox which
-    /// is removed: whoever holds locks meanwhile lets go of them later.
+    /// Serves a request, given the results of reading its files. `cells` is the list of the request's uid, or
+    /// an empty one if that uid has no sandbox. `gone` receives the cells of a sandbox that is removed, so
+    /// that a caller that holds locks can drop them later.
     pub fn serve_lent(
         &mut self,
         cells: &mut Cells,
@@ -110,7 +110,7 @@ impl Registry {
         // Every other uid is as it was.
         ensures spares { Spares self.old self.new (uid_of request.call) cells.old }
 
-        // What registry and list owe each other is kept.
+        // The invariant between registry and list is kept.
         ensures keeps { Keeps self.old self.new (uid_of request.call) cells.old cells.new }
 
         // The cells of a sandbox that is removed are handed out, and no others.
@@ -167,7 +167,7 @@ impl Registry {
         }
     }
 
-    /// Makes a sandbox of a uid that was never named.
+    /// Makes a sandbox for a uid that was never named.
     fn wake(&mut self, cells: &mut Cells, uid: &Uid) -> Answer
         requires { stages_in self.old uid.now ≡ Stage.Unknown }
         ensures row { Enters (IsFull (stages_in self.old)) (part_in self.old uid.now cells.old) fresh_sandbox
@@ -349,7 +349,7 @@ impl Registry {
         }
     }
 
-    /// The answer to a creation that makes no cell, whatever its files are; none where one is to be made.
+    /// The answer to a creation that makes no cell, whatever its files are. `None` if one is to be made.
     fn before_files(
         &self,
         cells: &Cells,
@@ -373,7 +373,7 @@ impl Registry {
         }
     }
 
-    /// Makes a cell that is not there, in a sandbox that has place for it.
+    /// Makes a new cell, in a sandbox that has room for it.
     fn make(
         &mut self,
         cells: &mut Cells,
@@ -413,7 +413,7 @@ impl Registry {
         }
     }
 
-    /// Gives a cell its place. Where a growth is refused nothing has changed.
+    /// Inserts a cell. If an allocation fails, nothing has changed.
     fn settle(&mut self, cells: &mut Cells, key: Key, cell: Cell, id: u64) -> Result<(), AllocError>
         requires place { length cells.old < MAX_CELLS }
         requires named { IsTrue (is_label cell.making.label.name) }

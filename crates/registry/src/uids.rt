@@ -52,21 +52,21 @@ impl Uids {
         Ok(())
     }
 
-    /// A sandbox takes no further containers.
+    /// Stops the sandbox of a uid: it takes no further containers.
     pub(crate) fn stop(&mut self, uid: &str)
         ensures { Changes self.old self.new uid.now stopped }
     {
         stop_in(&mut self.map, uid);
     }
 
-    /// A sandbox goes.
+    /// Ends the sandbox of a uid.
     pub(crate) fn end(&mut self, uid: &str)
         ensures { Changes self.old self.new uid.now dead }
     {
         end_in(&mut self.map, uid);
     }
 
-    /// An attempt is made in a sandbox.
+    /// Records an attempt that is made in the sandbox of a uid.
     pub(crate) fn add(&mut self, uid: &str, container: ContainerMetadata) -> Result<(), AllocError>
         ensures ok { OnOk result (Changes self.old self.new uid.now (with_used container)) }
         ensures err { OnErr result (Changes self.old self.new uid.now (λ k. k)) }
@@ -74,7 +74,7 @@ impl Uids {
         add_in(&mut self.map, uid, container)
     }
 
-    /// Whether no further uid has place.
+    /// Whether there is no room for a further uid.
     pub(crate) fn is_full(&self) -> bool
         ensures { IsTrue result ↔ IsFull (λ uid. stage_of (known_in self.now uid)) }
     {

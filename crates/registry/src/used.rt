@@ -43,7 +43,7 @@ impl Used {
         self.set.contains(container)
     }
 
-    /// Whether no further attempt has place.
+    /// Whether there is no room for a further attempt.
     pub(crate) fn is_full(&self) -> bool
         ensures { IsTrue result ↔ (MAX_KEYS ≤ length self.now) }
     {

@@ -59,7 +59,7 @@ fn reply_in_turn<S: Files, P: Files, H: Host>(
     reply
 }
 
-// The reply to a text in a frame of this version. Where memory is wanted nobody was asked.
+// The reply to a text in a frame of this version. If memory runs out, the host was not asked.
 fn reply_to<S: Files, P: Files, H: Host>(
     alloc: Global,
     service: &mut Service<S, P, H>,

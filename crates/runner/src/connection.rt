@@ -22,7 +22,7 @@ const PIECE: usize = 4096;
 
 /// Serves one connection to its end. Each frame that comes, in order, is answered with one frame of its
 /// version: the reply of the host to the frame's request and what its files gave, or the refusal
-/// InvalidArgument of a text that is no request. The files are read before the host is asked.
+/// InvalidArgument for a text that is not a request. The files are read before the host is asked.
 pub fn serve_wire<W: Wire, S: Files, P: Files, H: Host>(
     alloc: Global,
     wire: &mut W,
@@ -32,7 +32,7 @@ pub fn serve_wire<W: Wire, S: Files, P: Files, H: Host>(
     ensures talk { Ends (Answers (Gave S.held S.failed) (Gave P.held P.failed) H.may) service.old service.new
         (W.input wire.old) (W.input wire.new) (W.output wire.old) (W.output wire.new) result }
 
-    // A failure of the wire is told only where it failed.
+    // A failure of the wire is reported only if it failed.
     ensures failed { result ≡ Ending.Failed → HasRisen (W.failed wire.old) (W.failed wire.new) }
     ensures counted { W.failed wire.old ≤ W.failed wire.new }
 {
@@ -69,11 +69,11 @@ fn serve_all<W: Wire, S: Files, P: Files, H: Host>(
             return Ok(Ending::BadLength);
         }
     }
-    // No run comes to so many reads.
+    // Not reached: no run makes 2^64 - 1 reads.
     Err(ServeFault::Memory)
 }
 
-// Reads what has come into the feed, and tells how many bytes that was: none at the end.
+// Reads what has come into the feed, and returns how many bytes that was: 0 at the end.
 fn read_piece<W: Wire>(wire: &mut W, feed: &mut Feed) -> Result<usize, ServeFault>
     requires { HasBadRest feed.old → ⊥ }
     ensures ok { IfOk result (ReadsPiece (W.input wire.old) (W.input wire.new) feed.old feed.new) }
@@ -93,7 +93,7 @@ fn read_piece<W: Wire>(wire: &mut W, feed: &mut Feed) -> Result<usize, ServeFaul
     }
 }
 
-// Answers each frame in the feed that is whole.
+// Answers each whole frame in the feed.
 fn answer_whole<W: Wire, S: Files, P: Files, H: Host>(
     alloc: Global,
     wire: &mut W,

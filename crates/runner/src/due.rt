@@ -11,12 +11,12 @@ use std::marker::Model;
 use std::ops::Bound;
 use std::sync::Arc;
 
-/// The cells that were started and that no visit found at their end, by their ids, each with where it is.
+/// The cells that were started and that no visit has found ended, by their ids, each with its sandbox's list.
 /// Contracts see the ids with the uids, and whether one is not kept.
 #[derive(Drop)]
 pub(crate) struct Due {
     cells: BTreeMap<u64, Arc<SandboxCells, Global>>,
-    // Whether a cell found no memory to be kept here: then all cells that are there have to be visited.
+    // Whether memory to keep a cell here ran out: then all existing cells have to be visited.
     lacks: bool,
 }
 
@@ -43,19 +43,19 @@ impl Due {
         }
     }
 
-    /// Takes out a cell that has come to its end.
+    /// Removes a cell that has ended.
     pub(crate) fn remove(&mut self, id: u64) {
         drop(self.cells.remove(&id));
     }
 
-    /// Whether a cell is not kept.
+    /// Whether some cell is not kept.
     pub(crate) fn lacks(&self) -> bool
         ensures { result ≡ self.now.lacks }
     {
         self.lacks
     }
 
-    /// Where the cell with this id is.
+    /// The list that has the cell with this id.
     pub(crate) fn get(&self, id: u64) -> Option<&Arc<SandboxCells, Global>> {
         self.cells.get(&id)
     }

@@ -2,16 +2,16 @@ ghost use Rattle.std.specs.Prelude.{◌≡◌};
 
 use std::alloc::AllocError;
 
-/// How a connection came to its end.
+/// How a connection ended.
 #[derive(Clone, Copy, Debug, PartialEq, Eq)]
 pub enum Ending {
     /// The input was read to its end, and each frame in it was answered.
     Ended,
-    /// Each frame was answered up to four bytes that are the head of none.
+    /// Each frame was answered, up to four bytes that are not a frame's head.
     BadLength,
     /// A read or a write failed.
     Failed,
-    /// A growth was refused: for a frame, for reading a request or for a reply's bytes.
+    /// An allocation failed: for a frame, for reading a request, or for a reply's bytes.
     Memory,
 }
 

@@ -9,8 +9,8 @@ use manifest::SeccompProfile;
 use node_io::{FileFault, Files, MAX_FILE_BYTES};
 use runtime_core::{Contents, FileAnswers};
 
-/// What the reads of a request's files gave: for CreateContainer that of its image among the scripts and,
-/// where its profile is Localhost, that of its path among the profiles. Nothing else is read.
+/// Reads the files of a request: for CreateContainer its image among the scripts and, if its profile is
+/// Localhost, its path among the profiles. Nothing else is read.
 pub fn gather<S: Files, P: Files>(
     scripts: &mut S,
     profiles: &mut P,
@@ -33,7 +33,7 @@ pub fn gather<S: Files, P: Files>(
     }
 }
 
-// What the read of a profile gave that is a file of its own.
+// The result of reading a Localhost profile.
 fn own_profile<P: Files>(
     profiles: &mut P,
     profile: &SeccompProfile,
@@ -46,7 +46,7 @@ fn own_profile<P: Files>(
     }
 }
 
-// What the read of a file gave.
+// The result of reading a file.
 fn contents<F: Files>(files: &mut F, path: &str) -> Result<Contents, FileFault>
     ensures told { IsTold (F.held files.old) (HasRisen (F.failed files.old) (F.failed files.new)) path.now
         result }

@@ -1,7 +1,7 @@
 ghost use Rattle.std.specs.Prelude.{◌≡◌};
 ghost use Rattle.runner.specs.declared.readings.TheConstants.{LARGE_TEXT, MAX_LARGE};
 
-/// What the constants of this crate are.
+/// The values of this crate's constants.
 pub fn constants_are_as_stated()
     // bytes, and texts
     ensures large_text { LARGE_TEXT ≡ 65536 }

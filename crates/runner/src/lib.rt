@@ -1,7 +1,8 @@
-//! What serves a runtime's connections and steps its cells, in any number of threads.
+//! Serves a runtime's connections and steps its cells, in any number of threads.
 //!
 //! [`serve_wire`] serves one connection over any wire, with any files and any host; a [`SharedRuntime`] is a
-//! runtime that threads share, by a lock round what is known of all uids and one round each sandbox's cells.
+//! runtime that threads share, with a lock around what is known of all uids and one around each sandbox's
+//! cells.
 #![tactic(auto)]
 
 mod answering;

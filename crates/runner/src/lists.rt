@@ -12,15 +12,15 @@ use std::collections::BTreeMap;
 use std::marker::Model;
 use std::sync::{Arc, Mutex};
 
-/// The cells of a sandbox behind their lock. A thread may have it still when the sandbox is removed: it finds
-/// no cell then.
+/// The cells of a sandbox behind their lock. A thread may still have a reference when the sandbox is removed:
+/// it finds no cell then.
 #[derive(Drop)]
 pub(crate) struct SandboxCells {
     pub(crate) uid: Uid,
     pub(crate) cells: Mutex<Cells>,
 }
 
-/// The cells of the sandboxes that are there, each under its uid. Contracts see how many there are.
+/// The cells of the existing sandboxes, each under its uid. Contracts see how many there are.
 #[derive(Drop)]
 pub(crate) struct CellLists {
     alloc: Global,
@@ -51,21 +51,21 @@ impl CellLists {
         }
     }
 
-    /// The cells of the sandbox of a uid.
+    /// The cells of a uid's sandbox.
     pub(crate) fn get(&self, uid: &str) -> Option<&Arc<SandboxCells, Global>>
         ensures { IfSome result (λ list. (arc_value list.now).uid ≡ uid.now) }
     {
         get_in(&self.map, uid)
     }
 
-    /// Adds a list without cells for a uid, and gives it.
+    /// Adds a list without cells for a uid, and returns it.
     pub(crate) fn put(&mut self, uid: &Uid) -> Result<Arc<SandboxCells, Global>, AllocError>
         ensures { IfOk result (λ list. (arc_value list).uid ≡ uid.now) }
     {
         put_in(self.alloc, &mut self.map, uid)
     }
 
-    /// Takes out the cells of the sandbox of a uid.
+    /// Removes and returns the cells of a uid's sandbox.
     pub(crate) fn take(&mut self, uid: &str) -> Option<Arc<SandboxCells, Global>>
         ensures { IfSome result (λ list. (arc_value list).uid ≡ uid.now) }
     {

@@ -1,4 +1,4 @@
-//! What wakes the runners: a container was started.
+//! Wakes the runners when a container was started.
 
 use std::sync::{Condvar, Mutex, Wait};
 
@@ -6,7 +6,7 @@ use std::sync::{Condvar, Mutex, Wait};
 struct Starts {
     // How many containers were started.
     count: u64,
-    // How many runners have found nothing to do since the last one.
+    // How many runners have found nothing to do since the last start.
     idle: u64,
     over: bool,
 }
@@ -31,12 +31,12 @@ impl Notifier {
         }
     }
 
-    /// Whether no more starts will be told.
+    /// Whether it is closed: no more starts will be announced.
     pub fn is_closed<R: Wait>(&self, rt: &R) -> bool {
         self.count(rt).is_none()
     }
 
-    // How many starts there were. None where no more will be told.
+    // How many starts there were. `None` once it is closed.
     fn count<R: Wait>(&self, rt: &R) -> Option<u64> {
         let starts = *self.starts.lock(rt);
         if starts.over {
@@ -46,7 +46,7 @@ impl Notifier {
         }
     }
 
-    /// A container was started.
+    /// Announces that a container was started.
     pub fn notify<R: Wait>(&self, rt: &R) {
         let mut starts = self.starts.lock(rt);
         starts.count = starts.count.wrapping_add(1);
@@ -55,9 +55,9 @@ impl Notifier {
         self.changed.notify_all();
     }
 
-    /// Lets a runner work until no more starts are told: one round after the other, each of which tells
-    /// whether it found something to do, and behind one that did not a wait for the next start. A start that
-    /// comes while a round looks for work is not slept through, wherever the round had looked.
+    /// Lets a runner work until the notifier is closed: one round after the other, each of which returns
+    /// whether it found something to do. After one that did not, the runner waits for the next start. A start
+    /// during a round is never missed, wherever the round had looked already.
     pub fn work<R: Wait, F: FnMut() -> bool>(&self, rt: &R, mut round: F)
         requires { F.IsAlwaysCallable round }
     {
@@ -71,8 +71,8 @@ impl Notifier {
         }
     }
 
-    // A runner found nothing to do, in a round that it began when there had been so many starts. Waits for
-    // the next one, or until no more are told.
+    // A runner found nothing to do, in a round that it began after `seen` starts. Waits for the next one, or
+    // until the notifier is closed.
     fn wait<R: Wait>(&self, rt: &R, seen: u64) {
         let mut starts = self.starts.lock(rt);
         if starts.count == seen {
@@ -84,7 +84,8 @@ impl Notifier {
             .wait_while(rt, starts, |starts| !starts.over && starts.count == seen);
     }
 
-    /// Waits until each of so many runners has found nothing to do since the last start, or no more are told.
+    /// Waits until each of this many runners has found nothing to do since the last start, or the notifier is
+    /// closed.
     pub fn wait_idle<R: Wait>(&self, rt: &R, runners: u64) {
         let starts = self.starts.lock(rt);
         let _starts = self
@@ -92,7 +93,7 @@ impl Notifier {
             .wait_while(rt, starts, |starts| !starts.over && starts.idle < runners);
     }
 
-    /// Wakes all that wait, now and from now on.
+    /// Closes it: wakes all that wait, now and from now on.
     pub fn close<R: Wait>(&self, rt: &R) {
         let mut starts = self.starts.lock(rt);
         starts.over = true;

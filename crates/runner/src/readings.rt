@@ -1,11 +1,11 @@
 //! How many large texts are read at a time.
 //!
 //! The tree of a JSON text may take many times the memory of the text itself, and whoever connects may send
-//! texts as large as a frame. So few of them are read into trees at a time, and the others wait.
+//! texts as large as a frame. So only a few of them are read into trees at a time, and the others wait.
 
 use std::sync::{Condvar, Mutex, Wait};
 
-/// A text of more bytes than this is large. No request that means anything comes near it.
+/// A text of more bytes than this is large. No meaningful request comes near it.
 pub const LARGE_TEXT: usize = 65_536;
 
 /// How many large texts are read into trees at a time.
@@ -27,7 +27,7 @@ impl Readings {
         }
     }
 
-    /// Waits until a text of so many bytes may be read. Each beginning wants its end, with the same number.
+    /// Waits until a text of this length may be read. Each `begin` needs an `end` with the same length.
     pub fn begin<R: Wait>(&self, rt: &R, length: usize) {
         if length > LARGE_TEXT {
             let large = self.large.lock(rt);
@@ -38,7 +38,7 @@ impl Readings {
         }
     }
 
-    /// A text of so many bytes was read.
+    /// A text of this length was read.
     pub fn end<R: Wait>(&self, rt: &R, length: usize) {
         if length > LARGE_TEXT {
             let mut large = self.large.lock(rt);

@@ -12,13 +12,13 @@ use runtime_core::Cells;
 use std::alloc::Global;
 use std::sync::{Arc, Wait};
 
-/// What stands round each step of a cell, while the lock of the cell's sandbox is held. Tests hold a step up
+/// Hooks around each step of a cell, called with the lock of the cell's sandbox held. Tests hold a step up
 /// there.
 pub trait StepGate {
-    /// Is called before the step of the cell with this id.
+    /// Called before the step of the cell with this id.
     fn before(&self, id: u64);
 
-    /// Is called behind it.
+    /// Called after it.
     fn after(&self, id: u64);
 }
 
@@ -32,24 +32,24 @@ impl StepGate for Open {
     fn after(&self, _id: u64) {}
 }
 
-/// What came of a visit: the cell with this id was to do a step, and whether it went on.
+/// The result of a visit: the id of the cell that was to do a step, and whether it went on.
 #[derive(Clone, Copy)]
 pub(crate) struct Visit {
     pub(crate) id: u64,
     pub(crate) went_on: bool,
 }
 
-/// Who tells a round which cell comes next, and lets it do its step.
+/// Picks the next cell of a round, and steps it.
 pub(crate) trait Visits {
     // The runner's number, and how many there are.
     ghost runner: { Self → ℕ };
 
     ghost runners: { Self → ℕ };
 
-    // What was asked so far, the latest first; None where nobody keeps it.
+    // What was asked so far, the latest first. None if that is not kept.
     ghost asked: { Self → Option (List Asked) } = { λ _. None };
 
-    /// Steps the cell of the runner's share with the least id above this one; None where there is none.
+    /// Steps the cell of the runner's share with the least id above this one; `None` if there is none.
     fn visit(&mut self, above: u64) -> Option<Visit>
         ensures may { MayVisit (runner self.old) (runners self.old)
             (record { above = above; visit = result }) }
@@ -59,7 +59,7 @@ pub(crate) trait Visits {
             ∷ before) (asked self.old) };
 }
 
-// A round: each visit is asked for above the id of the one before, until there is none. It tells whether a
+// A round: each visit is asked for above the id of the one before, until there is none. Returns whether a
 // cell went on.
 fn round<V: Visits>(visits: &mut V) -> bool
     ensures { (asked : List Asked) × IsRound (V.runner visits.old) (V.runners visits.old) asked result
@@ -77,14 +77,14 @@ fn round<V: Visits>(visits: &mut V) -> bool
 // A step that a round owes. It is neither copied nor dropped, so it is done once.
 struct NextCell {
     id: u64,
-    // Where the cell is; none where that can't be held on to.
+    // The list that has the cell. `None` if a reference to it can't be taken.
     list: Option<Arc<SandboxCells, Global>>,
 }
 
 impl<B: Baseline> SharedRuntime<B> {
-    /// A round of one runner of so many, who are numbered from 0: each running cell whose id leaves the
-    /// runner's number on division by how many there are is stepped once, in the order of ids, each in a
-    /// critical section of its own. It takes no memory, and tells whether a cell went on.
+    /// A round of one of `runners` runners, which are numbered from 0: each running cell whose id modulo
+    /// `runners` is `runner` is stepped once, in the order of ids, each in its own critical section. Takes no
+    /// memory, and returns whether a cell went on.
     pub fn step_round<R: Wait, G: StepGate>(
         &self,
         rt: &R,
@@ -105,7 +105,7 @@ impl<B: Baseline> SharedRuntime<B> {
         })
     }
 
-    // The runner's next step, behind the one of this id. A cell that was found at its end is visited no more.
+    // The runner's next step, after the one of this id. A cell that was found ended is not visited again.
     fn next_cell<R: Wait>(
         &self,
         rt: &R,
@@ -126,7 +126,7 @@ impl<B: Baseline> SharedRuntime<B> {
     }
 }
 
-// The visits of one of a shared runtime's runners. Nobody keeps what was asked.
+// The visits of one of a shared runtime's runners. What was asked is not kept.
 #[derive(Drop)]
 struct RunnerVisits<'a, B: Baseline, R: Wait, G: StepGate> {
     rt: &'a R,
@@ -134,7 +134,7 @@ struct RunnerVisits<'a, B: Baseline, R: Wait, G: StepGate> {
     gate: &'a G,
     runner: u64,
     runners: u64,
-    // The cell that the last visit found at its end.
+    // The cell that the last visit found ended.
     over: Option<u64>,
     ghost fit: { runner < runners },
 }
@@ -193,7 +193,7 @@ impl<B: Baseline> Sandboxes<B> {
         }
     }
 
-    // Where the cell with this id is.
+    // The list that has the cell with this id.
     fn list_of(&self, id: u64) -> Option<Arc<SandboxCells, Global>> {
         if let Some(list) = self.due.get(id) {
             return Arc::try_clone(list).ok();
@@ -204,7 +204,7 @@ impl<B: Baseline> Sandboxes<B> {
     }
 }
 
-// Does a step that is owed, and tells what came of it.
+// Does a step that is owed, and returns its result.
 fn step<R: Wait, G: StepGate>(rt: &R, next: NextCell, gate: &G) -> Option<Did>
     ensures { StepsAt next.id result }
 {
@@ -224,7 +224,7 @@ fn step_in<G: StepGate>(cells: &mut Cells, id: u64, gate: &G) -> Option<Did>
     did
 }
 
-// Whether a cell that was started has come to its end, or is gone.
+// Whether a cell that was started has ended, or is gone.
 fn is_over(did: Option<Did>) -> bool {
     match did {
         None | Some(Did::Idle | Did::Ended(_)) => true,
@@ -232,7 +232,7 @@ fn is_over(did: Option<Did>) -> bool {
     }
 }
 
-// Whether something came of a step.
+// Whether a step did something.
 fn goes_on(did: Option<Did>) -> bool
     ensures { result ≡ moves_on did }
 {

@@ -1,4 +1,4 @@
-//! What a connection is served by.
+//! What serves a connection.
 ghost use Rattle.cri_msgs.specs.declared.calls.Request.{Request};
 ghost use Rattle.cri_msgs.specs.declared.replies.Reply.{Reply};
 ghost use Rattle.creation.specs.declared.files.FileAnswers.{FileAnswers};
@@ -6,24 +6,24 @@ ghost use Rattle.creation.specs.declared.files.FileAnswers.{FileAnswers};
 use cri_msgs::{Reply, Request};
 use runtime_core::{FileAnswers, Runtime};
 
-/// Who answers requests. Another caller may be answered between two calls.
+/// Answers requests. Another caller may be answered between two calls.
 pub trait Host {
-    // What a request may get, with what the reads of its files gave, and how the host is left.
+    // What a request may get, given the results of reading its files, and the host's state after it.
     ghost may: { Self → Request → FileAnswers → Reply → Self → Type 0 };
 
-    /// Serves a request, with what the reads of its files gave.
+    /// Serves a request, given the results of reading its files.
     fn serve(&mut self, request: Request, files: FileAnswers) -> Reply
         ensures { may self.old request files result self.new };
 
-    /// A text of so many bytes is about to be read and answered. Its tree may take many times the memory of
-    /// the text, so a host may have it wait until others are answered.
+    /// A text of this length is about to be read and answered. Its tree may take many times the memory of the
+    /// text, so a host may make it wait until others are answered.
     fn begin_reading(&self, _length: usize) {}
 
-    /// A text of so many bytes was read and answered.
+    /// A text of this length was read and answered.
     fn end_reading(&self, _length: usize) {}
 }
 
-/// What serves a connection: where its requests' files are, and who answers.
+/// What serves a connection: the folders of its requests' files, and the host that answers.
 #[derive(Drop)]
 pub struct Service<S, P, H> {
     /// The folder of scripts.
@@ -33,7 +33,7 @@ pub struct Service<S, P, H> {
     pub host: H,
 }
 
-/// A runtime of one thread's own. What it is asked in turn is a run of it.
+/// A runtime that one thread owns. The requests that it gets, in order, are a run of it.
 impl Host for Runtime {
     ghost use Rattle.std.specs.Prelude.{◌≡◌};
     ghost use Rattle.registry.specs.Serves.{Serves};

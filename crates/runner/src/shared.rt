@@ -1,5 +1,5 @@
-//! A runtime that threads share. The registry stands under one lock and each sandbox's cells under one of
-//! their own, so that a step of a cell holds up nothing but its own sandbox.
+//! A runtime that threads share. The registry has one lock, and each sandbox's cells have their own, so a
+//! step of a cell blocks only its own sandbox.
 ghost use Rattle.std.specs.Prelude.{◌≡◌, Bool, IfSome, IsTrue, List, None, Option};
 ghost use Rattle.std.specs.Arc.{arc_value};
 ghost use Rattle.bpf_code.specs.declared.insn.Insn.{Insn};
@@ -22,13 +22,13 @@ use std::alloc::{AllocError, Global};
 use std::marker::{Brand, PhantomData};
 use std::sync::{Arc, Mutex, Wait};
 
-/// A node's own filter, which confines each of its containers, as a type: whoever makes a runtime picks it,
-/// so that what the runtime's lock holds has this filter and no other.
+/// A node's own filter, which confines each of its containers, as a type. The maker of a runtime picks it, so
+/// that the contents of the runtime's lock have this filter and no other.
 pub trait Baseline {
     ghost filter: { Option (List Insn) };
 }
 
-/// No filter, where none is picked.
+/// No filter, if none is picked.
 impl Baseline for Brand {
     ghost filter = { None };
 }
@@ -58,7 +58,7 @@ impl<B: Baseline> Sandboxes<B> {
         }
     }
 
-    // The cells of a sandbox that is there, to be held beyond the registry's lock.
+    // The cells of an existing sandbox, to be used after the registry's lock is released.
     fn there(&self, uid: &Uid) -> Option<Arc<SandboxCells, Global>>
         ensures { IfSome result (λ _. (registry : Registry) × AreBound registry
             × (registry.baseline ≡ B.filter) × (ready : Bool) × (stages_in registry uid.now ≡ Live ready)) }
@@ -91,7 +91,7 @@ impl<B: Baseline> Sandboxes<B> {
     }
 }
 
-/// A runtime that threads share, on a node with this filter of its own.
+/// A runtime that threads share, on a node with this baseline filter.
 #[derive(Drop)]
 pub struct SharedRuntime<B: Baseline> {
     pub(crate) sandboxes: Mutex<Sandboxes<B>>,
@@ -99,7 +99,7 @@ pub struct SharedRuntime<B: Baseline> {
 }
 
 impl<B: Baseline> SharedRuntime<B> {
-    /// A runtime that knows of nothing.
+    /// An empty runtime.
     pub fn new(alloc: Global, baseline: Option<Filter>) -> SharedRuntime<B>
         requires { baseline ≡ B.filter }
     {
@@ -109,9 +109,9 @@ impl<B: Baseline> SharedRuntime<B> {
         }
     }
 
-    /// Serves a request, with what the reads of its files gave. The registry's lock, and then that of the
-    /// sandbox's cells, are held until the reply is made; cells are listed under that of the cells alone. The
-    /// cells of a sandbox that is removed are let go of once neither is held.
+    /// Serves a request, given the results of reading its files. The registry's lock, and then that of the
+    /// sandbox's cells, are held until the reply is made; cells are listed under the cells' lock alone. The
+    /// cells of a sandbox that is removed are dropped once neither lock is held.
     pub fn serve<R: Wait>(&self, rt: &R, request: Request, files: FileAnswers) -> Reply
         ensures { MayServe B.filter request files result }
     {
@@ -121,7 +121,7 @@ impl<B: Baseline> SharedRuntime<B> {
         }
     }
 
-    // The reply to a request that lists the cells of a sandbox that is there.
+    // The reply to a request that lists the cells of an existing sandbox.
     fn list<R: Wait>(&self, rt: &R, request: &Request) -> Option<Reply>
         ensures { IfSome result (λ reply. (files : FileAnswers) → MayServe B.filter request.now files reply) }
     {
@@ -130,8 +130,8 @@ impl<B: Baseline> SharedRuntime<B> {
         }
         let sandboxes = self.sandboxes.lock(rt);
         let list = sandboxes.there(uid_of(&request.call))?;
-        // Whoever waits for these cells holds up no other sandbox. A sandbox that is removed meanwhile has
-        // none, which is what is told of it then.
+        // Waiting for these cells blocks no other sandbox. A sandbox that is removed meanwhile has none, and
+        // the reply then says so.
         drop(sandboxes);
         let cells = list.cells.lock(rt);
         let answer = tell_cells(self.alloc, &request.call, &cells)?;
@@ -153,7 +153,7 @@ impl<B: Baseline> SharedRuntime<B> {
     }
 }
 
-/// What a thread serves a shared runtime's connections by.
+/// The host by which a thread serves a shared runtime's connections.
 #[derive(Drop)]
 pub struct SharedHost<'a, B: Baseline, R: Wait> {
     rt: &'a R,
@@ -204,8 +204,8 @@ fn serve<R: Wait>(
     }
 }
 
-// A cell that is started is kept among those that rounds visit. Only where the start is done: a cell that is
-// to be visited and does nothing has come to its end then.
+// A cell that is started is added to those that rounds visit. That comes after the start, so a visited cell
+// that does nothing has ended.
 fn serve_there<R: Wait>(
     rt: &R,
     registry: &mut Registry,
@@ -265,7 +265,7 @@ fn lists(call: &Call) -> bool {
     )
 }
 
-// The list and its lock are there before the registry is asked, and go again where no sandbox came of it.
+// The list and its lock are made before the registry is asked, and removed again if no sandbox was made.
 fn wake<R: Wait>(
     rt: &R,
     registry: &mut Registry,
@@ -336,7 +336,7 @@ fn serve_under<R: Wait>(
     registry.serve_lent(&mut cells, gone, request, files)
 }
 
-// Serves a request that names no sandbox which is there.
+// Serves a request that names no existing sandbox.
 fn serve_absent(
     alloc: Global,
     registry: &mut Registry,

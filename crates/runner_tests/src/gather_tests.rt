@@ -47,7 +47,7 @@ fn read_text(
     }
 }
 
-// What became of the script and of the profile, and of how many reads that were to fail.
+// The results for the script and the profile, and how many reads failed by request.
 fn gathered(alloc: Global, members: &str, fails: bool) -> Result<String, Fail> {
     let request = request(alloc, members)?;
     let mut scripts = folder(alloc, fails)?;
@@ -59,8 +59,8 @@ fn gathered(alloc: Global, members: &str, fails: bool) -> Result<String, Fail> {
     Ok(format!(in alloc; "{} {} {first} {second}", script.as_str(), profile.as_str())?)
 }
 
-// What a request asks for beside its key, what came of its files, and what where each folder's first read
-// fails.
+// What a request asks for besides its key, the results of its files, and the results if each folder's first
+// read fails.
 const ROWS: [(&str, &str, &str); 9] = [
     (
         "\"call\":\"RunPodSandbox\"",

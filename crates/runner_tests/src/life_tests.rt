@@ -6,7 +6,7 @@ use std::marker::Brand;
 use std::sync::Wait;
 use std::test::Fail;
 
-// The requests of a pod's life, each with its reply. A text whose `v` is 2 stands in a frame of version 2.
+// The requests of a pod's life, each with its reply. A text whose `v` is 2 is in a frame of version 2.
 const LIFE: &str = r#"{"call":"RunPodSandbox","id":1,"uid":"u1","v":1}=>{"id":1,"ok":{},"v":1}
 {"attempt":0,"call":"CreateContainer","id":2,"image":"a.json","name":"main","profile":{"path":"none.json","type":"Localhost"},"uid":"u1","v":1}=>{"id":2,"refused":13,"v":1}
 {"attempt":0,"call":"CreateContainer","id":3,"image":"none.json","name":"main","profile":{"type":"Unconfined"},"uid":"u1","v":1}=>{"id":3,"refused":13,"v":1}
@@ -51,7 +51,7 @@ fn streams(alloc: Global) -> Result<(Vec<u8>, Vec<u8>), AllocError> {
     Ok((asked, told))
 }
 
-// How a connection with this host ends on which these bytes come, and what was written on it.
+// How a connection with this host and this input ends, and what was written on it.
 fn served<H: Host + Drop>(
     alloc: Global,
     host: H,
@@ -66,7 +66,7 @@ fn served<H: Host + Drop>(
     Ok((ending, written))
 }
 
-// Whatever the pieces, the replies are the same; and so they are of a runtime that threads share.
+// The replies are the same whatever the pieces, also those of a runtime that threads share.
 #[test]
 fn a_pod_lives_over_a_wire(rt: HostRuntime) -> Result<(), Fail> {
     let alloc = rt.alloc();
@@ -92,7 +92,7 @@ const HELLO: &str = "\0\0\0\x30{\"call\":\"RunPodSandbox\",\"id\":1,\"uid\":\"u1
 
 const DONE: &str = "\0\0\0\x16{\"id\":1,\"ok\":{},\"v\":1}";
 
-// Bytes, how the connection ends on which they come, and the bytes that are written.
+// Input, how the connection ends, and output.
 const STREAMS: [(&str, Ending, &str); 14] = [
     ("", Ending::Ended, ""),
     (
@@ -171,8 +171,8 @@ fn streams_end(rt: HostRuntime) -> Result<(), Fail> {
     Ok(())
 }
 
-// How a connection to a shared runtime ends whose call with this number fails, and whether what was written
-// is a beginning of the reply.
+// How a connection to a shared runtime ends if its call with this number fails, and whether what was written
+// is a prefix of the reply.
 fn failing_at<R: Wait>(
     rt: &R,
     alloc: Global,

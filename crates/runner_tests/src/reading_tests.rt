@@ -5,8 +5,8 @@ use std::test::Fail;
 use std::thread::{Threads, join, sleep};
 use std::time::{Clock, Duration};
 
-// Begins one large text more than are read at a time, and ends one of them a while later. Tells whether it
-// had to wait for that, and whether it began then.
+// Begins one large text more than are read at a time, and ends one of them a while later. Returns whether the
+// last one had to wait for that, and whether it began then.
 fn one_too_many<R: Threads + Wait + Clock + Sync>(rt: &R) -> (bool, bool) {
     let readings = Readings::new();
     for _ in 0..MAX_LARGE {

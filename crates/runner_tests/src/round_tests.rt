@@ -8,7 +8,7 @@ use std::sync::Wait;
 use std::sync::atomic::{AtomicU64, Ordering};
 use std::test::Fail;
 
-// Containers 1 to 4, of two pods in turn, of which the fourth was only made.
+// Containers 1 to 4, of two pods in turn. The fourth was made and not started.
 const PODS: &str = r#"{"call":"RunPodSandbox","id":1,"uid":"u1","v":1}
 {"call":"RunPodSandbox","id":2,"uid":"u2","v":1}
 {"attempt":0,"call":"CreateContainer","id":3,"image":"a.json","name":"a","profile":{"type":"Unconfined"},"uid":"u1","v":1}

@@ -9,10 +9,10 @@ use std::test::Fail;
 use std::thread::{Threads, join, sleep};
 use std::time::{Clock, Duration};
 
-// How long anything is waited for: so many turns of a millisecond.
+// The longest wait, in turns of a millisecond.
 const TURNS: u32 = 10_000;
 
-// Waits until a flag is set, and tells whether it was.
+// Waits until a flag is set, and returns whether it was.
 fn waits<R: Clock>(rt: &R, flag: &AtomicBool) -> bool {
     for _ in 0..TURNS {
         if flag.load(Ordering::SeqCst) {
@@ -23,7 +23,7 @@ fn waits<R: Clock>(rt: &R, flag: &AtomicBool) -> bool {
     false
 }
 
-// Holds the step of container 1 up until another connection was answered behind the step of container 2.
+// Holds up the step of container 1 until another connection was answered after the step of container 2.
 #[derive(Drop)]
 struct Hold<'a, R: Clock> {
     rt: &'a R,
@@ -83,7 +83,7 @@ fn goes_by<R: Wait + Clock>(
     Ok(gate.stepped.load(Ordering::SeqCst) && told.as_slice() == want.as_slice())
 }
 
-// Whether the step of container 1 waited for the other pod, and whether that one went by meanwhile.
+// Whether the step of container 1 waited for the other pod, and whether the other pod stepped meanwhile.
 fn held_up<R: Threads + Wait + Clock + Sync>(
     rt: &R,
     alloc: Global,
@@ -105,7 +105,7 @@ fn held_up<R: Threads + Wait + Clock + Sync>(
     Ok((gate.passed.load(Ordering::SeqCst), other?))
 }
 
-// A step of one sandbox's cell holds up no other sandbox: one lock round all cells would.
+// A step of one sandbox's cell blocks no other sandbox. One lock around all cells would.
 #[test]
 fn sandboxes_have_locks_of_their_own(rt: HostRuntime) -> Result<(), Fail> {
     let found = held_up(&rt, rt.alloc())?;

@@ -27,7 +27,7 @@ pub(crate) fn files(alloc: Global, texts: &[(&str, &str)]) -> Result<MemoryFiles
     Ok(MemoryFiles::new(files))
 }
 
-// The version of a frame whose text is this: that of its `v`, and 1 where there is none.
+// The version of a frame whose text is this: that of its `v`, or 1 if there is none.
 fn version_of(text: &str) -> Version {
     if text.ends_with("\"v\":2}") {
         Version::V2
@@ -36,7 +36,7 @@ fn version_of(text: &str) -> Version {
     }
 }
 
-// Adds the frame of a text. A text that fits into none adds nothing.
+// Adds the frame of a text. A text too long for a frame adds nothing.
 pub(crate) fn add(stream: &mut Vec<u8>, alloc: Global, text: &str) -> Result<(), AllocError> {
     if text.is_empty() || text.len() > MAX_TEXT {
         return Ok(());
@@ -59,10 +59,10 @@ pub(crate) fn service<H: Drop>(
     })
 }
 
-// For how many bytes of replies a wire has place.
+// How many bytes of replies a wire has room for.
 const PLACE: usize = 1 << 20;
 
-// A wire on which these bytes come, in pieces of so many, and whose call with this number fails.
+// A wire with this input, which comes in pieces of this size, and whose call with this number fails.
 pub(crate) fn wire(
     alloc: Global,
     input: &[u8],
@@ -75,7 +75,7 @@ pub(crate) fn wire(
     Ok(wire)
 }
 
-// Serves the requests of these texts, each in a line, over a wire, and gives what was written.
+// Serves the requests of these texts, one per line, over a wire, and returns what was written.
 pub(crate) fn asks<R: Wait>(
     rt: &R,
     alloc: Global,

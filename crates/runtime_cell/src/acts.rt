@@ -31,8 +31,8 @@ pub(crate) fn call_act(call: SysCall, verdict: Verdict, on_error: Option<u8>) ->
     judged(entry_of(call, verdict), end_of(verdict, on_error))
 }
 
-/// What is done at a step that installs a filter, with this verdict of its call. Whether the stack has
-/// place for the filter is told.
+/// What is done at a step that installs a filter, with this verdict of its call. `has_place` says whether the
+/// filter fits on the stack.
 pub(crate) fn install_act(verdict: Verdict, has_place: bool, on_error: Option<u8>) -> Act
     ensures { (filter : List Insn) (own : Option ℕ) → next_by result (Some (Step.Install filter own))
         ≡ installed filter (entry_of install_call verdict) (end_of verdict on_error) on_error
@@ -55,7 +55,7 @@ fn judged(entry: JudgedCall, end: Option<u8>) -> Act
     }
 }
 
-/// The code with which a script ends behind a call with this verdict, if it ends there.
+/// The code with which a script ends after a call with this verdict, if it ends there.
 fn end_of(verdict: Verdict, on_error: Option<u8>) -> Option<u8>
     ensures { result ≡ end_of verdict on_error }
 {
@@ -68,14 +68,14 @@ fn end_of(verdict: Verdict, on_error: Option<u8>) -> Option<u8>
     }
 }
 
-/// The code with which a script ends behind a call that returns this errno. An errno of 0 is no error.
+/// The code with which a script ends after a call that returns this errno. An errno of 0 is no error.
 fn on_errno(errno: u16, on_error: Option<u8>) -> Option<u8>
     ensures { result ≡ on_errno (Some errno) on_error }
 {
     if errno == 0 { None } else { on_error }
 }
 
-/// The code of this attempt, or the last one where there are fewer.
+/// The code of this attempt, or the last one if there are fewer.
 pub(crate) fn code_at(codes: &[u8], attempt: u32) -> u8
     requires { 0 < length codes.now }
     ensures { result ≡ code_at codes.now attempt }

@@ -4,11 +4,11 @@ ghost use Rattle.runtime_cell.specs.Outcome.{entry_of, install_call};
 use action::Verdict;
 use call_data::{NATIVE_ARCH, SysCall};
 
-/// The code with which a script ends that is killed, or signalled, for a call: 128 and the number of
-/// SIGSYS, as a shell tells it.
+/// The exit code of a script that is killed, or signalled, for a call: 128 and the number of SIGSYS, as a
+/// shell reports it.
 pub const KILLED: u8 = 159;
 
-/// The errno of a filter for which the stack has no place: seccomp(2).
+/// The errno of installing a filter that does not fit on the stack: seccomp(2).
 pub const ENOMEM: u16 = 12;
 
 /// The number of seccomp(2) on x86-64.
@@ -27,8 +27,8 @@ pub struct JudgedCall {
     pub performed: bool,
 }
 
-/// The call as which a step that installs a filter is judged: seccomp(2), from the script's own
-/// architecture. The filter's address is left open, as 0.
+/// The call as which a step that installs a filter is judged: seccomp(2), with the script's own architecture.
+/// The filter's address is 0, as it is unspecified.
 pub fn install_call() -> SysCall
     ensures { result ≡ install_call }
 {

@@ -20,10 +20,10 @@ use std::collections::VecDeque;
 use std::marker::Model;
 use verdict::{Stack, stacks_judge_every_call};
 
-/// What a step of a cell came to.
+/// The result of a step of a cell.
 #[derive(Clone, Copy, Debug, PartialEq, Eq)]
 pub enum Did {
-    /// The script does not run, and nothing changed.
+    /// The script is not running, and nothing changed.
     Idle,
     /// A call was performed, and the script goes on.
     Performed,
@@ -33,7 +33,7 @@ pub enum Did {
     Ended(u8),
 }
 
-/// How far a container is: the states of CRI v1, but for the unknown one.
+/// The state of a container: the states of CRI v1, except for the unknown one.
 #[derive(Clone, Copy, Debug, PartialEq, Eq)]
 pub enum State {
     /// It was made, and was not started.
@@ -51,7 +51,7 @@ pub struct Cell {
     script: Script,
     profile: Option<Profile>,
     stack: Stack,
-    /// How many of the filters were there at the start.
+    /// How many of the filters were installed at the start.
     start: usize,
     /// Copies of the filters that the rest of the script installs.
     copies: VecDeque<Filter>,
@@ -76,8 +76,8 @@ impl Model for Cell {
 }
 
 impl Cell {
-    /// A container that was not started, with these filters, the newest of which is that of its profile, if
-    /// it has one. All memory that its steps need is taken here.
+    /// A container that was not started, with these filters. The newest is that of its profile, if it has
+    /// one. All memory that its steps need is allocated here.
     pub fn created(
         alloc: Global,
         label: Label,
@@ -112,7 +112,7 @@ impl Cell {
         Cell::fresh(alloc, label, script, stack, None, State::Running)
     }
 
-    /// Starts the script of a container that was not started. Any other stays as it is.
+    /// Starts the script of a container that was not started. Does nothing to any other.
     pub fn start(&mut self)
         ensures { self.new ≡ started self.old }
     {
@@ -121,7 +121,7 @@ impl Cell {
         }
     }
 
-    /// Ends the script with the code from outside, unless it has ended.
+    /// Ends the script from outside with this code, unless it has ended.
     pub fn kill(&mut self, code: u8)
         ensures { self.new ≡ killed code self.old }
     {
@@ -135,7 +135,7 @@ impl Cell {
     pub fn step(&mut self) -> Did
         ensures step { Steps self.old result self.new }
 
-        // The script goes on only where an entry is added.
+        // The script goes on only if an entry is added.
         ensures onward { self.new.state ≡ State.Running
             → (length self.new.entries ≡ length self.old.entries + 1)
             × (length self.new.entries ≤ length self.new.making.script) }
@@ -202,7 +202,7 @@ impl Cell {
         self.profile.as_ref()
     }
 
-    /// How far it is, and whether it was killed.
+    /// Its state, and whether it was killed.
     pub fn state(&self) -> State
         ensures { result ≡ self.now.state }
     {
@@ -305,7 +305,7 @@ fn install(stack: &mut Stack, filter: Option<Filter>)
     }
 }
 
-/// What is told of a judged call behind which the script goes on.
+/// The result of a step with this judged call, after which the script goes on.
 fn told_of(entry: JudgedCall) -> Did
     ensures { result ≡ told_of_entry entry entry.performed }
 {

@@ -31,7 +31,7 @@ fn add_copy(alloc: Global, copies: &mut VecDeque<Filter>, step: &Step) -> Result
     }
 }
 
-/// Takes out the copy of the filter that the step at this place installs, if it installs one.
+/// Removes and returns the copy of the filter that the step at this place installs, if it installs one.
 pub(crate) fn take_copy(
     copies: &mut VecDeque<Filter>,
     steps: &[Step],

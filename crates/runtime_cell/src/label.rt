@@ -24,7 +24,7 @@ impl Text {
         Text { text }
     }
 
-    /// The text, lent.
+    /// The text.
     pub fn as_str(&self) -> &str
         ensures { result.now ≡ self.now }
     {
@@ -42,6 +42,6 @@ pub struct Label {
     pub attempt: u32,
     /// The file of its script.
     pub image: Text,
-    /// The file of its profile, where it has one of its own.
+    /// The file of its Localhost profile, if it has one.
     pub path: Option<Text>,
 }

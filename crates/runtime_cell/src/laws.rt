@@ -16,7 +16,7 @@ ghost use Rattle.runtime_cell.specs.Outcome.{IsOutcome, Outcome};
 
 use verdict::{added_filters_widen_nothing, stacks_judge_every_call};
 
-/// Under sound filters each script comes to one outcome, and one only.
+/// Under sound filters each script has exactly one outcome.
 pub fn outcomes_are_determined()
     ensures some { (start : List (List Insn)) (attempt : ℕ) (script : List Step) (added : List (List Insn))
         → AllSound (start ++ added) → HasSoundFilters script → (outcome : Outcome)
@@ -29,7 +29,7 @@ pub fn outcomes_are_determined()
     stacks_judge_every_call();
 }
 
-/// A cell follows its script from its making on, whatever is done to it.
+/// A cell follows its script from its creation on, whatever is done to it.
 pub fn cells_follow_their_scripts()
     ensures created { (making : Making) → IsWellMade making → FollowsScript (fresh making State.Created) }
     ensures started { (c : Cell) → FollowsScript c → FollowsScript (started c) }
@@ -40,8 +40,8 @@ pub fn cells_follow_their_scripts()
     stacks_judge_every_call();
 }
 
-/// What is done to a cell makes it a later one: of the same making, with at least the record that it had,
-/// and with the end that it had.
+/// Whatever is done to a cell, it only grows: it keeps its making, the record that it had and, once it has
+/// ended, its end.
 pub fn cells_only_grow()
     ensures same { (c : Cell) → IsLater c c }
     ensures later { (first then last : Cell) → IsLater first then → IsLater then last → IsLater first last }
@@ -50,8 +50,8 @@ pub fn cells_only_grow()
     ensures killed { (c : Cell) (code : ℕ) → IsLater c (killed code c) }
 {}
 
-/// Each call that a cell takes up is judged by all its filters, and no other one is added to its record.
-/// Filters that the script added let nothing pass that the filters of its start stop alone.
+/// Each call that a cell attempts is judged by all its filters, and no other call is added to its record.
+/// Filters that the script added never let a call pass that the filters of its start alone stop.
 pub fn calls_are_judged_by_all_filters()
     ensures taken { (old : Cell) (did : Did) (new : Cell) (call : SysCall) → Steps old did new
         → TakesUp old call → IsAdded old new call }
@@ -64,9 +64,9 @@ pub fn calls_are_judged_by_all_filters()
     added_filters_widen_nothing();
 }
 
-/// What the constants of this crate are.
+/// The values of this crate's constants.
 pub fn constants_are_as_stated()
-    // 128 and the number of SIGSYS on x86-64, signal(7), as a shell tells a signal
+    // 128 and the number of SIGSYS on x86-64, signal(7), as a shell reports a signal
     ensures killed { KILLED ≡ 128 + 31 }
     // asm-generic/errno-base.h
     ensures enomem { ENOMEM ≡ 12 }

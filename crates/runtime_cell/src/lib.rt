@@ -1,9 +1,9 @@
 //! The cell of a container: plays the script that stands for the container's program under its stack of
 //! seccomp filters, one step at a time, and keeps its record.
 //!
-//! A call is performed exactly where the filters that were installed at the cell's start, and those that
-//! its script added before, together allow it. What a script comes to stands in `specs/Outcome.antt`,
-//! what the type of a cell keeps in `specs/Cell.antt`, and what holds of every cell in `specs/Laws.antt`.
+//! A call is performed exactly when the filters that were installed at the cell's start, and those that its
+//! script added before, together allow it. `specs/Outcome.antt` defines the outcome of a script,
+//! `specs/Cell.antt` what the type of a cell keeps, and `specs/Laws.antt` what holds of every cell.
 #![tactic(auto)]
 
 mod acts;

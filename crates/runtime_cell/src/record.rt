@@ -1,4 +1,4 @@
-//! The record of a cell, with what is told of it kept beside it.
+//! The record of a cell, with its counts kept beside it.
 ghost use Rattle.std.specs.Prelude.{◌≡◌, ◌<◌, ◌≤◌, ◌++◌, ◌∷◌, [], IfOk, count_by, length, not, vec_capacity};
 ghost use Rattle.std.specs.Prelude.{vec_len};
 
@@ -13,8 +13,8 @@ pub struct Counts {
     pub denied: usize,
 }
 
-/// The judged calls of a cell so far. How many of them were performed is counted as they come, so that a
-/// status costs the same however long the record is. Contracts see the calls, and for how many there is room.
+/// The judged calls of a cell so far. How many of them were performed is counted as they come, so a status
+/// takes constant time. Contracts see the calls, and for how many there is room.
 #[derive(Drop)]
 pub(crate) struct Record {
     entries: Vec<JudgedCall>,
@@ -33,7 +33,7 @@ impl Model for Record {
 }
 
 impl Record {
-    /// No calls, and room for so many.
+    /// No calls, and room for this many.
     pub(crate) fn with_capacity(alloc: Global, capacity: usize) -> Result<Record, AllocError>
         ensures items { IfOk result (λ r. r.items ≡ []) }
         ensures capacity { IfOk result (λ r. capacity ≤ r.room) }

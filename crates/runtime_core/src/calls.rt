@@ -29,7 +29,7 @@ pub fn uid_of(call: &Call) -> &Uid
 pub(crate) enum Kind {
     /// It may make the sandbox.
     Runs,
-    /// It may take the sandbox away.
+    /// It may remove the sandbox.
     Removes,
     Other,
 }

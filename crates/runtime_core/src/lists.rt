@@ -1,4 +1,4 @@
-//! The lists of cells of all sandboxes that are there.
+//! The lists of cells of all existing sandboxes.
 ghost use Rattle.std.specs.Prelude.{◌≡◌, ◌≢◌, ℕ, List, [], Some, None, OnOk, OnErr, option_copied, is_some};
 ghost use Rattle.registry.specs.Kept.{by_bytes, MayKillIn, MayStepIn, ReadsIn};
 ghost use Rattle.cri_msgs.specs.Calls.{uid_of};
@@ -51,7 +51,7 @@ impl Lists {
         Ok(())
     }
 
-    /// Takes out the list of a uid.
+    /// Removes and returns the list of a uid.
     pub(crate) fn take(&mut self, uid: &str) -> Cells
         ensures cells { result ≡ cells_in self.old uid.now }
         ensures here { list_in self.new uid.now ≡ None }

@@ -41,7 +41,7 @@ impl Model for Runtime {
 }
 
 impl Runtime {
-    /// A runtime that knows of nothing, on a node with this filter of its own.
+    /// An empty runtime, on a node with this baseline filter.
     pub fn new(alloc: Global, baseline: Option<Filter>) -> Runtime
         ensures { stands_for result ≡ empty baseline }
     {
@@ -51,7 +51,7 @@ impl Runtime {
         }
     }
 
-    /// Serves a request, with what the reads of its files gave.
+    /// Serves a request, given the results of reading its files.
     pub fn serve(&mut self, request: Request, files: FileAnswers) -> Reply
         ensures number { result.id ≡ request.id }
         ensures serves { Serves (stands_for self.old) request.call files result.answer (stands_for self.new) }
@@ -59,14 +59,14 @@ impl Runtime {
         serve(&mut self.registry, &mut self.lists, request, files)
     }
 
-    /// A step of the cell with this id, and what it came to; none where no cell has it.
+    /// Steps the cell with this id, and returns the result. `None` if no cell has it.
     pub fn step(&mut self, id: u64) -> Option<Did>
         ensures { MayStep (stands_for self.old) id result (stands_for self.new) }
     {
         step(&self.registry, &mut self.lists, id)
     }
 
-    /// Ends the cell with this id by the code; none where no cell has it.
+    /// Ends the cell with this id with this exit code. `None` if no cell has it.
     pub fn kill(&mut self, id: u64, code: u8) -> Option<()>
         ensures { MayKill (stands_for self.old) id code result (stands_for self.new) }
     {
@@ -102,7 +102,7 @@ fn serve(registry: &mut Registry, lists: &mut Lists, request: Request, files: Fi
     }
 }
 
-/// A call that makes no sandbox, and takes none away.
+/// A call that neither makes nor removes a sandbox.
 fn serve_there(
     registry: &mut Registry,
     lists: &mut Lists,
@@ -119,7 +119,7 @@ fn serve_there(
     lists.lend(registry, request, files)
 }
 
-/// A list takes its place before the registry is asked.
+/// The list is inserted before the registry is asked.
 fn run_pod(
     registry: &mut Registry,
     lists: &mut Lists,
@@ -140,7 +140,7 @@ fn run_pod(
     }
 }
 
-/// RunPodSandbox of a uid that was named.
+/// RunPodSandbox for a uid that was named before.
 fn known(registry: &mut Registry, lists: &mut Lists, request: Request, files: FileAnswers) -> Reply
     requires whole { IsWhole registry.old lists.old }
     requires runs { kind_of request.call ≡ Kind.Runs }
@@ -153,7 +153,7 @@ fn known(registry: &mut Registry, lists: &mut Lists, request: Request, files: Fi
     lists.lend(registry, request, files)
 }
 
-/// RunPodSandbox of a uid that was never named.
+/// RunPodSandbox for a uid that was never named.
 fn wake(registry: &mut Registry, lists: &mut Lists, request: Request, files: FileAnswers) -> Reply
     requires whole { IsWhole registry.old lists.old }
     requires runs { kind_of request.call ≡ Kind.Runs }
@@ -185,7 +185,7 @@ fn refused(id: u64, refusal: Refusal) -> Reply
     }
 }
 
-/// RunPodSandbox with the list that is to be the sandbox's; where none is made it is taken back.
+/// RunPodSandbox with the list that is to be the sandbox's. If no sandbox is made, the list is removed again.
 fn lent_new(
     registry: &mut Registry,
     lists: &mut Lists,
@@ -223,7 +223,7 @@ fn without(lists: &mut Lists, uid: &Uid, reply: Reply) -> Reply
     reply
 }
 
-/// RemovePodSandbox: the list of the uid goes.
+/// RemovePodSandbox: removes the list of the uid.
 fn remove_pod(
     registry: &mut Registry,
     lists: &mut Lists,
@@ -276,7 +276,7 @@ fn cell<'r>(registry: &Registry, lists: &'r Lists, id: u64) -> Option<&'r Cell>
     }
 }
 
-/// The lists say of what the registry's answer is true.
+/// The registry's answer. The lists are a parameter only because the contract speaks of them.
 fn next_id(registry: &Registry, _lists: &Lists, above: u64) -> Option<u64>
     requires { IsWhole registry.now _lists.now }
     ensures { IsNext (runtime_of registry.now (cells_in _lists.now)) above result }

@@ -1,4 +1,4 @@
-//! What is true in every run of a runtime, whoever sends its requests.
+//! What holds in every run of a runtime, whoever sends its requests.
 #![tactic(auto)]
 
 mod laws;

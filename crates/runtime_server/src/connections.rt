@@ -5,7 +5,7 @@ use std::net::Shutdown;
 use std::os::unix::net::UnixStream;
 use std::sync::{Mutex, Wait};
 
-/// How many connections are served at once; one more is closed at once.
+/// How many connections are served at the same time. One more is closed immediately.
 pub const MAX_CONNECTIONS: usize = 128;
 
 // A place for each connection that may be open.
@@ -22,7 +22,7 @@ pub struct Connections {
 }
 
 impl Connections {
-    /// None are open yet.
+    /// No connection is open yet.
     pub fn new(alloc: Global) -> Result<Connections, AllocError> {
         let mut places = Vec::new(alloc);
         for _ in 0..MAX_CONNECTIONS {
@@ -36,9 +36,9 @@ impl Connections {
         })
     }
 
-    /// Takes a place for a connection. None where all are taken, or no more are served.
+    /// Takes a place for a connection. `None` if all are taken, or no more are served.
     pub fn enter<R: Wait>(&self, rt: &R, stream: &UnixStream) -> Option<usize> {
-        // What finds no place is let go of behind the lock.
+        // A copy that finds no place is dropped after the lock is released.
         let mut copy = Some(stream.try_clone().ok()?);
         let mut open = self.open.lock(rt);
         let place = if open.closed {

@@ -1,5 +1,5 @@
 //! What is wrong with the files of a request, in the order in which a runtime judges them: the script, then
-//! the profile. A request that is refused for another reason is told without.
+//! the profile. A request that is refused for another reason is reported without it.
 ghost use Rattle.std.specs.Prelude.{◌≡◌, ◌++◌, IfOk, string_bytes};
 ghost use Rattle.runtime_server.specs.Wrong.{TellsProfile, TellsScript};
 
@@ -13,7 +13,7 @@ use runtime_core::{Contents, FileAnswers};
 use script::ScriptFault;
 use std::alloc::{AllocError, Global};
 
-/// Whether an answer may come of what is wrong with a file.
+/// Whether an answer may be due to a bad file.
 pub(crate) fn is_of_files(answer: &Answer) -> bool {
     matches!(
         answer,
@@ -70,7 +70,7 @@ fn script_fault(alloc: Global, path: &str, bytes: &[u8]) -> Result<Option<String
     }
 }
 
-// What is told of a file.
+// The note on a file.
 fn behind(alloc: Global, path: &str, told: &str) -> Result<String, AllocError>
     ensures { IfOk result (λ text. string_bytes text ≡ path.now ++ told.now) }
 {
@@ -106,7 +106,7 @@ fn profile_fault(alloc: Global, path: &str, bytes: &[u8]) -> Result<Option<Strin
     }
 }
 
-// A file that could not be read. Why the system refused it is asked once more.
+// The note on a file that could not be read. The system is asked again for the cause.
 fn unread(
     alloc: Global,
     files: &SystemFiles<'_, HostRuntime>,

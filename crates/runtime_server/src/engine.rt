@@ -9,8 +9,8 @@ use std::alloc::{AllocError, Global};
 use std::sync::Wait;
 use std::thread::{Scope, Threads};
 
-/// A runtime on a node with this filter of its own, what wakes its runners, and how many large texts are read
-/// for it at a time.
+/// A runtime on a node with this baseline filter, with the notifier of its runners and the limit on large
+/// texts that are read at a time.
 #[derive(Drop)]
 pub struct Engine<B: Baseline> {
     runtime: SharedRuntime<B>,
@@ -30,7 +30,7 @@ impl<B: Baseline> Engine<B> {
         }
     }
 
-    /// What a thread asks it by.
+    /// The host by which a thread asks it.
     pub fn host<'a, R: Wait>(&'a self, rt: &'a R) -> EngineHost<'a, B, R> {
         EngineHost {
             rt,
@@ -40,7 +40,7 @@ impl<B: Baseline> Engine<B> {
         }
     }
 
-    /// Waits until none of its containers runs, where it has so many runners, or until it is closed.
+    /// Waits until none of its containers runs, given its number of runners, or until it is closed.
     pub fn wait_idle<R: Wait>(&self, rt: &R, runners: u32) {
         self.notifier.wait_idle(rt, u64::from(runners));
     }
@@ -54,7 +54,7 @@ impl<B: Baseline> Engine<B> {
         self.notifier.is_closed(rt)
     }
 
-    // Steps the containers of a runner's share, and waits where none of them runs.
+    // Steps the containers of a runner's share, and waits while none of them runs.
     fn run_cells<R: Wait>(&self, rt: &R, runner: u64, runners: u64) {
         if runner >= runners {
             return;

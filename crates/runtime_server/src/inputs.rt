@@ -17,7 +17,7 @@ pub fn bytes_at<'a, R: rt::Files + AllocGlobal>(
     }
 }
 
-/// That there is a folder at each of these paths.
+/// Checks that there is a folder at each of these paths.
 pub fn look_at_folders<'a, R: rt::Files>(
     rt: &R,
     paths: [&'a str; 2],

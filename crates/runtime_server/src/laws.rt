@@ -4,7 +4,7 @@ ghost use Rattle.runtime_server.specs.declared.site.TheConstants.{REST};
 ghost use Rattle.runtime_server.specs.declared.sockets.TheConstants.{FOLDERS, LOCKS, MAX_NAME};
 ghost use Rattle.runtime_server.specs.declared.teller.TheConstants.{MAX_WAITING, READER_PATIENCE};
 
-/// What the constants of this crate are.
+/// The values of this crate's constants.
 pub fn constants_are_as_stated()
     ensures max_connections { MAX_CONNECTIONS ≡ 128 }
     // milliseconds

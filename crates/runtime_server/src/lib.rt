@@ -1,9 +1,8 @@
-//! What serves a runtime behind a socket, and the program `scriptd`, which does nothing else.
+//! Serves a runtime behind a socket. The program `scriptd` does nothing else.
 //!
 //! An [`Engine`] is a runtime that threads share, with the runners that step its containers; a [`Site`] is an
 //! engine behind its socket, whose connections are served in threads of their own. `stops` says why a program
-//! ends before its work is done, `telling` what is told of each call where that is asked for, and a
-//! [`Teller`] writes it.
+//! ends before its work is done, `telling` has the log line of each call, and a [`Teller`] writes it.
 #![tactic(auto)]
 
 mod connections;

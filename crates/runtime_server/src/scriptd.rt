@@ -17,9 +17,9 @@ use std::thread::{Scope, Threads, scope, scope_env};
 use std::time::Clock;
 
 /// The program `scriptd`: runs containers, which are scripts, behind a socket that takes CRI calls. `words`
-/// are the command line's, the program's name first. It ends only where something stops it, and the answer is
-/// its status: 1 input refused, 2 command line refused, 3 file or socket fault, 4 out of memory. Why, is told
-/// on `err`; nothing is written to `_out`.
+/// are the command line's, the program's name first. It ends only if something stops it, and returns its exit
+/// status: 1 input refused, 2 command line refused, 3 file or socket fault, 4 out of memory. The reason is
+/// written to `err`; nothing is written to `_out`.
 pub fn scriptd_run<R: Threads + Wait + Clock + Copy + Send + Sync + 'static, O: Write, E: Write>(
     rt: &R,
     system: &HostRuntime,
@@ -33,7 +33,7 @@ pub fn scriptd_run<R: Threads + Wait + Clock + Copy + Send + Sync + 'static, O: 
     }
 }
 
-// Tells why the program ends, and gives its status, also where nobody hears it.
+// Reports why the program ends, and returns its status, even if the report can't be written.
 fn tell_stop<E: Write>(stop: &ServerStop<'_>, err: &mut E) -> u8 {
     let told = Told {
         program: "scriptd",
@@ -54,7 +54,7 @@ fn run<'a, R: Threads + Wait + Clock + Copy + Send + Sync + 'static>(
     run_line::<Brand, R>(rt, system, &line, baseline)
 }
 
-// Does what the line says, on a node with this filter of its own.
+// Does what the line says, on a node with this baseline filter.
 fn run_line<
     'a,
     B: Baseline + Send + Sync,
@@ -97,7 +97,7 @@ fn address_of<'a>(line: &ScriptdLine<'a>) -> Address<'a>
     }
 }
 
-// Serves until the site is closed. Where a runner finds no thread it is closed at once.
+// Serves until the site is closed. If a thread for a runner can't be started, it is closed immediately.
 fn serve<B: Baseline + Send + Sync, R: Threads + Wait + Clock + Sync>(
     rt: &R,
     system: &HostRuntime,

@@ -19,8 +19,8 @@ use std::sync::{Arc, Wait};
 use std::thread::{self, Scope, Threads};
 use std::time::{Clock, Duration};
 
-// How many milliseconds the listener rests where no connection can be accepted, as where too many files are
-// open.
+// How many milliseconds the listener pauses when no connection can be accepted, for example with too many
+// open files.
 pub(crate) const REST: u64 = 10;
 
 /// Where a runtime is, and what it serves.
@@ -32,17 +32,17 @@ pub struct Address<'a> {
     pub scripts: &'a str,
     /// The folder of profiles.
     pub profiles: &'a str,
-    /// Which of its answers are told.
+    /// Which of its answers are reported.
     pub tells: Tells,
 }
 
-/// Which of a runtime's answers are told.
+/// Which of a runtime's answers are reported.
 #[derive(Clone, Copy, Debug, PartialEq, Eq)]
 pub enum Tells {
     Nothing,
-    /// Those that refuse a container for what is wrong with a file.
+    /// Those that refuse a container because of a bad file.
     WrongFiles,
-    /// Each, and before them on what the runtime works.
+    /// Each answer, after a line with the socket and the folders of the runtime.
     Each,
 }
 
@@ -50,7 +50,7 @@ impl Tells {
     ghost use Rattle.std.specs.Prelude.{◌≡◌, is_some};
     ghost use Rattle.runtime_server.specs.Telling.{is_told};
 
-    /// Whether an answer is told, behind which this file is wrong, if one is.
+    /// Whether an answer is reported, given the bad file that caused it, if there is one.
     fn is_told(self, wrong: &Option<String>) -> bool
         ensures { result ≡ is_told self (is_some wrong.now) }
     {
@@ -62,14 +62,14 @@ impl Tells {
     }
 }
 
-/// A runtime that is served over a socket, on a node with this filter of its own.
+/// A runtime that is served over a socket, on a node with this baseline filter.
 #[derive(Drop)]
 pub struct Site<'a, B: Baseline> {
     alloc: Global,
     address: Address<'a>,
     socket: Socket,
     connections: Connections,
-    // By whom answers are told, if somebody can.
+    // Writes the reported answers, if any are to be reported.
     teller: Option<Arc<Teller, Global>>,
     /// The runtime.
     pub engine: Engine<B>,
@@ -102,7 +102,7 @@ impl<'a, B: Baseline> Site<'a, B> {
         })
     }
 
-    /// Ends what serves and steps, and takes the socket's file away.
+    /// Ends all serving and stepping, and removes the socket's file.
     pub fn close<R: Wait>(&self, rt: &R, system: &HostRuntime) {
         self.engine.close(rt);
         self.connections.close(rt);
@@ -111,7 +111,7 @@ impl<'a, B: Baseline> Site<'a, B> {
     }
 }
 
-// Who answers the requests of one connection. Each answer is told once it was given.
+// Answers the requests of one connection. Each answer is reported once it was given.
 #[derive(Drop)]
 struct ToldHost<'a, B: Baseline, R: Wait> {
     rt: &'a R,
@@ -122,7 +122,8 @@ struct ToldHost<'a, B: Baseline, R: Wait> {
 }
 
 impl<B: Baseline, R: Wait> ToldHost<'_, B, R> {
-    // What is wrong with the files of a request. Where there is no memory to say it, it is told without.
+    // What is wrong with the files of a request. If memory for it runs out, the answer is reported without
+    // it.
     fn wrong_in(&self, request: &Request, files: &FileAnswers) -> Option<String> {
         let address = self.site.address;
         let scripts = SystemFiles::within(self.system, address.scripts);
@@ -167,7 +168,7 @@ impl<B: Baseline, R: Wait> Host for ToldHost<'_, B, R> {
     }
 }
 
-// What a connection is served by: the scripts and the profiles of the address.
+// What serves a connection: the scripts and the profiles of the address.
 fn service_for<'a, B: Baseline, R: Wait>(
     rt: &'a R,
     system: &'a HostRuntime,

@@ -4,12 +4,12 @@ use std::alloc::AllocError;
 use std::fmt;
 use std::io::{self, ErrorKind};
 
-/// Why there is no socket at a path.
+/// Why no socket can be made at a path.
 #[derive(Clone, Copy, Debug, PartialEq, Eq)]
 pub enum SocketFault {
     /// A runtime listens there, or is about to.
     Listens,
-    /// What stands there is no socket of a runtime.
+    /// What is there is not a runtime's socket.
     Taken,
     /// The folder of the path is not there.
     NoFolder,
@@ -19,7 +19,7 @@ pub enum SocketFault {
     Folders,
     /// The system refused a call.
     System(Cause),
-    /// A growth was refused, or a thread.
+    /// An allocation failed, or a thread could not be started.
     Memory,
 }
 

@@ -1,9 +1,9 @@
 //! The socket at a path.
 //!
-//! It is made in a folder of its own that nobody else may look into, gets its mode there, and only then its
-//! name: so there is no moment at which another user could connect. Whoever has the path holds a lock beside
-//! it from before it looks at what stands there until after it took its own socket away: so no program takes
-//! the socket of another for one that was left over.
+//! It is made in a private folder, where it gets its mode, and only then gets its name: so another user can
+//! never connect. The program that owns the path holds a lock beside it, from before it looks at what is
+//! there until after it has removed its own socket: so no program mistakes another's socket for one that was
+//! left over.
 
 use crate::socket_fault::SocketFault;
 use std::fs::{DirBuilder, File, Metadata, OpenOptions, Permissions, TryLockError};
@@ -17,13 +17,13 @@ use std::{fs, rt};
 // How many folders are tried, of which other runs may have left some.
 pub(crate) const FOLDERS: u32 = 100;
 
-// How often a lock is asked for whose file goes away meanwhile.
+// How often a lock is tried again whose file is removed meanwhile.
 pub(crate) const LOCKS: u32 = 100;
 
-// How many bytes the name of a socket has at most, by unix(7): there is room for 108, the last of which is 0.
+// The most bytes of a socket's name, by unix(7): there is room for 108, the last of which is 0.
 pub(crate) const MAX_NAME: usize = 107;
 
-/// A socket that listens, and what its file is known by.
+/// A socket that listens, and what identifies its file.
 #[derive(Drop)]
 pub(crate) struct Socket {
     pub(crate) listener: UnixListener,
@@ -54,15 +54,15 @@ impl Socket {
         }
     }
 
-    /// Whoever waits for a connection gets none, from now on. The system does that to a listener that is shut
-    /// down as a stream is.
+    /// From now on, waiting for a connection fails. Shutting down the listener as if it were a stream has
+    /// that effect.
     pub(crate) fn wake(&self) {
         if let Ok(listener) = self.listener.try_clone() {
             let _ = UnixStream::from(OwnedFd::from(listener)).shutdown(Shutdown::Both);
         }
     }
 
-    /// Takes the file away, if it is this socket's still, and gives the path up.
+    /// Removes the file, if it is still this socket's, and releases the path.
     pub(crate) fn remove<R: rt::Files>(&self, rt: &R, path: &str) {
         if let Ok(about) = fs::symlink_metadata(rt, path) {
             if about.dev() == self.device && about.ino() == self.inode {
@@ -73,7 +73,8 @@ impl Socket {
     }
 }
 
-/// That no other program has the path. The system gives it up where the process ends, however that comes.
+/// A lock that keeps other programs from the path. The system releases it when the process ends, for whatever
+/// reason.
 #[derive(Drop)]
 struct PathLock {
     _file: File,
@@ -81,7 +82,7 @@ struct PathLock {
 }
 
 impl PathLock {
-    // Takes the lock beside this path; nobody is waited for who has it.
+    // Takes the lock beside this path, without waiting if another program has it.
     fn of(rt: &HostRuntime, path: &str) -> Result<PathLock, SocketFault> {
         let name = format!(in rt.alloc(); "{path}.lock")?;
         for _ in 0..LOCKS {
@@ -102,13 +103,13 @@ impl PathLock {
         Err(SocketFault::Listens)
     }
 
-    // Takes its file away. Only who has the lock may do that.
+    // Removes its file. Only the holder of the lock may do that.
     fn remove<R: rt::Files>(&self, rt: &R) {
         let _ = fs::remove_file(rt, self.name.as_str());
     }
 }
 
-// Whether this is the file of that name still. One that was taken away before it was locked locks nobody out.
+// Whether the name still belongs to this file. A file that was removed before it was locked locks nobody out.
 fn is_named(rt: &HostRuntime, file: &File, name: &str) -> io::Result<bool> {
     let own = file.metadata()?;
     match fs::symlink_metadata(rt, name) {
@@ -118,7 +119,7 @@ fn is_named(rt: &HostRuntime, file: &File, name: &str) -> io::Result<bool> {
     }
 }
 
-// A new socket that listens at this path, and what its file is known by.
+// A new socket that listens at this path, and what identifies its file.
 fn listener_at(rt: &HostRuntime, path: &str) -> Result<(UnixListener, Metadata), SocketFault> {
     make_way(rt, path)?;
     let folder = own_folder(rt, path)?;
@@ -129,7 +130,7 @@ fn listener_at(rt: &HostRuntime, path: &str) -> Result<(UnixListener, Metadata),
     Ok((listener, fs::symlink_metadata(rt, path)?))
 }
 
-// Nothing stands at the path from here on, or it can't be had.
+// Makes sure that nothing is at the path, or fails if the path can't be had.
 fn make_way<R: rt::Files + Net>(rt: &R, path: &str) -> Result<(), SocketFault> {
     let about = match fs::symlink_metadata(rt, path) {
         Ok(about) => about,
@@ -163,7 +164,7 @@ fn own_folder<R: rt::Files + AllocGlobal>(rt: &R, path: &str) -> Result<String, 
     Err(SocketFault::Folders)
 }
 
-// A socket that is made in this folder, and named by the path where nothing has come to stand there
+// A socket that is made in this folder, and gets the path as its name unless something has appeared there
 // meanwhile.
 fn made_in(rt: &HostRuntime, folder: &str, path: &str) -> Result<UnixListener, SocketFault> {
     let own = format!(in rt.alloc(); "{folder}/s")?;
@@ -175,7 +176,7 @@ fn made_in(rt: &HostRuntime, folder: &str, path: &str) -> Result<UnixListener, S
     Ok(listener)
 }
 
-// A name that is too long for a socket is told by the folder's number among the open files.
+// A name that is too long for a socket is reached through the folder's file descriptor.
 fn listener_in(rt: &HostRuntime, folder: &str, own: &str) -> io::Result<UnixListener> {
     if own.len() <= MAX_NAME {
         return UnixListener::bind(rt, own);

@@ -15,19 +15,19 @@ use std::fmt;
 pub enum ServerStop<'a> {
     /// The command line is refused, or help was asked for.
     CommandLine(clap::Error),
-    /// A word of the command line is no number of its range.
+    /// A word of the command line is not a number in its range.
     BadNumber(&'a str),
-    /// This word of the command line does not go with the others, or has to be there.
+    /// This option of the command line does not go with the others, or is required and missing.
     Misfit(&'static str, Misfit),
     /// The node's own filter is refused.
     Baseline(&'a str, Refusal),
     /// A file can't be read, or there is no such folder.
     File(&'a str, CausedFault),
-    /// No socket can be had at this path.
+    /// No socket can be made at this path.
     Socket(&'a str, SocketFault),
-    /// What is to be printed can't be written.
+    /// The output can't be written.
     Unwritten(Cause),
-    /// A growth was refused, or a thread.
+    /// An allocation failed, or a thread could not be started.
     Memory,
 }
 
@@ -73,7 +73,7 @@ fn name_of(refusal: Refusal) -> &'static str
     }
 }
 
-/// A stop as the program of this name tells it, with the end of the line.
+/// A stop as the program of this name prints it, with the end of the line.
 #[derive(Clone, Copy)]
 pub struct Told<'t, 'a> {
     /// Its name.
@@ -82,7 +82,7 @@ pub struct Told<'t, 'a> {
     pub stop: &'t ServerStop<'a>,
 }
 
-/// A refused command line is told in clap's own words.
+/// A refused command line is reported with clap's own message.
 impl fmt::Display for Told<'_, '_> {
     ghost use Rattle.runtime_server.specs.StopText.{stop_text};
 

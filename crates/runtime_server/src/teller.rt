@@ -1,5 +1,5 @@
-//! The lines that threads tell, and the one thread that writes them on standard output or standard error:
-//! whoever tells a line waits for no reader.
+//! A queue of lines from any thread, and the one thread that writes them to standard output or standard
+//! error: adding a line never waits for the reader.
 
 use node_io::Cause;
 use std::alloc::{AllocError, Global};
@@ -9,10 +9,10 @@ use std::sync::{Arc, Condvar, CondvarTimeouts, Mutex, Wait};
 use std::thread::{Threads, spawn};
 use std::time::{Clock, Duration};
 
-/// How many lines wait at most for their reader. Those beyond are left out, and counted.
+/// The most lines that wait for their reader. Those beyond are left out, and counted.
 pub const MAX_WAITING: usize = 16_384;
 
-/// For how many seconds the end of a program waits for a reader that reads nothing.
+/// How many seconds a program waits, at its end, for a reader that reads nothing.
 pub const READER_PATIENCE: u64 = 10;
 
 /// Where lines are written.
@@ -25,13 +25,13 @@ pub enum Stream {
 #[derive(Drop)]
 struct Waiting {
     lines: Vec<String>,
-    // How many were left out behind these.
+    // How many were left out after these.
     left_out: u64,
     // How many were written so far.
     written: u64,
     // Whether the writer has written all that it took.
     is_idle: bool,
-    // Why a line could not be written, the first one of which this is known.
+    // Why a line could not be written: the first such cause that is known.
     failed: Option<Cause>,
 }
 
@@ -84,7 +84,7 @@ impl Teller {
         Ok(teller)
     }
 
-    /// Tells that so many lines are missing here.
+    /// Records that this many lines are missing here.
     pub fn miss<R: Wait>(&self, rt: &R, lines: u64) {
         let mut waiting = self.waiting.lock(rt);
         waiting.left_out = waiting.left_out.saturating_add(lines);
@@ -92,8 +92,7 @@ impl Teller {
         self.changed.notify_all();
     }
 
-    /// Tells a line. One that found no memory, or no place behind the lines that wait, is left out and
-    /// counted.
+    /// Adds a line. One for which there is no memory, or no room in the queue, is left out and counted.
     pub fn tell<R: Wait>(&self, rt: &R, line: Result<String, AllocError>) {
         let mut waiting = self.waiting.lock(rt);
         let has_place = waiting.lines.len() < MAX_WAITING;
@@ -108,7 +107,7 @@ impl Teller {
         self.changed.notify_all();
     }
 
-    // The lines that wait, once there are any, and how many were left out behind them.
+    // The lines that wait, once there are any, and how many were left out after them.
     fn take<R: Wait>(&self, rt: &R) -> (Vec<String>, u64) {
         let mut waiting = self.waiting.lock(rt);
         waiting.is_idle = true;
@@ -130,7 +129,7 @@ impl Teller {
         }
     }
 
-    /// Why lines can't be written, where one could not be.
+    /// Why lines can't be written, if one could not be.
     pub fn failure<R: Wait>(&self, rt: &R) -> Option<Cause> {
         self.waiting.lock(rt).failed
     }
@@ -143,13 +142,13 @@ impl Teller {
                 self.count_written(rt, write_line(system, stream, line.as_str()));
             }
             if left_out > 0 {
-                // This is no line that was told, so standard error has it in any case.
+                // This line was not added by anyone, so it goes to standard error in any case.
                 let _ = eprintln!(system; "{left_out} lines left out");
             }
         }
     }
 
-    /// Waits until all that was told is written, or until nothing of it was for ten seconds.
+    /// Waits until all added lines are written, or until none was for ten seconds.
     pub fn finish<R: Wait + Clock>(&self, rt: &R) {
         let mut waiting = self.waiting.lock(rt);
         for _ in rt.forever() {

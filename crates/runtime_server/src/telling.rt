@@ -1,5 +1,5 @@
-//! The line that is told of each event, where that is asked for: who, which pod, the request and its answer,
-//! the messages as they are written, and behind a refusal its name and why it came.
+//! The log line of each event, if logging is on: who, which pod, the request and its answer as they are
+//! written in messages, and after a refusal its name and cause.
 ghost use Rattle.std.specs.Prelude.{◌≡◌, IfOk, string_bytes};
 ghost use Rattle.runtime_server.specs.Telling.{listening_text, name_behind, refusal_text};
 
@@ -9,7 +9,7 @@ use runtime_core::uid_of;
 use std::alloc::{AllocError, Global};
 use std::str;
 
-/// The line with which a runtime begins that tells of itself.
+/// The first log line of a runtime.
 pub(crate) fn listening_line(alloc: Global, address: Address<'_>) -> Result<String, AllocError>
     ensures { IfOk result (λ line. string_bytes line ≡ listening_text address.entry) }
 {
@@ -17,7 +17,7 @@ pub(crate) fn listening_line(alloc: Global, address: Address<'_>) -> Result<Stri
     format!(in alloc; "listens at {socket}, scripts in {scripts}, profiles in {profiles}")
 }
 
-// A message without its version, which stands last in it.
+// A message without its version, which comes last in it.
 fn unversioned(message: &[u8]) -> &str {
     let text = str::from_utf8(message).unwrap_or("");
     text.strip_suffix(",\"v\":2}").unwrap_or(text)
@@ -30,7 +30,7 @@ pub fn asked(alloc: Global, request: &Request) -> Result<String, AllocError> {
     format!(in alloc; "{uid} {}}}", unversioned(text.as_slice()))
 }
 
-/// The text of a reply, and behind a refusal its name.
+/// The text of a reply, and after a refusal its name.
 pub fn answered(alloc: Global, reply: &Reply) -> Result<String, AllocError> {
     let text = reply.write(alloc, Version::V2)?;
     let name = name_behind(alloc, &reply.answer)?;
@@ -64,8 +64,8 @@ pub fn refusal_name(refusal: Refusal) -> &'static str
     }
 }
 
-/// What a runtime was asked over a connection, what it answered, and what is wrong with the request's files
-/// where that is known.
+/// The log line of a request over a connection: the request, the answer, and what is wrong with the request's
+/// files, if that is known.
 pub(crate) fn reply_line(
     alloc: Global,
     connection: u64,

@@ -108,7 +108,8 @@ fn cells(rt: HostRuntime) -> Result<(), Fail> {
 }
 
 // The filters of a start: the node's own denies `getpid` (39), those of profiles `getppid` (110) and, in its
-// turn, `getpid`; RuntimeDefault denies `ptrace` (101). Of two data the newer filter's counts.
+// turn, `getpid`; RuntimeDefault denies `ptrace` (101). If two filters differ only in their data, the newer
+// one's counts.
 const FILTERS: &str = r#"RunPodSandbox u1=>ok
 CreateContainer u1 a 0 a.json open calls=>{"container":1}
 StartContainer u1 a 0=>ok
@@ -137,8 +138,7 @@ fn filters(rt: HostRuntime) -> Result<(), Fail> {
     Ok(())
 }
 
-// Sends a request to a registry that is lent this list, and tells whether the answer is the one that is
-// wanted.
+// Sends a request to a registry with this list, and returns whether the answer is the one that is wanted.
 fn is_answered(
     alloc: Global,
     registry: &mut Registry,
@@ -160,7 +160,7 @@ CreateContainer u1 a 0 a.json open short=>{"container":1}
 CreateContainer u1 b 0 a.json open short=>{"container":2}
 StartContainer u1 b 0=>ok"#;
 
-// Behind a stop that was lent another list: what was made is there, and is started no more.
+// After a stop with another list: what was made is there, and can't be started any more.
 const STOPPED: &str = r#"StartContainer u1 a 0=>9
 StartContainer u1 b 0=>ok
 CreateContainer u1 a 0 a.json open=>{"container":1}

@@ -31,7 +31,7 @@ fn the_cells_of_a_sandbox(rt: HostRuntime) -> Result<(), Fail> {
     Ok(())
 }
 
-// A sandbox in which 65,536 attempts were made, none of which is there.
+// A sandbox in which 65,536 attempts were made, none of which exists any more.
 const USED: &str = r#"ListContainers u1=>{"containers":[]}
 CreateContainer u1 a 65536 a.json open absent=>8
 CreateContainer u1 a 65536 a.json open short=>8

@@ -21,7 +21,7 @@ fn two_files(rt: &impl AllocGlobal) -> Result<MemoryFiles, AllocError> {
     Ok(MemoryFiles::new(files))
 }
 
-// What a read came to, in words, and the count of failures behind it.
+// The result of a read, in words, and the count of failures after it.
 fn read_text<F: Files>(
     rt: &impl AllocGlobal,
     files: &mut F,
@@ -112,8 +112,8 @@ fn files_of_the_system(rt: HostRuntime) -> Result<(), Fail> {
     Ok(())
 }
 
-// Writes all that is offered and reads to the end, and tells the calls: `w` and `r` with a count, and
-// `x` for a failure.
+// Writes all that is offered and reads to the end, and lists the calls: `w` and `r` with a count, and `x` for
+// a failure.
 fn moved<W: Wire>(
     rt: &impl AllocGlobal,
     wire: &mut W,

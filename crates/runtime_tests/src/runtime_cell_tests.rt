@@ -53,7 +53,7 @@ fn created(rt: &HostRuntime, text: &str, denies: bool) -> Result<Cell, Fail> {
 }
 
 /// Does what the letters say to the cell: s starts it, t does a step, k kills it with 255 and z with 0.
-/// Gives what each step came to, then the state, what was performed and denied, and the filters added.
+/// Returns the result of each step, then the state, what was performed and denied, and the filters added.
 fn played(rt: &HostRuntime, cell: &mut Cell, letters: &str) -> Result<String, Fail> {
     let mut text = String::new(rt.alloc());
     for letter in letters.as_bytes() {
@@ -154,7 +154,7 @@ fn labels(rt: HostRuntime) -> Result<(), Fail> {
     Ok(())
 }
 
-/// Filters of so many instructions, each of which allows every call at its first.
+/// Filters of these lengths, each of which allows every call at its first instruction.
 fn allowing(rt: &HostRuntime, lengths: &[usize]) -> Result<Stack, Fail> {
     let mut stack = Stack::new(rt.alloc());
     for length in lengths {

@@ -38,7 +38,7 @@ fn profile_text(alloc: Global, word: &str) -> Result<String, AllocError> {
     }
 }
 
-// What a call has behind its uid.
+// What a call has after its uid.
 fn members(alloc: Global, line: &str) -> Result<String, AllocError> {
     let (name, attempt) = (word(line, 2), word(line, 3));
     let key = format!(in alloc; ",\"name\":\"{name}\",\"attempt\":{attempt}")?;
@@ -81,8 +81,8 @@ fn reads(alloc: Global, times: usize) -> Result<String, AllocError> {
     Ok(names)
 }
 
-// A profile that names `read` so often without a condition, and so often with one. It weighs 7, 8 for each of
-// the former and 14 for each of the latter. Above 4,096 it is not compiled; no weight is even.
+// A profile that names `read` `plain` times without a condition, and `tested` times with one. It weighs 7, 8
+// for each of the former and 14 for each of the latter. Above 4,096 it is not compiled; no weight is even.
 fn long_profile(alloc: Global, plain: usize, tested: usize) -> Result<String, AllocError> {
     let (plain, tested) = (reads(alloc, plain)?, reads(alloc, tested)?);
     format!(in alloc;
@@ -175,8 +175,8 @@ fn record_text(alloc: Global, cell: Option<&Cell>) -> Result<String, AllocError>
     Ok(text)
 }
 
-// The answer that is wanted, as the last reply has it: `ok`, what stands there, or the number of a refusal.
-// Other lines tell what stands there.
+// The answer that is wanted, in the form of a reply: of `ok`, of a member as it is, or of the number of a
+// refusal. Other lines have their result as it is.
 pub(crate) fn wanted(alloc: Global, number: u64, want: &str) -> Result<String, AllocError> {
     if want == "ok" {
         format!(in alloc; "{{\"id\":{number},\"ok\":{{}},\"v\":2}}")
@@ -224,7 +224,7 @@ impl Play {
         None
     }
 
-    // Does what the line says, and tells what came of it.
+    // Does what the line says, and returns the result.
     fn does(&mut self, line: &str) -> Result<String, Fail> {
         let (alloc, id) = (self.alloc, number(line, 1));
         let text = match word(line, 0) {
@@ -284,7 +284,7 @@ impl Play {
         Ok(matches!(&answer, Answer::Done))
     }
 
-    // Plays one line so many times. What is wanted of each stands behind `=>`.
+    // Plays one line this many times. The wanted result comes after `=>`.
     pub(crate) fn plays(&mut self, rt: &impl Abort, row: &str, times: usize) -> Result<(), Fail> {
         let (line, want) = row.split_once("=>").unwrap_or((row, ""));
         for _ in 0..times {

@@ -12,7 +12,7 @@ const CALL: SysCall = SysCall {
     args: [0; 6],
 };
 
-/// A filter of so many instructions that returns this value.
+/// A filter of this length that returns this value.
 fn returning(rt: &HostRuntime, value: u32, len: usize) -> Result<Filter, Fail> {
     let mut code = Vec::new(rt.alloc());
     for _ in 1..len {
@@ -25,7 +25,7 @@ fn returning(rt: &HostRuntime, value: u32, len: usize) -> Result<Filter, Fail> {
     }
 }
 
-/// What filters say together that return these values, the oldest one first.
+/// The joint verdict of filters that return these values, oldest first.
 fn judged(rt: &HostRuntime, values: &[u32]) -> Result<Verdict, Fail> {
     let mut stack = Stack::new(rt.alloc());
     for value in values {

@@ -6,14 +6,14 @@ use std::alloc::{AllocError, AllocFailed};
 use std::fmt;
 use thiserror::Error;
 
-/// Why a text is no script.
+/// Why a text is not a script.
 #[derive(Clone, Copy, Debug, PartialEq, Eq, Error)]
 pub enum ScriptFault {
-    /// The text is no JSON.
+    /// The text is not JSON.
     NotJson,
-    /// A field that has to be there is not, or a list that has to have an item is empty.
+    /// A required field is missing, or a list that needs an item is empty.
     Missing,
-    /// A field is of another kind, or a step is of two kinds.
+    /// A field has the wrong type, or a step is of two kinds.
     WrongType,
     /// No call has this name.
     UnknownCall,
@@ -21,9 +21,9 @@ pub enum ScriptFault {
     TooMany,
     /// A code is above 255.
     BadCode,
-    /// What is to be installed is no sound filter.
+    /// The filter that is to be installed is not sound.
     BadFilter,
-    /// A growth was refused.
+    /// An allocation failed.
     Memory,
 }
 

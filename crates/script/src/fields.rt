@@ -23,7 +23,7 @@ use std::alloc::Global;
 
 const MAX_ARGS: usize = 6;
 
-/// What may stand beside a call.
+/// What a step may have besides its call.
 #[derive(Clone, Copy)]
 pub(crate) struct CallFields {
     pub(crate) args: [u64; 6],

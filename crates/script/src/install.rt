@@ -27,7 +27,7 @@ pub(crate) struct Row {
     pub(crate) k: u64,
 }
 
-/// The rows of `install`, as they stand there. Each is looked at before an instruction is made of one.
+/// The rows of `install`, not read yet. All are checked before an instruction is made of one.
 #[tactic(auto, unfolding(crate::specs::Reading::rows_of), using(crate::proofs::Rows::some_of))]
 pub(crate) fn rows(tree: &Value) -> Result<&[Value], ScriptFaultAt>
     ensures { LendsRows (as_read (λ items. items.now) result) (rows_of (view tree.now)) }
@@ -40,7 +40,7 @@ pub(crate) fn rows(tree: &Value) -> Result<&[Value], ScriptFaultAt>
     }
 }
 
-/// The first item that is no row.
+/// The first item that is not a row.
 #[tactic(auto, using(json_place::proofs::Odd::position_of_views))]
 fn no_row(items: &[Value]) -> ScriptFaultAt
     ensures { result ≡ no_row (map view items.now) }

@@ -1,7 +1,7 @@
 //! Scripts: what a container of this project does, step by step, read from JSON.
 //!
-//! A step makes a system call, installs a filter, or ends the script with a code. Which trees are which
-//! scripts stands in `specs/Script.antt`, and which fault is found first, and where, in `specs/Reading.antt`.
+//! A step makes a system call, installs a filter, or ends the script with a code. `specs/Script.antt` defines
+//! which trees are which scripts, and `specs/Reading.antt` which fault is found first, and where.
 #![tactic(auto)]
 
 mod faults;

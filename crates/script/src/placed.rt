@@ -8,11 +8,11 @@ use json_place::{FieldFaultAt, Place, Step};
 use json_tree::TextFault;
 use std::alloc::{AllocError, AllocFailed};
 
-/// Why a text is no script, and where in it.
+/// Why a text is not a script, and where in it.
 #[derive(Debug, Drop)]
 pub struct ScriptFaultAt {
     pub fault: ScriptFault,
-    /// The place at which the fault is: the whole text's where it has no narrower one.
+    /// The fault's place: the root if there is no narrower one.
     pub place: Place,
 }
 
@@ -21,7 +21,7 @@ impl ScriptFaultAt {
     ghost use Rattle.json_place.specs.Places.{part_of};
     ghost use Rattle.script.specs.Faults.{fault_at, fault_here, fault_of_item, fault_within};
 
-    /// A fault of the tree that is read.
+    /// A fault at the root of the tree that is read.
     pub(crate) fn here(fault: ScriptFault) -> ScriptFaultAt
         ensures { result ≡ fault_here fault }
     {
@@ -45,7 +45,7 @@ impl ScriptFaultAt {
         ScriptFaultAt::here(fault).within(Step::Item(index))
     }
 
-    /// The fault of a tree, as one of the tree in which that one stands.
+    /// The same fault, placed in the outer tree that has this one under the step.
     pub(crate) fn within(self, step: Step) -> ScriptFaultAt
         ensures { result ≡ fault_within (part_of step) self }
     {
@@ -56,7 +56,7 @@ impl ScriptFaultAt {
     }
 }
 
-/// What was made of the member with this key.
+/// The result of reading the member with this key, a fault placed at that member.
 pub(crate) fn at<T>(key: &'static str, made: Result<T, ScriptFault>) -> Result<T, ScriptFaultAt>
     ensures { result ≡ at key.now made }
 {
@@ -66,7 +66,7 @@ pub(crate) fn at<T>(key: &'static str, made: Result<T, ScriptFault>) -> Result<T
     }
 }
 
-/// What was read of what stands under a step.
+/// The result of reading what is under a step, a fault placed under that step.
 pub(crate) fn under<T>(step: Step, read: Result<T, ScriptFaultAt>) -> Result<T, ScriptFaultAt>
     ensures { result ≡ under (part_of step) read }
 {
@@ -76,7 +76,7 @@ pub(crate) fn under<T>(step: Step, read: Result<T, ScriptFaultAt>) -> Result<T, 
     }
 }
 
-/// What was read of the step with this index.
+/// The result of reading the step with this index, a fault placed in that step.
 pub(crate) fn in_step<T>(index: usize, read: Result<T, ScriptFaultAt>) -> Result<T, ScriptFaultAt>
     ensures { result ≡ as_fault (fault_of_step index) read }
 {
@@ -104,7 +104,7 @@ impl From<FieldFaultAt> for ScriptFaultAt {
     }
 }
 
-/// What it is, wherever.
+/// The fault without its place.
 impl From<ScriptFaultAt> for ScriptFault {
     ghost use Rattle.std.specs.Prelude.{◌≡◌};
 

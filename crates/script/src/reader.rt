@@ -30,9 +30,8 @@ pub(crate) enum StepKind {
     Install,
 }
 
-/// The script of a text, or its first fault: of the text, then of the steps in order, and of the
-/// fields of a step in order. Fields that no script has are not looked at. `Memory` takes the place of
-/// any answer where a growth was refused.
+/// The script of a text, or its first fault: of the text, then of the steps in order, and of the fields of a
+/// step in order. Unknown fields are ignored. If an allocation fails, the result is `Memory`.
 pub fn read(alloc: Global, bytes: &[u8]) -> Result<Script, ScriptFault>
     // What is read is the text's script.
     ensures found { IfOk result (ReadsScript bytes.now) }
@@ -49,7 +48,7 @@ pub fn read(alloc: Global, bytes: &[u8]) -> Result<Script, ScriptFault>
     Ok(read_placed(alloc, bytes)?)
 }
 
-/// The same, with the place of the first fault in the text.
+/// Reads a script as [`read`] does, and gives the place of the first fault in the text.
 pub fn read_placed(alloc: Global, bytes: &[u8]) -> Result<Script, ScriptFaultAt>
     ensures found { IfOk result (ReadsScript bytes.now) }
     ensures only { (steps : List Step) → ReadsScript bytes.now steps
@@ -74,7 +73,7 @@ fn reading(alloc: Global, bytes: &[u8]) -> Result<Script, ScriptFaultAt>
 fn script(alloc: Global, tree: &Value) -> Result<Script, ScriptFaultAt>
     ensures value { GivesSteps result (items_of (view tree.now)) }
 
-    // What is found before a step is looked at is told, whether there is memory or not.
+    // What is found before a step is looked at is reported even if memory runs out.
     ensures told { (found : ScriptFaultAt) → items_of (view tree.now) ≡ Err found → result ≡ Err found }
 {
     let items = items(tree)?;
@@ -82,7 +81,7 @@ fn script(alloc: Global, tree: &Value) -> Result<Script, ScriptFaultAt>
     Ok(Script::new(steps))
 }
 
-/// The steps as they stand there.
+/// The steps, not read yet.
 #[tactic(auto, unfolding(crate::specs::Reading::items_of))]
 fn items(tree: &Value) -> Result<&[Value], ScriptFaultAt>
     ensures value { as_read (λ items. map view items.now) result ≡ items_of (view tree.now) }

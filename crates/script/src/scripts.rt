@@ -8,7 +8,7 @@ use std::marker::Model;
 /// The most steps that a script has.
 pub const MAX_STEPS: usize = 4096;
 
-/// Codes with which a script ends, one for each attempt. There is one at least.
+/// Exit codes of a script, one for each attempt. There is at least one.
 #[derive(Drop)]
 pub struct Codes {
     codes: Vec<u8>,
@@ -32,7 +32,7 @@ impl Codes {
         Codes { codes }
     }
 
-    /// The codes of attempts 0, 1, and so on. There is one at least.
+    /// The codes of attempts 0, 1, and so on. There is at least one.
     pub fn as_slice(&self) -> &[u8]
         ensures value { result.now ≡ self.now }
         ensures some { 0 < length self.now }
@@ -41,7 +41,7 @@ impl Codes {
     }
 }
 
-/// What a container does next.
+/// A step of a script.
 #[derive(Drop)]
 pub enum Step {
     /// Makes the call. If the call returns an errno, the script ends with this code, if there is one.
@@ -51,7 +51,8 @@ pub enum Step {
     },
     /// Ends the script with the code.
     Exit(u8),
-    /// Ends the script, at attempt k (from 0), with the k-th code, or the last if there are fewer.
+    /// Ends the script, at attempt k (from 0), with code k of the list (from 0), or the last one if there are
+    /// fewer.
     ExitByAttempt(Codes),
     /// Makes the call seccomp(2) that installs the filter. If the call returns an errno, the script ends
     /// with this code, if there is one.
@@ -89,7 +90,7 @@ impl Script {
         Script { steps }
     }
 
-    /// The steps in order, lent.
+    /// The steps in order.
     pub fn steps(&self) -> &[Step]
         ensures value { result.now ≡ self.now }
         ensures bounded { length self.now ≤ MAX_STEPS }

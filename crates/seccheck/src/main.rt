@@ -1,4 +1,4 @@
-//! Looks at seccomp filters, and runs them: `seccheck --help` says how.
+//! Inspects seccomp filters, and runs them: `seccheck --help` says how.
 #![tactic(auto)]
 
 use checker::seccheck_run;
@@ -9,7 +9,7 @@ use std::process::ExitCode;
 fn main(rt: HostRuntime) -> ExitCode {
     let status = match words(&rt) {
         Ok(words) => seccheck_run(&rt, &words, &mut io::writer(&rt), &mut rt.stderr()),
-        // A process has its words: the memory to copy them is missing, or one is no text.
+        // A process always has its arguments: either there is no memory to copy them, or one is not UTF-8.
         Err(error) => {
             let (why, status) = match error.kind() {
                 ErrorKind::InvalidData => ("a word of the command line is not UTF-8", 2),

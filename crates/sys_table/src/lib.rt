@@ -1,7 +1,7 @@
 //! The system calls of Linux on x86-64, by name and by number.
 //!
-//! One table has each name at its number, and a second list the order of the names, by which `number`
-//! halves it. What a look-up gives stands in `specs/SysTable.antt`.
+//! One table has each name at its number; a second one has the numbers in the order of the names, for the
+//! binary search of `number`. `specs/SysTable.antt` defines the look-ups.
 #![tactic(auto)]
 
 mod laws;

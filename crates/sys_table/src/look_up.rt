@@ -17,7 +17,7 @@ fn by_name() -> &'static [u16]
     &BY_NAME
 }
 
-// What the table has at this number: an empty text where no call has it.
+// The table's text at this number: empty if no call has the number.
 fn text(number: usize) -> &'static str
     ensures { result.now ≡ text_at number }
 {

@@ -1,8 +1,8 @@
 /// Every number in the table is below this one.
 pub const NUMBER_LIMIT: usize = 440;
 
-// The name of each call at its number, as asm/unistd_64.h has them. An empty text stands where no
-// call has the number, or one that Linux does not implement on x86-64, as `vserver`.
+// The name of each call at its number, as asm/unistd_64.h has them. The text is empty if no call has the
+// number, or one that Linux does not implement on x86-64, such as `vserver`.
 #[rattlefmt::skip]
 pub(crate) static NAMES: [&str; NUMBER_LIMIT] = [
     // 0

@@ -43,8 +43,8 @@ fn names_at_the_edges(rt: HostRuntime) {
     }
 }
 
-// The count of the calls, the sum of their numbers, and FNV-1a (64 bits) over a line `NUMBER NAME` for
-// each of them in order, worked out from a list of the calls outside this repository.
+// The count of the calls, the sum of their numbers, and FNV-1a (64 bits) over a line `NUMBER NAME` for each
+// of them in order, computed from a list of the calls outside this repository.
 #[test]
 fn sums_over_the_table(rt: HostRuntime) -> Result<(), Fail> {
     let (mut count, mut sum, mut hash) = (0u32, 0u32, 0xcbf2_9ce4_8422_2325u64);

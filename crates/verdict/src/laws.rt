@@ -9,7 +9,7 @@ ghost use Rattle.verdict.specs.Stack.{AllSound, IsJudged, Judges};
 use action::ranks_are_an_order;
 use bpf_machine::{runs_are_determined, sound_code_runs};
 
-/// A stack of sound filters says something of every call, and one thing only.
+/// A stack of sound filters has exactly one verdict on every call.
 pub fn stacks_judge_every_call()
     ensures every { (stack : List (List Insn)) → AllSound stack → (verdicts : SysCall → Verdict)
         × Judges stack verdicts }
@@ -21,7 +21,7 @@ pub fn stacks_judge_every_call()
     sound_code_runs();
 }
 
-/// Filters that are added to a stack let no call pass that it stops alone.
+/// Filters that are added to a stack never let a call pass that the stack alone stops.
 pub fn added_filters_widen_nothing()
     ensures rank { (stack added : List (List Insn)) (call : SysCall) (alone together : Verdict)
         → IsJudged stack call alone → IsJudged (stack ++ added) call together
@@ -34,7 +34,7 @@ pub fn added_filters_widen_nothing()
     runs_are_determined();
 }
 
-/// What the constant of this crate is, in the standard's own number.
+/// The value of this crate's constant, in the standard's own number.
 pub fn constants_are_as_stated()
     // MAX_INSNS_PER_PATH of the kernel's seccomp: 2^18 bytes of 8-byte instructions
     ensures max_stack_insns { MAX_STACK_INSNS ≡ 32768 }

@@ -1,7 +1,7 @@
-//! Stacks of seccomp filters, and what they say of a call together: seccomp(2).
+//! Stacks of seccomp filters, and their joint verdict on a call: seccomp(2).
 //!
-//! A `Stack` is seen as the list of its filters' code, the oldest one first, and the room for more. What
-//! the values of several filters mean stands in `specs/Stack.antt`.
+//! The model of a `Stack` is the list of its filters' code, oldest first, and the room for more.
+//! `specs/Stack.antt` defines what the values of several filters mean.
 #![tactic(auto)]
 
 mod judging;

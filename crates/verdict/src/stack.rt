@@ -16,12 +16,12 @@ use thiserror::Error;
 /// `MAX_INSNS_PER_PATH` of the kernel's seccomp.
 pub const MAX_STACK_INSNS: usize = 32_768;
 
-/// Why a stack does not take a filter.
+/// Why a stack refuses a filter.
 #[derive(Clone, Copy, Debug, PartialEq, Eq, Error)]
 pub enum StackFault {
     /// The stack would have more than [`MAX_STACK_INSNS`].
     TooManyInsns,
-    /// A growth was refused.
+    /// An allocation failed.
     Memory,
 }
 
@@ -75,8 +75,8 @@ impl Stack {
         }
     }
 
-    /// Makes room for so many more filters: pushing them takes no memory. Where a growth was refused, the
-    /// stack is as it was.
+    /// Makes room for this many more filters: pushing them then allocates nothing. If an allocation fails,
+    /// the stack is unchanged.
     pub fn reserve(&mut self, additional: usize) -> Result<(), AllocError>
         ensures same { self.new.filters ≡ self.old.filters }
         ensures ok { OnOk result (additional ≤ self.new.room) }
@@ -87,20 +87,20 @@ impl Stack {
         self.filters.reserve(additional)
     }
 
-    /// Whether the stack would not be too long with one more filter, this one.
+    /// Whether the stack stays within [`MAX_STACK_INSNS`] with this filter added.
     pub fn has_place(&self, filter: &Filter) -> bool
         ensures { result ≡ nat_le (length filter.now + counted self.now.filters) MAX_STACK_INSNS }
     {
         filter.insns().len() + self.taken <= MAX_STACK_INSNS
     }
 
-    /// Adds a filter as the newest one. A refused filter comes back, and the filters are as they were.
+    /// Adds a filter as the newest one. A refused filter is returned, and the stack is unchanged.
     pub fn push(&mut self, filter: Filter) -> Result<(), (Filter, StackFault)>
         ensures ok { OnOk result (self.new.filters ≡ self.old.filters ++ filter ∷ []) }
         ensures err { OnErr result (self.new.filters ≡ self.old.filters) }
         ensures back { IfErr result (λ refused. refused.0 ≡ filter) }
 
-        // It is too long exactly where its length and what is counted for the others exceed the limit.
+        // It is too long exactly if its length and what is counted for the others exceed the limit.
         ensures too_many { IfErr result (λ refused. refused.1 ≡ StackFault.TooManyInsns
             → MAX_STACK_INSNS < length filter + counted self.old.filters) }
         ensures refused { MAX_STACK_INSNS < length filter + counted self.old.filters
@@ -132,7 +132,7 @@ impl Stack {
         self.filters.as_slice()
     }
 
-    /// What the filters say of a call together. Every filter is run.
+    /// The filters' joint verdict on a call. Every filter is run.
     pub fn judge(&self, call: &SysCall) -> Verdict
         ensures { IsJudged self.now.filters call.now result }
     {

@@ -10,17 +10,17 @@ use thiserror::Error;
 /// Why a node refuses an event.
 #[derive(Clone, Copy, Debug, PartialEq, Eq, Error)]
 pub enum NodeRefusal {
-    /// As many pods are on the node as may be, or as many uids were admitted.
+    /// The node has the most pods that it may have, or has admitted the most uids.
     Full,
     /// A pod of this uid was admitted before, whether it is still there or not.
     KnownUid,
     /// No pod of this uid is on the node.
     NoSuchPod,
-    /// The worker holds no pod, where it has to hold one, or holds one already.
+    /// The worker has to hold a pod and holds none, or holds one already.
     NotYours,
-    /// The moment lies before the one that was told last.
+    /// The moment is before the last one.
     ClockBack,
-    /// A growth was refused.
+    /// An allocation failed.
     Memory,
 }
 
@@ -75,7 +75,7 @@ pub enum Answer {
 }
 
 impl Answer {
-    /// Whether a growth was refused, so that nothing was done.
+    /// Whether an allocation failed, and nothing was done.
     pub fn is_memory(&self) -> bool
         ensures { result ≡ is_memory self.now }
     {
@@ -108,7 +108,7 @@ impl Answer {
         }
     }
 
-    /// The same answer once more.
+    /// A copy of the answer.
     pub fn try_clone(&self, alloc: Global) -> Result<Answer, AllocError>
         ensures { IfOk result (λ copy. copy ≡ self.now) }
     {

@@ -16,7 +16,7 @@ pub(crate) struct Grant {
 }
 
 impl Grant {
-    // What is answered with it.
+    // The answer that grants it.
     pub(crate) fn answer(&self, alloc: Global) -> Result<Answer, AllocError>
         ensures { IfOk result (λ answer. answer ≡ grant_answer (Some self.now)) }
     {

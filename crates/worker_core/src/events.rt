@@ -7,10 +7,10 @@ use manifest::{Pod, Uid};
 use std::alloc::{AllocError, Global};
 use worker_pod::Outcome;
 
-/// What a worker tells of the request that it was given.
+/// What a worker reports of the request that it was given.
 #[derive(Debug, Drop)]
 pub enum Reported {
-    /// It was sent, and this came back.
+    /// It was sent, and this reply came back.
     Replied(Reply),
     /// No reply came, and nobody knows whether it was carried out.
     Lost,
@@ -28,7 +28,7 @@ impl Reported {
         }
     }
 
-    /// The same once more.
+    /// A copy of it.
     pub fn try_clone(&self, alloc: Global) -> Result<Reported, AllocError>
         ensures { IfOk result (λ copy. copy ≡ self.now) }
     {
@@ -38,7 +38,7 @@ impl Reported {
         }
     }
 
-    // How the claim ends by it.
+    // How it ends the claim.
     pub(crate) fn outcome(self) -> Outcome
         ensures { result ≡ outcome_of self }
     {
@@ -49,7 +49,7 @@ impl Reported {
     }
 }
 
-/// What happens to a node. Workers go by numbers, moments are seconds.
+/// What happens to a node. Workers are named by number, moments are in seconds.
 #[derive(Debug, Drop)]
 pub enum AgentEvent {
     /// A pod is to run on the node.
@@ -58,7 +58,7 @@ pub enum AgentEvent {
     Delete(Uid),
     /// This worker asks for a request.
     Claim(u32),
-    /// This worker tells what came of its request.
+    /// This worker reports the result of its request.
     Report(u32, Reported),
     /// It is this moment now.
     Tick(u64),
@@ -96,7 +96,7 @@ impl AgentEvent {
         }
     }
 
-    /// The same event once more.
+    /// A copy of the event.
     pub fn try_clone(&self, alloc: Global) -> Result<AgentEvent, AllocError>
         ensures { IfOk result (λ copy. copy ≡ self.now) }
     {

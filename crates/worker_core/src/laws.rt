@@ -1,4 +1,4 @@
-//! What holds of every run of a node, for what stands above.
+//! What holds of every run of a node, for the crates above.
 ghost use Rattle.std.specs.Prelude.{◌≡◌, ◌+◌, ◌^◌, true, false, List, ◌∷◌, length, None, Some};
 ghost use Rattle.manifest.specs.declared.pods.Pod.{Pod};
 ghost use Rattle.worker_pod.specs.declared.settings.Settings.{Settings};
@@ -15,7 +15,7 @@ use worker_pod::{
 
 /// In every run a pod is held by at most one worker and a worker holds at most one pod, a uid is admitted
 /// once and a number used once, and an attempt at a container is made as the manifest says, in the order of
-/// the init containers, and behind the back-off of a run that was told.
+/// the init containers, and after the back-off of a run that was reported.
 pub fn every_run()
     ensures run { (settings : Settings) (ls : List NodeLink) → IsNodeRun settings ls → NodeLaws settings ls }
     ensures link { (settings : Settings) (l : NodeLink) (before : List NodeLink)
@@ -30,7 +30,7 @@ pub fn every_run()
     containers_have_tracks();
 }
 
-/// Where as many uids were admitted as may ever be, one of them is told as known and any other finds the node
+/// Once the most uids have been admitted, each of them is refused as known, and any other because the node is
 /// full, whatever pods are there.
 pub fn uids_end()
     ensures known { (kept : KeptNode) (pod : Pod) → length kept.known ≡ MAX_UIDS
@@ -41,12 +41,12 @@ pub fn uids_end()
         → refusal_of kept pod ≡ Some NodeRefusal.Full }
 {}
 
-/// Behind the last number nothing is given.
+/// After the last number no request is given.
 pub fn numbers_end()
     ensures { (kept : KeptNode) → kept.number ≡ LAST_NUMBER → grant_of kept ≡ None }
 {}
 
-/// What the constants of this crate are.
+/// The values of this crate's constants.
 pub fn constants_are_as_stated()
     ensures pods { MAX_PODS ≡ 110 }
     ensures uids { MAX_UIDS ≡ 65536 }

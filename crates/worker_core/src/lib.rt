@@ -1,8 +1,8 @@
 //! The agent of a node: it admits pods, gives their requests to workers, and learns from what they report.
 //! A machine of events, without threads, sockets or clocks.
 //!
-//! What is held of the pods is what the whole list of each pod's ended claims says; a node, and what an event
-//! makes of it, stands in `specs/Nodes.antt`, what holds of every run in `specs/Laws.antt`.
+//! What is kept of a pod is determined by the whole list of its ended claims. `specs/Nodes.antt` defines a
+//! node, and what an event makes of it, and `specs/Laws.antt` what holds of every run.
 #![tactic(auto)]
 
 mod answers;

@@ -4,5 +4,5 @@ pub const MAX_PODS: usize = 110;
 /// How many uids a node ever admits.
 pub const MAX_UIDS: usize = 65_536;
 
-// The number of a request behind which there is none.
+// The last number of a request.
 pub(crate) const LAST_NUMBER: u64 = 18_446_744_073_709_551_615;

@@ -138,7 +138,7 @@ impl Node {
         Ok(admit_answer(refusal))
     }
 
-    // All that takes memory comes before the first change.
+    // All that allocates comes before the first change.
     fn add(&mut self, pod: Pod) -> Result<(), AllocError>
         requires { length self.old.slots < MAX_PODS }
         ensures ok { OnOk result (self.new ≡ with_pod self.old pod) }
@@ -318,12 +318,12 @@ impl Node {
         }
     }
 
-    /// Takes in what happens, and answers. Where there is no memory for it, that is answered, and nothing
+    /// Applies an event, and returns the answer. If an allocation fails, the answer says so, and nothing
     /// changes.
     pub fn apply(&mut self, event: AgentEvent) -> Answer
         ensures kept { KeptStep self.old event result self.new }
 
-        // It is a step, with this answer, of every node that what is held stands for.
+        // It is a step, with this answer, of every node that the kept state stands for.
         ensures step { (node : NodeState) → StandsFor self.old node → Comes node event result self.new }
     {
         self.take(event)
@@ -346,8 +346,8 @@ impl Node {
         }
     }
 
-    /// What [`apply`](Node::apply) would answer, want of memory aside. Only a request that would be given is
-    /// copied, and may lack memory.
+    /// What [`apply`](Node::apply) would answer, lack of memory aside. Only a request that would be given is
+    /// copied, which may fail for lack of memory.
     pub fn answer(&self, event: &AgentEvent) -> Answer
         ensures kept { Foresees self.now event.now result }
         ensures answer { (node : NodeState) → StandsFor self.now node
@@ -373,8 +373,8 @@ impl Node {
         }
     }
 
-    /// From which moment on, in seconds and not before now, a request is due for a pod that nobody holds, if
-    /// nothing else happens.
+    /// The moment, in seconds and not before now, from which on a request is due for a pod that nobody holds,
+    /// if nothing else happens.
     pub fn next_due(&self) -> Option<u64>
         ensures kept { result ≡ soonest self.now.moment self.now.slots }
         ensures least { (node : NodeState) → StandsFor self.now node → IsNextDue node result }
@@ -394,7 +394,7 @@ impl Node {
     pub fn claim_of(&self, worker: u32) -> Option<&Request>
         ensures kept { option_copied result ≡ claim_of worker self.now.slots }
 
-        // It is what the worker holds at every node that what is held stands for.
+        // It is what the worker holds at every node that the kept state stands for.
         ensures claim { (node : NodeState) → StandsFor self.now node
             → IsClaimOf node worker (option_copied result) }
     {

@@ -56,7 +56,7 @@ impl Slot {
         }
     }
 
-    // From when on a request is due that a worker can be given.
+    // The moment from which on a request is due that a worker can be given.
     pub(crate) fn free_due(&self) -> Option<u64>
         ensures { result ≡ free_due self.now }
     {
@@ -75,8 +75,8 @@ pub(crate) fn fresh_slot(alloc: Global, pod: Pod, settings: Settings) -> Result<
     Ok(Slot { state, held: None })
 }
 
-// A pod that was just admitted comes last, and its uid is known from now on. All that takes memory comes
-// before the first change.
+// Adds an admitted pod as the last one, and its uid as known. All that allocates comes before the first
+// change.
 pub(crate) fn admitted(
     slots: &mut Vec<Slot>,
     known: &mut KnownUids,
@@ -152,7 +152,7 @@ pub(crate) fn held_in(slots: &[Slot]) -> usize
     count
 }
 
-// Where the pod stands that this worker holds.
+// The place of the pod that this worker holds.
 pub(crate) fn holder_of(worker: u32, slots: &[Slot]) -> Option<usize>
     ensures { result ≡ holder_of worker slots.now }
 {
@@ -178,7 +178,7 @@ fn request_at(slots: &[Slot], place: Option<usize>) -> Option<&Request>
     }
 }
 
-// Where the pod of this uid stands.
+// The place of the pod of this uid.
 pub(crate) fn place_of(uid: &Uid, slots: &[Slot]) -> Option<usize>
     ensures { result ≡ place_of uid.now slots.now }
 {
@@ -204,7 +204,11 @@ pub(crate) fn claimed_at(slots: &mut Vec<Slot>, place: usize, held: Held)
     }
 }
 
+<<<<<<< HEAD
 // The claim of the pod ends. Only the record of an exit can be refused.
+=======
+// Ends the claim of the pod. Only recording an exit takes memory.
+>>>>>>> bd032dc8f0d2713c50bbeac46d5fb301af964d03
 fn ended(slot: &mut Slot, now: u64, outcome: Outcome) -> Result<(), AllocError>
     requires { slot.old.state.latest ≤ now }
     ensures ok { OnOk result (slot.new ≡ ended now outcome slot.old) }
@@ -230,7 +234,7 @@ fn is_gone_at(slots: &[Slot], place: usize) -> bool
     }
 }
 
-// A pod whose removal was answered leaves.
+// Removes a pod whose removal was answered.
 fn left(slots: &mut Vec<Slot>, place: usize)
     ensures slots { slots.new.items ≡ left slots.old.items place }
     ensures by { (now : ℕ) → AllEndedBy now slots.old.items → AllEndedBy now slots.new.items }
@@ -241,7 +245,7 @@ fn left(slots: &mut Vec<Slot>, place: usize)
     }
 }
 
-// The claim of the pod at this place ends, and the pod leaves if its removal was answered.
+// Ends the claim of the pod at this place, and removes the pod if its removal was answered.
 pub(crate) fn ended_at(
     slots: &mut Vec<Slot>,
     place: usize,

@@ -29,7 +29,7 @@ fn is_longer(best: Option<Turn>, worked: u64) -> bool
     }
 }
 
-// Of pods that were worked on equally long ago the first stays.
+// Of pods that were worked on equally long ago the first is kept.
 fn better(now: u64, best: Option<Turn>, place: usize, slot: &Slot) -> Option<Turn>
     ensures { result ≡ better now best place slot.now }
 {
@@ -62,7 +62,7 @@ fn sooner(now: u64, best: Option<u64>, due: Option<u64>) -> Option<u64>
     }
 }
 
-// From when on a worker can be given a request, and not before this moment.
+// The moment, not before this one, from which on a worker can be given a request.
 pub(crate) fn soonest(now: u64, slots: &[Slot]) -> Option<u64>
     ensures { result ≡ soonest now slots.now }
 {

@@ -12,8 +12,8 @@ use std::sync::Wait;
 use std::sync::ledger::{Ledger, Share};
 use worker_core::{AgentEvent, Answer, NodeRefusal};
 
-/// Worker 0, which admits pods and tells the time: its share of the count, and the receipts for what it did.
-/// Contracts see how many parts of the count its share has, and the receipts.
+/// Worker 0, which admits pods and advances the time: its share of the count, and the receipts for what it
+/// did. Contracts see how many parts of the count its share has, and the receipts.
 #[derive(Drop)]
 pub struct Coordinator<L: Ledger> {
     share: Share<L>,
@@ -31,7 +31,7 @@ impl<L: Ledger> Model for Coordinator<L> {
     ghost invariant = { λ d. (0 < d.share.parts) × (d.share.amount ≡ length d.receipts.items) };
 }
 
-// The receipt comes last. There is room for it.
+// Appends the receipt, for which there is room.
 fn add(receipts: &mut Vec<Receipt>, receipt: Receipt)
     requires { vec_len receipts.old < vec_capacity receipts.old }
     ensures { receipts.new.items ≡ receipts.old.items ++ receipt ∷ [] }
@@ -56,7 +56,7 @@ impl<L: Ledger> Coordinator<L> {
         }
     }
 
-    /// The coordinator who did what a tally tells, and goes on from there.
+    /// A coordinator that goes on from a tally of what it did.
     pub(crate) fn resume(tally: Tally<L>) -> Coordinator<L>
         requires part { 0 < tally.parts }
         ensures { result ≡ tally }
@@ -65,7 +65,7 @@ impl<L: Ledger> Coordinator<L> {
         Coordinator { share, receipts }
     }
 
-    /// Records an event of worker 0, and tells why the node refused it, if it did.
+    /// Records an event of worker 0, and returns why the node refused it, if it did.
     pub fn record<R: Wait>(
         &mut self,
         rt: &R,
@@ -87,7 +87,7 @@ impl<L: Ledger> Coordinator<L> {
         Ok(refusal)
     }
 
-    /// A worker's own, with one part.
+    /// Splits off one part of the count for a worker.
     pub(crate) fn share_for(&mut self, worker: u32) -> WorkerShare<L>
         requires { 1 < self.old.parts }
         ensures parts { self.new.parts + 1 ≡ self.old.parts }

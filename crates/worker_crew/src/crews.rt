@@ -15,7 +15,7 @@ use std::sync::ledger::Ledger;
 use std::thread::{Promise, PromisedHandle, Scope, Threads, scope, scope_env};
 use std::time::Clock;
 
-// What a worker gives back.
+// What a worker returns at its end.
 #[derive(Drop)]
 struct WorkerEnd<L: Ledger, P> {
     tally: Tally<L>,
@@ -134,7 +134,7 @@ fn join_workers<L: Ledger, P: Drop, R: Threads>(
     whole
 }
 
-// Who works at a part of a history, and what worker 0 does beside telling the time.
+// Who works at a part of a history, and what worker 0 does besides advancing the time.
 #[derive(Drop)]
 struct WorkGroup<L: Ledger, P: Drop, E: Drop> {
     coordinator: Coordinator<L>,
@@ -142,8 +142,8 @@ struct WorkGroup<L: Ledger, P: Drop, E: Drop> {
     errands: E,
 }
 
-// What is left of a part: the receipts for all that was done in it, if they could be brought together, the
-// peers, and what worker 0 does beside telling the time.
+// What is left of a part: the receipts for all that was done in it, if they could be joined, the peers, and
+// what worker 0 does besides advancing the time.
 #[derive(Drop)]
 struct PartEnd<L: Ledger, P: Drop, E: Drop> {
     ended: Ended,
@@ -157,8 +157,8 @@ struct PartEnd<L: Ledger, P: Drop, E: Drop> {
 pub struct CrewEnd<L: Ledger, E: Drop> {
     /// Why it ended.
     pub ended: Ended,
-    /// The receipts for all that was done in the last part of the history; none where they could not be
-    /// brought together.
+    /// The receipts for all that was done in the last part of the history. `None` if they could not be
+    /// joined.
     pub tally: Option<Tally<L>>,
     pub errands: E,
 }
@@ -252,12 +252,12 @@ fn part<
     )
 }
 
-/// Starts a worker for each of these peers, numbered from 1, in a thread of its own, and tells the time and
-/// runs the errands beside them until there is nothing left to wait for; a clock that is counted waits for
-/// the counterpart's containers before it moves on. Where a part of the history is full the workers come to
-/// rest, and begin anew at the next part; HistoryFull is told where the part can't end. The book is closed at
-/// last, and calls that are under way are ended. The tally has the receipts of all workers and the
-/// coordinator's, for all that was done in the last part; none where they could not be brought together.
+/// Starts a worker for each of these peers, numbered from 1, in a thread of its own. Beside them, it advances
+/// the time and runs the errands until there is nothing left to wait for; a virtual clock waits for the
+/// counterpart's containers before it moves on. When a part of the history is full, the workers stop, and
+/// start again with the next part; the result is HistoryFull if the part can't end. At the end the book is
+/// closed, and calls in progress are ended. The tally has the receipts of all workers and of the coordinator
+/// for the last part; there is none if they could not be joined.
 pub fn crew<
     L: Ledger + Send + Sync,
     P: Peer + Send + Drop,

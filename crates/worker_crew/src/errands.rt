@@ -5,33 +5,34 @@ use crate::observer::Changes;
 use crate::pace::Ended;
 use worker_core::{AgentEvent, NodeRefusal};
 
-/// What worker 0 does beside telling the time: it records pods that come and go, and tells what changed.
+/// What worker 0 does besides advancing the time: it records pods that come and go, and reports what changed.
 pub trait Errands {
-    /// The next event that is to be recorded, if there is one now: the same one until it was recorded.
+    /// The next event that is to be recorded, if there is one now. The same one is returned until it was
+    /// recorded.
     fn next(&mut self) -> Option<AgentEvent>
         ensures { IfSome result (λ event. worker_of event ≡ 0) };
 
-    /// That event became an entry, and why the node refused it, if it did.
+    /// Says that the event became an entry, and why the node refused it, if it did.
     fn recorded(&mut self, refusal: Option<NodeRefusal>);
 
-    /// In how many seconds of the machine's clock there may be an event again. None where there will be none.
+    /// In how many seconds of the machine's clock there may be an event again. `None` if there will be none.
     fn pause(&self) -> Option<u64>;
 
-    /// What changed since this was called last.
+    /// Reports what changed since the last call.
     fn tell(&mut self, changes: Changes);
 
     /// Whether the crew is to end at once.
     fn stops(&self) -> bool;
 
-    /// Up to which moment time is counted, where the crew was to count up to this one.
+    /// The last moment of the virtual clock, where the crew's own would be this one.
     fn until(&self, until: u64) -> u64;
 
-    /// Counted time has come to this end, at this moment. With what the crew ends; none where there is more
-    /// to do.
+    /// Called when the virtual clock has come to this end, at this moment. Returns how the crew ends, or
+    /// `None` if there is more to do.
     fn at_end(&mut self, ended: Ended, now: u64) -> Option<Ended>;
 }
 
-/// Nothing is to be done but to tell the time.
+/// No errands: worker 0 only advances the time.
 #[derive(Clone, Copy)]
 pub struct NoErrands;
 

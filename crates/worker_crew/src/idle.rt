@@ -1,24 +1,24 @@
-//! Whether a node waits for the time alone.
+//! Whether a node waits only for time to pass.
 
 use lifecycle::Phase;
 use node_lock::Book;
 use std::sync::ledger::Ledger;
 use worker_core::{AgentEvent, MAX_PODS, Node};
 
-/// Why nobody at work has anything to do.
+/// Why no worker has anything to do.
 #[derive(Clone, Copy, Debug, PartialEq, Eq)]
 pub(crate) enum Standstill {
     /// No worker is left.
     Deserted,
     /// Each pod is Succeeded or Failed.
     Over,
-    /// The part of the history that is there takes no claim any longer.
+    /// The current part of the history has no room for a claim.
     Full,
     /// Nothing is due before this moment.
     At(u64),
     /// Nothing will ever be due.
     Never,
-    /// Workers have something to do, and had at this moment for so long that it would never end.
+    /// Workers have something to do, and have had at this moment for so long that it is taken for endless.
     Endless,
 }
 
@@ -41,8 +41,7 @@ fn is_over(node: &Node) -> bool {
     true
 }
 
-/// What is to be done at this moment by the one who tells the time. None where the workers have something to
-/// do.
+/// What worker 0 is to do at this moment. `None` if the workers have something to do.
 pub(crate) fn standstill_of<L: Ledger>(
     book: &Book<L>,
     workers: u32,
@@ -55,7 +54,7 @@ pub(crate) fn standstill_of<L: Ledger>(
     if node.held() > 0 {
         return None;
     }
-    // Of a pod that is over something is due where it was deleted: it has to leave.
+    // A pod that is over has something due if it was deleted: it has to leave.
     let due = node.next_due();
     if due.is_none() && is_over(node) {
         return Some(Standstill::Over);

@@ -1,8 +1,8 @@
 //! The workers of an agent: threads that share a node's book, call a runtime, and record what came of it.
 //!
 //! [`work`] is what each worker does, over any [`Peer`] that answers its requests. [`crew`] starts workers,
-//! tells the time beside them as worker 0, and gives back the receipts for all that was done. Nothing under
-//! the book's lock touches a file or a socket. What the receipts of a worker say stands in `specs/Work.antt`.
+//! advances the time beside them as worker 0, and returns the receipts for all that was done. Nothing under
+//! the book's lock touches a file or a socket. `specs/Work.antt` defines what the receipts of a worker say.
 #![tactic(auto)]
 
 mod coordinator;

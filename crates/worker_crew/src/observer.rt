@@ -1,5 +1,5 @@
-//! What is kept beside a node's book of what its entries changed: lines that were not told yet, and why
-//! containers wait. It is brought up to date under the book's lock, so that no change is missed.
+//! What is kept beside a node's book about the changes that its entries made: lines that were not printed
+//! yet, and why containers wait. It is updated under the book's lock, so that no change is missed.
 
 use cri_msgs::{Answer, Call};
 use lifecycle::Phase;
@@ -11,7 +11,7 @@ use std::mem;
 use worker_core::{AgentEvent, MAX_PODS, Node, Reported};
 use worker_pod::PodView;
 
-/// How many lines of changes wait at most until they are told. Those beyond are left out, and counted.
+/// The most lines of changes that wait to be printed. Those beyond are left out, and counted.
 pub const MAX_CHANGES: usize = 16_384;
 
 /// What is kept beside a book.
@@ -21,11 +21,11 @@ pub enum Observed {
     Nothing,
     /// Why containers wait.
     Reasons,
-    /// What changed of pods and their containers, in lines of this form.
+    /// What changed in pods and their containers, in lines of this form.
     Changes(Form),
 }
 
-/// What changed: the lines, each with its end, and how many were left out behind them.
+/// What changed: the lines, each with its line end, and how many were left out after them.
 #[derive(Drop)]
 pub struct Changes {
     pub lines: Vec<String>,
@@ -59,7 +59,7 @@ fn view_of<'n>(node: &'n Node, uid: &Uid) -> Option<PodView<'n>> {
     None
 }
 
-// Why the claim came to nothing, if it did. What does not count as a reply leaves the pod Unknown.
+// Why the claim failed, if it did. An invalid reply leaves the pod Unknown.
 fn trouble_of(event: &AgentEvent, view: Option<PodView<'_>>) -> Option<Trouble> {
     if let AgentEvent::Report(_, Reported::Replied(reply)) = event {
         if let Answer::Refused(refusal) = reply.answer {
@@ -85,12 +85,12 @@ impl Observer {
         }
     }
 
-    /// Whether there are changes that were not told yet.
+    /// Whether there are changes that were not printed yet.
     pub(crate) fn has_changes(&self) -> bool {
         !self.changes.lines.is_empty() || self.changes.left_out > 0
     }
 
-    /// The changes that were not told yet, which are told from now on.
+    /// Takes out the changes that were not printed yet.
     pub(crate) fn take(&mut self) -> Changes {
         let none = Changes {
             lines: Vec::new(self.alloc),
@@ -104,7 +104,7 @@ impl Observer {
         &self.reasons
     }
 
-    /// Why containers wait, once nothing else is kept.
+    /// Why containers wait. Drops all else that is kept.
     pub(crate) fn into_reasons(self) -> Reasons {
         let Observer {
             reasons,
@@ -143,8 +143,7 @@ impl Observer {
         Ok(Before { call: copy, seen })
     }
 
-    /// What a worker's claim is about that is about to end. None where nothing is kept, or there is no
-    /// memory.
+    /// What a worker's claim is about, before it ends. `None` if nothing is kept, or memory runs out.
     pub(crate) fn before(&mut self, node: &Node, worker: u32) -> Option<Before> {
         if self.observed == Observed::Nothing {
             return None;
@@ -159,14 +158,14 @@ impl Observer {
         }
     }
 
-    /// The claim has ended at this moment, by this entry.
+    /// Records that the claim has ended at this moment, by this entry.
     pub(crate) fn ended(&mut self, moment: u64, node: &Node, entry: &Entry, before: Before) {
         let view = view_of(node, uid_of(&before.call));
         match self.observed {
             Observed::Nothing => {}
             Observed::Reasons => {
                 let trouble = trouble_of(&entry.event, view);
-                // Without memory the reason is not told.
+                // If memory runs out, the reason is not kept.
                 let _ = self.reasons.note(moment, &before.call, trouble);
             }
             Observed::Changes(form) => {
@@ -192,7 +191,7 @@ impl Observer {
         }
     }
 
-    /// A pod was admitted at this moment.
+    /// Records that a pod was admitted at this moment.
     pub(crate) fn admitted(&mut self, moment: u64, node: &Node, uid: &Uid) {
         let Observed::Changes(form) = self.observed else {
             return;

@@ -1,5 +1,5 @@
-//! Worker 0 tells the time: by a counter that moves on where nothing else can happen, or by the machine's
-//! clock.
+//! Worker 0 advances the time: by a virtual clock that moves on when nothing else can happen, or by the
+//! machine's clock.
 ghost use Rattle.std.specs.Prelude.{◌≡◌};
 
 use crate::coordinator::Coordinator;
@@ -11,49 +11,50 @@ use std::sync::ledger::Ledger;
 use std::time::{Clock, Duration, Instant};
 use worker_core::AgentEvent;
 
-/// How the time is told, and up to which moment, in seconds from the start.
+/// Which clock is used, and up to which moment, in seconds from the start.
 #[derive(Clone, Copy, Debug, PartialEq, Eq)]
 pub enum Pace {
-    /// A counter from 0, which moves to the next moment at which a request is due once none is and no pod is
-    /// held. It ends where each pod is Succeeded or Failed, and before a moment above this one.
+    /// A virtual clock that starts at 0. Once no request is due and no pod is held, it moves to the next
+    /// moment at which a request is due. It ends when each pod is Succeeded or Failed, and before any moment
+    /// above this one.
     Counted(u64),
     /// The machine's clock. It ends at this moment, if there is one.
     Machine(Option<u64>),
 }
 
-/// Why no more is done.
+/// Why a crew ended.
 #[derive(Clone, Copy, Debug, PartialEq, Eq)]
 pub enum Ended {
     /// Each pod is Succeeded or Failed.
     Settled,
     /// The last moment was reached.
     TimeUp,
-    /// A growth was refused, or a thread could not be made.
+    /// An allocation failed, or a thread could not be made.
     Memory,
-    /// The part of the history that is there takes no claim any longer.
+    /// The current part of the history has no room for a claim.
     HistoryFull,
-    /// A moment of counted time does not end: workers have something to do at it again and again.
+    /// A moment of the virtual clock does not end: workers have something to do at it again and again.
     Endless,
 }
 
-/// The runtime's side of a crew's calls, as far as the clock and the crew's end hang on it.
+/// The runtime's side of a crew's calls, as far as the clock and the crew's end depend on it.
 pub trait Counterpart {
-    /// Waits until no container of the runtime runs, where that can be known. The counted clock moves on only
+    /// Waits until no container of the runtime runs, if that can be known. The virtual clock moves on only
     /// then.
     fn wait_idle(&self);
 
-    /// The crew has come to its end: a call that is under way comes back soon, whatever its peer does.
+    /// Called at the crew's end: makes calls in progress return soon, whatever their peers do.
     fn end_calls(&self);
 }
 
-/// The greatest number of seconds for which the machine's clock is not looked at.
+/// The longest time between two looks at the machine's clock, in seconds.
 pub(crate) const LONGEST_WAIT: u64 = 3_600;
 
-/// Tells the time beside workers, from one start on over all parts of a history.
+/// Advances the time beside workers, from one start on over all parts of a history.
 #[derive(Clone, Copy)]
 pub(crate) struct TimeKeeper {
     pace: Pace,
-    // None where the clock can't be read, which then stands still.
+    // None if the clock can't be read. It then stands still.
     start: Option<Instant>,
 }
 
@@ -66,7 +67,7 @@ impl TimeKeeper {
         }
     }
 
-    /// Tells the time until there is nothing left to wait for, or the part of the history is full.
+    /// Advances the time until there is nothing left to wait for, or the part of the history is full.
     pub(crate) fn keep<L: Ledger, C: Counterpart, E: Errands, R: Wait + Clock>(
         &self,
         rt: &R,
@@ -83,8 +84,8 @@ impl TimeKeeper {
         }
     }
 
-    /// Waits for the workers of a part that is full: each ends once its call has come back, or the last
-    /// moment was reached before.
+    /// Waits for the workers of a part that is full, each of which ends once its call has come back, but no
+    /// longer than to the last moment.
     pub(crate) fn rest<L: Ledger, R: Wait + Clock>(&self, rt: &R, shared: &Shared<L>) -> Ended {
         if let Pace::Machine(Some(until)) = self.pace {
             for _ in rt.forever() {
@@ -138,7 +139,7 @@ impl TimeKeeper {
             match found {
                 Some(Standstill::Deserted) => return fault_of(rt, shared),
                 Some(Standstill::Full) => return Ended::HistoryFull,
-                // Nothing is due, so no entry is spent on the time.
+                // Nothing is due, so no entry is used to advance the time.
                 Some(Standstill::Over | Standstill::Never | Standstill::At(_)) => {}
                 Some(Standstill::Endless) | None => {
                     if now > shared.moment() && !ticked(rt, shared, coordinator, now) {
@@ -158,8 +159,8 @@ impl TimeKeeper {
     }
 }
 
-// When the clock is to be looked at again, if nothing changes before: where workers have something to do, in
-// a second.
+// When the clock is to be looked at again, if nothing changes before: in a second, if workers have something
+// to do.
 fn next_look(found: Option<Standstill>, now: u64) -> u64 {
     match found {
         Some(Standstill::At(due)) => due,
@@ -176,7 +177,7 @@ fn next_errand<E: Errands>(errands: &E, now: u64) -> u64 {
     }
 }
 
-// Records what is to be recorded at this moment, and tells what changed. False where the book took no entry.
+// Records what is to be recorded at this moment, and reports what changed. False if the book took no entry.
 fn ran_errands<L: Ledger, E: Errands, R: Wait>(
     rt: &R,
     shared: &Shared<L>,
@@ -211,7 +212,8 @@ fn fault_of<L: Ledger, R: Wait>(rt: &R, shared: &Shared<L>) -> Ended {
     }
 }
 
-// Tells this moment. Workers that the tick wakes are to find it. False where the book took no entry.
+// Advances the time to this moment. Workers that the tick wakes are to find it. False if the book took no
+// entry.
 fn ticked<L: Ledger, R: Wait>(
     rt: &R,
     shared: &Shared<L>,
@@ -226,7 +228,7 @@ fn ticked<L: Ledger, R: Wait>(
         .is_ok()
 }
 
-// What is next by counted time.
+// What is next by the virtual clock.
 enum Next {
     // It goes on to this moment.
     To(u64),
@@ -276,7 +278,7 @@ fn count<L: Ledger, C: Counterpart, E: Errands, R: Wait>(
                 }
             }
             Next::To(due) => {
-                // What is asked at the next moment does not hang on how far a runner has come.
+                // So what is asked at the next moment does not depend on how far a runner has come.
                 counterpart.wait_idle();
                 if !ticked(rt, shared, coordinator, due) {
                     return fault_of(rt, shared);

@@ -15,8 +15,8 @@ use std::sync::{Condvar, CondvarTimeouts, Mutex, Wait};
 use std::time::{Clock, Duration};
 use worker_core::{AgentEvent, Answer, MAX_PODS, Node};
 
-/// What stands under the lock: the book, how many workers have not ended, the number of the last entry that
-/// told the time, and what is kept of the entries beside the book.
+/// What the lock protects: the book, how many workers have not ended, the number of the last entry that
+/// advanced the time, and what is kept of the entries beside the book.
 #[derive(Drop)]
 struct Guarded<L: Ledger> {
     book: Book<L>,
@@ -25,8 +25,8 @@ struct Guarded<L: Ledger> {
     observer: Observer,
 }
 
-/// How many entries there may be at one moment of counted time. Behind so many the moment is taken for one
-/// that never ends.
+/// The most entries at one moment of the virtual clock. Beyond it the moment is taken for one that never
+/// ends.
 pub(crate) const MAX_AT_MOMENT: u64 = 1_048_576;
 
 /// A node's book, which its workers share. Its lock is held for one step at a time, and never while a call is
@@ -34,19 +34,19 @@ pub(crate) const MAX_AT_MOMENT: u64 = 1_048_576;
 #[derive(Drop)]
 pub struct Shared<L: Ledger> {
     guarded: Mutex<Guarded<L>>,
-    // Wakes one of the workers that were given nothing where a request is due behind an entry of worker 0, or
-    // behind a claim, so that no more are woken than have something to do; and all of them when a worker
-    // ends, and once the book is closed. The end of a claim makes nothing due but its own pod, and whoever
-    // held that claims next.
+    // Wakes one of the workers that were given nothing, if a request is due after an entry of worker 0 or
+    // after a claim, so that no more are woken than have something to do. Wakes all of them when a worker
+    // ends, and once the book is closed. The end of a claim makes only its own pod due, and the worker that
+    // held that pod claims next.
     due: Condvar,
-    // Wakes worker 0: at each entry that is no claim, when a worker ends, and once the book is closed.
+    // Wakes worker 0: at each entry that is not a claim, when a worker ends, and once the book is closed.
     changed: Condvar,
-    // The moment that was told last, for whoever wants to name it.
+    // The current moment, readable without the lock.
     moment: AtomicU64,
 }
 
-// Records an event, behind the entry of this number. No fact spans two locks, so that the entry is there is
-// looked at again.
+// Records an event, after the entry of this number. No fact survives the release of a lock, so the check that
+// the entry is there is made again.
 fn record_behind<L: Ledger>(
     book: &mut Book<L>,
     share: &mut Share<L>,
@@ -75,9 +75,9 @@ fn has_nothing<L: Ledger>(book: &Book<L>, worker: u32) -> bool {
     !book.is_closed() && matches!(book.node().answer(&claim), Answer::Nothing)
 }
 
-/// Says something of a node.
+/// Describes a node as text.
 pub trait NodeTeller {
-    /// What it says of the node, and of why its containers wait. It touches no file and no socket.
+    /// The text about the node, and about why its containers wait. Uses no file and no socket.
     fn text(&self, node: &Node, reasons: &Reasons) -> Result<String, AllocError>;
 }
 
@@ -99,7 +99,7 @@ fn counted_standstill<L: Ledger>(guarded: &Guarded<L>, now: u64) -> Option<Stand
     }
 }
 
-// What worker 0 recorded is looked at.
+// Observes what worker 0 recorded.
 fn observe<L: Ledger>(guarded: &mut Guarded<L>, receipt: &Receipt, moment: u64) {
     let Entry { event, answer, .. } = receipt.entry();
     match (event, answer) {
@@ -117,7 +117,7 @@ fn before_of<L: Ledger>(guarded: &mut Guarded<L>, worker: u32) -> Option<Before>
     guarded.observer.before(guarded.book.node(), worker)
 }
 
-// So is what a worker told of its claim.
+// Observes what a worker reported of its claim.
 fn observe_end<L: Ledger>(
     guarded: &mut Guarded<L>,
     receipt: &Receipt,
@@ -130,7 +130,7 @@ fn observe_end<L: Ledger>(
 }
 
 impl<L: Ledger> Shared<L> {
-    /// A book that is shared from now on, and what is to be kept of its entries beside it.
+    /// Shares a book, and keeps beside it what is to be observed of its entries.
     pub fn new(alloc: Global, book: Book<L>, observed: Observed) -> Shared<L> {
         Shared {
             guarded: Mutex::new(Guarded {
@@ -150,7 +150,7 @@ impl<L: Ledger> Shared<L> {
         self.into_parts().0
     }
 
-    /// The same, and why containers wait.
+    /// The book, and why containers wait, once nobody shares it any longer.
     pub fn into_parts(self) -> (Book<L>, Reasons) {
         let Shared {
             guarded,
@@ -169,7 +169,7 @@ impl<L: Ledger> Shared<L> {
         book.node().next_due().is_some_and(|due| due <= now)
     }
 
-    /// Records an event of worker 0, and wakes a worker where something is due behind it.
+    /// Records an event of worker 0, and wakes a worker if something is due after it.
     pub(crate) fn record<R: Wait>(
         &self,
         rt: &R,
@@ -198,8 +198,8 @@ impl<L: Ledger> Shared<L> {
         recorded
     }
 
-    /// Records how a worker's claim ended, whose last entry has this number, and wakes worker 0. None where
-    /// the book took no entry.
+    /// Records how a worker's claim ended, after the worker's last entry, which has this number, and wakes
+    /// worker 0. `None` if the book took no entry.
     pub(crate) fn report<R: Wait>(
         &self,
         rt: &R,
@@ -228,8 +228,8 @@ impl<L: Ledger> Shared<L> {
         recorded
     }
 
-    /// Waits until a request is due, and claims it for the worker. None where the book is closed, or takes no
-    /// claim. A worker that waits makes no entry.
+    /// Waits until a request is due, and claims it for the worker. `None` if the book is closed, or has no
+    /// room for a claim. A worker that waits makes no entry.
     pub(crate) fn claim<R: Wait>(
         &self,
         rt: &R,
@@ -262,13 +262,13 @@ impl<L: Ledger> Shared<L> {
         recorded
     }
 
-    /// A worker is about to begin.
+    /// Counts a worker that is about to begin.
     pub(crate) fn begin<R: Wait>(&self, rt: &R) {
         let mut guarded = self.guarded.lock(rt);
         guarded.workers = guarded.workers.saturating_add(1);
     }
 
-    /// A worker has ended.
+    /// Counts a worker that has ended.
     pub(crate) fn end<R: Wait>(&self, rt: &R) {
         let mut guarded = self.guarded.lock(rt);
         guarded.workers = guarded.workers.saturating_sub(1);
@@ -277,13 +277,14 @@ impl<L: Ledger> Shared<L> {
         self.changed.notify_all();
     }
 
-    /// What is to be done at this moment: None where workers have something to do.
+    /// What worker 0 is to do at this moment. `None` if workers have something to do.
     pub(crate) fn standstill<R: Wait>(&self, rt: &R, now: u64) -> Option<Standstill> {
         let guarded = self.guarded.lock(rt);
         standstill_of(&guarded.book, guarded.workers, now)
     }
 
-    /// The same by counted time, once workers have nothing to do, or so much that it would never end.
+    /// Waits until workers have nothing to do, or have too much to ever end at this moment of the virtual
+    /// clock, and returns which.
     pub(crate) fn next_standstill<R: Wait>(&self, rt: &R, now: u64) -> Option<Standstill> {
         let guarded = self.guarded.lock(rt);
         let guarded = self.changed.wait_while(rt, guarded, |guarded| {
@@ -292,8 +293,8 @@ impl<L: Ledger> Shared<L> {
         counted_standstill(&guarded, now)
     }
 
-    /// Waits until there is something else to be done at this moment than what was found, or a change that
-    /// was not told, for so long at most.
+    /// Waits until there is something else to do at this moment than what was found, or a change that was not
+    /// printed, for this long at most.
     pub(crate) fn wait_change<R: Wait + Clock>(
         &self,
         rt: &R,
@@ -320,7 +321,7 @@ impl<L: Ledger> Shared<L> {
         drop(guarded);
     }
 
-    /// The same, for so long at most. Tells whether none is left.
+    /// Waits until no worker is left, for this long at most. Returns whether none is left.
     pub(crate) fn wait_deserted_for<R: Wait + Clock>(&self, rt: &R, most: Duration) -> bool {
         let guarded = self.guarded.lock(rt);
         let (guarded, timed) = self
@@ -340,7 +341,7 @@ impl<L: Ledger> Shared<L> {
         self.guarded.lock(rt).book.end_part(tally)
     }
 
-    /// What changed and was not told yet, which counts as told from now on.
+    /// Takes out what changed and was not printed yet.
     pub(crate) fn take_changes<R: Wait>(&self, rt: &R) -> Changes {
         self.guarded.lock(rt).observer.take()
     }
@@ -365,7 +366,7 @@ impl<L: Ledger> Shared<L> {
         }
     }
 
-    /// What a teller says of the node and of why its containers wait, under the lock.
+    /// A teller's text about the node and about why its containers wait, made under the lock.
     pub fn told_by<R: Wait, T: NodeTeller>(
         &self,
         rt: &R,
@@ -375,7 +376,7 @@ impl<L: Ledger> Shared<L> {
         teller.text(guarded.book.node(), guarded.observer.reasons())
     }
 
-    /// Whether the book takes a claim still.
+    /// Whether the book still has room for a claim.
     pub fn has_room<R: Wait>(&self, rt: &R) -> bool {
         self.guarded.lock(rt).book.has_room(&AgentEvent::Claim(1))
     }
@@ -385,17 +386,17 @@ impl<L: Ledger> Shared<L> {
         self.guarded.lock(rt).book.last_number()
     }
 
-    /// The moment that was told last.
+    /// The current moment.
     pub fn moment(&self) -> u64 {
         self.moment.load(Ordering::SeqCst)
     }
 
-    /// From now on it is this moment.
+    /// Sets the current moment.
     pub(crate) fn tell(&self, moment: u64) {
         self.moment.store(moment, Ordering::SeqCst);
     }
 
-    /// No worker claims or waits from now on.
+    /// Closes the book: no worker claims or waits from now on.
     pub(crate) fn close<R: Wait>(&self, rt: &R) {
         let mut guarded = self.guarded.lock(rt);
         guarded.book.close();

@@ -16,16 +16,16 @@ use std::sync::Wait;
 use std::sync::ledger::{Ledger, Share};
 use worker_core::{AgentEvent, Answer, Reported};
 
-/// Who answers a worker's requests. `may` says what a request may get.
+/// Answers a worker's requests. `may` says what a request may get.
 pub trait Peer {
     ghost may: { Request → Result Reply Lost → Type 0 };
 
-    /// What came of the request.
+    /// Sends the request, and returns the reply, or why there is none.
     fn call(&mut self, request: &Request) -> Result<Reply, Lost>
         ensures { may request.now result };
 }
 
-/// Stands round each call, whose number is the request's.
+/// Hooks around each call. A call has the number of its request.
 pub trait Gate {
     /// Whether the call is to be made.
     fn before(&self, call: u64) -> bool;
@@ -46,7 +46,7 @@ impl Gate for Always {
     fn after(&self, _call: u64) {}
 }
 
-// How the claim ends to which this was answered: none where it gave nothing. No lock is held here.
+// How the claim ends that got this answer. `None` if it got no request. No lock is held here.
 fn end_of<P: Peer, G: Gate>(
     worker: u32,
     answer: &Answer,
@@ -71,7 +71,7 @@ fn end_of<P: Peer, G: Gate>(
     Some(AgentEvent::Report(worker, told))
 }
 
-// Records how the claim ended. Where the report finds no memory the claim is given up, which takes none.
+// Records how the claim ended. If memory for the report runs out, the claim is given up, which takes none.
 fn report<L: Ledger, P: Peer, R: Wait>(
     rt: &R,
     shared: &Shared<L>,
@@ -96,7 +96,7 @@ fn report<L: Ledger, P: Peer, R: Wait>(
     }
 }
 
-// The receipt comes last. There is room for it.
+// Appends the receipt, for which there is room.
 #[tactic(auto, using(crate::proofs::Receipts::work_push, crate::proofs::Receipts::number_push, crate::proofs::Receipts::claim_push))]
 fn add<P: Peer>(receipts: &mut Vec<Receipt>, last: &mut u64, worker: u32, receipt: Receipt)
     requires room { vec_len receipts.old < vec_capacity receipts.old }
@@ -118,7 +118,7 @@ fn add<P: Peer>(receipts: &mut Vec<Receipt>, last: &mut u64, worker: u32, receip
     drop(pushed);
 }
 
-// One claim and its end. False where the worker ends. Room for both receipts is made before the claim.
+// One claim and its end. False if the worker ends. Room for both receipts is made before the claim.
 fn turn<L: Ledger, P: Peer, G: Gate, R: Wait>(
     rt: &R,
     shared: &Shared<L>,
@@ -157,8 +157,8 @@ fn turn<L: Ledger, P: Peer, G: Gate, R: Wait>(
     true
 }
 
-/// Works until the book is closed, or takes no claim: claims, calls the peer between the gate's two calls
-/// with no lock held, and reports. Gives back the receipts for all that the worker did.
+/// Works until the book is closed, or has no room for a claim: claims, calls the peer between the gate's two
+/// calls with no lock held, and reports. Returns the receipts for all that the worker did.
 pub fn work<L: Ledger, P: Peer, G: Gate, R: Wait>(
     rt: &R,
     alloc: Global,
@@ -172,7 +172,7 @@ pub fn work<L: Ledger, P: Peer, G: Gate, R: Wait>(
     requires fresh { share.amount ≡ 0 }
     ensures parts { result.parts ≡ share.parts }
 
-    // The numbers rise, and each report comes right behind its claim and says what the peer may give to it.
+    // The numbers rise, and each report comes right after its claim and says what the peer may answer it.
     ensures work { IsWork P.may worker result.receipts }
 {
     let mut share = share;

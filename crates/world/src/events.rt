@@ -5,14 +5,14 @@ use manifest::{Pod, Uid};
 use runtime_core::FileAnswers;
 use worker_core::AgentEvent;
 
-/// What the agent does by itself. Workers go by numbers, moments are seconds.
+/// What the agent does by itself. Workers are named by number, moments are in seconds.
 #[derive(Drop)]
 pub enum Act {
     /// A pod is to run on the node.
     Admit(Pod),
     /// The pod of this uid is to go.
     Delete(Uid),
-    /// This worker asks for a request. One that it is given is sent.
+    /// This worker asks for a request. If it is given one, that is sent.
     Claim(u32),
     /// It is this moment now.
     Tick(u64),
@@ -35,12 +35,13 @@ impl Act {
     }
 }
 
-/// What happens in a world. Requests and replies go by their places in the bag, from 0 in order of entry.
+/// What happens in a world. Requests and replies are named by their places in the bag, from 0 in order of
+/// entry.
 #[derive(Drop)]
 pub enum WorldEvent {
     /// The agent acts by itself.
     Agent(Act),
-    /// The runtime serves the request at this place, whose files gave this.
+    /// The runtime serves the request at this place, with these results of reading its files.
     Serve(usize, FileAnswers),
     /// This worker reports the reply at this place, which was given to its request.
     Report(u32, usize),
@@ -48,6 +49,6 @@ pub enum WorldEvent {
     Lose(u32),
     /// The cell of this id does a step.
     StepCell(u64),
-    /// The cell of this id is ended by this code.
+    /// The cell of this id is ended with this code.
     KillCell(u64, u8),
 }

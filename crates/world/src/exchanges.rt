@@ -15,7 +15,7 @@ pub struct Exchange {
     pub reply: Reply,
 }
 
-// The request at this place of the bag, once more.
+// A copy of the request at this place of the bag.
 pub(crate) fn request_at(
     alloc: Global,
     sent: &[Request],
@@ -36,7 +36,7 @@ fn exchange_at(given: &[Exchange], which: usize) -> Option<&Exchange>
     given.get(which)
 }
 
-// The reply at this place of the bag, once more, if it was given to this request.
+// A copy of the reply at this place of the bag, if it was given to this request.
 pub(crate) fn reply_at(
     alloc: Global,
     given: &[Exchange],
@@ -62,7 +62,7 @@ pub(crate) fn reply_at(
     }
 }
 
-// A request that a worker is given is sent.
+// Sends a request that a worker is given.
 pub(crate) fn keep_sent(sent: &mut Vec<Request>, answer: Answer)
     requires { vec_len sent.old < vec_capacity sent.old }
     ensures { sent.new.items ≡ sent.old.items ++ sent_by answer }
@@ -72,7 +72,7 @@ pub(crate) fn keep_sent(sent: &mut Vec<Request>, answer: Answer)
     }
 }
 
-// Puts it last, where there is room.
+// Appends it. There has to be room.
 pub(crate) fn pushed<T: Drop>(list: &mut Vec<T>, item: T)
     requires { vec_len list.old < vec_capacity list.old }
     ensures { list.new.items ≡ list.old.items ++ item ∷ [] }

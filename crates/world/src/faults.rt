@@ -6,16 +6,16 @@ use thiserror::Error;
 /// Why an event can't happen.
 #[derive(Clone, Copy, Debug, PartialEq, Eq, Error)]
 pub enum WorldFault {
-    /// So many requests were never sent.
+    /// No request at this place was ever sent.
     #[error("NoSuchRequest")]
     NoSuchRequest,
-    /// So many replies were never given, or this one was not given to the request that the worker holds.
+    /// No reply at this place was ever given, or it was not given to the request that the worker holds.
     #[error("NoSuchReply")]
     NoSuchReply,
     /// No cell has this id.
     #[error("NoSuchCell")]
     NoSuchCell,
-    /// A growth was refused.
+    /// An allocation failed.
     #[error("Memory")]
     Memory,
 }

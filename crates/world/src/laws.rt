@@ -5,11 +5,11 @@ ghost use Rattle.worker_pod.specs.declared.settings.Settings.{Settings};
 ghost use Rattle.world.specs.Laws.{WorldLaws, WorldLinkLaws};
 ghost use Rattle.world.specs.World.{IsWorldRun, WorldLink};
 
-/// What is true in every run of the world: of all that happened, and of each link behind those before it.
+/// What holds in every run of the world: for all that happened, and for each link given those before it.
 ///
-/// A container's call is performed exactly where a step took it up and the filters installed at its start,
-/// and those that it added before, together allow it; those of its start are the node's own and that of the
-/// profile which the manifest admitted under its uid chooses.
+/// A container's call is performed exactly when a step attempts it and the filters installed at its start,
+/// and those that it added before, together allow it. The filters of its start are the node's own and that of
+/// the profile which is chosen by the manifest admitted under its uid.
 pub fn every_run()
     ensures run { (settings : Settings) (baseline : Option (List Insn)) (ls : List WorldLink)
         → IsWorldRun settings baseline ls → WorldLaws settings baseline ls }

@@ -1,9 +1,9 @@
 //! The world of one node: its agent, its runtime, and every message between them, as one machine of events,
 //! with what holds of all of its runs.
 //!
-//! What a step is stands in `specs/World.antt`, what holds in every run in `specs/Laws.antt`. Requests may be
-//! served again and in any order, replies may come late or never, files may fail, and cells are stepped
-//! whenever one likes.
+//! `specs/World.antt` defines a step, and `specs/Laws.antt` what holds in every run. Requests may be served
+//! again and in any order, replies may come late or never, files may fail, and cells may be stepped at any
+//! time.
 #![tactic(auto)]
 
 mod events;

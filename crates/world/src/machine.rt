@@ -16,7 +16,8 @@ use std::marker::Model;
 use worker_core::{AgentEvent, Node, Reported};
 use worker_pod::Settings;
 
-/// A world, and all that was said in it. Contracts see what it keeps, and the worlds that it stands for.
+/// A world, and all messages that were sent in it. Contracts see what it keeps, and the worlds that it stands
+/// for.
 #[derive(Drop)]
 pub struct World {
     alloc: Global,
@@ -49,7 +50,7 @@ impl Model for World {
 }
 
 impl World {
-    /// A world in which nothing happened, on a node with this filter of its own.
+    /// A world in which nothing happened, on a node with this baseline filter.
     pub fn new(alloc: Global, settings: Settings, baseline: Option<Filter>) -> World
         ensures { StandsFor result (empty_world settings baseline) }
     {
@@ -94,8 +95,8 @@ impl World {
         self.given.as_slice()
     }
 
-    /// Takes a step, if the event can happen. What the agent or the runtime refuse are answers of theirs, and
-    /// no faults. A fault changes nothing.
+    /// Takes a step, if the event can happen. A refusal by the agent or the runtime is an answer, not a
+    /// fault. A fault changes nothing.
     pub fn step(&mut self, event: WorldEvent) -> Result<(), WorldFault>
         // It is a step of every world that what was kept stands for.
         ensures step { OnOk result ((world : WorldState) → StandsFor self.old world
@@ -143,7 +144,7 @@ impl World {
         Ok(())
     }
 
-    // Anything but a claim, by which nothing is sent.
+    // Anything but a claim. It sends nothing.
     fn go_on(&mut self, act: Act)
         requires { ¬ IsClaim act }
         ensures { (world : WorldState) → StandsFor self.old world → Comes world (Agent act) self.new }

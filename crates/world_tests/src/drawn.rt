@@ -39,7 +39,7 @@ const SPECS: [(&str, &str); 5] = [
     ),
 ];
 
-// A world into which drawn events are put, with all that was seen of it.
+// A world that is given drawn events, with all that was seen of it.
 #[derive(Drop)]
 struct Drawn {
     alloc: Global,
@@ -94,7 +94,7 @@ impl Drawn {
         Ok(files)
     }
 
-    // Where the newest reply stands that was given to the worker's request.
+    // The place of the newest reply that was given to the worker's request.
     fn reply_for(&self, worker: u32) -> usize {
         let Some(claim) = self.world.node().claim_of(worker) else {
             return 0;
@@ -159,7 +159,7 @@ impl Drawn {
         }
     }
 
-    // Before a loss: which request it was.
+    // Called before a loss: notes which request it was.
     fn loses(&mut self, worker: u32) {
         let Some(claim) = self.world.node().claim_of(worker) else {
             return;
@@ -182,7 +182,7 @@ impl Drawn {
         }
     }
 
-    // One drawn event, and what is wrong behind it.
+    // One drawn event, and what is wrong after it.
     fn does(&mut self) -> Result<Option<&'static str>, Fail> {
         let event = self.event()?;
         match &event {
@@ -248,7 +248,7 @@ fn wrong_unless(holds: bool, wrong: &'static str) -> Option<&'static str> {
     if holds { None } else { Some(wrong) }
 }
 
-// A world into which the pods were admitted, and a thousand drawn events put.
+// A world into which the pods were admitted, after a thousand drawn events.
 fn played(rt: &impl Abort, alloc: Global, seed: u64) -> Result<Drawn, Fail> {
     // half of the lists by each version
     let version = if seed % 2 == 0 {

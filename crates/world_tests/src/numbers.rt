@@ -22,7 +22,7 @@ impl Numbers {
         if bound == 0 { 0 } else { drawn % bound }
     }
 
-    // Whether one of so many draws, on the whole.
+    // True for one in `many` draws, on average.
     pub(crate) fn one_in(&mut self, many: u64) -> bool {
         self.below(many) == 0
     }

@@ -10,10 +10,10 @@ use world::{Act, World, WorldEvent};
 
 // A world that is played with lines of words, each of which is one event:
 //   admit NAME, delete NAME, claim WORKER, tick MOMENT, abandon WORKER, report WORKER PLACE, lose WORKER,
-//   step ID, kill ID CODE, and serve PLACE, behind which stand the faults of its files, the script's and the
-//   profile's, where they can't be read.
-// What came of a line is told: of a claim the request that was sent, of a serving what was answered, of a
-// step the state of the cell, or the fault.
+//   step ID, kill ID CODE, and serve PLACE, followed by the faults of its files, the script's and the
+//   profile's, if they can't be read.
+// The result of a line is shown: of a claim the request that was sent, of a serving the answer, of a step the
+// state of the cell, or the fault.
 #[derive(Drop)]
 pub(crate) struct Play {
     alloc: Global,
@@ -139,7 +139,7 @@ impl Play {
         })
     }
 
-    // What came of the event of a line.
+    // The result of the event of a line.
     fn came_of(&self, line: &str, sent: usize) -> Result<String, AllocError> {
         let alloc = self.alloc;
         match word(line, 0) {
@@ -159,7 +159,7 @@ impl Play {
         }
     }
 
-    // Does what the line says, and tells what came of it.
+    // Does what the line says, and returns the result.
     pub(crate) fn does(&mut self, line: &str, spec: &str) -> Result<String, Fail> {
         match word(line, 0) {
             "cell" => {

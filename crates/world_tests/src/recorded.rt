@@ -24,6 +24,7 @@ struct Removed {
     served: bool,
 }
 
+<<<<<<< HEAD
 // How many runs of a container were seen.
 #[derive(Drop)]
 struct Counted {
@@ -33,6 +34,9 @@ struct Counted {
 }
 
 // All that was seen of a world, by plain code, and how often what is rare came.
+=======
+// All that was seen of a world, by plain code, and how often the rare cases came.
+>>>>>>> bd032dc8f0d2713c50bbeac46d5fb301af964d03
 #[derive(Drop)]
 pub(crate) struct Recorded {
     alloc: Global,
@@ -99,7 +103,7 @@ impl Recorded {
         }
     }
 
-    // Takes in a request that was served. What is wrong is told.
+    // Notes a request that was served. Returns what is wrong.
     pub(crate) fn served(
         &mut self,
         exchange: &Exchange,
@@ -181,7 +185,7 @@ impl Recorded {
         Ok(None)
     }
 
-    // Looks at all cells that are there. What is wrong is told.
+    // Looks at all existing cells. Returns what is wrong.
     pub(crate) fn looks(&mut self, world: &World) -> Option<&'static str> {
         let removed = self.removed.as_slice();
         for seen in self.cells.as_mut_slice() {
@@ -194,7 +198,7 @@ impl Recorded {
         None
     }
 
-    // Whether a cell is there again that went.
+    // Whether a cell that was gone exists again.
     pub(crate) fn came_back(&self, world: &World) -> bool {
         let mut cells = self.cells.as_slice().iter();
         cells.any(|seen| seen.gone && world.runtime().cell(seen.id).is_some())
@@ -258,7 +262,7 @@ impl Recorded {
         Ok(true)
     }
 
-    // Whether no two of these workers hold one pod.
+    // Whether no two of these workers hold the same pod.
     pub(crate) fn are_apart(&self, world: &World, workers: u32) -> bool {
         for worker in 0..workers {
             let Some(request) = world.node().claim_of(worker) else {

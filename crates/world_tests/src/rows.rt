@@ -53,7 +53,7 @@ report 1 4=>done
 claim 1=>nothing
 table=>Succeeded, main Terminated 0 1"#;
 
-// A creation that comes behind the removal of its sandbox makes nothing.
+// A creation that comes after the removal of its sandbox makes nothing.
 const LATE: &str = r#"admit one=>done
 claim 1=>RunPodSandbox
 serve 0=>ok
