@@ -1,6 +1,7 @@
 /*
- * The compiler, the checker and the machine of seccomp filters, classic BPF as seccomp(2) takes it: the
- * filter of a profile, whether a filter is safe to run, why it is not, and what it returns on a call.
+ * The compiler, the checker, the machine and the comparison of seccomp filters, classic BPF as seccomp(2)
+ * takes it: the filter of a profile, whether a filter is safe to run, why it is not, what it returns on a
+ * call, and whether two filters return the same on every call.
  *
  * A profile is the JSON text of the linux.seccomp object of the OCI runtime specification 1.1. A filter is
  * the bytes of its struct sock_filter (linux/filter.h), 8 each, numbers little-endian, so an array of them as
@@ -17,15 +18,16 @@
  * The functions take memory by malloc while they run, and give it back by free; the two are C's own, or
  * keep C's promises. motchidu_compile needs 128 KiB of stack, as a profile's text may have 127 objects in
  * one another (119 KiB were measured then, and 26 KiB on profiles as engines write them), the others 24 KiB
- * (12 motchidu_verify, 17 motchidu_longest, 9 motchidu_run_all). They keep nothing between two
- * calls, and may run in many threads at once, but not in a signal handler, nor in the forked child of a
- * process with threads.
+ * (12 motchidu_verify, 17 motchidu_longest, 9 motchidu_run_all, 15 motchidu_compare). They keep nothing
+ * between two calls, and may run in many threads at once, but not in a signal handler, nor in the forked
+ * child of a process with threads.
  *
  * Link with -lmotchidu. The library is for x86-64, as of x86-64-v2.
  */
 #ifndef MOTCHIDU_H
 #define MOTCHIDU_H
 
+#include <stdbool.h>
 #include <stddef.h>
 #include <stdint.h>
 
@@ -34,8 +36,9 @@ extern "C" {
 #endif
 
 /* What a function answers. Names and order of the faults are those of the project's programs, and the
- * first fault in that order is told. P marks those that have a place. Those from MOTCHIDU_NOT_JSON on are
- * of profiles, and motchidu_compile alone answers them. */
+ * first fault in that order is told. P marks those that have a place. Those from MOTCHIDU_NOT_JSON to
+ * MOTCHIDU_NO_ROOM are of profiles, and motchidu_compile alone answers them; those from MOTCHIDU_SAME on
+ * are of two filters, and motchidu_compare alone answers them. */
 enum motchidu_status {
     MOTCHIDU_ACCEPTED = 0,        /* the filter is sound: it may be run on any call */
     MOTCHIDU_LENGTH = 1,          /* its length is no multiple of 8 */
@@ -67,8 +70,33 @@ enum motchidu_status {
     MOTCHIDU_NOTIFY = 26,         /* SCMP_ACT_NOTIFY, for which nobody listens */
     MOTCHIDU_TOO_LARGE = 27,      /* a text of more than 262,144 bytes */
     MOTCHIDU_TOO_HEAVY = 28,      /* more entries, names and conditions than one filter is made for */
-    MOTCHIDU_NO_ROOM = 29         /* the filter is longer than the room for it */
+    MOTCHIDU_NO_ROOM = 29,        /* the filter is longer than the room for it */
+    MOTCHIDU_SAME = 30,           /* two filters return the same value on every call that was asked about */
+    MOTCHIDU_DIFFER = 31,         /* on one of those calls they return different values */
+    MOTCHIDU_BUDGET = 32,         /* undecided: it takes more instructions than were to be followed */
+    MOTCHIDU_ARITHMETIC = 33,     /* undecided: a filter computes with what it loaded, other than by masks */
+    MOTCHIDU_NO_CALL = 34         /* undecided: they may differ, but no call on which they do was found */
 };
+
+/*
+ * Checks two filters, of first_len and of second_len bytes, and compares them on every call, or, with native,
+ * on the calls of x86-64 whose number is below 2^30, so on none of x32. What is compared is the value that
+ * they return: two values of one action with other data are not the same.
+ *
+ * With MOTCHIDU_SAME both return the same value on each of those calls. With MOTCHIDU_DIFFER the 64 bytes at
+ * call become one of those calls, on which they do not, values[0] becomes the value that the first filter
+ * returns on it, and values[1] that of the second. With MOTCHIDU_BUDGET, MOTCHIDU_ARITHMETIC and
+ * MOTCHIDU_NO_CALL both are sound, and it was not found out whether they differ; so it may be of a filter
+ * and itself. Any other answer is one of motchidu_verify, for the first filter, or for the second where the
+ * first is sound. Nothing is written but with MOTCHIDU_DIFFER.
+ *
+ * All ways through both filters are followed that calls can take, by budget instructions at most. 100,000,000
+ * of them take seconds; seccheck allows as many.
+ */
+enum motchidu_status motchidu_compare(const uint8_t *first, size_t first_len,
+                                      const uint8_t *second, size_t second_len,
+                                      bool native, uint64_t budget,
+                                      uint8_t call[64], uint32_t values[2]);
 
 /*
  * Compiles the profile of profile_len bytes to a sound filter, whose value is on every call what the
@@ -145,6 +173,11 @@ static inline const char *motchidu_status_text(enum motchidu_status status)
     case MOTCHIDU_TOO_LARGE: return "TooLarge";
     case MOTCHIDU_TOO_HEAVY: return "TooHeavy";
     case MOTCHIDU_NO_ROOM: return "NoRoom";
+    case MOTCHIDU_SAME: return "Same";
+    case MOTCHIDU_DIFFER: return "Differ";
+    case MOTCHIDU_BUDGET: return "Budget";
+    case MOTCHIDU_ARITHMETIC: return "Arithmetic";
+    case MOTCHIDU_NO_CALL: return "NoCall";
     }
     return "Unknown";
 }

@@ -1,5 +1,7 @@
-/* One filter, and one profile, for each status of motchidu.h, so that the numbers of the header and those of
- * the library can't part. Prints each row that is not as it should be, and ends with their number. */
+/* A filter, a profile or a pair of filters for each status of motchidu.h, so that the numbers of the header
+ * and those of the library can't part. Prints each row that is not as it should be, and ends with their
+ * number. */
+#include <linux/audit.h>
 #include <linux/filter.h>
 #include <linux/seccomp.h>
 #include <motchidu.h>
@@ -13,13 +15,23 @@ enum { NOWHERE = 4711 };
 void rattle_alloc(void);
 void rattle_alloc(void) {}
 
-/* The linker puts this in the place of malloc, to see what the library says where there is no memory. */
-static int no_memory;
+/* The linker puts this in the place of malloc, to see what the library says where there is no memory: so many
+ * requests are served, or with ALL each. */
+enum { ALL = -1 };
+static int served = ALL;
 void *__real_malloc(size_t size);
-void *__wrap_malloc(size_t size) { return no_memory ? NULL : __real_malloc(size); }
+void *__wrap_malloc(size_t size) {
+    if (served == 0)
+        return NULL;
+    if (served != ALL)
+        served--;
+    return __real_malloc(size);
+}
 
 #define LOAD_NR BPF_STMT(BPF_LD | BPF_W | BPF_ABS, 0)
 #define ALLOW BPF_STMT(BPF_RET | BPF_K, SECCOMP_RET_ALLOW)
+#define KILL BPF_STMT(BPF_RET | BPF_K, SECCOMP_RET_KILL_PROCESS)
+#define TEST(test, k, jt, jf) BPF_JUMP(BPF_JMP | test | BPF_K, k, jt, jf)
 
 static const struct {
     const char *name;
@@ -136,11 +148,11 @@ static void expect_profiles(void) {
         strcat(heavy, ",\"read\"");
     strcat(heavy, "]}]}");
     expect_compiled("512 names", heavy, strlen(heavy), 64, MOTCHIDU_TOO_HEAVY, NOWHERE);
-    no_memory = 1;
+    served = 0;
     expect_compiled("no memory for a profile", profiles[0].text, strlen(profiles[0].text), 64,
                     MOTCHIDU_MEMORY, NOWHERE);
     expect_compiled("no memory, too large", large, sizeof large, 64, MOTCHIDU_TOO_LARGE, NOWHERE);
-    no_memory = 0;
+    served = ALL;
 }
 
 static void expect_longest(const char *name, const void *code, size_t len, uint32_t want,
@@ -152,12 +164,115 @@ static void expect_longest(const char *name, const void *code, size_t len, uint3
     expect(name, longest, 0, want == MOTCHIDU_ACCEPTED ? want_longest : NOWHERE, 0);
 }
 
+/* Filters to compare. */
+static const struct code {
+    size_t len;
+    struct sock_filter code[5];
+} allows = {8, {ALLOW}}, loads = {16, {LOAD_NR, ALLOW}},
+  no_ptrace = {32, {LOAD_NR, TEST(BPF_JEQ, 101, 0, 1), KILL, ALLOW}},
+  no_x32 = {32, {LOAD_NR, TEST(BPF_JGE, 0x40000000, 0, 1), KILL, ALLOW}},
+  adds = {24, {LOAD_NR, BPF_STMT(BPF_ALU | BPF_ADD | BPF_K, 1), BPF_STMT(BPF_RET | BPF_A, 0)}},
+  /* what is known of calls by an order of a part of their number does not tell those that pass it apart */
+  orders_a_part = {40, {LOAD_NR, BPF_STMT(BPF_ALU | BPF_AND | BPF_K, 0xff), TEST(BPF_JGT, 0x10, 0, 1), KILL,
+                        ALLOW}};
+
+static const struct {
+    const char *name;
+    const struct code *first, *second;
+    bool native;
+    uint64_t budget;
+    enum motchidu_status want;
+} pairs[] = {
+    {"a filter and itself", &no_ptrace, &no_ptrace, false, 100, MOTCHIDU_SAME},
+    {"a load of no use", &loads, &allows, false, 100, MOTCHIDU_SAME},
+    {"a call is denied", &no_ptrace, &loads, false, 100, MOTCHIDU_DIFFER},
+    {"a native call is denied", &no_ptrace, &loads, true, 100, MOTCHIDU_DIFFER},
+    {"the second denies it", &loads, &no_ptrace, true, 100, MOTCHIDU_DIFFER},
+    {"calls of x32 are denied", &no_x32, &allows, false, 100, MOTCHIDU_DIFFER},
+    {"none of which is native", &no_x32, &allows, true, 100, MOTCHIDU_SAME},
+    {"no budget", &loads, &allows, false, 0, MOTCHIDU_BUDGET},
+    {"a budget of 1", &loads, &allows, false, 1, MOTCHIDU_BUDGET},
+    {"two of three instructions", &loads, &allows, false, 2, MOTCHIDU_BUDGET},
+    {"three of three", &loads, &allows, false, 3, MOTCHIDU_SAME},
+    {"a sum is returned", &adds, &adds, false, 100, MOTCHIDU_ARITHMETIC},
+    {"a part of the number is ordered", &orders_a_part, &orders_a_part, false, 100, MOTCHIDU_NO_CALL},
+};
+
+/* What the filter returns on the call. */
+static uint32_t returned(const struct code *filter, const struct seccomp_data *call) {
+    uint32_t value = NOWHERE, steps;
+    motchidu_run_all((const uint8_t *)filter->code, filter->len, (const uint8_t *)call, sizeof *call, &value,
+                     1, &steps, 1);
+    return value;
+}
+
+/* Compares two filters, and says whether what was written is as the answer has it. */
+static void expect_compared(const char *name, const struct code *first, const struct code *second,
+                            bool native, uint64_t budget, uint32_t want) {
+    struct seccomp_data call, before;
+    uint32_t values[2] = {NOWHERE, NOWHERE};
+    memset(&before, 0xa5, sizeof before);
+    call = before;
+    uint32_t status =
+        motchidu_compare((const uint8_t *)first->code, first->len, (const uint8_t *)second->code, second->len,
+                         native, budget, (uint8_t *)&call, values);
+    expect(name, status, 0, want, 0);
+    if (want != MOTCHIDU_DIFFER) {
+        if (memcmp(&call, &before, sizeof call) != 0 || values[0] != NOWHERE || values[1] != NOWHERE) {
+            printf("%s: something was written\n", name);
+            wrong++;
+        }
+        return;
+    }
+    bool is_native = call.arch == AUDIT_ARCH_X86_64 && (uint32_t)call.nr < 0x40000000;
+    if (values[0] == values[1] || values[0] != returned(first, &call) ||
+        values[1] != returned(second, &call) || (native && !is_native)) {
+        printf("%s: %u and %u at %d of %x\n", name, values[0], values[1], call.nr, call.arch);
+        wrong++;
+    }
+}
+
+static void expect_pairs(void) {
+    static const struct code half = {12, {LOAD_NR, ALLOW}}, nothing = {0, {{0}}};
+    for (size_t i = 0; i < sizeof pairs / sizeof *pairs; i++)
+        expect_compared(pairs[i].name, pairs[i].first, pairs[i].second, pairs[i].native, pairs[i].budget,
+                        pairs[i].want);
+    for (size_t i = 0; i < sizeof rows / sizeof *rows; i++) {
+        struct code refused = {rows[i].len, {{0}}};
+        if (rows[i].want == MOTCHIDU_ACCEPTED)
+            continue;
+        memcpy(refused.code, rows[i].code, sizeof rows[i].code);
+        expect_compared(rows[i].name, &refused, &loads, false, 100, rows[i].want);
+        expect_compared(rows[i].name, &loads, &refused, false, 100, rows[i].want);
+        expect_compared(rows[i].name, &refused, &nothing, false, 100, rows[i].want);
+    }
+    expect_compared("half an instruction, and nothing", &half, &nothing, false, 100, MOTCHIDU_LENGTH);
+    expect_compared("nothing, and half an instruction", &nothing, &half, false, 100, MOTCHIDU_EMPTY);
+    served = 0;
+    expect_compared("half an instruction, no memory", &half, &loads, false, 100, MOTCHIDU_LENGTH);
+    expect_compared("no memory, half an instruction", &loads, &half, false, 100, MOTCHIDU_MEMORY);
+    served = ALL;
+}
+
+/* Refuses each request for memory of a comparison in turn. */
+static void expect_pairs_without_memory(void) {
+    enum { MOST_REQUESTS = 4 };
+    for (int requests = 0; requests < MOST_REQUESTS; requests++) {
+        served = requests;
+        expect_compared("a request is refused", &no_ptrace, &no_ptrace, false, 100, MOTCHIDU_MEMORY);
+    }
+    served = MOST_REQUESTS;
+    expect_compared("all are served", &no_ptrace, &no_ptrace, false, 100, MOTCHIDU_SAME);
+    served = ALL;
+}
+
 /* In the order of their numbers. */
 static const char *const names[] = {
     "Accepted", "Length", "TooLong", "BadCode", "Empty", "BadOffset", "BadJump", "BadWord", "BadShift",
     "ZeroDivisor", "NoFinalReturn", "Unstored", "Memory", "Lengths", "NotJson", "NotObject", "Missing",
     "WrongType", "UnknownAction", "UnknownOp", "BadIndex", "EmptyNames", "RepeatedIndex", "ErrnoNotAllowed",
-    "ErrnoTooLarge", "UnknownCall", "Notify", "TooLarge", "TooHeavy", "NoRoom", "Unknown",
+    "ErrnoTooLarge", "UnknownCall", "Notify", "TooLarge", "TooHeavy", "NoRoom", "Same", "Differ", "Budget",
+    "Arithmetic", "NoCall", "Unknown",
 };
 
 static void expect_names(void) {
@@ -184,6 +299,8 @@ int main(void) {
     static const struct sock_filter dead[] = {ALLOW, LOAD_NR, ALLOW};
     expect_longest("a return in front", dead, sizeof dead, MOTCHIDU_ACCEPTED, 1, NOWHERE);
     expect_profiles();
+    expect_pairs();
+    expect_pairs_without_memory();
 
     static uint8_t long_filter[8 * 4097];
     uint32_t status = verify(long_filter, sizeof long_filter, &at);
@@ -197,10 +314,10 @@ int main(void) {
     status = motchidu_run_all((const uint8_t *)rows[0].code, rows[0].len, NULL, 0, NULL, 0, NULL, 0);
     expect("no calls", status, 0, MOTCHIDU_ACCEPTED, 0);
 
-    no_memory = 1;
+    served = 0;
     status = verify(rows[0].code, rows[0].len, &at);
     expect_run("no memory", rows[0].code, rows[0].len, 128, 2, MOTCHIDU_MEMORY);
-    no_memory = 0;
+    served = ALL;
     expect("no memory", status, at, MOTCHIDU_MEMORY, NOWHERE);
     return wrong;
 }

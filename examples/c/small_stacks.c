@@ -7,7 +7,8 @@
 #include <stdio.h>
 #include <string.h>
 
-enum { DEPTH = 126, LONGEST_FILTER = 4096, SMALL = (24 + 8) * 1024, LARGE = (128 + 8) * 1024 };
+enum { DEPTH = 126, LONGEST_FILTER = 4096, BUDGET = 100000 };
+enum { SMALL = (24 + 8) * 1024, LARGE = (128 + 8) * 1024 };
 
 static int wrong;
 
@@ -41,11 +42,13 @@ static void *compile_both(void *unused) {
     return unused;
 }
 
-/* A filter of the greatest length, each of whose instructions but the last two is a test. */
+/* A filter of the greatest length, each of whose instructions but the first and the last is a test, by itself
+ * and beside one that returns something else. */
 static void *check_and_run(void *unused) {
-    static struct sock_filter code[LONGEST_FILTER];
+    static struct sock_filter code[LONGEST_FILTER], other[LONGEST_FILTER];
     static const struct seccomp_data call;
-    uint32_t longest, value, steps;
+    uint8_t differing[64];
+    uint32_t longest, value, steps, values[2];
     size_t at;
     for (size_t i = 1; i < LONGEST_FILTER - 1; i++)
         code[i] = (struct sock_filter)BPF_JUMP(BPF_JMP | BPF_JEQ | BPF_K, i, 0, 0);
@@ -59,6 +62,15 @@ static void *check_and_run(void *unused) {
            MOTCHIDU_ACCEPTED);
     expect("its value", value, SECCOMP_RET_ALLOW);
     expect("its steps", steps, LONGEST_FILTER);
+    memcpy(other, code, sizeof code);
+    other[LONGEST_FILTER - 1].k = SECCOMP_RET_LOG;
+    const uint8_t *other_bytes = (const uint8_t *)other;
+    uint32_t status =
+        motchidu_compare(bytes, sizeof code, other_bytes, sizeof other, true, BUDGET, differing, values);
+    expect("compare with another", status, MOTCHIDU_DIFFER);
+    expect("what the other returns", values[1], SECCOMP_RET_LOG);
+    status = motchidu_compare(bytes, sizeof code, bytes, sizeof code, false, BUDGET, differing, values);
+    expect("compare with itself", status, MOTCHIDU_BUDGET);
     return unused;
 }
 

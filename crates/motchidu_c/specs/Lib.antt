@@ -1,3 +1,4 @@
 pub mod Status
 pub mod Judged
 pub mod Compiled
+pub mod Compared

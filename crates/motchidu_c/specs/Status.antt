@@ -1,8 +1,12 @@
--- What C is told of a filter: a number, and a place where the fault has one. This project's own; the
--- numbers are those of enum motchidu_status in include/motchidu.h.
+-- What C is told of a filter, or of two: a number, and a place where the fault has one. This project's own;
+-- the numbers are those of enum motchidu_status in include/motchidu.h.
 use Rattle.std.specs.Prelude.{ℕ, Option, Some, None}
 use Rattle.bpf_code.specs.declared.fault.CodeFault.{CodeFault}
 use Rattle.bpf_code.specs.declared.fault.CodeFault.TheVariants as text
+use Rattle.bpf_compare.specs.declared.comparison.Comparison.{Comparison}
+use Rattle.bpf_compare.specs.declared.comparison.Comparison.TheVariants as found
+use Rattle.bpf_compare.specs.declared.comparison.Doubt.{Doubt}
+use Rattle.bpf_compare.specs.declared.comparison.Doubt.TheVariants as doubt
 use Rattle.bpf_verify.specs.declared.fault.Fault.{Fault}
 use Rattle.bpf_verify.specs.declared.fault.Fault.TheVariants as fault
 use Rattle.bpf_verify.specs.declared.refusal.Refusal.{Refusal}
@@ -19,7 +23,8 @@ use Rattle.motchidu_c.specs.declared.status.Status.TheVariants.{Lengths, NotJson
 use Rattle.motchidu_c.specs.declared.status.Status.TheVariants.{WrongType, UnknownAction, UnknownOp, BadIndex}
 use Rattle.motchidu_c.specs.declared.status.Status.TheVariants.{EmptyNames, RepeatedIndex, ErrnoNotAllowed}
 use Rattle.motchidu_c.specs.declared.status.Status.TheVariants.{ErrnoTooLarge, UnknownCall, Notify, TooLarge}
-use Rattle.motchidu_c.specs.declared.status.Status.TheVariants.{TooHeavy, NoRoom}
+use Rattle.motchidu_c.specs.declared.status.Status.TheVariants.{TooHeavy, NoRoom, Same, Differ, Budget}
+use Rattle.motchidu_c.specs.declared.status.Status.TheVariants.{Arithmetic, NoCall}
 
 abbrev pub number_of : Status → ℕ
 number_of Accepted = 0
@@ -52,6 +57,11 @@ number_of Notify = 26
 number_of TooLarge = 27
 number_of TooHeavy = 28
 number_of NoRoom = 29
+number_of Same = 30
+number_of Differ = 31
+number_of Budget = 32
+number_of Arithmetic = 33
+number_of NoCall = 34
 
 -- the status of a fault of the text
 abbrev pub status_of_text : CodeFault → Status
@@ -94,6 +104,18 @@ status_of_profile profile.Memory = Memory
 abbrev pub status_of_compile : CompileFault → Status
 status_of_compile compiler.TooLong = TooHeavy
 status_of_compile compiler.Memory = Memory
+
+-- why two filters were not compared to the end
+abbrev pub status_of_doubt : Doubt → Status
+status_of_doubt doubt.Budget = Budget
+status_of_doubt doubt.Arithmetic = Arithmetic
+status_of_doubt doubt.NoCall = NoCall
+
+-- how two filters compare
+abbrev pub status_of_comparison : Comparison → Status
+status_of_comparison found.Same = Same
+status_of_comparison (found.Differs call one other) = Differ
+status_of_comparison (found.Undecided why) = status_of_doubt why
 
 abbrev pub status_of : Refusal → Status
 status_of (Code fault) = status_of_text fault

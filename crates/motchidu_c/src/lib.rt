@@ -1,4 +1,4 @@
-//! The compiler, the checker and the machine of seccomp filters for C: the static library of
+//! The compiler, the checker, the machine and the comparison of seccomp filters for C: the static library of
 //! `include/motchidu.h`.
 //!
 //! Each export calls the crates below and states their clauses again. A `Status` is what an export
@@ -7,11 +7,13 @@
 #![tactic(auto)]
 
 mod calls;
+mod comparing;
 mod compiling;
 mod exports;
 mod refusal;
 mod status;
 
+pub use comparing::motchidu_compare;
 pub use compiling::motchidu_compile;
 pub use exports::{motchidu_longest, motchidu_run_all, motchidu_verify};
 pub use status::Status;

@@ -64,6 +64,16 @@ pub enum Status {
     TooHeavy = 28,
     /// The filter is longer than the room for it.
     NoRoom = 29,
+    /// Two filters return the same value on every call that was asked about.
+    Same = 30,
+    /// On one of those calls they return different values.
+    Differ = 31,
+    /// Comparing them takes more instructions than were to be followed.
+    Budget = 32,
+    /// They were not compared to the end: one computes with what it loaded, other than by masks.
+    Arithmetic = 33,
+    /// They may differ, but no call on which they do was found.
+    NoCall = 34,
 }
 
 impl Status {
