@@ -118,7 +118,6 @@ pub(crate) fn runtime(
     Ok(runtime)
 }
 
-<<<<<<< HEAD
 // The settings of an agent that speaks this version.
 fn settings(version: Version) -> Settings {
     Settings {
@@ -128,10 +127,7 @@ fn settings(version: Version) -> Settings {
     }
 }
 
-/// A shared book of so many entries at most, with these pods, of an agent that speaks this version, and
-=======
 /// A shared book with this limit of entries, with these pods, of an agent that speaks this version, and
->>>>>>> bd032dc8f0d2713c50bbeac46d5fb301af964d03
 /// worker 0's coordinator.
 pub(crate) fn begun<L: Ledger, R: Wait>(
     rt: &R,

@@ -71,11 +71,7 @@ pub(crate) fn outcome(performed: bool) -> &'static str
 
 /// A line for each judged call, and one for the end. Each step but the last makes a call, so a call's
 /// place in the record is its step's place in the script.
-pub fn outcome_lines(
-    alloc: Global,
-    outcome: &Outcome,
-    naming: Naming,
-) -> Result<String, AllocError>
+pub fn outcome_lines(alloc: Global, outcome: &Outcome, naming: Naming) -> Result<String, AllocError>
     ensures { IfOk result (λ text. string_bytes text ≡ record_text naming outcome.now) }
 {
     let mut text = String::new(alloc);

@@ -162,11 +162,7 @@ pub fn code_objects(
 
 /// An object for each container of a pod, init ones first: the profile that it gets on a node whose seccomp
 /// default is on or off.
-pub fn picked_objects(
-    alloc: Global,
-    pod: &Pod,
-    seccomp_default: bool,
-) -> Result<String, AllocError>
+pub fn picked_objects(alloc: Global, pod: &Pod, seccomp_default: bool) -> Result<String, AllocError>
     ensures { IfOk result (λ text. string_bytes text ≡ picked_objects pod.now seccomp_default) }
 {
     let mut text = String::new(alloc);

@@ -31,11 +31,7 @@ impl fmt::Display for Picked<'_> {
 
 /// A line for each container of a pod, init ones first: the profile that it gets on a node whose seccomp
 /// default is on or off.
-pub fn picked_lines(
-    alloc: Global,
-    pod: &Pod,
-    seccomp_default: bool,
-) -> Result<String, AllocError>
+pub fn picked_lines(alloc: Global, pod: &Pod, seccomp_default: bool) -> Result<String, AllocError>
     ensures { IfOk result (λ text. string_bytes text ≡ picked_text pod.now seccomp_default) }
 {
     let mut text = String::new(alloc);

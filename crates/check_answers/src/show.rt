@@ -85,11 +85,7 @@ impl fmt::Display for Shown {
 
 /// One line an instruction: its place, its text, behind a jump the places that it may go to, and behind a
 /// comparison of the call's number, which these tell, the name that it has.
-pub fn code_lines(
-    alloc: Global,
-    code: &[Insn],
-    number_tests: &[bool],
-) -> Result<String, AllocError>
+pub fn code_lines(alloc: Global, code: &[Insn], number_tests: &[bool]) -> Result<String, AllocError>
     requires short { length code.now ≤ MAX_INSNS }
     requires as_many { length number_tests.now ≡ length code.now }
     ensures { IfOk result (λ text. string_bytes text ≡ code_text number_tests.now code.now) }

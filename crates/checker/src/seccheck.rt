@@ -17,9 +17,9 @@ use bpf_verify::{Filter, Refusal, filter_of};
 use call_data::SysCall;
 use call_names::{Naming, number_tests};
 use check_answers::{
-    Outcome, accepted_line, accepted_object, code_lines, code_objects, compiled_line, compiled_object,
-    judge, judged_line, judged_object, longest_line, longest_object, outcome_lines, picked_lines,
-    picked_objects, play, record_objects, same_line, same_object,
+    Outcome, accepted_line, accepted_object, code_lines, code_objects, compiled_line,
+    compiled_object, judge, judged_line, judged_object, longest_line, longest_object,
+    outcome_lines, picked_lines, picked_objects, play, record_objects, same_line, same_object,
 };
 use clap::ArgMatches;
 use clap::error::ErrorKind;

@@ -74,11 +74,7 @@ fn of_texts(rt: &HostRuntime, name: &str) -> Option<Told> {
     of_agents(rt, name)
 }
 
-<<<<<<< HEAD
-/// The same of a call of what an agent tells of its pods, of their past runs, and of what brings them.
-=======
-/// Tries a call of what an agent shows of its pods, or of its folder of manifests.
->>>>>>> bd032dc8f0d2713c50bbeac46d5fb301af964d03
+/// Tries a call of what an agent shows of its pods, of their past runs, or of its folder of manifests.
 fn of_agents(rt: &HostRuntime, name: &str) -> Option<Told> {
     if let Some(told) = watching::told(rt, name) {
         return Some(told);

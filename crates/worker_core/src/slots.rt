@@ -204,11 +204,7 @@ pub(crate) fn claimed_at(slots: &mut Vec<Slot>, place: usize, held: Held)
     }
 }
 
-<<<<<<< HEAD
-// The claim of the pod ends. Only the record of an exit can be refused.
-=======
-// Ends the claim of the pod. Only recording an exit takes memory.
->>>>>>> bd032dc8f0d2713c50bbeac46d5fb301af964d03
+// Ends the claim of the pod. Only the record of an exit can be refused.
 fn ended(slot: &mut Slot, now: u64, outcome: Outcome) -> Result<(), AllocError>
     requires { slot.old.state.latest ≤ now }
     ensures ok { OnOk result (slot.new ≡ ended now outcome slot.old) }

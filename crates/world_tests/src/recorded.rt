@@ -24,7 +24,6 @@ struct Removed {
     served: bool,
 }
 
-<<<<<<< HEAD
 // How many runs of a container were seen.
 #[derive(Drop)]
 struct Counted {
@@ -33,10 +32,7 @@ struct Counted {
     runs: usize,
 }
 
-// All that was seen of a world, by plain code, and how often what is rare came.
-=======
 // All that was seen of a world, by plain code, and how often the rare cases came.
->>>>>>> bd032dc8f0d2713c50bbeac46d5fb301af964d03
 #[derive(Drop)]
 pub(crate) struct Recorded {
     alloc: Global,
