@@ -90,8 +90,8 @@ enum motchidu_status {
  * and itself. Any other answer is one of motchidu_verify, for the first filter, or for the second where the
  * first is sound. Nothing is written but with MOTCHIDU_DIFFER.
  *
- * All ways through both filters are followed that calls can take, by budget instructions at most. 100,000,000
- * of them take seconds; seccheck allows as many.
+ * The ways that calls can take through both filters are followed, by budget instructions at most in all.
+ * seccheck allows 100,000,000, which take some 20 seconds where none is spared.
  */
 enum motchidu_status motchidu_compare(const uint8_t *first, size_t first_len,
                                       const uint8_t *second, size_t second_len,
