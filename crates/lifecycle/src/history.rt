@@ -8,7 +8,7 @@ use std::marker::Model;
 
 /// All past runs of a container, the oldest first. It has no bytes, and its functions do nothing at run time.
 #[derive(Drop)]
-pub(crate) struct History {
+pub struct History {
     pub(crate) ghost runs: { List Run },
 }
 

@@ -17,6 +17,7 @@ mod state;
 mod track;
 
 pub use back_off::ready_at;
+pub use history::History;
 pub use laws::{
     back_off_counts_from_the_last_long_run, constants_are_as_stated, finished_init_stays_finished,
     init_containers_alone_succeed,
