@@ -100,7 +100,7 @@ fn nodeagent<'a>(alloc: Global) -> Result<Command<'a>, AllocError>
     ensures { IfOk result (λ c. app_of c ≡ nodeagent) }
 {
     let command = versioned(alloc, "nodeagent").about(
-        "Runs pods by the containers of a runtime behind a socket, and tells what became of them",
+        "Runs pods in the containers of a runtime behind a socket, and prints what became of them",
     );
     running(alloc, command)
 }
