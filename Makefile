@@ -73,8 +73,9 @@ bench: lib
 	@out/bench/bench
 	@tools/call_names.sh > out/bench/names.h
 	@seccomp=$$(printf '#if __has_include(<seccomp.h>)\n-lseccomp\n#endif\n' | $(CC) -E -P -x c -); \
-	  for program in profiles drawn costs compare; do $(CC) $(BENCH_FLAGS) -Iout/c -Iout/bench bench/$$program.c \
-	    out/c/libmotchidu.a $$seccomp -o out/bench/$$program || exit 1; done
+	  for program in profiles drawn costs compare; do \
+	    $(CC) $(BENCH_FLAGS) -Iout/c -Iout/bench bench/$$program.c out/c/libmotchidu.a $$seccomp \
+	      -o out/bench/$$program || exit 1; done
 	@out/bench/profiles $$(tools/engine_profiles.py out/bench/engines $(ENGINES))
 	@out/bench/drawn
 	@out/bench/costs

@@ -1,9 +1,9 @@
 #!/usr/bin/env python3
-"""bench_node.py [SECONDS [COUNTED]]: a node of 110 pods with 4 containers each that end and are restarted for
-ever, by the machine's clock for so many seconds (60), and then by a virtual clock to such a moment (86,400):
-how many calls there are, the memory of the process behind a tenth of the time and at the end, and what a call
-takes of the processor in the first and in the last tenth. The program is crates/nodeagent/out/nodeagent, or
-that in the folder BIN names.
+"""bench_node.py [SECONDS [COUNTED [PODS]]]: a node of 110 pods, or of PODS, with 4 containers each that end
+and are restarted for ever, by the machine's clock for so many seconds (60), and then by a virtual clock to
+such a moment (86,400); 0 leaves a clock out. It prints how many calls there are, the memory of the process
+after a tenth of the time and at the end, and what a call takes of the processor in the first and in the last
+tenth. The program is crates/nodeagent/out/nodeagent, or that in the folder BIN names.
 """
 import json
 import os
@@ -14,8 +14,8 @@ import tempfile
 import time
 
 ROOT = os.path.dirname(os.path.dirname(os.path.abspath(__file__)))
-PODS, CONTAINERS = 110, 4
-SECONDS, COUNTED = [int(it) for it in sys.argv[1:]] + [60, 86_400][len(sys.argv) - 1:]
+CONTAINERS = 4
+SECONDS, COUNTED, PODS = [int(it) for it in sys.argv[1:]] + [60, 86_400, 110][len(sys.argv) - 1:]
 PROGRAM = f"{os.environ.get('BIN', f'{ROOT}/crates/nodeagent/out')}/nodeagent"
 SCRIPT = {"steps": [{"call": "getpid"}, {"call": "write"}, {"exit": 1}]}
 
@@ -91,7 +91,7 @@ def main():
             first, tenth, ninth, last = looked_after(folder, [*words, *names], end)
             took = time.monotonic() - begun
             print(f"{PODS} pods of {CONTAINERS} containers for {end} s by {clock}, {took:.0f} s: "
-                  f"{last.calls} calls, {tenth.memory} KiB behind a tenth, {last.memory} KiB at the end, "
+                  f"{last.calls} calls, {tenth.memory} KiB after a tenth, {last.memory} KiB at the end, "
                   f"{tenth.a_call(first):.0f} us of the processor a call in the first tenth, "
                   f"{last.a_call(ninth):.0f} in the last", flush=True)
 
