@@ -1,5 +1,5 @@
-/* How long comparisons of two filters take: RuntimeDefault beside the same profile by libseccomp's list and by
- * its binary tree, on native calls, and two lists of compares of 4,000 instructions in different orders, on
+/* How long comparisons of two filters take: RuntimeDefault beside the same profile by libseccomp's list and
+ * by its binary tree, on native calls, and two lists of compares of 4,000 instructions in different orders, on
  * every call. */
 #include "rules.h"
 #include <linux/filter.h>

@@ -76,7 +76,8 @@ static void rows(const char *profile) {
 #ifdef HAS_SECCOMP
     there = 3;
 #endif
-    double *took = mmap(NULL, sizeof(double) * KINDS, PROT_READ | PROT_WRITE, MAP_SHARED | MAP_ANONYMOUS, -1, 0);
+    double *took =
+        mmap(NULL, sizeof(double) * KINDS, PROT_READ | PROT_WRITE, MAP_SHARED | MAP_ANONYMOUS, -1, 0);
     if (took == MAP_FAILED)
         exit(1);
     text_len = json(text);
@@ -105,7 +106,8 @@ int main(void) {
     CPU_SET(sched_getcpu(), &one);
     if (sched_setaffinity(0, sizeof one, &one))
         perror("sched_setaffinity");
-    printf("| profile | compiler | always allowed | allowed by a condition | denied |\n|---|---|---|---|---|\n");
+    printf("| profile | compiler | always allowed | allowed by a condition | denied |\n"
+           "|---|---|---|---|---|\n");
     runtime_default();
     rows("RuntimeDefault");
     drawn_with_ours();

@@ -1,6 +1,7 @@
-/* Drawn lists of names with conditions, compiled by the library and by libseccomp: how many instructions calls
- * with conditions execute on average, and of how many lists another compiler's take fewer than the library's.
- * Since Linux 5.11 no filter runs for a call that is always allowed, so these are the steps that count. */
+/* Drawn lists of names with conditions, compiled by the library and by libseccomp: how many instructions
+ * calls with conditions execute on average, and of how many lists another compiler's take fewer than the
+ * library's. Since Linux 5.11 no filter runs for a call that is always allowed, so these are the steps that
+ * count. */
 #include "rules.h"
 
 enum { LISTS = 600, COMPILERS = 3 };
