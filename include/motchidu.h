@@ -1,26 +1,26 @@
 /*
  * The compiler, the checker, the machine and the comparison of seccomp filters, classic BPF as seccomp(2)
  * takes it: the filter of a profile, whether a filter is safe to run, why it is not, what it returns on a
- * call, and whether two filters return the same on every call.
+ * call, and whether two filters return the same value on every call.
  *
  * A profile is the JSON text of the linux.seccomp object of the OCI runtime specification 1.1. A filter is
- * the bytes of its struct sock_filter (linux/filter.h), 8 each, numbers little-endian, so an array of them as
- * it lies in memory on x86-64. A call is the 64 bytes of a struct seccomp_data (linux/seccomp.h), likewise.
+ * the bytes of its struct sock_filter (linux/filter.h), 8 each, numbers little-endian: an array of these as
+ * it is in memory on x86-64. A call is the 64 bytes of a struct seccomp_data (linux/seccomp.h), likewise.
  * docs/SEMANTICS.md of the project has each rule.
  *
- * What the functions answer and write is proved, against the clauses of crates/motchidu_c that this page
- * retells. What no proof sees is the caller, who owes this: each pointer points at as much memory as its
- * length says, which may be read, and written where it is an output; an output overlaps with nothing else
- * that is passed; no other thread writes to what is passed before the function returns. An array of length
- * 0 may be NULL, and so may `at` in C and in C++, by the two macros below: who calls the library's own
- * motchidu_verify and motchidu_longest, as from another language, owes a place there.
+ * What the functions return and write is proved, against the clauses of crates/motchidu_c that these
+ * comments restate. No proof sees the caller, who has to ensure the following: each pointer points to as
+ * much memory as its length says, which may be read, and written if it is an output; an output overlaps with
+ * nothing else that is passed; no other thread writes to what is passed before the function returns. An
+ * array of length 0 may be NULL, and so may `at` in C and in C++, by the two macros below. A caller of the
+ * library's own motchidu_verify and motchidu_longest, as from another language, has to pass a place there.
  *
- * The functions take memory by malloc while they run, and give it back by free; the two are C's own, or
- * keep C's promises. motchidu_compile needs 128 KiB of stack, as a profile's text may have 127 objects in
- * one another (119 KiB were measured then, and 26 KiB on profiles as engines write them), the others 24 KiB
- * (12 motchidu_verify, 17 motchidu_longest, 9 motchidu_run_all, 15 motchidu_compare). They keep nothing
- * between two calls, and may run in many threads at once, but not in a signal handler, nor in the forked
- * child of a process with threads.
+ * The functions take memory with malloc while they run, and release it with free; these two are C's own, or
+ * keep C's promises. motchidu_compile needs 128 KiB of stack, because a profile's text may have 127 nested
+ * objects (119 KiB were measured for these, and 26 KiB for profiles as engines write them); the others need
+ * 24 KiB (12 motchidu_verify, 17 motchidu_longest, 9 motchidu_run_all, 15 motchidu_compare). They keep
+ * nothing between two calls, and may run in many threads at once, but not in a signal handler, nor in the
+ * forked child of a process with threads.
  *
  * Link with -lmotchidu. The library is for x86-64, as of x86-64-v2.
  */
@@ -35,13 +35,13 @@
 extern "C" {
 #endif
 
-/* What a function answers. Names and order of the faults are those of the project's programs, and the
- * first fault in that order is told. P marks those that have a place. Those from MOTCHIDU_NOT_JSON to
- * MOTCHIDU_NO_ROOM are of profiles, and motchidu_compile alone answers them; those from MOTCHIDU_SAME on
- * are of two filters, and motchidu_compare alone answers them. */
+/* What a function returns. Names and order of the faults are those of the project's programs, and the
+ * first fault in that order is returned. P marks those that have a place. Only motchidu_compile returns those
+ * from MOTCHIDU_NOT_JSON to MOTCHIDU_NO_ROOM, which are about profiles; only motchidu_compare returns those
+ * from MOTCHIDU_SAME on, which are about two filters. */
 enum motchidu_status {
     MOTCHIDU_ACCEPTED = 0,        /* the filter is sound: it may be run on any call */
-    MOTCHIDU_LENGTH = 1,          /* its length is no multiple of 8 */
+    MOTCHIDU_LENGTH = 1,          /* its length is not a multiple of 8 */
     MOTCHIDU_TOO_LONG = 2,        /* more than 4,096 instructions */
     MOTCHIDU_BAD_CODE = 3,        /* P: a code that is not in the table of instructions */
     MOTCHIDU_EMPTY = 4,           /* no instructions */
@@ -50,48 +50,48 @@ enum motchidu_status {
     MOTCHIDU_BAD_WORD = 7,        /* P: a scratch word of number 16 or more */
     MOTCHIDU_BAD_SHIFT = 8,       /* P: a shift by 32 bits or more */
     MOTCHIDU_ZERO_DIVISOR = 9,    /* P: a division by the constant 0 */
-    MOTCHIDU_NO_FINAL_RETURN = 10, /* the last instruction is no return */
+    MOTCHIDU_NO_FINAL_RETURN = 10, /* the last instruction is not a return */
     MOTCHIDU_UNSTORED = 11,       /* P: a load of a scratch word that some walk to it did not store */
-    MOTCHIDU_MEMORY = 12,         /* there was no memory; it says nothing of the filter */
+    MOTCHIDU_MEMORY = 12,         /* there was no memory; this says nothing about the filter */
     MOTCHIDU_LENGTHS = 13,        /* the lengths of calls, values and steps don't agree; the filter was
-                                     not looked at. motchidu_run_all alone answers this */
-    MOTCHIDU_NOT_JSON = 14,       /* the text is no JSON */
-    MOTCHIDU_NOT_OBJECT = 15,     /* it is no object */
-    MOTCHIDU_MISSING = 16,        /* a field that has to be there is not */
-    MOTCHIDU_WRONG_TYPE = 17,     /* a field is of another kind */
-    MOTCHIDU_UNKNOWN_ACTION = 18, /* an action that is none */
-    MOTCHIDU_UNKNOWN_OP = 19,     /* an operator that is none */
+                                     not checked. Only motchidu_run_all returns this */
+    MOTCHIDU_NOT_JSON = 14,       /* the text is not JSON */
+    MOTCHIDU_NOT_OBJECT = 15,     /* it is not an object */
+    MOTCHIDU_MISSING = 16,        /* a required field is missing */
+    MOTCHIDU_WRONG_TYPE = 17,     /* a field has another type */
+    MOTCHIDU_UNKNOWN_ACTION = 18, /* an action that does not exist */
+    MOTCHIDU_UNKNOWN_OP = 19,     /* an operator that does not exist */
     MOTCHIDU_BAD_INDEX = 20,      /* an argument's index above 5 */
     MOTCHIDU_EMPTY_NAMES = 21,    /* an entry that names no call */
     MOTCHIDU_REPEATED_INDEX = 22, /* an entry that tests an argument twice */
     MOTCHIDU_ERRNO_NOT_ALLOWED = 23, /* an errno for an action that returns none */
     MOTCHIDU_ERRNO_TOO_LARGE = 24, /* an errno above what its action can return */
-    MOTCHIDU_UNKNOWN_CALL = 25,   /* a call of no known name under a stricter action than the default */
-    MOTCHIDU_NOTIFY = 26,         /* SCMP_ACT_NOTIFY, for which nobody listens */
+    MOTCHIDU_UNKNOWN_CALL = 25,   /* an unknown call under an action that is stricter than the default */
+    MOTCHIDU_NOTIFY = 26,         /* SCMP_ACT_NOTIFY, for which there is no listener */
     MOTCHIDU_TOO_LARGE = 27,      /* a text of more than 262,144 bytes */
-    MOTCHIDU_TOO_HEAVY = 28,      /* more entries, names and conditions than one filter is made for */
+    MOTCHIDU_TOO_HEAVY = 28,      /* too many entries, names and conditions for one filter */
     MOTCHIDU_NO_ROOM = 29,        /* the filter is longer than the room for it */
-    MOTCHIDU_SAME = 30,           /* two filters return the same value on every call that was asked about */
+    MOTCHIDU_SAME = 30,           /* both filters return the same value on every call that was asked about */
     MOTCHIDU_DIFFER = 31,         /* on one of those calls they return different values */
-    MOTCHIDU_BUDGET = 32,         /* undecided: it takes more instructions than were to be followed */
+    MOTCHIDU_BUDGET = 32,         /* undecided: it takes more instructions than the budget allows */
     MOTCHIDU_ARITHMETIC = 33,     /* undecided: a filter computes with what it loaded, other than by masks */
     MOTCHIDU_NO_CALL = 34         /* undecided: they may differ, but no call on which they do was found */
 };
 
 /*
  * Checks two filters, of first_len and of second_len bytes, and compares them on every call, or, with native,
- * on the calls of x86-64 whose number is below 2^30, so on none of x32. What is compared is the value that
- * they return: two values of one action with other data are not the same.
+ * on the calls of x86-64 whose number is below 2^30, so on none of x32. The values that they return are
+ * compared: two values of one action with different data are not the same.
  *
  * With MOTCHIDU_SAME both return the same value on each of those calls. With MOTCHIDU_DIFFER the 64 bytes at
  * call become one of those calls, on which they do not, values[0] becomes the value that the first filter
  * returns on it, and values[1] that of the second. With MOTCHIDU_BUDGET, MOTCHIDU_ARITHMETIC and
- * MOTCHIDU_NO_CALL both are sound, and it was not found out whether they differ; so it may be of a filter
- * and itself. Any other answer is one of motchidu_verify, for the first filter, or for the second where the
- * first is sound. Nothing is written but with MOTCHIDU_DIFFER.
+ * MOTCHIDU_NO_CALL both are sound, and it is unknown whether they differ; even a filter compared with itself
+ * may give these. Any other answer is one of motchidu_verify, for the first filter, or for the second if the
+ * first is sound. Only with MOTCHIDU_DIFFER is anything written.
  *
- * The ways that calls can take through both filters are followed, by budget instructions at most in all.
- * seccheck allows 100,000,000, which take some 20 seconds where none is spared.
+ * The comparison follows the ways that calls can take through both filters, by at most budget instructions
+ * in all. seccheck allows 100,000,000, which take some 20 seconds if all of them are used.
  */
 enum motchidu_status motchidu_compare(const uint8_t *first, size_t first_len,
                                       const uint8_t *second, size_t second_len,
@@ -99,20 +99,20 @@ enum motchidu_status motchidu_compare(const uint8_t *first, size_t first_len,
                                       uint8_t call[64], uint32_t values[2]);
 
 /*
- * Compiles the profile of profile_len bytes to a sound filter, whose value is on every call what the
- * profile says of it.
+ * Compiles the profile of profile_len bytes to a sound filter, whose value on every call is what the
+ * profile says of the call.
  *
  * With MOTCHIDU_ACCEPTED the filter is the first *length of the filter_len bytes at filter, and the others
- * are left as they were; 32,768 bytes are room for any. With MOTCHIDU_NO_ROOM *length is how many bytes it
- * takes, and nothing is written. With any other answer *length is left as it was as well.
+ * are unchanged; 32,768 bytes are room for any filter. With MOTCHIDU_NO_ROOM *length is how many bytes the
+ * filter takes, and nothing else is written. With any other answer *length is unchanged as well.
  */
 enum motchidu_status motchidu_compile(const uint8_t *profile, size_t profile_len,
                                       uint8_t *filter, size_t filter_len, size_t *length);
 
 /*
- * Checks the filter of filter_len bytes as motchidu_verify does, with its answers. With MOTCHIDU_ACCEPTED
- * *longest becomes the most instructions that a way through the filter has, whatever the call: no run
- * takes more steps.
+ * Checks the filter of filter_len bytes as motchidu_verify does, with the same answers. With
+ * MOTCHIDU_ACCEPTED *longest becomes the largest number of instructions on any way through the filter,
+ * whatever the call: no run takes more steps.
  */
 enum motchidu_status motchidu_longest(const uint8_t *filter, size_t filter_len,
                                       uint32_t *longest, size_t *at);
@@ -120,15 +120,14 @@ enum motchidu_status motchidu_longest(const uint8_t *filter, size_t filter_len,
 /*
  * Checks the filter of filter_len bytes.
  *
- * Where the answer marks a place, *at becomes that place, counted in instructions from 0; else *at is left
- * as it was.
+ * If the answer has a place, *at becomes that place, counted in instructions from 0; else *at is unchanged.
  */
 enum motchidu_status motchidu_verify(const uint8_t *filter, size_t filter_len, size_t *at);
 
 /*
  * Checks the filter of filter_len bytes once, and runs it on each call of a list.
  *
- * calls_len is in bytes, values_len and steps_len in numbers, and there is one of each for a call:
+ * calls_len is in bytes, values_len and steps_len are in numbers, and there is one of each for a call:
  * calls_len is 64 * values_len, and steps_len is values_len; else the answer is MOTCHIDU_LENGTHS. With
  * MOTCHIDU_ACCEPTED, values[i] is the value that the filter returns on the call at calls + 64 * i (the
  * action in its upper 16 bits, seccomp(2)), and steps[i] the number of instructions that it executed, the
@@ -139,7 +138,7 @@ enum motchidu_status motchidu_run_all(const uint8_t *filter, size_t filter_len,
                                       uint32_t *values, size_t values_len,
                                       uint32_t *steps, size_t steps_len);
 
-/* The name of a status, as the project's programs print it, and of a number that is none "Unknown". */
+/* The name of a status, as the project's programs print it; "Unknown" for a number that is not a status. */
 static inline const char *motchidu_status_text(enum motchidu_status status)
 {
     switch (status) {
@@ -182,7 +181,7 @@ static inline const char *motchidu_status_text(enum motchidu_status status)
     return "Unknown";
 }
 
-/* The library's own two are told a place in any case; the parentheses keep these macros away from them. */
+/* The library's own two functions always get a place; the parentheses keep these macros from applying. */
 static inline enum motchidu_status motchidu_longest_or_null(const uint8_t *filter, size_t filter_len,
                                                             uint32_t *longest, size_t *at)
 {
