@@ -237,7 +237,8 @@ pub(crate) struct Left {
     /// How the crew ended, whether there is a receipt for each entry and each entry is where its receipt
     /// says, and the pods' table.
     pub(crate) text: String,
-    /// At which moments the runs of the first pod's first container were recorded, where there are few pods.
+    /// At which moments the runs of the first pod's first container were recorded, if there are few pods and
+    /// the history has one part.
     pub(crate) recorded: Vec<u64>,
 }
 
@@ -270,7 +271,7 @@ fn recorded_first(alloc: Global, settings: Settings, history: &[Entry]) -> Resul
     Ok(recorded)
 }
 
-// What is left of a history that one part holds, with the runs where settings are given.
+// What is left of a history, with the runs if settings are given and it has one part.
 fn left_of<L: Ledger>(
     alloc: Global,
     shared: Shared<L>,
@@ -292,8 +293,8 @@ fn left_of<L: Ledger>(
         Ended::Endless => "endless",
     };
     let recorded = match replayed {
-        Some(settings) => recorded_first(alloc, settings, book.history())?,
-        None => Vec::new(alloc),
+        Some(settings) if book.before() == 0 => recorded_first(alloc, settings, book.history())?,
+        _ => Vec::new(alloc),
     };
     Ok(Left {
         text: format!(in alloc; "{ended}, {}\n{}", whole && stand, table.as_str())?,
