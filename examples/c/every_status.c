@@ -172,7 +172,6 @@ static const struct code {
   no_ptrace = {32, {LOAD_NR, TEST(BPF_JEQ, 101, 0, 1), KILL, ALLOW}},
   no_x32 = {32, {LOAD_NR, TEST(BPF_JGE, 0x40000000, 0, 1), KILL, ALLOW}},
   adds = {24, {LOAD_NR, BPF_STMT(BPF_ALU | BPF_ADD | BPF_K, 1), BPF_STMT(BPF_RET | BPF_A, 0)}},
-  /* what is known of calls by an order of a part of their number does not tell those that pass it apart */
   orders_a_part = {40, {LOAD_NR, BPF_STMT(BPF_ALU | BPF_AND | BPF_K, 0xff), TEST(BPF_JGT, 0x10, 0, 1), KILL,
                         ALLOW}};
 
@@ -195,7 +194,7 @@ static const struct {
     {"two of three instructions", &loads, &allows, false, 2, MOTCHIDU_BUDGET},
     {"three of three", &loads, &allows, false, 3, MOTCHIDU_SAME},
     {"a sum is returned", &adds, &adds, false, 100, MOTCHIDU_ARITHMETIC},
-    {"a part of the number is ordered", &orders_a_part, &orders_a_part, false, 100, MOTCHIDU_NO_CALL},
+    {"a part of the number is ordered", &orders_a_part, &orders_a_part, false, 100, MOTCHIDU_SAME},
 };
 
 /* What the filter returns on the call. */
@@ -272,7 +271,7 @@ static const char *const names[] = {
     "ZeroDivisor", "NoFinalReturn", "Unstored", "Memory", "Lengths", "NotJson", "NotObject", "Missing",
     "WrongType", "UnknownAction", "UnknownOp", "BadIndex", "EmptyNames", "RepeatedIndex", "ErrnoNotAllowed",
     "ErrnoTooLarge", "UnknownCall", "Notify", "TooLarge", "TooHeavy", "NoRoom", "Same", "Differ", "Budget",
-    "Arithmetic", "NoCall", "Unknown",
+    "Arithmetic", "Unknown",
 };
 
 static void expect_names(void) {

@@ -55,3 +55,43 @@ pub one_bit : (n k m : ℕ) → m ≡ 2 ^ k → bit_and n m ≢ 0 → bit_and n 
 one_bit n k m power =
     rw power (λ some. and_pow n k ∙ two_ways (bit_at n k) (2 ^ k) (bit_at-lt n k) (λ none.
     some (and_pow n k ∙ none)))
+
+-- the least and the greatest that another mask may leave of a number of which some bits are known
+pub bits_least : (n m k a : ℕ) → bit_and n m ≡ a → bit_and a k ≤ bit_and n k
+bits_least n m k a known = omega (
+  arith,
+  ap (λ v. bit_and v k) (sym known) ∙ and_assoc k n m ∙ ap (λ v. bit_and n v) (and_comm m k)
+      ∙ sym (and_assoc m n k),
+  and_le_l (bit_and n k) m,
+)
+
+-- a number has none of the bits that it is known to lack
+lacks : (n m a : ℕ) → n < 2 ^ 32 → bit_and n m ≡ a → bit_and n (bit_and m (2 ^ 32 - 1 - a)) ≡ 0
+lacks n m a small known =
+    let below : a < 2 ^ 32 = omega (arith, and_le_l n m) in
+    let own : bit_and a a ≡ a = same_from_bits _ _ (λ i. omega (arith, bit_at_and a a i)) in
+    sym (and_assoc (2 ^ 32 - 1 - a) n m) ∙ ap (λ v. bit_and v (2 ^ 32 - 1 - a)) known
+    ∙ and_comm a (2 ^ 32 - 1 - a) ∙ omega (arith, own, and-not 32 a a below below)
+
+pub bits_greatest : (n m k a : ℕ) → n < 2 ^ 32 → m < 2 ^ 32 → bit_and n m ≡ a
+    → bit_and n k ≤ bit_and k (2 ^ 32 - 1 - bit_and m (2 ^ 32 - 1 - a))
+bits_greatest n m k a small narrow known =
+    let z : ℕ = bit_and m (2 ^ 32 - 1 - a) in
+    let rest : ℕ = 2 ^ 32 - 1 - z in
+    let none : bit_and z (bit_and n k) ≡ 0 = omega (
+      arith,
+      sym (and_assoc k z n),
+      ap (λ v. bit_and v k) (and_comm z n ∙ lacks n m a small known),
+      and_le_l 0 k,
+    ) in
+    let moved : bit_and rest (bit_and n k) ≡ bit_and (bit_and k rest) n =
+    ap (λ v. bit_and rest v) (and_comm n k) ∙ sym (and_assoc n rest k)
+    ∙ ap (λ v. bit_and v n) (and_comm rest k) in
+    omega (
+      arith,
+      none,
+      moved,
+      and-not 32 z (bit_and n k) (omega (arith, and_le_l m (2 ^ 32 - 1 - a)))
+          (omega (arith, and_le_l n k)),
+      and_le_l (bit_and k rest) n,
+    )

@@ -1,6 +1,6 @@
 -- A walk goes on as the run of each of its calls does.
 use Rattle.std.proofs.Common.{◌≡◌, ℕ, suc, ◌+◌, ◌<◌, Bool, true, false, ◌⊎◌, inl, inr, if◌then◌else◌, List}
-use Rattle.std.proofs.Common.{Some, length, get_or, slice_get, refl, sym, ap, subst, ◌∙◌}
+use Rattle.std.proofs.Common.{Option, Some, length, get_or, slice_get, refl, sym, ap, subst, ◌∙◌}
 use Rattle.std.proofs.lemmas.Option.{same_Some, slice_get-get_or}
 use Rattle.bpf_code.specs.declared.insn.Insn.{Insn}
 use Rattle.bpf_code.specs.declared.operation.Operation.TheVariants.{LoadImmediate}
@@ -17,7 +17,7 @@ use Rattle.bpf_compare.specs.declared.step.After.TheVariants as after
 use Rattle.bpf_compare.specs.Agree.{Returns}
 use Rattle.bpf_compare.specs.Known.{IsAmong, answer_on}
 use Rattle.bpf_compare.specs.Stands.{StandsFor, GoesOn, EndsWith, LeadsTo, skipped}
-use Rattle.bpf_compare.specs.Paths.{Follows}
+use Rattle.bpf_compare.specs.Paths.{Follows, IsAt}
 
 -- the instruction at a place of the code
 abbrev pub insn_at : List Insn → ℕ → Insn
@@ -124,3 +124,22 @@ asked code call r jt jf words answer holds same comes =
 pub true_or_false : (b : Bool) → (b ≡ true) ⊎ (b ≡ false)
 true_or_false true = inl refl
 true_or_false false = inr refl
+
+-- a walk of fewer calls, at the same place
+pub learned : {code : List Insn} {call : SysCall} {walk : Walk} (known : Known) → Follows code call walk
+    → IsAmong known call
+    → Follows code call (record { registers = walk.registers; words = walk.words; known = known })
+learned known follows among = record {
+  moment = follows.moment;
+  state = follows.state;
+  reached = follows.reached;
+  stands = follows.stands;
+  among = among;
+}
+
+-- a path in the second filter
+pub in_second : (first second : List Insn) (call : SysCall) (value : Option ℕ) (one : ℕ) (walk : Walk)
+    → value ≡ Some one → Returns first call one → Follows second call walk
+    → IsAt first second call value walk
+in_second first second call value one walk is returns follows =
+    let P : Option ℕ → Type 0 = λ it. IsAt first second call it walk in subst P (sym is) (returns, follows)

@@ -1,6 +1,6 @@
 -- What is known of the calls of a set. Only private functions cite this.
-use Rattle.std.specs.Prelude.{◌≡◌, ◌≢◌, ℕ, ◌*◌, ◌<◌, ◌≤◌, ◌==◌, nat_lt, Bool, true, false, bit_and}
-use Rattle.std.specs.Prelude.{slice_index_or}
+use Rattle.std.specs.Prelude.{◌≡◌, ◌≢◌, ◌⊎◌, ℕ, ◌-◌, ◌*◌, ◌^◌, ◌<◌, ◌≤◌, ◌==◌, nat_lt, Bool, true, false}
+use Rattle.std.specs.Prelude.{bit_and, slice_index_or}
 use Rattle.std.specs.List.{All}
 use Rattle.call_data.specs.declared.sys_call.SysCall.{SysCall}
 use Rattle.call_data.specs.CallData.{word_at}
@@ -9,9 +9,12 @@ use Rattle.bpf_compare.specs.declared.question.Test.{Test}
 use Rattle.bpf_compare.specs.declared.question.Test.TheVariants.{Equal, Greater}
 use Rattle.bpf_compare.specs.declared.question.Question.{Question}
 use Rattle.bpf_compare.specs.declared.question.Excluded.{Excluded}
+use Rattle.bpf_compare.specs.declared.bounded.Bounded.{Bounded}
 use Rattle.bpf_compare.specs.declared.known.Known.{Known}
 use Rattle.bpf_compare.specs.declared.known.Split.{Split}
 use Rattle.bpf_compare.specs.declared.known.Split.TheVariants.{Holds, Fails, Both}
+use Rattle.bpf_compare.specs.declared.known.Left.{Left}
+use Rattle.bpf_compare.specs.declared.known.Left.TheVariants as left
 
 -- the number that is the word at this place, of the sixteen, of the call's data
 unfoldable pub number_at : SysCall → ℕ → ℕ
@@ -44,11 +47,26 @@ Lacks it n = bit_and n it.mask ≢ it.bits
 abbrev pub Avoids : SysCall → Excluded → Type 0
 Avoids call it = Lacks it (number_at call it.word.place)
 
+-- what the mask leaves of the number is in the bounds
+pub record IsWithin (it : Bounded) (n : ℕ) : Type 0 where
+  pub low : it.low ≤ bit_and n it.mask
+  pub high : bit_and n it.mask ≤ it.high
+
+-- what it leaves of the call's word is
+abbrev pub Keeps : SysCall → Bounded → Type 0
+Keeps call it = IsWithin it (number_at call it.word.place)
+
 -- the call is in the set
 pub record IsAmong (known : Known) (call : SysCall) : Type 0 where
   pub ranges : (place : ℕ) (range : Range) → place < 16
       → IsIn (slice_index_or known.ranges place range) (number_at call place)
   pub excluded : All (Avoids call) known.excluded.items
+  pub bounded : All (Keeps call) known.bounded.items
+
+-- all bits of each word are known, so that at most one call is in the set
+abbrev pub IsSettled : Known → Type 0
+IsSettled known = (place : ℕ) (range : Range) → place < 16
+    → (slice_index_or known.ranges place range).mask ≡ 2 ^ 32 - 1
 
 -- what becomes of a call of a set that a test splits
 abbrev pub FallsIn : Split → SysCall → Question → Known → Type 0
@@ -57,3 +75,9 @@ FallsIn Fails call question left = (answer_on call question ≡ false) × IsAmon
 FallsIn (Both other) call question left =
     (answer_on call question ≡ true → IsAmong left call)
     × (answer_on call question ≡ false → IsAmong other call)
+
+-- where a call of a set is left once a question was asked
+abbrev pub IsLeft : Left → SysCall → Known → Type 0
+IsLeft left.None call kept = ⊥
+IsLeft left.All call kept = IsAmong kept call
+IsLeft (left.Both other) call kept = IsAmong kept call ⊎ IsAmong other call

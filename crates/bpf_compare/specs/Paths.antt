@@ -1,5 +1,5 @@
 -- Which calls take a path through both filters. Only private functions cite this.
-use Rattle.std.specs.Prelude.{◌⊎◌, ℕ, List, [], ◌∷◌, Option, Some, None}
+use Rattle.std.specs.Prelude.{◌≡◌, ◌≢◌, ◌⊎◌, ℕ, List, [], ◌∷◌, Option, Some, None}
 use Rattle.bpf_code.specs.declared.insn.Insn.{Insn}
 use Rattle.call_data.specs.declared.sys_call.SysCall.{SysCall}
 use Rattle.bpf_machine.specs.Machine.{State}
@@ -10,7 +10,8 @@ use Rattle.bpf_compare.specs.declared.walk.Turn.TheVariants as turn
 use Rattle.bpf_compare.specs.declared.path.Path.{Path}
 use Rattle.bpf_compare.specs.declared.path.Progress.{Progress}
 use Rattle.bpf_compare.specs.declared.path.Progress.TheVariants as progress
-use Rattle.bpf_compare.specs.Agree.{Agree, Returns}
+use Rattle.bpf_compare.specs.declared.scope.Scope.{Scope}
+use Rattle.bpf_compare.specs.Agree.{Agree, Returns, Says}
 use Rattle.bpf_compare.specs.Known.{IsAmong}
 use Rattle.bpf_compare.specs.Stands.{StandsFor}
 
@@ -27,6 +28,7 @@ abbrev pub TurnsTo : Turn → List Insn → SysCall → Walk → Type 0
 TurnsTo turn.Goes code call walk = Follows code call walk
 TurnsTo (turn.Splits other) code call walk = Follows code call walk ⊎ Follows code call other
 TurnsTo (turn.Ends value) code call walk = Returns code call value × IsAmong walk.known call
+TurnsTo turn.Empty code call walk = ⊥
 TurnsTo turn.Unclear code call walk = Unit {0}
 
 -- a walk in the first filter, or in the second one where the first returned a value
@@ -43,8 +45,26 @@ Becomes progress.Goes first second call path = Takes first second call path
 Becomes (progress.Splits other) first second call path =
     Takes first second call path ⊎ Takes first second call other
 Becomes progress.Agrees first second call path = Agree first second call
-Becomes progress.Differs first second call path = Unit {0}
+Becomes (progress.Differs found) first second call path = Unit {0}
 Becomes progress.Unclear first second call path = Unit {0}
+
+-- the call is one of the path's, and the first filter returns the path's value, the second one another
+pub record Parts (first second : List Insn) (call : SysCall) (path : Path) : Type 0 where
+  pub one : ℕ
+  pub other : ℕ
+  pub first_is : path.first ≡ Some one
+  pub of_first : Returns first call one
+  pub of_second : Returns second call other
+  pub differ : one ≢ other
+  pub among : IsAmong path.walk.known call
+
+-- what is told holds
+abbrev pub Tells : Progress → Scope → List Insn → List Insn → Type 0
+Tells (progress.Differs found) scope first second = Says found scope first second
+Tells progress.Goes scope first second = Unit {0}
+Tells (progress.Splits other) scope first second = Unit {0}
+Tells progress.Agrees scope first second = Unit {0}
+Tells progress.Unclear scope first second = Unit {0}
 
 -- the call takes one of these paths
 abbrev pub TakesOne : List Insn → List Insn → SysCall → List Path → Type 0

@@ -2,13 +2,9 @@ ghost use Rattle.std.specs.Prelude.{◌≡◌, IfOk, IfSome, IfNone};
 ghost use Rattle.bpf_compare.specs.Agree.{Says};
 
 use crate::comparison::{Comparison, Doubt};
-use crate::known::Known;
 use crate::path::{Path, Progress};
 use crate::scope::Scope;
-use crate::witness::witness;
-use bpf_machine::run;
 use bpf_verify::Filter;
-use call_data::SysCall;
 use std::alloc::{AllocError, Global};
 
 /// Compares two filters on all calls of the scope, following at most `budget` instructions.
@@ -28,19 +24,14 @@ pub fn compare(
     let mut path = Path::start(alloc, scope);
     let mut doubt = None;
     for _ in 0..budget {
-        let ended = match path.advance(alloc, first, second)? {
+        let ended = match path.advance(alloc, first, second, scope)? {
             Progress::Goes => continue,
             Progress::Splits(other) => {
                 waiting.push(other)?;
                 continue;
             }
             Progress::Agrees => None,
-            Progress::Differs => {
-                if let Some(found) = difference(first, second, scope, &path.walk.known) {
-                    return Ok(found);
-                }
-                Some(Doubt::NoCall)
-            }
+            Progress::Differs(found) => return Ok(found),
             Progress::Unclear => Some(Doubt::Arithmetic),
         };
         doubt = ended.or(doubt);
@@ -60,19 +51,5 @@ fn ending(doubt: Option<Doubt>) -> Comparison
     match doubt {
         None => Comparison::Same,
         Some(why) => Comparison::Undecided(why),
-    }
-}
-
-/// Runs both filters on one of these calls, and reports it if it is in the scope and their values differ.
-fn difference(first: &Filter, second: &Filter, scope: Scope, known: &Known) -> Option<Comparison>
-    ensures { IfSome result (λ found. Says found scope first.now second.now) }
-{
-    let call = witness(known);
-    let one = run(first, &call).value;
-    let other = run(second, &call).value;
-    if one != other && scope.has(call) {
-        Some(Comparison::Differs(call, one, other))
-    } else {
-        None
     }
 }

@@ -18,6 +18,4 @@ pub enum Doubt {
     Budget,
     /// A filter computes with what it loaded, other than by masks.
     Arithmetic,
-    /// They may differ, but no call on which they do was found.
-    NoCall,
 }

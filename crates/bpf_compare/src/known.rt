@@ -2,12 +2,16 @@ ghost use Rattle.std.specs.Prelude.{◌≡◌, ◌≢◌, ◌<◌, ℕ, IfOk, If
 ghost use Rattle.std.specs.List.{All};
 ghost use Rattle.call_data.specs.declared.sys_call.SysCall.{SysCall};
 ghost use Rattle.bpf_compare.specs.Agree.{IsOf};
-ghost use Rattle.bpf_compare.specs.Known.{Avoids, FallsIn, IsAmong, IsIn, answer_on, number_at};
+ghost use Rattle.bpf_compare.specs.Known.{Avoids, FallsIn, IsAmong, IsIn, IsLeft, IsWithin, Keeps};
+ghost use Rattle.bpf_compare.specs.Known.{answer_on, number_at};
+ghost use Rattle.bpf_compare.specs.Value.{Denotes};
 
+use crate::bounded::Bounded;
 use crate::laws::words_fit;
 use crate::question::{Excluded, Question};
 use crate::range::Range;
 use crate::scope::Scope;
+use crate::value::Value;
 use crate::word::Word;
 use std::alloc::{AllocError, Global};
 
@@ -16,6 +20,7 @@ use std::alloc::{AllocError, Global};
 pub(crate) struct Known {
     pub(crate) ranges: [Range; 16],
     pub(crate) excluded: Vec<Excluded>,
+    pub(crate) bounded: Vec<Bounded>,
 }
 
 /// How a question splits a set of calls.
@@ -26,6 +31,17 @@ pub(crate) enum Split {
     /// It fails on all.
     Fails,
     /// It may do either. It fails on these calls, and holds on those that stay in the set.
+    Both(Known),
+}
+
+/// Which calls are left once a question was asked.
+#[derive(Drop)]
+pub(crate) enum Left {
+    /// None: the set was empty.
+    None,
+    /// Those of the set, all with the same answer.
+    All,
+    /// Those that stay in the set, and these.
     Both(Known),
 }
 
@@ -43,15 +59,31 @@ impl Known {
         Known {
             ranges,
             excluded: Vec::new(alloc),
+            bounded: Vec::new(alloc),
         }
     }
 
-    /// Whether this number is excluded for the word at this place.
-    pub(crate) fn excludes(&self, place: usize, number: u32) -> bool {
-        let excluded = self.excluded.as_slice();
-        excluded
-            .iter()
-            .any(|it| it.word.place == place && number & it.mask == it.bits)
+    /// Whether the word at this place may be this number, as far as a single rule can tell.
+    pub(crate) fn allows(&self, place: usize, number: u32) -> bool {
+        let mut excluded = self.excluded.as_slice().iter();
+        let mut bounded = self.bounded.as_slice().iter();
+        !excluded.any(|it| it.word.place == place && number & it.mask == it.bits)
+            && bounded.all(|it| it.word.place != place || it.has(number))
+    }
+
+    /// The same value, as a constant where all its bits are known.
+    pub(crate) fn constant(&self, value: Value) -> Value
+        ensures { (call : SysCall) (n : ℕ) → IsAmong self.now call → Denotes call value n
+            → Denotes call result n }
+    {
+        if let Value::Data(word, mask) = value {
+            let range = self.ranges[word.place];
+            let bits = range.least(mask);
+            if range.has_bits(mask, bits) {
+                return Value::Constant(bits);
+            }
+        }
+        value
     }
 
     fn try_clone(&self, alloc: Global) -> Result<Known, AllocError>
@@ -60,6 +92,7 @@ impl Known {
         Ok(Known {
             ranges: self.ranges,
             excluded: Vec::from_slice(alloc, self.excluded.as_slice())?,
+            bounded: Vec::from_slice(alloc, self.bounded.as_slice())?,
         })
     }
 
@@ -80,13 +113,37 @@ impl Known {
         Ok(Split::Both(other))
     }
 
+    /// Learns the answer to a question, in a copy for some of the calls if both are possible.
+    pub(crate) fn ask(&mut self, alloc: Global, question: Question) -> Result<Left, AllocError>
+        ensures { IfOk result (λ left. (call : SysCall) → IsAmong self.old call → IsLeft left call self.new) }
+    {
+        let failed = self.part(question, false);
+        let Some(held) = self.part(question, true) else {
+            let Some(failed) = failed else {
+                return Ok(Left::None);
+            };
+            self.narrow(question, failed, false)?;
+            return Ok(Left::All);
+        };
+        let Some(failed) = failed else {
+            self.narrow(question, held, true)?;
+            return Ok(Left::All);
+        };
+        let mut other = self.try_clone(alloc)?;
+        other.narrow(question, failed, false)?;
+        self.narrow(question, held, true)?;
+        Ok(Left::Both(other))
+    }
+
     /// The numbers that the question's word may have if this is the answer. `None` if there are none.
     fn part(&self, question: Question, holds: bool) -> Option<Range>
         ensures { (call : SysCall) → IsAmong self.now call → answer_on call question ≡ holds
             → IsSomeAnd result (λ range. IsIn range (number_at call question.word.place)) }
     {
         let range = question.narrow(self.ranges[question.word.place], holds)?;
-        if is_ruled_out(self.excluded.as_slice(), question.word, range) {
+        if is_ruled_out(self.excluded.as_slice(), question.word, range)
+            || is_out_of_bounds(self.bounded.as_slice(), question.word, range, question.bounds(holds))
+        {
             None
         } else {
             Some(range)
@@ -98,12 +155,33 @@ impl Known {
         ensures { IfOk result (λ _. (call : SysCall) → IsAmong self.old call → answer_on call question ≡ holds
             → IsIn range (number_at call question.word.place) → IsAmong self.new call) }
     {
+        self.narrow_word(question, range, holds)?;
+        match question.bounds(holds) {
+            Some(bounds) => self.bound(bounds),
+            None => Ok(()),
+        }
+    }
+
+    /// Records that the question's word is in this range, and which bits it does not have.
+    fn narrow_word(&mut self, question: Question, range: Range, holds: bool) -> Result<(), AllocError>
+        ensures { IfOk result (λ _. (call : SysCall) → IsAmong self.old call → answer_on call question ≡ holds
+            → IsIn range (number_at call question.word.place) → IsAmong self.new call) }
+    {
         self.ranges[question.word.place] = range;
         if let Some(excluded) = question.excluded(holds)
             && range.with_bits(excluded.mask, excluded.bits).is_some()
         {
             self.excluded.push(excluded)?;
         }
+        Ok(())
+    }
+
+    /// Records these bounds.
+    fn bound(&mut self, bounds: Bounded) -> Result<(), AllocError>
+        ensures { IfOk result (λ _. (call : SysCall) → IsAmong self.old call → Keeps call bounds
+            → IsAmong self.new call) }
+    {
+        self.bounded.push(bounds)?;
         Ok(())
     }
 }
@@ -125,6 +203,20 @@ fn is_ruled_out(excluded: &[Excluded], word: Word, range: Range) -> bool
         }
     }
     true
+}
+
+/// Whether bounds of the word rule out that it is in the range and within the bounds that are asked for.
+fn is_out_of_bounds(bounded: &[Bounded], word: Word, range: Range, asked: Option<Bounded>) -> bool
+    ensures { IsTrue result → (call : SysCall) → All (Keeps call) bounded.now
+        → IsIn range (number_at call word.place)
+        → IfSome asked (λ it. IsWithin it (number_at call word.place)) → ⊥ }
+{
+    for it in bounded {
+        if it.word == word && it.rules_out(range, asked) {
+            return true;
+        }
+    }
+    false
 }
 
 /// Whether the number is excluded for this word, or does not have the range's bits.

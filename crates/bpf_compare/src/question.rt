@@ -1,6 +1,7 @@
 ghost use Rattle.std.specs.Prelude.{◌≡◌, ℕ, ◌^◌, IsTrue, IfSome, IsSomeAnd, bit_and};
-ghost use Rattle.bpf_compare.specs.Known.{IsIn, Lacks, answer, answer_of};
+ghost use Rattle.bpf_compare.specs.Known.{IsIn, IsWithin, Lacks, answer, answer_of};
 
+use crate::bounded::Bounded;
 use crate::range::Range;
 use crate::word::Word;
 
@@ -70,6 +71,25 @@ impl Question {
             word: self.word,
             mask: self.mask,
             bits,
+        })
+    }
+
+    /// The bounds of what the mask leaves of the word if this is the answer, where a range can't have them.
+    pub(crate) fn bounds(self, holds: bool) -> Option<Bounded>
+        ensures word { IfSome result (λ it. it.word ≡ self.word) }
+        ensures within { (n : ℕ) → answer self n ≡ holds → IfSome result (λ it. IsWithin it n) }
+    {
+        let (low, high) = match (self.test, holds) {
+            _ if self.mask == u32::MAX => return None,
+            (Test::Greater, true) if self.against < self.mask => (self.against + 1, self.mask),
+            (Test::Greater, false) => (0, self.against),
+            _ => return None,
+        };
+        Some(Bounded {
+            word: self.word,
+            mask: self.mask,
+            low,
+            high,
         })
     }
 }

@@ -112,6 +112,21 @@ impl Range {
         mask & self.mask == mask && self.bits & mask == bits
     }
 
+    /// The least that a mask may leave of its numbers, as far as their known bits tell.
+    pub(crate) fn least(self, mask: u32) -> u32
+        ensures { (n : ℕ) → IsIn self n → result ≤ bit_and n mask }
+    {
+        self.bits & mask
+    }
+
+    /// The greatest that a mask may leave of its numbers, as far as their known bits tell.
+    pub(crate) fn greatest(self, mask: u32) -> u32
+        ensures { (n : ℕ) → IsIn self n → bit_and n mask ≤ result }
+    {
+        let lacked = self.mask & !self.bits;
+        mask & !lacked
+    }
+
     /// Its numbers that do not have these bits under the mask, and maybe others.
     pub(crate) fn without_bits(self, mask: u32, bits: u32) -> Option<Range>
         ensures { (n : ℕ) → IsIn self n → bit_and n mask ≢ bits → IsSomeAnd result (λ range. IsIn range n) }

@@ -19,7 +19,8 @@ impl Scope {
 
     /// Whether the call is one of them.
     pub(crate) fn has(self, call: SysCall) -> bool
-        ensures { IsTrue result → IsOf self call }
+        ensures sound { IsTrue result → IsOf self call }
+        ensures complete { IsOf self call → IsTrue result }
     {
         fields_fit(call);
         match self {

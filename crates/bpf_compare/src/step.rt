@@ -1,9 +1,9 @@
-ghost use Rattle.std.specs.Prelude.{◌≡◌, ◌<◌, ◌+◌, ◌==◌, ℕ, bit_and, nat_le, not};
+ghost use Rattle.std.specs.Prelude.{◌≡◌, ◌<◌, ◌+◌, ◌==◌, ℕ, IfSome, bit_and, nat_le, not};
 ghost use Rattle.bpf_code.specs.declared.limits.TheConstants.{MAX_INSNS};
 ghost use Rattle.call_data.specs.declared.sys_call.SysCall.{SysCall};
 ghost use Rattle.call_data.specs.CallData.{IsCall};
 ghost use Rattle.bpf_verify.specs.Sound.{KeepsNumber};
-ghost use Rattle.bpf_machine.specs.Machine.{Executes, Next, State};
+ghost use Rattle.bpf_machine.specs.Machine.{Executes, Next, State, sets_a};
 ghost use Rattle.bpf_compare.specs.Known.{answer_of};
 ghost use Rattle.bpf_compare.specs.Stands.{Answers, LeadsTo, StandsFor};
 ghost use Rattle.bpf_compare.specs.Value.{Denotes};
@@ -112,7 +112,68 @@ fn any_bit(a: Value, bits: u32) -> After
     asked(a.masked(bits), Test::Greater, 0)
 }
 
+/// What arithmetic other than masks makes of A, if it is of constants.
+fn computed(registers: Registers, insn: &Insn) -> Option<u32>
+    requires { KeepsNumber insn.now.op insn.now.k }
+    ensures { (call : SysCall) (s : State) (next : Next) → Denotes call registers.a s.a
+        → Denotes call registers.x s.x → Executes insn.now.op call insn.now s next
+        → IfSome result (λ number. next ≡ sets_a s number) }
+{
+    let Value::Constant(a) = registers.a else {
+        return None;
+    };
+    match insn.op {
+        Operation::AddK => Some(a.wrapping_add(insn.k)),
+        Operation::SubK => Some(a.wrapping_sub(insn.k)),
+        Operation::MulK => Some(a.wrapping_mul(insn.k)),
+        Operation::DivK => Some(a / insn.k),
+        Operation::OrK => Some(a | insn.k),
+        Operation::XorK => Some(a ^ insn.k),
+        Operation::ShiftLeft => Some(a << insn.k),
+        Operation::ShiftRight => Some(a >> insn.k),
+        Operation::Negate => Some(0u32.wrapping_sub(a)),
+        _ => match registers.x {
+            Value::Constant(x) => computed_with_x(insn, a, x),
+            Value::Data(..) | Value::Unknown => None,
+        },
+    }
+}
+
+/// What arithmetic with X makes of these numbers.
+fn computed_with_x(insn: &Insn, a: u32, x: u32) -> Option<u32>
+    ensures { (call : SysCall) (s : State) (next : Next) → s.a ≡ a → s.x ≡ x
+        → Executes insn.now.op call insn.now s next → IfSome result (λ number. next ≡ sets_a s number) }
+{
+    match insn.op {
+        Operation::AddX => Some(a.wrapping_add(x)),
+        Operation::SubX => Some(a.wrapping_sub(x)),
+        Operation::MulX => Some(a.wrapping_mul(x)),
+        Operation::DivX => a.checked_div(x),
+        Operation::OrX => Some(a | x),
+        Operation::XorX => Some(a ^ x),
+        _ => None,
+    }
+}
+
+/// What has to be a constant before the instruction can be followed, if it is data.
+pub(crate) fn wanted(registers: Registers, op: Operation) -> Value {
+    match (op, registers.a) {
+        (Operation::ReturnA, a) => a,
+        (Operation::AndX, Value::Data(..)) => registers.x,
+        (
+            Operation::DivX
+            | Operation::JumpEqualX
+            | Operation::JumpGreaterX
+            | Operation::JumpGreaterOrEqualX
+            | Operation::JumpAnyBitX,
+            Value::Constant(_) | Value::Data(..),
+        ) => registers.x,
+        _ => Value::Unknown,
+    }
+}
+
 /// Executes one instruction that keeps the rules of sound code.
+#[tactic(auto, using(std::proofs::lemmas::Nat::and_comm))]
 pub(crate) fn step(registers: Registers, insn: &Insn, words: &mut [Value; 16]) -> After
     requires { KeepsNumber insn.now.op insn.now.k }
     ensures follows { (call : SysCall) (s : State) (next : Next) → IsCall call
@@ -120,6 +181,9 @@ pub(crate) fn step(registers: Registers, insn: &Insn, words: &mut [Value; 16]) -
         → LeadsTo call registers insn.now result words.new next }
 {
     let (a, x) = (registers.a, registers.x);
+    if let Some(number) = computed(registers, insn) {
+        return After::Goes(Value::Constant(number), x);
+    }
     match insn.op {
         Operation::LoadImmediate => After::Goes(Value::Constant(insn.k), x),
         Operation::LoadData => After::Goes(Value::loaded(insn.k), x),
@@ -137,11 +201,16 @@ pub(crate) fn step(registers: Registers, insn: &Insn, words: &mut [Value; 16]) -
             After::Goes(a, x)
         }
         Operation::AndK => After::Goes(a.masked(insn.k), x),
-        Operation::AndX => match x {
-            Value::Constant(mask) => After::Goes(a.masked(mask), x),
-            Value::Data(..) | Value::Unknown => After::Goes(Value::Unknown, x),
+        Operation::AndX => match (a, x) {
+            (_, Value::Constant(mask)) => After::Goes(a.masked(mask), x),
+            (Value::Constant(mask), _) => After::Goes(x.masked(mask), x),
+            _ => After::Goes(Value::Unknown, x),
         },
-        Operation::DivX => After::Unclear,
+        Operation::DivX => match x {
+            Value::Constant(0) => After::Ends(0),
+            Value::Constant(_) => After::Goes(Value::Unknown, x),
+            Value::Data(..) | Value::Unknown => After::Unclear,
+        },
         Operation::JumpEqualK => asked(a, Test::Equal, insn.k),
         Operation::JumpEqualX => match x {
             Value::Constant(against) => asked(a, Test::Equal, against),
@@ -170,7 +239,7 @@ pub(crate) fn step(registers: Registers, insn: &Insn, words: &mut [Value; 16]) -
         },
         Operation::MoveToX => After::Goes(a, a),
         Operation::MoveToA => After::Goes(x, x),
-        // Arithmetic other than masks.
+        // Arithmetic other than masks, with what is no constant.
         _ => After::Goes(Value::Unknown, x),
     }
 }

@@ -1,11 +1,16 @@
-ghost use Rattle.std.specs.Prelude.{IfOk};
+ghost use Rattle.std.specs.Prelude.{◌≡◌, IfOk, List};
+ghost use Rattle.bpf_code.specs.declared.insn.Insn.{Insn};
 ghost use Rattle.call_data.specs.declared.sys_call.SysCall.{SysCall};
 ghost use Rattle.call_data.specs.CallData.{IsCall};
+ghost use Rattle.bpf_compare.specs.Known.{IsAmong};
 ghost use Rattle.bpf_compare.specs.Paths.{Follows, TurnsTo};
 
-use crate::known::{Known, Split};
-use crate::step::{After, Registers, step};
+use crate::asking::bit_question;
+use crate::known::{Known, Left, Split};
+use crate::question::Question;
+use crate::step::{After, Registers, step, wanted};
 use crate::value::Value;
+use bpf_code::Insn;
 use bpf_machine::sound_code_runs;
 use bpf_verify::Filter;
 use std::alloc::{AllocError, Global};
@@ -27,13 +32,73 @@ pub(crate) enum Turn {
     Splits(Walk),
     /// The filter returned this value.
     Ends(u32),
+    /// It has no calls.
+    Empty,
     /// It depends on a value that is not tracked.
     Unclear,
 }
 
 impl Walk {
-    /// Goes on by one instruction.
+    /// At the start of a filter, with the same calls.
+    pub(crate) fn restart(&mut self)
+        ensures kept { self.new.known ≡ self.old.known }
+        ensures follows { (code : List Insn) (call : SysCall) → IsAmong self.old.known call
+            → Follows code call self.new }
+    {
+        // The scratch words may stay: a filter loads none that it did not store.
+        self.registers = Registers::START;
+    }
+
+    /// At the same place, with these calls.
+    pub(crate) fn with(&self, known: Known) -> Walk
+        ensures { result ≡ record { registers = self.now.registers; words = self.now.words; known = known } }
+    {
+        Walk {
+            registers: self.registers,
+            words: self.words,
+            known,
+        }
+    }
+
+    /// Goes on by one instruction, or learns a bit of what the next one depends on.
     pub(crate) fn advance(&mut self, alloc: Global, filter: &Filter) -> Result<Turn, AllocError>
+        ensures { IfOk result (λ turn. (call : SysCall) → IsCall call
+            → Follows filter.now call self.old → TurnsTo turn filter.now call self.new) }
+    {
+        self.registers = Registers {
+            place: self.registers.place,
+            a: self.known.constant(self.registers.a),
+            x: self.known.constant(self.registers.x),
+        };
+        match self.wanted(filter.insns()) {
+            Some(question) => self.learn(alloc, question),
+            None => self.execute(alloc, filter),
+        }
+    }
+
+    /// A question about a bit that has to be known before the next instruction can be followed.
+    fn wanted(&self, code: &[Insn]) -> Option<Question> {
+        let insn = code.get(self.registers.place)?;
+        match wanted(self.registers, insn.op) {
+            Value::Data(word, mask) => bit_question(word, self.known.ranges[word.place], mask),
+            Value::Constant(_) | Value::Unknown => None,
+        }
+    }
+
+    /// Learns the answer to a question at the same place.
+    fn learn(&mut self, alloc: Global, question: Question) -> Result<Turn, AllocError>
+        ensures { IfOk result (λ turn. (code : List Insn) (call : SysCall) → Follows code call self.old
+            → TurnsTo turn code call self.new) }
+    {
+        match self.known.ask(alloc, question)? {
+            Left::None => Ok(Turn::Empty),
+            Left::All => Ok(Turn::Goes),
+            Left::Both(known) => Ok(Turn::Splits(self.with(known))),
+        }
+    }
+
+    /// Goes on by one instruction.
+    fn execute(&mut self, alloc: Global, filter: &Filter) -> Result<Turn, AllocError>
         ensures { IfOk result (λ turn. (call : SysCall) → IsCall call
             → Follows filter.now call self.old → TurnsTo turn filter.now call self.new) }
     {

@@ -3,7 +3,7 @@ use Rattle.std.specs.Prelude.{ℕ, false, List, ◌++◌, codes, slice_index}
 use Rattle.std.specs.Fmt.{decimal, digits}
 use Rattle.action.specs.Verdict.{name_of, verdict_of}
 use Rattle.bpf_compare.specs.declared.comparison.Doubt.{Doubt}
-use Rattle.bpf_compare.specs.declared.comparison.Doubt.TheVariants.{Budget, Arithmetic, NoCall}
+use Rattle.bpf_compare.specs.declared.comparison.Doubt.TheVariants.{Budget, Arithmetic}
 use Rattle.bpf_compare.specs.declared.scope.Scope.{Scope}
 use Rattle.bpf_compare.specs.declared.scope.Scope.TheVariants.{EveryCall, NativeCalls}
 use Rattle.check_answers.specs.declared.compared.Difference.{Difference}
@@ -32,7 +32,6 @@ difference_text d =
 abbrev pub reason_of : Doubt → List ℕ
 reason_of Budget = codes "there are too many ways through them"
 reason_of Arithmetic = codes "one computes with what it loaded"
-reason_of NoCall = codes "no call was found on which they differ"
 
 abbrev pub same_text : Scope → List ℕ
 same_text EveryCall = codes "same on every call\n"

@@ -64,7 +64,6 @@ pub fn reason(doubt: Doubt) -> &'static str
     match doubt {
         Doubt::Budget => "there are too many ways through them",
         Doubt::Arithmetic => "one computes with what it loaded",
-        Doubt::NoCall => "no call was found on which they differ",
     }
 }
 

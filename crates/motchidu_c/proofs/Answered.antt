@@ -2,7 +2,7 @@
 use Rattle.std.proofs.Common.{◌≡◌, refl, arith}
 use Rattle.bpf_compare.specs.declared.comparison.Comparison.{Comparison}
 use Rattle.bpf_compare.specs.declared.comparison.Comparison.TheVariants.{Same, Differs, Undecided}
-use Rattle.bpf_compare.specs.declared.comparison.Doubt.TheVariants.{Budget, Arithmetic, NoCall}
+use Rattle.bpf_compare.specs.declared.comparison.Doubt.TheVariants.{Budget, Arithmetic}
 use Rattle.bpf_code.specs.declared.fault.CodeFault.TheVariants as text
 use Rattle.bpf_verify.specs.declared.fault.Fault.TheVariants as fault
 use Rattle.bpf_verify.specs.declared.refusal.Refusal.{Refusal}
@@ -14,7 +14,6 @@ is_same Same e = refl
 is_same (Differs call one other) e = absurd (omega (arith, e))
 is_same (Undecided Budget) e = absurd (omega (arith, e))
 is_same (Undecided Arithmetic) e = absurd (omega (arith, e))
-is_same (Undecided NoCall) e = absurd (omega (arith, e))
 
 -- no refusal is told as Lengths
 pub is_not_lengths : (refusal : Refusal) → number_of (status_of refusal) ≡ 13 → ⊥

@@ -72,7 +72,7 @@ abbrev pub values_or : Comparison → List ℕ → List ℕ
 values_or (Differs shown one other) before = one ∷ other ∷ []
 values_or _ before = before
 
--- it is the number that some comparison is told as: Same, Differ, Budget, Arithmetic or NoCall
+-- it is the number that some comparison is told as: Same, Differ, Budget or Arithmetic
 pub record IsOfComparison (answer : ℕ) : Type 0 where
   pub found : Comparison
   pub told : answer ≡ number_of (status_of_comparison found)

@@ -24,7 +24,7 @@ use Rattle.motchidu_c.specs.declared.status.Status.TheVariants.{WrongType, Unkno
 use Rattle.motchidu_c.specs.declared.status.Status.TheVariants.{EmptyNames, RepeatedIndex, ErrnoNotAllowed}
 use Rattle.motchidu_c.specs.declared.status.Status.TheVariants.{ErrnoTooLarge, UnknownCall, Notify, TooLarge}
 use Rattle.motchidu_c.specs.declared.status.Status.TheVariants.{TooHeavy, NoRoom, Same, Differ, Budget}
-use Rattle.motchidu_c.specs.declared.status.Status.TheVariants.{Arithmetic, NoCall}
+use Rattle.motchidu_c.specs.declared.status.Status.TheVariants.{Arithmetic}
 
 abbrev pub number_of : Status → ℕ
 number_of Accepted = 0
@@ -61,7 +61,6 @@ number_of Same = 30
 number_of Differ = 31
 number_of Budget = 32
 number_of Arithmetic = 33
-number_of NoCall = 34
 
 -- the status of a fault of the text
 abbrev pub status_of_text : CodeFault → Status
@@ -109,7 +108,6 @@ status_of_compile compiler.Memory = Memory
 abbrev pub status_of_doubt : Doubt → Status
 status_of_doubt doubt.Budget = Budget
 status_of_doubt doubt.Arithmetic = Arithmetic
-status_of_doubt doubt.NoCall = NoCall
 
 -- how two filters compare
 abbrev pub status_of_comparison : Comparison → Status

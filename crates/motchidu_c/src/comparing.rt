@@ -156,6 +156,5 @@ fn status_of_doubt(doubt: Doubt) -> Status
     match doubt {
         Doubt::Budget => Status::Budget,
         Doubt::Arithmetic => Status::Arithmetic,
-        Doubt::NoCall => Status::NoCall,
     }
 }

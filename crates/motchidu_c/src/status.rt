@@ -72,8 +72,6 @@ pub enum Status {
     Budget = 32,
     /// They were not compared to the end: one computes with what it loaded, other than by masks.
     Arithmetic = 33,
-    /// They may differ, but no call on which they do was found.
-    NoCall = 34,
 }
 
 impl Status {

@@ -9,6 +9,8 @@ mod compare_tests;
 #[cfg(test)]
 mod default_tests;
 #[cfg(test)]
+mod drawn_pairs;
+#[cfg(test)]
 mod drawn_profiles;
 #[cfg(test)]
 mod drawn_tests;

@@ -1,22 +1,21 @@
-use Rattle.bpf_compare.proofs.Waiting.{is_call, splits, next, done, emptied, no_doubt, says}
+use Rattle.bpf_compare.proofs.Waiting.{splits, next, done, emptied, no_doubt, says}
 use Rattle.bpf_compare.proofs.comparer.compare.Goals as goal
-use Rattle.bpf_compare.proofs.comparer.compare.Goals.{in-Agrees, in-Differs+in_default, in-Unclear}
+use Rattle.bpf_compare.proofs.comparer.compare.Goals.{in-Agrees, in-Unclear}
 
 pub loop-preserved-in-Splits : goal.loop-preserved-in-Splits
 loop-preserved-in-Splits c = λ sure call is.
     rw c.in_ok-push-in-Splits.ensures.items
     (splits _ _ call c.loop.path c.advance.new.self c.in-Splits.other c.loop.waiting.items
-    (rw c.in-Splits.is at (c.in_ok-advance.ensures call (is_call _ call is))) (c.loop.invariant sure call is))
+    (rw c.in-Splits.is at (c.in_ok-advance.ensures.becomes call is)) (c.loop.invariant sure call is))
 
 pub loop-preserved : goal.loop-preserved
 loop-preserved c = λ sure call is.
     let none = no_doubt c.match-branch-2.ended c.loop.doubt c.or-doubt.result c.or-doubt.ensures sure in
     elim c.match-branch-2.branch [
       | in-Agrees w ↦
-          next _ _ call c.loop.path c.in-Some-pop.next c.pop.new.self.items
-          (rw w.in-Agrees.is at (c.in_ok-advance.ensures call (is_call _ call is)))
-          (rw c.in-Some-pop.ensures.items at (c.loop.invariant none.1 call is))
-      | in-Differs+in_default w ↦ absurd (cc (w.ended-is, none.0))
+          next _ _ call c.loop.path c.in-Some.next c.pop.new.self.items
+          (rw w.in-Agrees.is at (c.in_ok-advance.ensures.becomes call is))
+          (rw c.in-Some.ensures.items at (c.loop.invariant none.1 call is))
       | in-Unclear w ↦ absurd (cc (w.ended-is, none.0))
     ]
 
@@ -29,8 +28,7 @@ returns-in-None c = says c.args.scope c.args.first.now c.args.second.now _ _ c.e
     elim c.match-branch-2.branch [
       | in-Agrees w ↦
           done _ _ call c.loop.path
-          (rw w.in-Agrees.is at (c.in_ok-advance.ensures call (is_call _ call is)))
+          (rw w.in-Agrees.is at (c.in_ok-advance.ensures.becomes call is))
           (rw empty at (c.loop.invariant none.1 call is))
-      | in-Differs+in_default w ↦ absurd (cc (w.ended-is, none.0))
       | in-Unclear w ↦ absurd (cc (w.ended-is, none.0))
     ])

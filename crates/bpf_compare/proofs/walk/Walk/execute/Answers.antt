@@ -3,7 +3,7 @@ use Rattle.std.proofs.lemmas.Option.{slice_get-get_or}
 use Rattle.bpf_compare.specs.Known.{answer_on}
 use Rattle.bpf_compare.specs.declared.step.After.TheVariants.{Goes, Holds, Fails, Asks, Skips, Ends}
 use Rattle.bpf_compare.proofs.Walks.{turned, followed, asked, true_or_false}
-use Rattle.bpf_compare.proofs.walk.Walk.advance.Goals as goal
+use Rattle.bpf_compare.proofs.walk.Walk.execute.Goals as goal
 
 pub step-requires : goal.step-requires
 step-requires c =
