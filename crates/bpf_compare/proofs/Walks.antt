@@ -14,10 +14,9 @@ use Rattle.bpf_compare.specs.declared.walk.Walk.{Walk}
 use Rattle.bpf_compare.specs.declared.step.Registers.{Registers}
 use Rattle.bpf_compare.specs.declared.step.After.{After}
 use Rattle.bpf_compare.specs.declared.step.After.TheVariants as after
-use Rattle.bpf_compare.specs.Agree.{Returns}
 use Rattle.bpf_compare.specs.Known.{IsAmong, answer_on}
 use Rattle.bpf_compare.specs.Stands.{StandsFor, GoesOn, EndsWith, LeadsTo, skipped}
-use Rattle.bpf_compare.specs.Paths.{Follows, IsAt}
+use Rattle.bpf_compare.specs.Paths.{Follows, IsAt, ReturnsAs}
 
 -- the instruction at a place of the code
 abbrev pub insn_at : List Insn → ℕ → Insn
@@ -39,7 +38,7 @@ Led code call r insn after.Fails words = Comes code call (skipped r insn.jf) wor
 Led code call r insn (after.Asks question) words =
     Comes code call (skipped r (if answer_on call question then insn.jt else insn.jf)) words
 Led code call r insn after.Skips words = Comes code call (skipped r insn.k) words
-Led code call r insn (after.Ends value) words = Returns code call value
+Led code call r insn (after.Ends value) words = ReturnsAs code call value
 Led code call r insn after.Unclear words = Unit {0}
 
 goes_on : (code : List Insn) (call : SysCall) (n : ℕ) (s : State) (on : Registers) (words : List Value)
@@ -49,18 +48,15 @@ goes_on code call n s on words (Goes t) reached step stands =
     record { moment = suc n; state = t; reached = (s, reached, step); stands = stands }
 goes_on code call n s on words (Ends value) reached step stands = absurd stands
 
-ends : (code : List Insn) (call : SysCall) (n value : ℕ) (s : State) (next : Next) → Reaches code call n s
-    → Step call code s next → EndsWith value next → Returns code call value
+ends : (code : List Insn) (call : SysCall) (n : ℕ) (value : Value) (s : State) (next : Next)
+    → Reaches code call n s → Step call code s next → EndsWith call value next → ReturnsAs code call value
 ends code call n value s (Goes t) reached step is = absurd is
 ends code call n value s (Ends given) reached step is = record {
-  steps = n + 1;
-  run = record {
-    last = s;
-    before = n;
-    reached = reached;
-    ends = let P : ℕ → Type 0 = λ v.
-        Step call code s (Ends v) in subst P (sym is) step;
-    counted = refl;
+  number = given;
+  denotes = is;
+  returns = record {
+    steps = n + 1;
+    run = record { last = s; before = n; reached = reached; ends = step; counted = refl };
   };
 }
 
@@ -138,8 +134,8 @@ learned known follows among = record {
 }
 
 -- a path in the second filter
-pub in_second : (first second : List Insn) (call : SysCall) (value : Option ℕ) (one : ℕ) (walk : Walk)
-    → value ≡ Some one → Returns first call one → Follows second call walk
+pub in_second : (first second : List Insn) (call : SysCall) (value : Option Value) (one : Value) (walk : Walk)
+    → value ≡ Some one → ReturnsAs first call one → Follows second call walk
     → IsAt first second call value walk
-in_second first second call value one walk is returns follows =
-    let P : Option ℕ → Type 0 = λ it. IsAt first second call it walk in subst P (sym is) (returns, follows)
+in_second first second call value one walk is returns follows = let P : Option Value → Type 0 = λ it.
+    IsAt first second call it walk in subst P (sym is) (returns, follows)

@@ -82,9 +82,9 @@ pub call_of_words : (call : SysCall) (nr arch ip a b c d e f : ℕ) → IsCall c
 unfolding number_at
 call_of_words call nr arch ip a b c d e f is fields nr_is arch_is ip_is a_is b_is c_is d_is e_is f_is =
     let arg : (i : ℕ) → i < 6 → slice_index call.args i
-        ≡ word_at call (16 + 8 * i) + 2 ^ 32 * word_at call (20 + 8 * i) = λ i below.
-        halves _ _ _ (fields.args_low i (omega (arith, is.six, below)))
-        (fields.args_high i (omega (arith, is.six, below)) (is.args i)) in
+    ≡ word_at call (16 + 8 * i) + 2 ^ 32 * word_at call (20 + 8 * i) = λ i below.
+    halves _ _ _ (fields.args_low i (omega (arith, is.six, below)))
+    (fields.args_high i (omega (arith, is.six, below)) (is.args i)) in
     ap (λ v. call_of v call.arch call.ip call.args) (sym (nr_is ∙ fields.nr is.nr))
     ∙ ap (λ v. call_of nr v call.ip call.args) (sym (arch_is ∙ fields.arch is.arch))
     ∙ ap (λ v. call_of nr arch v call.args) (halves _ _ _ fields.ip_low (fields.ip_high is.ip) ∙ sym ip_is)

@@ -1,5 +1,5 @@
 -- Which calls take a path through both filters. Only private functions cite this.
-use Rattle.std.specs.Prelude.{◌≡◌, ◌≢◌, ◌⊎◌, ℕ, List, [], ◌∷◌, Option, Some, None}
+use Rattle.std.specs.Prelude.{◌≡◌, ◌⊎◌, ℕ, List, [], ◌∷◌, Option, Some, None}
 use Rattle.bpf_code.specs.declared.insn.Insn.{Insn}
 use Rattle.call_data.specs.declared.sys_call.SysCall.{SysCall}
 use Rattle.bpf_machine.specs.Machine.{State}
@@ -13,7 +13,9 @@ use Rattle.bpf_compare.specs.declared.path.Progress.TheVariants as progress
 use Rattle.bpf_compare.specs.declared.scope.Scope.{Scope}
 use Rattle.bpf_compare.specs.Agree.{Agree, Returns, Says}
 use Rattle.bpf_compare.specs.Known.{IsAmong}
+use Rattle.bpf_compare.specs.declared.value.Value.{Value}
 use Rattle.bpf_compare.specs.Stands.{StandsFor}
+use Rattle.bpf_compare.specs.Value.{Denotes}
 
 -- the call is in the walk's set, and its run comes to a state for which the walk stands
 pub record Follows (code : List Insn) (call : SysCall) (walk : Walk) : Type 0 where
@@ -23,18 +25,24 @@ pub record Follows (code : List Insn) (call : SysCall) (walk : Walk) : Type 0 wh
   pub stands : StandsFor call walk.registers walk.words state
   pub among : IsAmong walk.known call
 
+-- the filter returns a number on the call that the value may be
+pub record ReturnsAs (code : List Insn) (call : SysCall) (value : Value) : Type 0 where
+  pub number : ℕ
+  pub denotes : Denotes call value number
+  pub returns : Returns code call number
+
 -- what becomes of a call that followed a walk
 abbrev pub TurnsTo : Turn → List Insn → SysCall → Walk → Type 0
 TurnsTo turn.Goes code call walk = Follows code call walk
 TurnsTo (turn.Splits other) code call walk = Follows code call walk ⊎ Follows code call other
-TurnsTo (turn.Ends value) code call walk = Returns code call value × IsAmong walk.known call
+TurnsTo (turn.Ends value) code call walk = ReturnsAs code call value × IsAmong walk.known call
 TurnsTo turn.Empty code call walk = ⊥
 TurnsTo turn.Unclear code call walk = Unit {0}
 
 -- a walk in the first filter, or in the second one where the first returned a value
-abbrev pub IsAt : List Insn → List Insn → SysCall → Option ℕ → Walk → Type 0
+abbrev pub IsAt : List Insn → List Insn → SysCall → Option Value → Walk → Type 0
 IsAt first second call None walk = Follows first call walk
-IsAt first second call (Some value) walk = Returns first call value × Follows second call walk
+IsAt first second call (Some value) walk = ReturnsAs first call value × Follows second call walk
 
 abbrev pub Takes : List Insn → List Insn → SysCall → Path → Type 0
 Takes first second call path = IsAt first second call path.first path.walk
@@ -48,14 +56,11 @@ Becomes progress.Agrees first second call path = Agree first second call
 Becomes (progress.Differs found) first second call path = Unit {0}
 Becomes progress.Unclear first second call path = Unit {0}
 
--- the call is one of the path's, and the first filter returns the path's value, the second one another
-pub record Parts (first second : List Insn) (call : SysCall) (path : Path) : Type 0 where
-  pub one : ℕ
-  pub other : ℕ
+-- the call is one of the path's, and each filter returns its value
+pub record Meets (first second : List Insn) (call : SysCall) (path : Path) (one other : Value) : Type 0 where
   pub first_is : path.first ≡ Some one
-  pub of_first : Returns first call one
-  pub of_second : Returns second call other
-  pub differ : one ≢ other
+  pub of_first : ReturnsAs first call one
+  pub of_second : ReturnsAs second call other
   pub among : IsAmong path.walk.known call
 
 -- what is told holds

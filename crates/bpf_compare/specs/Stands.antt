@@ -24,9 +24,9 @@ abbrev pub GoesOn : SysCall → Registers → List Value → Next → Type 0
 GoesOn call registers words (Goes s) = StandsFor call registers words s
 GoesOn call registers words (Ends given) = ⊥
 
-abbrev pub EndsWith : ℕ → Next → Type 0
-EndsWith value (Goes s) = ⊥
-EndsWith value (Ends given) = value ≡ given
+abbrev pub EndsWith : SysCall → Value → Next → Type 0
+EndsWith call value (Goes s) = ⊥
+EndsWith call value (Ends given) = Denotes call value given
 
 abbrev pub skipped : Registers → ℕ → Registers
 skipped r count = record { place = r.place + 1 + count; a = r.a; x = r.x }
@@ -50,5 +50,5 @@ LeadsTo call r insn after.Fails words next = GoesOn call (skipped r insn.jf) wor
 LeadsTo call r insn (after.Asks question) words next =
     GoesOn call (skipped r (if answer_on call question then insn.jt else insn.jf)) words next
 LeadsTo call r insn after.Skips words next = GoesOn call (skipped r insn.k) words next
-LeadsTo call r insn (after.Ends value) words next = EndsWith value next
+LeadsTo call r insn (after.Ends value) words next = EndsWith call value next
 LeadsTo call r insn after.Unclear words next = Unit {0}

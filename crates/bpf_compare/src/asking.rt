@@ -4,15 +4,24 @@ ghost use Rattle.bpf_compare.specs.Known.{IsSettled};
 use crate::known::Known;
 use crate::question::{Question, Test};
 use crate::range::Range;
+use crate::value::Value;
 use crate::word::Word;
 
 /// A question about a bit under the mask that the range leaves open. `None` if all of them are known.
-pub(crate) fn bit_question(word: Word, range: Range, mask: u32) -> Option<Question> {
+fn bit_question(word: Word, range: Range, mask: u32) -> Option<Question> {
     let open = mask & !range.mask;
     if open == 0 {
         None
     } else {
         Some(highest_bit(word, open))
+    }
+}
+
+/// A question about a bit of the value that is not known of the calls of the set.
+pub(crate) fn value_question(known: &Known, value: Value) -> Option<Question> {
+    match value {
+        Value::Data(word, mask) => bit_question(word, known.ranges[word.place], mask),
+        Value::Constant(_) | Value::Unknown => None,
     }
 }
 

@@ -142,7 +142,12 @@ impl Known {
     {
         let range = question.narrow(self.ranges[question.word.place], holds)?;
         if is_ruled_out(self.excluded.as_slice(), question.word, range)
-            || is_out_of_bounds(self.bounded.as_slice(), question.word, range, question.bounds(holds))
+            || is_out_of_bounds(
+                self.bounded.as_slice(),
+                question.word,
+                range,
+                question.bounds(holds),
+            )
         {
             None
         } else {
@@ -163,7 +168,12 @@ impl Known {
     }
 
     /// Records that the question's word is in this range, and which bits it does not have.
-    fn narrow_word(&mut self, question: Question, range: Range, holds: bool) -> Result<(), AllocError>
+    fn narrow_word(
+        &mut self,
+        question: Question,
+        range: Range,
+        holds: bool,
+    ) -> Result<(), AllocError>
         ensures { IfOk result (λ _. (call : SysCall) → IsAmong self.old call → answer_on call question ≡ holds
             → IsIn range (number_at call question.word.place) → IsAmong self.new call) }
     {

@@ -1,13 +1,17 @@
-ghost use Rattle.std.specs.Prelude.{IfOk, List};
+ghost use Rattle.std.specs.Prelude.{◌≡◌, IfOk, List, Some};
 ghost use Rattle.bpf_code.specs.declared.insn.Insn.{Insn};
 ghost use Rattle.call_data.specs.declared.sys_call.SysCall.{SysCall};
 ghost use Rattle.bpf_compare.specs.Agree.{IsOf};
-ghost use Rattle.bpf_compare.specs.Paths.{Becomes, Parts, Takes, Tells};
+ghost use Rattle.bpf_compare.specs.declared.scope.Scope.{Scope};
+ghost use Rattle.bpf_compare.specs.declared.value.Value.{Value};
+ghost use Rattle.bpf_compare.specs.Known.{IsAmong};
+ghost use Rattle.bpf_compare.specs.Paths.{Becomes, Meets, ReturnsAs, Takes, Tells};
 
-use crate::asking::open_question;
+use crate::asking::{open_question, value_question};
 use crate::comparison::Comparison;
 use crate::difference::difference;
 use crate::known::{Known, Left};
+use crate::question::Question;
 use crate::scope::Scope;
 use crate::step::Registers;
 use crate::value::Value;
@@ -18,8 +22,8 @@ use std::alloc::{AllocError, Global};
 /// Where a set of calls is on its way through two filters, one after the other.
 #[derive(Drop)]
 pub(crate) struct Path {
-    /// The first filter's value, once it returned.
-    pub(crate) first: Option<u32>,
+    /// What the first filter returned, once it did.
+    pub(crate) first: Option<Value>,
     /// The way through the first filter, and then through the second one.
     pub(crate) walk: Walk,
 }
@@ -86,34 +90,55 @@ impl Path {
                     first: Some(value),
                     walk,
                 })),
-                Turn::Ends(other) if other == value => Ok(Progress::Agrees),
-                Turn::Ends(_) => self.differ(alloc, first, second, scope),
+                Turn::Ends(other) => self.meet(alloc, first, second, scope, value, other),
                 Turn::Empty => Ok(Progress::Agrees),
                 Turn::Unclear => Ok(Progress::Unclear),
             },
         }
     }
 
-    /// Tells a call of the path, on all of whose calls the filters return different values. If none is found,
-    /// it learns a bit of them, and goes through the second filter once more.
-    fn differ(
+    /// Compares what the filters return. If that may differ, it tells a call of the path on which it does; if
+    /// none is found, it learns a bit of its calls, and goes through the second filter once more.
+    fn meet(
         &mut self,
         alloc: Global,
         first: &Filter,
         second: &Filter,
         scope: Scope,
+        one: Value,
+        other: Value,
     ) -> Result<Progress, AllocError>
         ensures becomes { IfOk result (λ progress. (call : SysCall) → IsOf scope call
-            → Parts first.now second.now call self.old
+            → Meets first.now second.now call self.old one other
             → Becomes progress first.now second.now call self.new) }
         ensures told { IfOk result (λ progress. Tells progress scope first.now second.now) }
     {
-        if let Some(found) = difference(first, second, scope, &self.walk.known) {
+        let known = &self.walk.known;
+        let (one, other) = (known.constant(one), known.constant(other));
+        if one.is_same(other) {
+            return Ok(Progress::Agrees);
+        }
+        if let Some(found) = difference(first, second, scope, known) {
             return Ok(Progress::Differs(found));
         }
-        let Some(question) = open_question(&self.walk.known) else {
-            return Ok(Progress::Agrees);
-        };
+        if matches!(one, Value::Unknown) || matches!(other, Value::Unknown) {
+            return Ok(Progress::Unclear);
+        }
+        let asked = value_question(known, one).or(value_question(known, other));
+        match asked.or(open_question(known)) {
+            Some(question) => self.restart_with(alloc, question),
+            None => Ok(Progress::Agrees),
+        }
+    }
+
+    /// Learns the answer to a question, and goes through the second filter from its start.
+    fn restart_with(&mut self, alloc: Global, question: Question) -> Result<Progress, AllocError>
+        ensures becomes { IfOk result (λ progress. (first second : List Insn) (call : SysCall) (one : Value)
+            → self.old.first ≡ Some one → ReturnsAs first call one → IsAmong self.old.walk.known call
+            → Becomes progress first second call self.new) }
+        ensures tells_none { IfOk result (λ progress. (scope : Scope) (first second : List Insn)
+            → Tells progress scope first second) }
+    {
         self.walk.restart();
         match self.walk.known.ask(alloc, question)? {
             Left::None => Ok(Progress::Agrees),

@@ -66,7 +66,7 @@ pub(crate) enum After {
     /// Skips k instructions.
     Skips,
     /// Ends, with this value.
-    Ends(u32),
+    Ends(Value),
     /// Depends on a value that is not tracked.
     Unclear,
 }
@@ -158,7 +158,6 @@ fn computed_with_x(insn: &Insn, a: u32, x: u32) -> Option<u32>
 /// What has to be a constant before the instruction can be followed, if it is data.
 pub(crate) fn wanted(registers: Registers, op: Operation) -> Value {
     match (op, registers.a) {
-        (Operation::ReturnA, a) => a,
         (Operation::AndX, Value::Data(..)) => registers.x,
         (
             Operation::DivX
@@ -207,7 +206,7 @@ pub(crate) fn step(registers: Registers, insn: &Insn, words: &mut [Value; 16]) -
             _ => After::Goes(Value::Unknown, x),
         },
         Operation::DivX => match x {
-            Value::Constant(0) => After::Ends(0),
+            Value::Constant(0) => After::Ends(Value::Constant(0)),
             Value::Constant(_) => After::Goes(Value::Unknown, x),
             Value::Data(..) | Value::Unknown => After::Unclear,
         },
@@ -232,11 +231,8 @@ pub(crate) fn step(registers: Registers, insn: &Insn, words: &mut [Value; 16]) -
             Value::Data(..) | Value::Unknown => After::Unclear,
         },
         Operation::Jump => After::Skips,
-        Operation::ReturnK => After::Ends(insn.k),
-        Operation::ReturnA => match a {
-            Value::Constant(value) => After::Ends(value),
-            Value::Data(..) | Value::Unknown => After::Unclear,
-        },
+        Operation::ReturnK => After::Ends(Value::Constant(insn.k)),
+        Operation::ReturnA => After::Ends(a),
         Operation::MoveToX => After::Goes(a, a),
         Operation::MoveToA => After::Goes(x, x),
         // Arithmetic other than masks, with what is no constant.

@@ -1,4 +1,4 @@
-ghost use Rattle.std.specs.Prelude.{◌≡◌, ◌<◌, ◌%◌, ℕ, bit_and};
+ghost use Rattle.std.specs.Prelude.{◌≡◌, ◌<◌, ◌%◌, ℕ, IsTrue, bit_and};
 ghost use Rattle.call_data.specs.declared.sys_call.SysCall.{SysCall};
 ghost use Rattle.call_data.specs.CallData.{IsCall, word_at};
 ghost use Rattle.bpf_compare.specs.Value.{Denotes};
@@ -26,6 +26,18 @@ impl Value {
     {
         words_fit();
         Value::Data(Word::at(offset), u32::MAX)
+    }
+
+    /// Whether both are the same number on every call, as far as can be seen.
+    pub(crate) fn is_same(self, other: Value) -> bool
+        ensures { IsTrue result → (call : SysCall) (n m : ℕ) → Denotes call self n → Denotes call other m
+            → n ≡ m }
+    {
+        match (self, other) {
+            (Value::Constant(number), Value::Constant(given)) => number == given,
+            (Value::Data(word, mask), Value::Data(given, under)) => word == given && mask == under,
+            _ => false,
+        }
     }
 
     /// What is known of the same bits under a mask.

@@ -5,7 +5,7 @@ ghost use Rattle.call_data.specs.CallData.{IsCall};
 ghost use Rattle.bpf_compare.specs.Known.{IsAmong};
 ghost use Rattle.bpf_compare.specs.Paths.{Follows, TurnsTo};
 
-use crate::asking::bit_question;
+use crate::asking::value_question;
 use crate::known::{Known, Left, Split};
 use crate::question::Question;
 use crate::step::{After, Registers, step, wanted};
@@ -31,7 +31,7 @@ pub(crate) enum Turn {
     /// It goes on with some of its calls, and this new walk with the others.
     Splits(Walk),
     /// The filter returned this value.
-    Ends(u32),
+    Ends(Value),
     /// It has no calls.
     Empty,
     /// It depends on a value that is not tracked.
@@ -79,10 +79,7 @@ impl Walk {
     /// A question about a bit that has to be known before the next instruction can be followed.
     fn wanted(&self, code: &[Insn]) -> Option<Question> {
         let insn = code.get(self.registers.place)?;
-        match wanted(self.registers, insn.op) {
-            Value::Data(word, mask) => bit_question(word, self.known.ranges[word.place], mask),
-            Value::Constant(_) | Value::Unknown => None,
-        }
+        value_question(&self.known, wanted(self.registers, insn.op))
     }
 
     /// Learns the answer to a question at the same place.

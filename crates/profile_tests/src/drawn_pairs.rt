@@ -8,16 +8,20 @@ use std::test::Fail;
 
 /// More instructions than any pair here takes.
 const BUDGET: u64 = 1_000_000;
+
 const MASKS: [u32; 5] = [1, 3, 6, 0xff, u32::MAX];
+
 const NUMBERS: [u32; 6] = [0, 1, 2, 3, 7, 0xfe];
 /// Where the words are that are tested: the number, and the low halves of two arguments.
 const OFFSETS: [u32; 3] = [0, 16, 24];
+
 const TESTS: [Operation; 4] = [
     Operation::JumpEqualK,
     Operation::JumpGreaterK,
     Operation::JumpGreaterOrEqualK,
     Operation::JumpAnyBitK,
 ];
+
 const EDGES: [u32; 7] = [0, 1, 2, 3, 7, 0xfe, 0xff];
 
 fn insn(op: Operation, jt: u8, jf: u8, k: u32) -> Insn {
