@@ -25,8 +25,9 @@ pub(crate) fn value_question(known: &Known, value: Value) -> Option<Question> {
     }
 }
 
-/// A question about a bit that is not known of the calls of the set: of a word of which more is known than its
-/// range can tell, or else of any word. `None` if each word is known whole, so that at most one call is left.
+/// A question about a bit that is not known of the calls of the set: of a word of which more is known than
+/// its range can tell, or else of any word. `None` if each word is known whole, so that at most one call is
+/// left.
 pub(crate) fn open_question(known: &Known) -> Option<Question>
     ensures { IfNone result (IsSettled known.now) }
 {

@@ -1,8 +1,8 @@
-//! What `seccheck` answers: of a filter, of a call, of two filters, of a script and of a pod, as lines of text
-//! or as objects of JSON (RFC 8259), one a line.
+//! What `seccheck` answers: of a filter, of a call, of two filters, of a script and of a pod, as lines of
+//! text or as objects of JSON (RFC 8259), one a line.
 //!
-//! Each answer's bytes stand in `specs/`. `judging` runs a filter on a call, and `playing` plays the cell of a
-//! script to its end; neither prints anything.
+//! Each answer's bytes stand in `specs/`. `judging` runs a filter on a call, and `playing` plays the cell of
+//! a script to its end; neither prints anything.
 #![tactic(auto)]
 
 mod compared;

@@ -2,7 +2,8 @@
 ghost use Rattle.std.specs.Prelude.{◌≡◌, ◌++◌, ◌≤◌, IfOk, codes, length, string_bytes};
 ghost use Rattle.bpf_code.specs.declared.limits.TheConstants.{MAX_INSNS};
 ghost use Rattle.profile_pick.specs.Choice.{choice_seen};
-ghost use Rattle.check_answers.specs.ListObjects.{code_objects, picked_objects, profile_members, record_objects};
+ghost use Rattle.check_answers.specs.ListObjects.{code_objects, picked_objects};
+ghost use Rattle.check_answers.specs.ListObjects.{profile_members, record_objects};
 
 use crate::line::{Line, outcome};
 use crate::playing::Outcome;

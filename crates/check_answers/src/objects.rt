@@ -1,6 +1,7 @@
 //! What is printed as an object of JSON (RFC 8259). No text of these has a byte that JSON would escape.
 ghost use Rattle.std.specs.Prelude.{◌≡◌, IfOk, string_bytes};
-ghost use Rattle.check_answers.specs.Objects.{accepted_object, compiled_object, judged_object, longest_object};
+ghost use Rattle.check_answers.specs.Objects.{accepted_object, compiled_object};
+ghost use Rattle.check_answers.specs.Objects.{judged_object, longest_object};
 ghost use Rattle.check_answers.specs.Objects.{same_object};
 
 use crate::compared::Difference;
