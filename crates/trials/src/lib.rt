@@ -2,8 +2,8 @@
 //! its result and its state are to be. Programs for tests make them and print what came of them.
 #![tactic(auto)]
 
-mod files;
+mod samples;
 mod trial;
 
-pub use files::{PROFILE, SCRIPT, files};
+pub use samples::{PROFILE, SCRIPT, files};
 pub use trial::{Came, Told, Trial, tried};

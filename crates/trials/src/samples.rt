@@ -1,4 +1,4 @@
-//! The files that trials share: a script and a profile.
+//! The script and the profile that trials share.
 use runtime_core::{Contents, FileAnswers};
 use std::alloc::Global;
 
