@@ -8,13 +8,13 @@
  * each list of calls.
  */
 #include "others.h"
+#include "times.h"
 #include <linux/audit.h>
 #include <linux/seccomp.h>
 #include <motchidu.h>
 #include <stdio.h>
 #include <stdlib.h>
 #include <string.h>
-#include <time.h>
 
 enum { CALLS = 4096, ROUNDS = 21, MOST_INSNS = 4096 };
 static const double ROUND_NS = 80e6;
@@ -55,17 +55,11 @@ static void by_pcap(void) {
         pcap_values[i] = pcap_run(code, swapped[i]);
 }
 
-static double now_ns(void) {
-    struct timespec t;
-    clock_gettime(CLOCK_PROCESS_CPUTIME_ID, &t);
-    return 1e9 * (double)t.tv_sec + (double)t.tv_nsec;
-}
-
 static double time_of(void (*run)(void), long times) {
-    double start = now_ns();
+    double start = now_ns(CLOCK_PROCESS_CPUTIME_ID);
     for (long i = 0; i < times; i++)
         run();
-    return now_ns() - start;
+    return now_ns(CLOCK_PROCESS_CPUTIME_ID) - start;
 }
 
 /* How often a run is made, so that a round takes long enough. */
@@ -76,16 +70,6 @@ static long times_of(void (*run)(void)) {
     while ((took = time_of(run, times)) < ROUND_NS / 4)
         times *= 2;
     return (long)((double)times * ROUND_NS / took) + 1;
-}
-
-static int by_size(const void *a, const void *b) {
-    double x = *(const double *)a, y = *(const double *)b;
-    return (x > y) - (x < y);
-}
-
-static double median(double *xs, int n) {
-    qsort(xs, (size_t)n, sizeof *xs, by_size);
-    return xs[n / 2];
 }
 
 /* Values and steps have to agree on every call before anything is timed. */

@@ -1,22 +1,11 @@
 /* How long comparisons of two filters take: RuntimeDefault beside the same profile by libseccomp's list and
- * by its binary tree, on native calls, and two lists of compares of 4,000 instructions in different orders, on
- * every call. */
+ * by its binary tree, on native calls, and two lists of compares of 4,000 instructions in different orders,
+ * on every call. */
 #include "rules.h"
+#include "times.h"
 #include <linux/filter.h>
-#include <time.h>
 
 enum { ROUNDS = 11, TESTS = 1999, LONG = 2 * TESTS + 2 };
-
-static int by_size(const void *a, const void *b) {
-    double x = *(const double *)a, y = *(const double *)b;
-    return (x > y) - (x < y);
-}
-
-static double now(void) {
-    struct timespec at;
-    clock_gettime(CLOCK_PROCESS_CPUTIME_ID, &at);
-    return at.tv_sec * 1e3 + at.tv_nsec / 1e6;
-}
 
 static void row(const char *what, const void *first, size_t first_len, const void *second, size_t second_len,
                 int native) {
@@ -25,13 +14,12 @@ static void row(const char *what, const void *first, size_t first_len, const voi
     for (int i = 0; i < ROUNDS; i++) {
         uint8_t call[64];
         uint32_t values[2];
-        double before = now();
+        double before = now_ns(CLOCK_PROCESS_CPUTIME_ID);
         status = motchidu_compare(first, first_len, second, second_len, native, UINT64_MAX, call, values);
-        times[i] = now() - before;
+        times[i] = now_ns(CLOCK_PROCESS_CPUTIME_ID) - before;
     }
-    qsort(times, ROUNDS, sizeof *times, by_size);
     printf("| %s | %zu and %zu | %s | %.1f ms |\n", what, first_len / 8, second_len / 8,
-           motchidu_status_text(status), times[ROUNDS / 2]);
+           motchidu_status_text(status), median(times, ROUNDS) / 1e6);
 }
 
 /* A list of compares of the call's number: each number has its own errno, whatever the order of its test. */

@@ -2,24 +2,18 @@
  * getppid costs without one: a call that is always allowed (since Linux 5.11 no filter runs for it), one that
  * is allowed by a condition, and one that is denied. All on one processor, medians of interleaved rounds. */
 #include "rules.h"
+#include "times.h"
 #include <linux/filter.h>
 #include <sched.h>
 #include <sys/prctl.h>
 #include <sys/syscall.h>
 #include <sys/wait.h>
-#include <time.h>
 
 enum { KINDS = 3, ROUNDS = 21, CALLS = 20000, NONE = -1 };
 
 /* getppid, personality with the value that asks for it, and add_key, which RuntimeDefault denies. */
 static const long numbers[KINDS] = {SYS_getppid, SYS_personality, SYS_add_key};
 static const long arguments[KINDS] = {0, 0xffffffff, 0};
-
-static double now(void) {
-    struct timespec at;
-    clock_gettime(CLOCK_MONOTONIC, &at);
-    return at.tv_sec * 1e9 + at.tv_nsec;
-}
 
 /* Nanoseconds of a call of each kind in a child, under the filter if there is one. */
 static void measure(const uint8_t *filter, size_t length, double *took) {
@@ -30,10 +24,10 @@ static void measure(const uint8_t *filter, size_t length, double *took) {
                        syscall(SYS_seccomp, SECCOMP_SET_MODE_FILTER, 0, &program)))
             _exit(1);
         for (int kind = 0; kind < KINDS; kind++) {
-            double before = now();
+            double before = now_ns(CLOCK_MONOTONIC);
             for (int i = 0; i < CALLS; i++)
                 syscall(numbers[kind], arguments[kind], 0, 0, 0, 0);
-            took[kind] = (now() - before) / CALLS;
+            took[kind] = (now_ns(CLOCK_MONOTONIC) - before) / CALLS;
         }
         _exit(0);
     }
@@ -42,11 +36,6 @@ static void measure(const uint8_t *filter, size_t length, double *took) {
         fprintf(stderr, "a child under a filter ended with %d\n", ended);
         exit(1);
     }
-}
-
-static int by_size(const void *a, const void *b) {
-    double x = *(const double *)a, y = *(const double *)b;
-    return (x > y) - (x < y);
 }
 
 /* The names of a drawn list, and those that the measured child calls. */
@@ -70,7 +59,7 @@ static void drawn_with_ours(void) {
 static void rows(const char *profile) {
     static const char *const compilers[] = {"motchidu", "libseccomp", "its binary tree"};
     static uint8_t filters[3][32768];
-    static double samples[4][KINDS][ROUNDS];
+    static double samples[4][KINDS][ROUNDS], medians[4][KINDS];
     size_t lengths[3];
     int there = 1;
 #ifdef HAS_SECCOMP
@@ -92,12 +81,11 @@ static void rows(const char *profile) {
     munmap(took, sizeof(double) * KINDS);
     for (int how = NONE; how < there; how++)
         for (int kind = 0; kind < KINDS; kind++)
-            qsort(samples[how + 1][kind], ROUNDS, sizeof(double), by_size);
-    double plain = samples[0][0][ROUNDS / 2];
+            medians[how + 1][kind] = median(samples[how + 1][kind], ROUNDS);
+    double plain = medians[0][0];
     for (int how = 0; how < there; how++)
-        printf("| %s | %s | %.2f | %.2f | %.2f |\n", profile, compilers[how],
-               samples[how + 1][0][ROUNDS / 2] / plain, samples[how + 1][1][ROUNDS / 2] / plain,
-               samples[how + 1][2][ROUNDS / 2] / plain);
+        printf("| %s | %s | %.2f | %.2f | %.2f |\n", profile, compilers[how], medians[how + 1][0] / plain,
+               medians[how + 1][1] / plain, medians[how + 1][2] / plain);
 }
 
 int main(void) {

@@ -3,20 +3,9 @@
  * arguments 0, and the time from profile to filter. The library reads its profiles as JSON in that time.
  * Profiles in files that are given are compiled by the library alone. */
 #include "rules.h"
-#include <time.h>
+#include "times.h"
 
 enum { ROUNDS = 101 };
-
-static int by_size(const void *a, const void *b) {
-    double x = *(const double *)a, y = *(const double *)b;
-    return (x > y) - (x < y);
-}
-
-static double now(void) {
-    struct timespec at;
-    clock_gettime(CLOCK_PROCESS_CPUTIME_ID, &at);
-    return at.tv_sec * 1e6 + at.tv_nsec / 1e3;
-}
 
 static void row(const char *profile, const char *compiler, int how) {
     static uint8_t filter[32768];
@@ -39,13 +28,12 @@ static void row(const char *profile, const char *compiler, int how) {
         sum += steps[i];
     }
     for (int i = 0; i < ROUNDS; i++) {
-        double before = now();
+        double before = now_ns(CLOCK_PROCESS_CPUTIME_ID);
         compiled(filter, how);
-        times[i] = now() - before;
+        times[i] = now_ns(CLOCK_PROCESS_CPUTIME_ID) - before;
     }
-    qsort(times, ROUNDS, sizeof *times, by_size);
     printf("| %s | %s | %zu | %u | %.1f | %.0f us |\n", profile, compiler, length / 8, most, sum / NUMBERS,
-           times[ROUNDS / 2]);
+           median(times, ROUNDS) / 1e3);
 }
 
 static void rows(const char *profile) {

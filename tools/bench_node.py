@@ -1,9 +1,11 @@
 #!/usr/bin/env python3
-"""bench_node.py [SECONDS [COUNTED [PODS]]]: a node of 110 pods, or of PODS, with 4 containers each that end
-and are restarted for ever, by the machine's clock for so many seconds (60), and then by a virtual clock to
-such a moment (86,400); 0 leaves a clock out. It prints how many calls there are, the memory of the process
-after a tenth of the time and at the end, and what a call takes of the processor in the first and in the last
-tenth. The program is crates/nodeagent/out/nodeagent, or that in the folder BIN names.
+"""bench_node.py [SECONDS [COUNTED [PODS]]]: an agent that stays. A runtime and an agent in processes of their
+own have a node of 110 pods, or of PODS, with 4 containers each that fail and are made again for ever, by the
+machine's clock for so many seconds (80), and then by a virtual clock to such a moment (21,600); 0 leaves a
+clock out. Pods begin one after the other, so that calls are spread. For each tenth of the time it prints how
+many calls there are, the entries of the history up to then, what both processes hold of memory, and what a
+call takes of the processor; then the first tenth beside the last. The programs are crates/NAME/out/NAME, or
+those in the folder BIN names.
 """
 import json
 import os
@@ -11,89 +13,206 @@ import re
 import subprocess
 import sys
 import tempfile
+import threading
 import time
+from collections import namedtuple
 
 ROOT = os.path.dirname(os.path.dirname(os.path.abspath(__file__)))
-CONTAINERS = 4
-SECONDS, COUNTED, PODS = [int(it) for it in sys.argv[1:]] + [60, 86_400, 110][len(sys.argv) - 1:]
-PROGRAM = f"{os.environ.get('BIN', f'{ROOT}/crates/nodeagent/out')}/nodeagent"
-SCRIPT = {"steps": [{"call": "getpid"}, {"call": "write"}, {"exit": 1}]}
+CONTAINERS, PART, TENTHS = 4, 1024, 10
+SECONDS, COUNTED, PODS = [int(it) for it in sys.argv[1:]] + [80, 21_600, 110][len(sys.argv) - 1:]
+TURN = 300  # the longest back-off, after which all begins again
+DELAYS = 6  # in how many ways a pod's start is put off by the virtual clock
+FEW = 200  # calls of whose share of the processor little can be said
+PAUSE = 0.1  # seconds between two looks
+
+Look = namedtuple("Look", "moment calls entries agent runtime agent_took runtime_took")
 
 
-def pods(folder):
-    """Manifests of a node of pods whose containers fail each time, and so are started again after a
-    back-off."""
-    with open(f"{folder}/fails.s", "w", encoding="utf-8") as it:
-        json.dump(SCRIPT, it)
-    names = []
-    for pod in range(PODS):
-        containers = [{"name": f"c{place}", "image": "fails.s"} for place in range(CONTAINERS)]
-        spec = {"securityContext": {"seccompProfile": {"type": "RuntimeDefault"}}, "containers": containers}
-        names.append(f"p{pod}.json")
-        with open(f"{folder}/{names[-1]}", "w", encoding="utf-8") as it:
-            json.dump({"apiVersion": "v1", "kind": "Pod", "metadata": {"name": f"p{pod}"}, "spec": spec}, it)
-    return names
+def program(name):
+    folder = os.environ.get("BIN")
+    return os.path.abspath(f"{folder}/{name}") if folder else f"{ROOT}/crates/{name}/out/{name}"
+
+
+def write(path, value):
+    """Puts a file there as a whole: the agent may read the folder meanwhile."""
+    with open(f"{path}.new", "w", encoding="utf-8") as it:
+        json.dump(value, it)
+    os.rename(f"{path}.new", path)
+
+
+def scripts(folder):
+    """A script that fails each time, and scripts that do so up to so many times."""
+    calls = [{"call": "getpid"}, {"call": "write"}]
+    write(f"{folder}/fails.s", {"steps": [*calls, {"exit": 1}]})
+    for times in range(DELAYS):
+        write(f"{folder}/fails{times}.s", {"steps": [*calls, {"exitByAttempt": [1] * times + [0]}]})
+
+
+def pod(at, is_put_off):
+    """A pod whose containers fail each time, and so are made again after a back-off; if it is to be put off,
+    they begin after an init container that fails some times."""
+    listed = [{"name": f"c{place}", "image": "fails.s"} for place in range(CONTAINERS)]
+    spec = {"securityContext": {"seccompProfile": {"type": "RuntimeDefault"}}, "containers": listed}
+    if is_put_off:
+        spec["initContainers"] = [{"name": "first", "image": f"fails{at % DELAYS}.s"}]
+    return {"apiVersion": "v1", "kind": "Pod", "metadata": {"name": f"p{at}"}, "spec": spec}
 
 
 def memory_of(pid):
-    """What the process holds now, in KiB."""
+    """What a process holds now, in KiB; 0 if it has ended."""
     with open(f"/proc/{pid}/status", encoding="utf-8") as it:
-        return int(re.search(r"^VmRSS:\s+(\d+)", it.read(), re.M)[1])
+        held = re.search(r"^VmRSS:\s+(\d+)", it.read(), re.M)
+    return int(held[1]) if held else 0
 
 
-def seconds_of(pid):
-    """What the process took of processors."""
+def took_of(pid):
+    """How many seconds of processors a process took."""
     with open(f"/proc/{pid}/stat", encoding="utf-8") as it:
         fields = it.read().rpartition(")")[2].split()
     return (int(fields[11]) + int(fields[12])) / os.sysconf("SC_CLK_TCK")
 
 
-class Seen:
-    """Calls, memory and time of the processor up to a moment."""
+class Node:
+    """A runtime, and an agent whose lines are counted."""
 
-    def __init__(self, pid, calls):
-        self.calls, self.memory, self.seconds = calls, memory_of(pid), seconds_of(pid)
+    def __init__(self, folder, words):
+        quiet = {"cwd": folder, "stdout": subprocess.DEVNULL}
+        served = [program("scriptd"), "--socket", "s"]
+        self.runtime = subprocess.Popen(served, stderr=subprocess.DEVNULL, **quiet)
+        while not os.path.exists(f"{folder}/s") and self.runtime.poll() is None:
+            time.sleep(0.01)
+        line = [program("nodeagent"), "--socket", "s", "--verbose", "--history", str(PART), *words]
+        self.agent = subprocess.Popen(line, stderr=subprocess.PIPE, text=True, errors="replace", **quiet)
+        self.calls, self.moments, self.moment, self.said = 0, 0, 0, ""
+        self.reader = threading.Thread(target=self.read)
+        self.reader.start()
 
-    def a_call(self, before):
-        return (self.seconds - before.seconds) / max(self.calls - before.calls, 1) * 1e6
+    def read(self):
+        """Counts calls, and the moments at which they begin."""
+        for line in self.agent.stderr:
+            told = re.match(r"moment (\d+) s |(\d+) lines left out", line)
+            if not told:
+                self.said = line
+            elif told[1] is None:
+                self.calls += int(told[2])
+            else:
+                self.calls += 1
+                if int(told[1]) > self.moment:
+                    self.moments, self.moment = self.moments + 1, int(told[1])
+
+    def look(self, moment=None):
+        """What is seen now. A call has two entries, and a step of the clock has one."""
+        pids = self.agent.pid, self.runtime.pid
+        moment, entries = self.moment if moment is None else moment, 2 * self.calls + self.moments
+        return Look(moment, self.calls, entries, *map(memory_of, pids), *map(took_of, pids))
+
+    def end(self):
+        """Waits for the agent, and ends the runtime."""
+        status = self.agent.wait()
+        self.reader.join()
+        self.runtime.kill()
+        self.runtime.wait()
+        if status not in (0, 5):
+            print(f"bench_node: the agent ended with {status}: {self.said.strip()}", flush=True)
 
 
-def looked_after(folder, words, end):
-    """Runs the agent, and looks at it at its start, when a tenth and nine tenths of its time passed, and at
-    the last call."""
-    line = [PROGRAM, "--socket", "s", "--with-runtime", "--verbose", "--until", str(end), *words]
-    how = {"cwd": folder, "stdout": subprocess.DEVNULL, "stderr": subprocess.PIPE, "text": True}
-    ran = subprocess.Popen(line, **how)
-    seen, calls, last = [Seen(ran.pid, 0)], 0, None
-    for line in ran.stderr:
-        told = re.match(r"moment (\d+) s ", line)
-        if not told:
-            continue
-        calls += 1
-        if len(seen) < 3 and int(told[1]) >= end * (1, 9)[len(seen) - 1] / 10:
-            seen.append(Seen(ran.pid, calls))
-        elif len(seen) == 3:
-            last = Seen(ran.pid, calls)
-    ran.wait()
-    if last is None:
-        raise SystemExit("bench_node: there are too few calls to be measured")
-    return [*seen, last]
+def watched(node, step):
+    """Looks at a node until its agent ends, after a step of the caller's, which gives the moment."""
+    looks = [node.look(0)]
+    while node.agent.poll() is None:
+        seen = node.look(step())
+        if seen.agent and seen.runtime:
+            looks.append(seen)
+        time.sleep(PAUSE)
+    node.end()
+    return looks
+
+
+def by_the_clock(folder):
+    """Looks at a node whose pods come one after the other within the first half of the time, or within a
+    back-off."""
+    os.mkdir(f"{folder}/pods")
+    node = Node(folder, ["--pods", "pods", "--until", str(SECONDS)])
+    begun, spread, put = time.monotonic(), min(TURN, SECONDS / 2), 0
+
+    def step():
+        nonlocal put
+        moment = time.monotonic() - begun
+        while put < PODS and put * spread / PODS <= moment:
+            write(f"{folder}/pods/p{put}.json", pod(put, False))
+            put += 1
+        return moment
+
+    return watched(node, step)
+
+
+def counted(folder):
+    """Looks at a node whose pods are all there at the start, and put off in turn."""
+    names = [f"p{at}.json" for at in range(PODS)]
+    for at, name in enumerate(names):
+        write(f"{folder}/{name}", pod(at, True))
+    node = Node(folder, ["--settle", "--until", str(COUNTED), *names])
+    return watched(node, lambda: None)
+
+
+class Share:
+    """What came between two looks."""
+
+    def __init__(self, before, after):
+        self.before, self.after, self.calls = before, after, after.calls - before.calls
+
+    def each(self, took):
+        """What a call took, in microseconds."""
+        if not self.calls:
+            return "-"
+        spent = getattr(self.after, took) - getattr(self.before, took)
+        return f"{1e6 * spent / self.calls:.0f}"
+
+    def line(self):
+        it = self.after
+        few = ", few calls" if self.calls < FEW else ""
+        return (f"to {it.moment:.0f} s: {self.calls} calls, {it.entries} entries; agent {it.agent} KiB, "
+                f"{self.each('agent_took')} us a call; scriptd {it.runtime} KiB, "
+                f"{self.each('runtime_took')} us a call{few}")
+
+
+def shares(looks, end):
+    """The tenths of the time. A tenth ends with the first look behind its last moment, if there is one."""
+    ends, at = [looks[0]], 0
+    for tenth in range(1, TENTHS):
+        while at + 1 < len(looks) and looks[at].moment < end * tenth / TENTHS:
+            at += 1
+        ends.append(looks[at])
+    ends.append(looks[-1])
+    return [Share(before, after) for before, after in zip(ends, ends[1:])]
+
+
+def tell(clock, looks, end, took):
+    """Prints what came in each tenth, and the first tenth beside the last."""
+    last = looks[-1]
+    print(f"{PODS} pods of {CONTAINERS} containers for {end} s by {clock}, {took:.0f} s: {last.calls} calls, "
+          f"{last.entries} entries", flush=True)
+    found = shares(looks, end)
+    for share in found:
+        print(f"  {share.line()}")
+    first, rest = found[0].after, found[-1]
+    grown = 100 * (last.agent - first.agent) / max(first.agent, 1)
+    few = [name for name, share in (("first", found[0]), ("last", rest)) if share.calls < FEW]
+    note = f" (the {' and the '.join(few)} of few calls)" if few else ""
+    print(f"  the first tenth and the last{note}: agent {first.agent} and {last.agent} KiB ({grown:+.1f} %), "
+          f"{found[0].each('agent_took')} and {rest.each('agent_took')} us a call", flush=True)
 
 
 def main():
-    with tempfile.TemporaryDirectory(prefix="motchidu-bench-") as folder:
-        names = pods(folder)
-        clocks = [("the machine's clock", [], SECONDS), ("a virtual clock", ["--settle"], COUNTED)]
-        for clock, words, end in clocks:
-            if end == 0:
-                continue
+    clocks = [("the machine's clock", by_the_clock, SECONDS), ("a virtual clock", counted, COUNTED)]
+    for clock, look_at, end in clocks:
+        if end == 0:
+            continue
+        with tempfile.TemporaryDirectory(prefix="motchidu-bench-") as folder:
+            scripts(folder)
             begun = time.monotonic()
-            first, tenth, ninth, last = looked_after(folder, [*words, *names], end)
-            took = time.monotonic() - begun
-            print(f"{PODS} pods of {CONTAINERS} containers for {end} s by {clock}, {took:.0f} s: "
-                  f"{last.calls} calls, {tenth.memory} KiB after a tenth, {last.memory} KiB at the end, "
-                  f"{tenth.a_call(first):.0f} us of the processor a call in the first tenth, "
-                  f"{last.a_call(ninth):.0f} in the last", flush=True)
+            looks = look_at(folder)
+            tell(clock, looks, end, time.monotonic() - begun)
 
 
 main()

@@ -18,8 +18,8 @@ make install  proves the programs and the library for C and installs them, with 
               (/usr/local). An hour of one core; make copy installs what is built already. At once
 make lib      the library for C and its header, proved, in out/c. Ten minutes of one core
 make bench    the machine and the compiler beside others, the runtime with few and many uids, calls over a
-              socket, a full sandbox, a full node; by what is built. ENGINES=FOLDER: profiles of engines whose
-              packages lie there. A quarter of an hour
+              socket, a full sandbox, an agent that stays; by what is built. ENGINES=FOLDER: profiles of
+              engines whose packages lie there. A quarter of an hour
 make kernel   the running kernel beside the library on COUNT drawn calls. A minute
 make table    the table of calls beside the kernel's header on this machine. At once
 make clean    removes what is built and proved

@@ -1,8 +1,8 @@
 //! Reading, writing and copying filters.
-use crate::trial::{Came, Told, Trial, tried};
 use bpf_code::{CodeFault, Insn};
 use bpf_verify::{Filter, Refusal, filter_of};
 use std::alloc::{AllocError, Global};
+use trials::{Came, Told, Trial, tried};
 
 /// Tries the call of this name, if it is one of this module's.
 pub(crate) fn told(rt: &HostRuntime, name: &str) -> Option<Told> {

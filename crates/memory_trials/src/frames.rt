@@ -2,11 +2,11 @@
 ghost use Rattle.std.specs.Prelude.{◌≡◌, ◌≤◌, length};
 
 use crate::requests::request_of;
-use crate::trial::{Came, Told, Trial, tried};
 use cri_frames::{Feed, FeedFault, Lost, call_over};
 use cri_msgs::{Answer, Reply, Request, Version};
 use node_io::{Wire, WireFault};
 use std::alloc::Global;
+use trials::{Came, Told, Trial, tried};
 
 /// Tries the call of this name, if it is one of this module's.
 pub(crate) fn told(rt: &HostRuntime, name: &str) -> Option<Told> {

@@ -1,6 +1,5 @@
 //! Judging calls, which takes no memory.
 use crate::filters::{are_same, filter};
-use crate::trial::{Came, Told, Trial, tried};
 use action::{Action, Verdict};
 use bpf_code::Insn;
 use bpf_machine::run;
@@ -8,6 +7,7 @@ use bpf_verify::{Filter, verify};
 use call_data::{NATIVE_ARCH, SysCall};
 use std::alloc::Global;
 use sys_table::{name, number};
+use trials::{Came, Told, Trial, tried};
 use verdict::Stack;
 
 /// Tries to judge calls.

@@ -1,7 +1,8 @@
 //! Reading and copying manifests.
-use crate::trial::{Came, Told, Trial, is_at, tried};
+use crate::places::is_at;
 use manifest::{Pod, PodFault, PodFaultAt};
 use std::alloc::{AllocError, Global};
+use trials::{Came, Told, Trial, tried};
 
 /// Tries the call of this name, if it is one of this module's.
 pub(crate) fn told(rt: &HostRuntime, name: &str) -> Option<Told> {

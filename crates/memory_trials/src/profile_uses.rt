@@ -1,11 +1,12 @@
 //! Uses of profiles: the place of a fault, the text, and why a call is judged as it is.
+use crate::places::is_at;
 use crate::profiles::profile;
-use crate::trial::{Came, Told, Trial, is_at, tried};
 use call_data::{NATIVE_ARCH, SysCall};
 use explain::{Decider, Explanation, explain, explanation_lines};
 use oci_profile::{Decision, Errno, Profile, ProfileFault, ProfileFaultAt};
 use profile_text::{WriteFault, default_text, write};
 use std::alloc::{AllocError, Global};
+use trials::{Came, Told, Trial, tried};
 
 /// Tries the call of this name, if it is one of this module's.
 pub(crate) fn told(rt: &HostRuntime, name: &str) -> Option<Told> {

@@ -1,9 +1,9 @@
 //! Reading profiles, RuntimeDefault, and compiling.
-use crate::trial::{Came, Told, Trial, tried};
 use bpf_verify::Filter;
 use compile::{CompileFault, compile};
 use oci_profile::{Entry, Profile, ProfileFault, runtime_default};
 use std::alloc::{AllocError, Global};
+use trials::{Came, PROFILE, Told, Trial, tried};
 
 /// Tries the call of this name, if it is one of this module's.
 pub(crate) fn told(rt: &HostRuntime, name: &str) -> Option<Told> {
@@ -16,16 +16,7 @@ pub(crate) fn told(rt: &HostRuntime, name: &str) -> Option<Told> {
     }
 }
 
-/// A profile with entries of several kinds.
-pub(crate) const PROFILE: &str =
-    r#"{"defaultAction":"SCMP_ACT_ERRNO","defaultErrnoRet":13,"architectures":["SCMP_ARCH_X86_64"],
-"syscalls":[
-{"names":["read","write","close","getpid"],"action":"SCMP_ACT_ALLOW"},
-{"names":["personality"],"action":"SCMP_ACT_LOG","args":[{"index":0,"value":8,"op":"SCMP_CMP_EQ"}]},
-{"names":["clone","clone3"],"action":"SCMP_ACT_TRACE","errnoRet":7,"args":[{"index":0,"value":2114060288,
-"valueTwo":0,"op":"SCMP_CMP_MASKED_EQ"},{"index":1,"value":9,"op":"SCMP_CMP_GT"}]}]}"#;
-
-/// This profile.
+/// The profile that trials share.
 pub(crate) fn profile(alloc: Global) -> Option<Profile> {
     oci_profile::read(alloc, PROFILE.as_bytes()).ok()
 }

@@ -1,7 +1,7 @@
 //! Reading, writing and copying requests.
-use crate::trial::{Came, Told, Trial, tried};
 use cri_msgs::{MessageFault, Request, Version};
 use std::alloc::{AllocError, Global};
+use trials::{Came, Told, Trial, tried};
 
 /// Tries the call of this name, if it is one of this module's.
 pub(crate) fn told(rt: &HostRuntime, name: &str) -> Option<Told> {

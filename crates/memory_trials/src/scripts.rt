@@ -1,9 +1,10 @@
 //! Reading scripts, and making the cells that play them.
 use crate::filters::{are_same, filter};
-use crate::trial::{Came, Told, Trial, is_at, tried};
+use crate::places::is_at;
 use runtime_cell::{Cell, Did, State};
 use script::{Script, ScriptFault, ScriptFaultAt, Step};
 use std::alloc::{AllocError, Global};
+use trials::{Came, SCRIPT, Told, Trial, tried};
 use verdict::Stack;
 
 /// Tries the call of this name, if it is one of this module's.
@@ -17,12 +18,6 @@ pub(crate) fn told(rt: &HostRuntime, name: &str) -> Option<Told> {
         _ => None,
     }
 }
-
-/// A script with a step of each kind.
-pub(crate) const SCRIPT: &str =
-    r#"{"steps":[{"call":"getppid"},{"call":59,"args":[1,2,3],"ip":7,"onError":9},
-{"install":[[32,0,0,0],[21,0,1,39],[6,0,0,327693],[6,0,0,2147418112]],"onError":4},{"call":"getpid"},
-{"exitByAttempt":[1,0]},{"exit":3}]}"#;
 
 fn script(alloc: Global) -> Option<Script> {
     script::read(alloc, SCRIPT.as_bytes()).ok()

@@ -1,13 +1,11 @@
 //! A runtime that serves requests.
 use crate::filters::filter;
-use crate::profiles::PROFILE;
 use crate::requests::request_of;
-use crate::scripts::SCRIPT;
-use crate::trial::{Came, Told, Trial, tried};
 use cri_msgs::{Answer, Refusal, Reply, Request};
 use runtime_cell::{Did, State};
 use runtime_core::{Contents, FileAnswers, Runtime};
 use std::alloc::Global;
+use trials::{Came, Told, Trial, files, tried};
 
 /// Tries to serve the request of this text.
 pub(crate) fn told(rt: &HostRuntime, name: &str, text: &str) -> Option<Told> {
@@ -41,18 +39,6 @@ const PROBES: &str = r#"{"call":"ContainerStatuses","id":1,"uid":"u1","v":2}
 {"attempt":9,"call":"CreateContainer","id":5,"image":"a","name":"a","profile":{"type":"Unconfined"},"uid":"u2","v":2}
 {"attempt":9,"call":"CreateContainer","id":6,"image":"a","name":"a","profile":{"type":"Unconfined"},"uid":"u3","v":2}
 {"attempt":9,"call":"CreateContainer","id":7,"image":"a","name":"a","profile":{"type":"Unconfined"},"uid":"u4","v":2}"#;
-
-fn contents(alloc: Global, text: &str) -> Option<Contents> {
-    Some(Contents::new(Vec::from_slice(alloc, text.as_bytes()).ok()?))
-}
-
-/// The results of reading the files of any request.
-pub(crate) fn files(alloc: Global) -> Option<FileAnswers> {
-    Some(FileAnswers {
-        script: Some(Ok(contents(alloc, SCRIPT)?)),
-        profile: Some(Ok(contents(alloc, PROFILE)?)),
-    })
-}
 
 fn no_files() -> FileAnswers {
     FileAnswers {

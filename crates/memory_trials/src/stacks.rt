@@ -1,8 +1,8 @@
 //! Stacks of filters.
 use crate::filters::{are_same, filter};
-use crate::trial::{Came, Told, Trial, tried};
 use bpf_verify::Filter;
 use std::alloc::{AllocError, Global};
+use trials::{Came, Told, Trial, tried};
 use verdict::{Stack, StackFault};
 
 /// Tries the call of this name, if it is one of this module's.

@@ -1,11 +1,11 @@
 //! A node that takes events.
 use crate::runs::{same_run, same_runs};
-use crate::trial::{Came, Told, Trial, tried};
 use cri_msgs::{Reply, Version};
 use lifecycle::{PastRun, Phase, RestartPolicy, Track, may_restart, phase, ready_at};
 use manifest::{Pod, Uid};
 use profile_pick::{Choice, pick};
 use std::alloc::Global;
+use trials::{Came, Told, Trial, tried};
 use worker_core::{AgentEvent, Answer, Node, Reported};
 use worker_pod::{PodView, Settings};
 

@@ -3,11 +3,11 @@ ghost use Rattle.std.specs.Prelude.{◌≡◌, ◌<◌, ◌≤◌, IfOk, IfSome,
 ghost use Rattle.node_lock.specs.Books.{worker_of};
 
 use crate::nodes::{Foreseen, SETTINGS, events_before, same_node};
-use crate::trial::{Came, Told, Trial, tried};
 use node_lock::{Book, BookFault, MAX_ENTRIES, PARTS, Receipt, Tally, audit};
 use std::alloc::Global;
 use std::marker::Brand;
 use std::sync::ledger::{Blank, Ledger, Share};
+use trials::{Came, Told, Trial, tried};
 use worker_core::AgentEvent;
 
 /// Tries to record the event of this name, to join tallies, or what takes no memory.

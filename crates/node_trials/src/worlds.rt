@@ -1,11 +1,10 @@
 //! The joint machine of agent and runtime.
 use crate::nodes::{SETTINGS, pod, same_node};
-use crate::serving::files;
-use crate::trial::{Came, Told, Trial, tried};
 use manifest::Uid;
 use runtime_cell::Cell;
 use runtime_core::Runtime;
 use std::alloc::Global;
+use trials::{Came, Told, Trial, files, tried};
 use world::{Act, World, WorldEvent, WorldFault};
 
 /// Tries the step by an event of this name.

@@ -1,11 +1,11 @@
 //! What an agent remembers and shows of its calls and pods.
 use crate::nodes::begun;
-use crate::trial::{Came, Told, Trial, tried};
 use cri_msgs::{Call, Refusal};
 use lifecycle::{ContainerState, Phase};
 use manifest::{Label, Uid};
 use node_watch::{Form, PodSeen, Reasons, Trouble, gone_line, pod_changes};
 use std::alloc::{AllocError, Global};
+use trials::{Came, Told, Trial, tried};
 use worker_core::Node;
 
 /// Tries the call of this name, if it is one of this module's.

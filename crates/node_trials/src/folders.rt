@@ -1,10 +1,10 @@
 //! Naming pods whose manifests give no uid, and a folder of manifests.
 use crate::nodes::pod;
-use crate::trial::{Came, Told, Trial, tried};
 use manifest::{Pod, Uid};
 use node_io::CausedFault;
 use pod_folder::{Folder, Found, Naming, PodReader, gives_uid, uid_for};
 use std::alloc::{AllocError, Global};
+use trials::{Came, Told, Trial, tried};
 use worker_core::{AgentEvent, NodeRefusal};
 
 /// Tries the call of this name, if it is one of this module's.

@@ -1,11 +1,9 @@
 //! How a call is tried whose allocations can be refused.
-use json_place::Place;
-use std::alloc::Global;
 use std::io::{self, Write};
 
 /// The result of a call.
 #[derive(Clone, Copy, PartialEq, Eq)]
-pub(crate) enum Came {
+pub enum Came {
     /// The answer that a first call with enough memory gives.
     Right,
     /// Lack of memory.
@@ -16,13 +14,13 @@ pub(crate) enum Came {
 
 impl Came {
     /// Right, if this holds.
-    pub(crate) fn right_if(holds: bool) -> Came {
+    pub fn right_if(holds: bool) -> Came {
         if holds { Came::Right } else { Came::Wrong }
     }
 }
 
 /// A call, and the state that it is made on.
-pub(crate) trait Trial {
+pub trait Trial {
     /// The answer of the call.
     type Answer: Drop;
 
@@ -40,12 +38,14 @@ pub(crate) trait Trial {
 
 /// The result of a trial.
 #[derive(Clone, Copy, PartialEq, Eq)]
-pub(crate) enum Told {
+pub enum Told {
     /// There was no memory for the state, or the state is not valid.
     NotSetUp,
     /// A line around the call was not written.
     Unmarked,
+    /// The answer was right.
     Right,
+    /// The answer was wrong.
     Wrong,
     /// Lack of memory, after which something had changed.
     Changed,
@@ -54,7 +54,8 @@ pub(crate) enum Told {
 }
 
 impl Told {
-    pub(crate) fn text(self) -> &'static str {
+    /// What a program that makes trials prints.
+    pub fn text(self) -> &'static str {
         match self {
             Told::NotSetUp => "not set up",
             Told::Unmarked => "no line can be written",
@@ -70,7 +71,7 @@ impl Told {
 
 /// Makes the call between the two lines that show when allocations are to be counted and refused, and returns
 /// the result. After a refusal the same call is made once more.
-pub(crate) fn tried<T: Trial + Drop>(rt: &HostRuntime, trial: Option<T>) -> Told {
+pub fn tried<T: Trial + Drop>(rt: &HostRuntime, trial: Option<T>) -> Told {
     let Some(mut trial) = trial else {
         return Told::NotSetUp;
     };
@@ -98,12 +99,4 @@ fn behind<T: Trial>(trial: &mut T) -> Told {
 
 fn tell(rt: &HostRuntime, line: &str) -> io::Result<()> {
     rt.stderr().write_all(line.as_bytes())
-}
-
-/// Whether the place in a JSON text is this one.
-pub(crate) fn is_at(alloc: Global, place: &Place, wanted: &str) -> bool {
-    match format!(in alloc; "{place}") {
-        Ok(text) => text.as_str() == wanted,
-        Err(_) => false,
-    }
 }

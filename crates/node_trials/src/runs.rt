@@ -1,6 +1,6 @@
 //! Runs of a container that ended.
-use crate::trial::{Came, Told, Trial, tried};
 use lifecycle::{PastRun, Runs};
+use trials::{Came, Told, Trial, tried};
 
 /// What came of the call of this name.
 pub(crate) fn told(rt: &HostRuntime, name: &str) -> Option<Told> {

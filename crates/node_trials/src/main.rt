@@ -1,0 +1,52 @@
+//! Makes one call of the libraries of an agent, for trials in which memory is refused: `node_trials CALL
+//! [GIVEN]` marks on standard error where the requests of that call begin and end, and prints its result.
+//! `memory_trials` has the calls below an agent.
+#![tactic(auto)]
+
+mod books;
+mod folders;
+mod nodes;
+mod runs;
+mod watching;
+mod worlds;
+
+use std::{env, io};
+use trials::Told;
+
+fn main(rt: HostRuntime) -> io::Result<()> {
+    let words: Vec<String> = env::args(&rt)?.collect(rt.alloc())?;
+    let mut words = words.as_slice().iter().skip(1).map(|word| word.as_str());
+    let name = words.next().unwrap_or("");
+    let given = words.next().unwrap_or("");
+    let text = match told(&rt, name, given) {
+        Some(told) => told.text(),
+        None => "there is no such call",
+    };
+    println!(rt; "{text}")?;
+    Ok(())
+}
+
+/// Tries the call of this name, with what is given for it.
+fn told(rt: &HostRuntime, name: &str, given: &str) -> Option<Told> {
+    if let Some(told) = of_pods(rt, name) {
+        return Some(told);
+    }
+    if let Some(told) = nodes::told(rt, name, given) {
+        return Some(told);
+    }
+    if let Some(told) = books::told(rt, name, given) {
+        return Some(told);
+    }
+    worlds::told(rt, name, given)
+}
+
+/// Tries a call of what an agent shows of its pods, of their past runs, or of its folder of manifests.
+fn of_pods(rt: &HostRuntime, name: &str) -> Option<Told> {
+    if let Some(told) = watching::told(rt, name) {
+        return Some(told);
+    }
+    if let Some(told) = runs::told(rt, name) {
+        return Some(told);
+    }
+    folders::told(rt, name)
+}
