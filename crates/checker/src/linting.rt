@@ -2,11 +2,12 @@
 ghost use Rattle.std.specs.Prelude.{◌≡◌, IfOk, string_bytes};
 ghost use Rattle.checker.specs.LintText.{count_text};
 
+use crate::form::Form;
 use crate::seccheck::bytes_at;
 use crate::stop::{Stop, profile_stop};
 use crate::told::Told;
 use oci_profile::Profile;
-use profile_lint::{findings, lint_lines, passed_in};
+use profile_lint::{findings, lint_lines, lint_objects, passed_in};
 use std::alloc::{AllocError, Global};
 use std::rt;
 
@@ -14,6 +15,7 @@ use std::rt;
 pub(crate) fn lint_told<'a, R: rt::Files + AllocGlobal>(
     rt: &R,
     path: &'a str,
+    form: Form,
 ) -> Result<Told, Stop<'a>> {
     let alloc = rt.alloc();
     let bytes = bytes_at(rt, path)?;
@@ -24,7 +26,11 @@ pub(crate) fn lint_told<'a, R: rt::Files + AllocGlobal>(
     let tree = json_tree::read(alloc, &bytes).map_err(|_| AllocError)?;
     let passed = passed_in(alloc, &tree)?;
     let found = findings(alloc, &profile)?;
-    let text = lint_lines(alloc, passed.as_slice(), found.as_slice())?;
+    let (passed, found) = (passed.as_slice(), found.as_slice());
+    let text = match form {
+        Form::Text => lint_lines(alloc, passed, found)?,
+        Form::Json => lint_objects(alloc, passed, found)?,
+    };
     Ok(Told::found(alloc, text))
 }
 

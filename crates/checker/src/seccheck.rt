@@ -117,7 +117,7 @@ fn told_of<'a, R: rt::Files + AllocGlobal>(
             let (path, out) = (word_at(matches, "PROFILE"), word_at(matches, "OUT"));
             compile_told(rt, path, out, form)
         }
-        "lint" => lint_told(rt, word_at(matches, "PROFILE")),
+        "lint" => lint_told(rt, word_at(matches, "PROFILE"), form),
         _ => Ok(Told::plain(rt.alloc(), text_of(rt, name, matches, form)?)),
     }
 }

@@ -57,7 +57,8 @@ fn compile<'a>(alloc: Global) -> Result<Command<'a>, AllocError> {
 fn lint<'a>(alloc: Global) -> Result<Command<'a>, AllocError> {
     Command::new(alloc, "lint")
         .about("Says what of a seccomp profile decides nothing, or may not be meant")
-        .arg(given(alloc, "PROFILE", "a profile"))
+        .arg(given(alloc, "PROFILE", "a profile"))?
+        .arg(json(alloc))
 }
 
 fn resolve<'a>(alloc: Global) -> Result<Command<'a>, AllocError> {

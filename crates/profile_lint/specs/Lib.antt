@@ -1,6 +1,7 @@
 pub mod Engines
 pub mod Entries
 pub mod Findings
+pub mod Objects
 pub mod Passed
 pub mod Sameness
 pub mod Text

@@ -30,7 +30,7 @@ impl fmt::Display for Holder {
 
 /// A member's key: as it is, or in quotes.
 #[derive(Clone, Copy)]
-struct Key<'v>(&'v str);
+pub(crate) struct Key<'v>(pub(crate) &'v str);
 
 impl fmt::Display for Key<'_> {
     ghost use Rattle.std.specs.Prelude.{Some};
@@ -72,7 +72,7 @@ fn is_plain_byte(byte: u8) -> bool
 
 /// What a member that decides nothing would have meant.
 #[tactic(auto, unfolding(crate::specs::Text::words_of))]
-fn words_of(key: &str) -> &'static str
+pub(crate) fn words_of(key: &str) -> &'static str
     ensures { result.now ≡ words_of key.now }
 {
     match key {
