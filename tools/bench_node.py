@@ -31,7 +31,10 @@ Look = namedtuple("Look", "moment calls entries agent runtime agent_took runtime
 
 def program(name):
     folder = os.environ.get("BIN")
-    return os.path.abspath(f"{folder}/{name}") if folder else f"{ROOT}/crates/{name}/out/{name}"
+    path = os.path.abspath(f"{folder}/{name}" if folder else f"{ROOT}/crates/{name}/out/{name}")
+    if not os.access(path, os.X_OK):
+        raise SystemExit(f"bench_node: there is no {path}")
+    return path
 
 
 def write(path, value):
@@ -79,10 +82,10 @@ class Node:
     def __init__(self, folder, words):
         quiet = {"cwd": folder, "stdout": subprocess.DEVNULL}
         served = [program("scriptd"), "--socket", "s"]
+        line = [program("nodeagent"), "--socket", "s", "--verbose", "--history", str(PART), *words]
         self.runtime = subprocess.Popen(served, stderr=subprocess.DEVNULL, **quiet)
         while not os.path.exists(f"{folder}/s") and self.runtime.poll() is None:
             time.sleep(0.01)
-        line = [program("nodeagent"), "--socket", "s", "--verbose", "--history", str(PART), *words]
         self.agent = subprocess.Popen(line, stderr=subprocess.PIPE, text=True, errors="replace", **quiet)
         self.calls, self.moments, self.moment, self.said = 0, 0, 0, ""
         self.reader = threading.Thread(target=self.read)
@@ -108,7 +111,9 @@ class Node:
         return Look(moment, self.calls, entries, *map(memory_of, pids), *map(took_of, pids))
 
     def end(self):
-        """Waits for the agent, and ends the runtime."""
+        """Ends both, where the agent has not ended by itself."""
+        if self.agent.poll() is None:
+            self.agent.kill()
         status = self.agent.wait()
         self.reader.join()
         self.runtime.kill()
@@ -120,12 +125,14 @@ class Node:
 def watched(node, step):
     """Looks at a node until its agent ends, after a step of the caller's, which gives the moment."""
     looks = [node.look(0)]
-    while node.agent.poll() is None:
-        seen = node.look(step())
-        if seen.agent and seen.runtime:
-            looks.append(seen)
-        time.sleep(PAUSE)
-    node.end()
+    try:
+        while node.agent.poll() is None:
+            seen = node.look(step())
+            if seen.agent and seen.runtime:
+                looks.append(seen)
+            time.sleep(PAUSE)
+    finally:
+        node.end()
     return looks
 
 
