@@ -1,11 +1,13 @@
 #!/usr/bin/env python3
 """bench_node.py [SECONDS [COUNTED [PODS]]]: an agent that stays. A runtime and an agent in processes of their
 own have a node of 110 pods, or of PODS, with 4 containers each that fail and are made again for ever, by the
-machine's clock for so many seconds (80), and then by a virtual clock to such a moment (21,600); 0 leaves a
+machine's clock for so many seconds (80), and then by a virtual clock to such a moment (14,400); 0 leaves a
 clock out. Pods begin one after the other, so that calls are spread. For each tenth of the time it prints how
 many calls there are, the entries of the history up to then, what both processes hold of memory, and what a
-call takes of the processor; then the first tenth beside the last. The programs are crates/NAME/out/NAME, or
-those in the folder BIN names.
+call takes of the processor; then what the agent held once all pods had begun and at the end, and the calls of
+the first tenth beside those of the last. By the machine's clock the pods lie in a folder, and the agent's
+share has a look at it each second in it. The programs are crates/NAME/out/NAME, or those in the folder BIN
+names.
 """
 import json
 import os
@@ -19,9 +21,9 @@ from collections import namedtuple
 
 ROOT = os.path.dirname(os.path.dirname(os.path.abspath(__file__)))
 CONTAINERS, PART, TENTHS = 4, 1024, 10
-SECONDS, COUNTED, PODS = [int(it) for it in sys.argv[1:]] + [80, 21_600, 110][len(sys.argv) - 1:]
-TURN = 300  # the longest back-off, after which all begins again
-DELAYS = 6  # in how many ways a pod's start is put off by the virtual clock
+SECONDS, COUNTED, PODS = [int(it) for it in sys.argv[1:]] + [80, 14_400, 110][len(sys.argv) - 1:]
+PUT = min(300, SECONDS / 2)  # by when all pods are put there: the longest back-off, or half of the time
+DELAYS, PUT_OFF = 6, 310  # in how many ways a start is put off by the virtual clock, and by how much at most
 FEW = 200  # calls of whose share of the processor little can be said
 PAUSE = 0.1  # seconds between two looks
 
@@ -30,7 +32,10 @@ Look = namedtuple("Look", "moment calls entries agent runtime agent_took runtime
 
 def program(name):
     folder = os.environ.get("BIN")
-    return os.path.abspath(f"{folder}/{name}") if folder else f"{ROOT}/crates/{name}/out/{name}"
+    path = os.path.abspath(f"{folder}/{name}" if folder else f"{ROOT}/crates/{name}/out/{name}")
+    if not os.access(path, os.X_OK):
+        raise SystemExit(f"bench_node: there is no {path}")
+    return path
 
 
 def write(path, value):
@@ -78,10 +83,10 @@ class Node:
     def __init__(self, folder, words):
         quiet = {"cwd": folder, "stdout": subprocess.DEVNULL}
         served = [program("scriptd"), "--socket", "s"]
+        line = [program("nodeagent"), "--socket", "s", "--verbose", "--history", str(PART), *words]
         self.runtime = subprocess.Popen(served, stderr=subprocess.DEVNULL, **quiet)
         while not os.path.exists(f"{folder}/s") and self.runtime.poll() is None:
             time.sleep(0.01)
-        line = [program("nodeagent"), "--socket", "s", "--verbose", "--history", str(PART), *words]
         self.agent = subprocess.Popen(line, stderr=subprocess.PIPE, text=True, errors="replace", **quiet)
         self.calls, self.moments, self.moment, self.said = 0, 0, 0, ""
         self.reader = threading.Thread(target=self.read)
@@ -107,7 +112,9 @@ class Node:
         return Look(moment, self.calls, entries, *map(memory_of, pids), *map(took_of, pids))
 
     def end(self):
-        """Waits for the agent, and ends the runtime."""
+        """Ends both, where the agent has not ended by itself."""
+        if self.agent.poll() is None:
+            self.agent.kill()
         status = self.agent.wait()
         self.reader.join()
         self.runtime.kill()
@@ -119,26 +126,27 @@ class Node:
 def watched(node, step):
     """Looks at a node until its agent ends, after a step of the caller's, which gives the moment."""
     looks = [node.look(0)]
-    while node.agent.poll() is None:
-        seen = node.look(step())
-        if seen.agent and seen.runtime:
-            looks.append(seen)
-        time.sleep(PAUSE)
-    node.end()
+    try:
+        while node.agent.poll() is None:
+            seen = node.look(step())
+            if seen.agent and seen.runtime:
+                looks.append(seen)
+            time.sleep(PAUSE)
+    finally:
+        node.end()
     return looks
 
 
 def by_the_clock(folder):
-    """Looks at a node whose pods come one after the other within the first half of the time, or within a
-    back-off."""
+    """Looks at a node whose pods come one after the other."""
     os.mkdir(f"{folder}/pods")
     node = Node(folder, ["--pods", "pods", "--until", str(SECONDS)])
-    begun, spread, put = time.monotonic(), min(TURN, SECONDS / 2), 0
+    begun, put = time.monotonic(), 0
 
     def step():
         nonlocal put
         moment = time.monotonic() - begun
-        while put < PODS and put * spread / PODS <= moment:
+        while put < PODS and put * PUT / PODS <= moment:
             write(f"{folder}/pods/p{put}.json", pod(put, False))
             put += 1
         return moment
@@ -187,32 +195,35 @@ def shares(looks, end):
     return [Share(before, after) for before, after in zip(ends, ends[1:])]
 
 
-def tell(clock, looks, end, took):
-    """Prints what came in each tenth, and the first tenth beside the last."""
+def tell(clock, looks, end, begun, took):
+    """Prints what came in each tenth, what the agent grew by since all pods had begun, and the first tenth
+    beside the last."""
     last = looks[-1]
     print(f"{PODS} pods of {CONTAINERS} containers for {end} s by {clock}, {took:.0f} s: {last.calls} calls, "
           f"{last.entries} entries", flush=True)
     found = shares(looks, end)
     for share in found:
         print(f"  {share.line()}")
-    first, rest = found[0].after, found[-1]
-    grown = 100 * (last.agent - first.agent) / max(first.agent, 1)
-    few = [name for name, share in (("first", found[0]), ("last", rest)) if share.calls < FEW]
+    full = next((it for it in looks if it.moment >= begun), last)
+    print(f"  agent once all pods had begun and at the end: {full.agent} and {last.agent} KiB "
+          f"({100 * (last.agent - full.agent) / max(full.agent, 1):+.1f} %)")
+    few = [name for name, share in (("first", found[0]), ("last", found[-1])) if share.calls < FEW]
     note = f" (the {' and the '.join(few)} of few calls)" if few else ""
-    print(f"  the first tenth and the last{note}: agent {first.agent} and {last.agent} KiB ({grown:+.1f} %), "
-          f"{found[0].each('agent_took')} and {rest.each('agent_took')} us a call", flush=True)
+    each = " and ".join(share.each("agent_took") for share in (found[0], found[-1]))
+    print(f"  a call of the agent in the first tenth and in the last{note}: {each} us", flush=True)
 
 
 def main():
-    clocks = [("the machine's clock", by_the_clock, SECONDS), ("a virtual clock", counted, COUNTED)]
-    for clock, look_at, end in clocks:
+    real = ("the machine's clock", by_the_clock, SECONDS, PUT)
+    virtual = ("a virtual clock", counted, COUNTED, PUT_OFF)
+    for clock, look_at, end, all_begun in (real, virtual):
         if end == 0:
             continue
         with tempfile.TemporaryDirectory(prefix="motchidu-bench-") as folder:
             scripts(folder)
             begun = time.monotonic()
             looks = look_at(folder)
-            tell(clock, looks, end, time.monotonic() - begun)
+            tell(clock, looks, end, all_begun, time.monotonic() - begun)
 
 
 main()
