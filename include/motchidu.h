@@ -84,9 +84,9 @@ enum motchidu_status {
  *
  * With MOTCHIDU_SAME both return the same value on each of those calls. With MOTCHIDU_DIFFER the 64 bytes at
  * call become one of those calls, on which they do not, values[0] becomes the value that the first filter
- * returns on it, and values[1] that of the second. With MOTCHIDU_BUDGET and MOTCHIDU_ARITHMETIC both are sound,
- * and it is unknown whether they differ; even a filter compared with itself may give these. Any other answer
- * is one of motchidu_verify, for the first filter, or for the second if the first is sound. Only with
+ * returns on it, and values[1] that of the second. With MOTCHIDU_BUDGET and MOTCHIDU_ARITHMETIC both are
+ * sound, and it is unknown whether they differ; even a filter compared with itself may give these. Any other
+ * answer is one of motchidu_verify, for the first filter, or for the second if the first is sound. Only with
  * MOTCHIDU_DIFFER is anything written.
  *
  * The comparison follows the ways that calls can take through both filters, by at most budget instructions

@@ -1,5 +1,5 @@
-//! What ends the program before its work is done, as an object of JSON (RFC 8259). No text of these has a byte
-//! that JSON would escape.
+//! What ends the program before its work is done, as an object of JSON (RFC 8259). No text of these has a
+//! byte that JSON would escape.
 use crate::stop::Stop;
 use check_answers::{DifferenceObject, reason};
 use std::fmt;
