@@ -88,7 +88,7 @@ fn agree(first: &Filter, second: &Filter) -> bool {
 #[test]
 fn drawn_pairs(rt: HostRuntime) -> Result<(), Fail> {
     let mut state = 33;
-    let mut differ = 0;
+    let mut differ = 0u32;
     for pair in 0..100 {
         let first = drawn(&rt, state, false)?;
         let is_same = pair % 2 == 0;
@@ -98,7 +98,7 @@ fn drawn_pairs(rt: HostRuntime) -> Result<(), Fail> {
             Comparison::Same => assert!(rt; agree(&first, &second), "pair {pair}"),
             Comparison::Differs(..) => {
                 assert!(rt; !is_same, "pair {pair}");
-                differ += 1;
+                differ = differ.saturating_add(1);
             }
             Comparison::Undecided(_) => assert!(rt; false, "pair {pair}"),
         }
