@@ -45,6 +45,26 @@ decided_at (first ∷ entries) default nr (suc at) call entry inside is named ba
     ap (λ d. cond (names first nr && all_hold first call) first.decision d)
     (decided_at entries default nr at call entry (omega arith) is named bare)
 
+same_either : (b : Bool) (one last : Decision) → (b ≡ true → one ≡ last) → cond b one last ≡ last
+same_either true one last same = same refl
+same_either false one last same = refl
+
+same_both : (b c : Bool) (one last : Decision) → (b ≡ true → one ≡ last) → cond (b && c) one last ≡ last
+same_both true c one last same = same_either c one last (λ _. same refl)
+same_both false c one last same = refl
+
+-- an entry at the end that decides what follows anyway
+pub needless_at : (entries : List Entry) (last : Decision) (nr at : ℕ) (call : SysCall) (entry : Entry)
+    → at < length entries → entry ≡ get_or entries at entry → (names entry nr ≡ true → entry.decision ≡ last)
+    → decision_of (take (suc at) entries) last nr call ≡ decision_of (take at entries) last nr call
+needless_at [] last nr at call entry inside is same = absurd (omega arith)
+needless_at (first ∷ entries) last nr zero call entry inside is same =
+    ap (λ (e : Entry). cond (names e nr && all_hold e call) e.decision last) (sym is)
+    ∙ same_both (names entry nr) (all_hold entry call) entry.decision last same
+needless_at (first ∷ entries) last nr (suc at) call entry inside is same =
+    ap (λ d. cond (names first nr && all_hold first call) first.decision d)
+    (needless_at entries last nr at call entry (omega arith) is same)
+
 added_of-append : (one other : List Entry) (nr : ℕ) → added_of (one ++ other) nr ≡ added_of one nr
     + added_of other nr
 added_of-append [] other nr = omega arith

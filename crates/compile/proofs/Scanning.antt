@@ -6,7 +6,7 @@ use Rattle.std.specs.Prelude.{◌||◌, slice_index, IfSome, IsSome}
 use Rattle.std.specs.List.{list_any}
 use Rattle.std.proofs.Math.Seq.{get_or-append_seam}
 use Rattle.std.proofs.Math.ListN.{get_or-append}
-use Rattle.std.proofs.lemmas.Bool.{eq-eqb, cases_lt}
+use Rattle.std.proofs.lemmas.Bool.{cases_lt}
 use Rattle.std.proofs.lemmas.Bool.Decides.{nat_tests}
 use Rattle.std.proofs.lemmas.List.Elements.{All-head, All-tail}
 use Rattle.call_data.specs.declared.sys_call.SysCall.{SysCall}
@@ -20,7 +20,7 @@ use Rattle.oci_profile.specs.Meaning.{all_hold, names, decision_of, chosen}
 use Rattle.sys_table.specs.declared.table.TheConstants.{NUMBER_LIMIT}
 use Rattle.compile.specs.Bounds.{named, named_below}
 use Rattle.compile.specs.Ranges.{IsBetween, AreRanges}
-use Rattle.compile.specs.Sizes.{added_of, added_below, range_size, split_size}
+use Rattle.compile.specs.Sizes.{added_of, added_below, tree_size}
 use Rattle.compile.proofs.Leaves.{x32_chosen, native_chosen}
 
 unequal : (number nr : ℕ) → number < NUMBER_LIMIT → NUMBER_LIMIT ≤ nr → (number == nr) ≡ false
@@ -86,39 +86,26 @@ pub added_below-suc : (entries : List Entry) (n : ℕ) → added_below entries (
 unfolding added_below
 added_below-suc entries n = refl
 
-pub same_size : (profile : Profile) (start : ℕ)
-    → range_size profile start start ≡ 1 + added_of profile.entries start
-unfolding range_size
-same_size profile start = ap (λ b. 1 + added_of profile.entries start
-    + cond b 0 (3 + added_of profile.entries start)) (eq-eqb start start refl) ∙ omega arith
+pub tree_size-suc : (profile : Profile) (starts : List ℕ) (at n : ℕ)
+    → tree_size profile starts at (suc n) ≡ tree_size profile starts at n
+    + (added_of profile.entries (slice_index starts (at + n)) + 3)
+unfolding tree_size
+tree_size-suc profile starts at n = refl
 
-pub split_size-suc : (profile : Profile) (starts singles : List ℕ) (at n : ℕ)
-    → split_size profile starts singles at (suc n) ≡ split_size profile starts singles at n
-    + (range_size profile (slice_index starts (at + n)) (slice_index singles (at + n)) + 2)
-unfolding split_size
-split_size-suc profile starts singles at n = refl
-
-pub split_size-zero : (profile : Profile) (starts singles : List ℕ) (at : ℕ)
-    → split_size profile starts singles at 0 ≡ 0
-unfolding split_size
-split_size-zero profile starts singles at = refl
+pub tree_size-zero : (profile : Profile) (starts : List ℕ) (at : ℕ) → tree_size profile starts at 0 ≡ 0
+unfolding tree_size
+tree_size-zero profile starts at = refl
 
 -- more ranges behind change nothing before them
-pub split_size-append : (profile : Profile) (starts singles more others : List ℕ) (at n : ℕ)
-    → at + n ≤ length starts → at + n ≤ length singles
-    → split_size profile (starts ++ more) (singles ++ others) at n ≡ split_size profile starts singles at n
-unfolding split_size
-split_size-append profile starts singles more others at zero starts_in singles_in = refl
-split_size-append profile starts singles more others at (suc n) starts_in singles_in =
-    let before = split_size-append profile starts singles more others at n (omega arith) (omega arith) in
-    ap (λ m. m + (range_size profile (slice_index (starts ++ more) (at + n))
-    (slice_index (singles ++ others) (at + n)) + 2)) before
-    ∙ ap (λ s. split_size profile starts singles at n
-    + (range_size profile s (slice_index (singles ++ others) (at + n)) + 2))
+pub tree_size-append : (profile : Profile) (starts more : List ℕ) (at n : ℕ) → at + n ≤ length starts
+    → tree_size profile (starts ++ more) at n ≡ tree_size profile starts at n
+unfolding tree_size
+tree_size-append profile starts more at zero starts_in = refl
+tree_size-append profile starts more at (suc n) starts_in =
+    let before = tree_size-append profile starts more at n (omega arith) in
+    ap (λ m. m + (added_of profile.entries (slice_index (starts ++ more) (at + n)) + 3)) before
+    ∙ ap (λ s. tree_size profile starts at n + (added_of profile.entries s + 3))
     (get_or-append starts more 0 (at + n) (omega arith))
-    ∙ ap (λ s. split_size profile starts singles at n
-    + (range_size profile (slice_index starts (at + n)) s + 2))
-    (get_or-append singles others 0 (at + n) (omega arith))
 
 -- what is decided of a number
 pub record IsSaid (profile : Profile) (value : Option ℕ) (nr : ℕ) : Type 0 where
@@ -135,7 +122,7 @@ pub record Scan (profile : Profile) (starts : List ℕ) (last : Option ℕ) (nr 
   pub alike : (at n : ℕ) (call : SysCall) → at < length starts → IsBetween starts at (at + 1) n → n < nr
       → chosen profile n call ≡ chosen profile (slice_index starts at) call
   pub few : length starts ≤ 1 + named_below profile.entries nr + named_below profile.entries before
-  pub short : split_size profile starts starts 0 (length starts) ≤ 3 * length starts
+  pub short : tree_size profile starts 0 (length starts) ≤ 3 * length starts
       + added_below profile.entries nr
   pub said : IsSaid profile last before
   pub fit : AreEntries profile.entries
@@ -169,9 +156,8 @@ scan_start profile last said fit = record {
   short =
       omega (
         arith,
-        split_size-suc profile (0 ∷ []) (0 ∷ []) 0 0,
-        split_size-zero profile (0 ∷ []) (0 ∷ []) 0,
-        same_size profile 0,
+        tree_size-suc profile (0 ∷ []) 0 0,
+        tree_size-zero profile (0 ∷ []) 0,
         added_below-suc profile.entries 0,
       );
   said = said;
@@ -235,12 +221,9 @@ two_defaults last value default last_is value_is other = let P : Option ℕ → 
     other (subst P (sym last_is) refl) (last_is ∙ sym value_is)
 
 seam_size : (profile : Profile) (starts : List ℕ) (x : ℕ)
-    → range_size profile (slice_index (starts ++ x ∷ []) (0 + length starts))
-    (slice_index (starts ++ x ∷ []) (0 + length starts)) ≡ 1 + added_of profile.entries x
+    → added_of profile.entries (slice_index (starts ++ x ∷ []) (0 + length starts)) ≡ added_of profile.entries x
 seam_size profile starts x =
-    let last : slice_index (starts ++ x ∷ []) (0 + length starts) ≡ x =
-    index_last starts x (0 + length starts) (omega arith) in
-    rw last (same_size profile x)
+    ap (λ k. added_of profile.entries k) (index_last starts x (0 + length starts) (omega arith))
 
 -- the number begins a range
 pub scan_push : (profile : Profile) (starts news : List ℕ) (last value : Option ℕ) (nr : ℕ)
@@ -304,10 +287,9 @@ scan_push profile starts news last value nr scan said other news_is =
           omega (
             arith,
             len,
-            ap (λ k. split_size profile new new 0 k) (len ∙ add-one (length starts)),
-            split_size-suc profile new new 0 (length starts),
-            split_size-append profile starts starts (nr ∷ []) (nr ∷ []) 0 (length starts) (omega arith)
-                (omega arith),
+            ap (λ k. tree_size profile new 0 k) (len ∙ add-one (length starts)),
+            tree_size-suc profile new 0 (length starts),
+            tree_size-append profile starts (nr ∷ []) 0 (length starts) (omega arith),
             seam_size profile starts nr,
             scan.short,
             added_below-suc profile.entries nr,
@@ -347,8 +329,7 @@ scan_end profile starts news last scan news_is =
     subst P (sym news_is) (record {
       some = omega arith;
       first = index_front starts 0x40000000 0 scan.some ∙ scan.first;
-      paired = refl;
-      alike = λ at n call inside between other. elim (cases_lt at (length starts)) [
+      alike = λ at n call inside between. elim (cases_lt at (length starts)) [
         | inl earlier ↦
             let within : IsBetween starts at (at + 1) n = record {
               above = omega (arith, between.above, index_front starts 0x40000000 at earlier);
@@ -389,10 +370,10 @@ end_few profile starts news last scan news_is =
 
 pub end_short : (profile : Profile) (starts news : List ℕ) (last : Option ℕ)
     → Scan profile starts last (NUMBER_LIMIT + 1) → news ≡ starts ++ 0x40000000 ∷ []
-    → split_size profile news news 0 (length news) ≤ 3 * length news
+    → tree_size profile news 0 (length news) ≤ 3 * length news
     + added_below profile.entries (NUMBER_LIMIT + 1)
 end_short profile starts news last scan news_is =
-    let P : List ℕ → Type 0 = λ ss. split_size profile ss ss 0 (length ss) ≤ 3 * length ss
+    let P : List ℕ → Type 0 = λ ss. tree_size profile ss 0 (length ss) ≤ 3 * length ss
     + added_below profile.entries (NUMBER_LIMIT + 1) in
     let new : List ℕ = starts ++ 0x40000000 ∷ [] in
     let len : length new ≡ length starts + 1 = len_seam starts 0x40000000 in
@@ -400,10 +381,9 @@ end_short profile starts news last scan news_is =
     omega (
       arith,
       len,
-      ap (λ k. split_size profile new new 0 k) (len ∙ add-one (length starts)),
-      split_size-suc profile new new 0 (length starts),
-      split_size-append profile starts starts (0x40000000 ∷ []) (0x40000000 ∷ []) 0 (length starts)
-          (omega arith) (omega arith),
+      ap (λ k. tree_size profile new 0 k) (len ∙ add-one (length starts)),
+      tree_size-suc profile new 0 (length starts),
+      tree_size-append profile starts (0x40000000 ∷ []) 0 (length starts) (omega arith),
       seam_size profile starts 0x40000000,
       scan.short,
       unnamed_adds profile.entries 0x40000000

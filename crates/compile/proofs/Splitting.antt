@@ -1,263 +1,252 @@
--- Ranges with a single number, out of ranges without.
-use Rattle.std.proofs.Common.{◌≡◌, ◌≢◌, ℕ, zero, suc, ◌+◌, ◌-◌, ◌<◌, ◌≤◌, ◌==◌, inl, inr, Bool, true, false}
-use Rattle.std.proofs.Common.{cond, List, [], ◌∷◌, ◌++◌, length, refl, sym, ap, ◌∙◌, subst, arith, add-one}
+-- Ranges of which one begin is taken out: of a number that was tested, or of a range that is treated like
+-- the one before it.
+use Rattle.std.proofs.Common.{◌≡◌, ◌≢◌, ℕ, zero, suc, ◌+◌, ◌-◌, ◌<◌, ◌≤◌, inl, inr, List, length}
+use Rattle.std.proofs.Common.{sym, ap, ◌∙◌, arith}
 use Rattle.std.specs.Prelude.{slice_index}
-use Rattle.std.proofs.lemmas.Bool.{cases_lt, cases_eq}
+use Rattle.std.specs.List.{remove}
+use Rattle.std.proofs.lemmas.Bool.{cases_lt}
+use Rattle.std.proofs.lemmas.List.Edits.{get_or-remove_below, get_or-remove_above, length-remove}
 use Rattle.call_data.specs.declared.sys_call.SysCall.{SysCall}
 use Rattle.oci_profile.specs.declared.profile.Profile.{Profile}
 use Rattle.oci_profile.specs.Meaning.{chosen}
-use Rattle.compile.specs.Ranges.{IsBetween, AreSplit, AreRanges}
-use Rattle.compile.specs.Sizes.{added_of, range_size, split_size}
-use Rattle.compile.proofs.Scanning.{same_size, split_size-suc, split_size-zero, split_size-append}
-use Rattle.compile.proofs.Scanning.{index_front, index_last, len_seam}
+use Rattle.compile.specs.Ranges.{IsBetween, IsAlike}
+use Rattle.compile.specs.Sizes.{added_of, tree_size}
+use Rattle.compile.proofs.Scanning.{tree_size-suc, tree_size-zero}
 
-size_most : (b : Bool) (one other : ℕ) → 1 + one + cond b 0 (3 + other) ≤ 4 + one + other
-size_most true one other = omega arith
-size_most false one other = omega arith
+below_is : (starts : List ℕ) (i at : ℕ) → at < i → i < length starts
+    → slice_index (remove starts i) at ≡ slice_index starts at
+below_is starts i at before inside = get_or-remove_below starts i 0 at before inside
 
-range_size_most : (profile : Profile) (start single : ℕ)
-    → range_size profile start single ≤ 4 + added_of profile.entries start + added_of profile.entries single
-unfolding range_size
-range_size_most profile start single = size_most (single == start) (added_of profile.entries start)
-    (added_of profile.entries single)
+above_is : (starts : List ℕ) (i at : ℕ) → i ≤ at → i < length starts
+    → slice_index (remove starts i) at ≡ slice_index starts (at + 1)
+above_is starts i at behind inside = get_or-remove_above starts i 0 at behind inside
 
--- a whole range, split nowhere
-pub whole_alike : (profile : Profile) (starts : List ℕ) (at nr : ℕ) (call : SysCall)
-    → AreRanges profile starts → at < length starts → IsBetween starts at (at + 1) nr
-    → chosen profile nr call ≡ chosen profile (slice_index starts at) call
-whole_alike profile starts at nr call split inside between = elim (cases_eq nr (slice_index starts at)) [
-  | inl same ↦ ap (λ n. chosen profile n call) same
-  | inr other ↦ split.alike at nr call inside between other
+-- a number that is not the one that was tested
+pub between_untested : (starts : List ℕ) (from to i nr : ℕ) → from ≤ i → i < to → i + 1 < length starts
+    → slice_index starts (i + 1) ≡ slice_index starts i + 1 → nr ≢ slice_index starts i
+    → IsBetween starts from to nr → IsBetween (remove starts i) from (to - 1) nr
+between_untested starts from to i nr from_in in_to inside one other between =
+    record {
+      above = elim (cases_lt from i) [
+        | inl before ↦ omega (arith, between.above, below_is starts i from before (omega arith))
+        | inr here ↦
+            let is : from ≡ i = omega arith in
+            omega (
+              arith,
+              between.above,
+              other,
+              one,
+              above_is starts i from here (omega arith),
+              ap (λ k. slice_index starts k) is,
+              ap (λ k. slice_index starts (k + 1)) is,
+            )
+      ];
+      below = λ to_in.
+          let back : to - 1 + 1 ≡ to = omega arith in
+          omega (
+            arith,
+            between.below (omega (arith, length-remove starts i (omega arith))),
+            above_is starts i (to - 1) (omega arith) (omega arith),
+            ap (λ k. slice_index starts k) back,
+          );
+    }
+
+-- a number of ranges of which one is joined with the one before it
+pub between_joined : (starts : List ℕ) (from to i nr : ℕ) → from < i → i < to → i < length starts
+    → IsBetween starts from to nr → IsBetween (remove starts i) from (to - 1) nr
+between_joined starts from to i nr from_in in_to inside between =
+    record {
+      above = omega (arith, between.above, below_is starts i from from_in inside);
+      below = λ to_in.
+          let back : to - 1 + 1 ≡ to = omega arith in
+          omega (
+            arith,
+            between.below (omega (arith, length-remove starts i inside)),
+            above_is starts i (to - 1) (omega arith) inside,
+            ap (λ k. slice_index starts k) back,
+          );
+    }
+
+-- a range behind the one that is taken out
+alike_behind : (profile : Profile) (starts : List ℕ) (i at : ℕ) (call : SysCall) → IsAlike profile starts call
+    → i < length starts → i ≤ at → at < length (remove starts i)
+    → IsBetween (remove starts i) at (at + 1) call.nr
+    → chosen profile call.nr call ≡ chosen profile (slice_index (remove starts i) at) call
+alike_behind profile starts i at call alike inside behind at_in between =
+    let len = length-remove starts i inside in
+    let is = above_is starts i at behind inside in
+    alike (at + 1) (omega arith) (record {
+      above = omega (arith, between.above, is);
+      below = λ next_in.
+          omega (arith, between.below (omega arith), above_is starts i (at + 1) (omega arith) inside);
+    })
+    ∙ ap (λ k. chosen profile k call) (sym is)
+
+-- a range that is not next to it on that side
+alike_before : (profile : Profile) (starts : List ℕ) (i at : ℕ) (call : SysCall) → IsAlike profile starts call
+    → i < length starts → at + 1 < i → IsBetween (remove starts i) at (at + 1) call.nr
+    → chosen profile call.nr call ≡ chosen profile (slice_index (remove starts i) at) call
+alike_before profile starts i at call alike inside before between =
+    let len = length-remove starts i inside in
+    let is = below_is starts i at (omega arith) inside in
+    alike at (omega arith) (record {
+      above = omega (arith, between.above, is);
+      below = λ next_in.
+          omega (arith, between.below (omega arith), below_is starts i (at + 1) before inside);
+    })
+    ∙ ap (λ k. chosen profile k call) (sym is)
+
+pub alike_untested : (profile : Profile) (starts : List ℕ) (i : ℕ) (call : SysCall)
+    → i + 1 < length starts → slice_index starts (i + 1) ≡ slice_index starts i + 1
+    → call.nr ≢ slice_index starts i → IsAlike profile starts call → IsAlike profile (remove starts i) call
+alike_untested profile starts i call inside one other alike at at_in between = elim (cases_lt at i) [
+  | inr behind ↦ alike_behind profile starts i at call alike (omega arith) behind at_in between
+  | inl before ↦ elim (cases_lt (at + 1) i) [
+    | inl apart ↦ alike_before profile starts i at call alike (omega arith) apart between
+    | inr next_to ↦
+        let next : at + 1 ≡ i = omega arith in
+        let is = below_is starts i at before (omega arith) in
+        alike at (omega arith) (record {
+          above = omega (arith, between.above, is);
+          below = λ next_in.
+              omega (
+                arith,
+                between.below (omega (arith, length-remove starts i (omega arith))),
+                above_is starts i (at + 1) next_to (omega arith),
+                ap (λ k. slice_index starts k) next,
+                ap (λ k. slice_index starts (k + 1)) next,
+                one,
+                other,
+              );
+        })
+        ∙ ap (λ k. chosen profile k call) (sym is)
+  ]
 ]
 
--- a range that stays as it is
-pub one_short : (profile : Profile) (starts : List ℕ) (at n : ℕ) → n ≡ 1
-    → range_size profile (slice_index starts at) (slice_index starts at)
-    + 2 ≤ split_size profile starts starts at n
-one_short profile starts at n one =
-    let here : at + 0 ≡ at = omega arith in
-    let P : ℕ → Type 0 = λ k. range_size profile (slice_index starts at) (slice_index starts at)
-    + 2 ≤ split_size profile starts starts at k in
-    subst P (sym one) (omega (
-      arith,
-      split_size-suc profile starts starts at 0,
-      split_size-zero profile starts starts at,
-      ap (λ k. range_size profile (slice_index starts k) (slice_index starts k)) here,
-    ))
+pub alike_joined : (profile : Profile) (starts : List ℕ) (i : ℕ) (call : SysCall) → 0 < i → i < length starts
+    → chosen profile (slice_index starts i) call ≡ chosen profile (slice_index starts (i - 1)) call
+    → IsAlike profile starts call → IsAlike profile (remove starts i) call
+alike_joined profile starts i call some inside same alike at at_in between = elim (cases_lt at i) [
+  | inr behind ↦ alike_behind profile starts i at call alike inside behind at_in between
+  | inl before ↦ elim (cases_lt (at + 1) i) [
+    | inl apart ↦ alike_before profile starts i at call alike inside apart between
+    | inr next_to ↦
+        let next : at + 1 ≡ i = omega arith in
+        let here : i - 1 ≡ at = omega arith in
+        let is = below_is starts i at before inside in
+        elim (cases_lt call.nr (slice_index starts i)) [
+          | inl first ↦
+              alike at (omega arith) (record {
+                above = omega (arith, between.above, is);
+                below = λ _. omega (arith, first, ap (λ k. slice_index starts k) next);
+              })
+              ∙ ap (λ k. chosen profile k call) (sym is)
+          | inr second ↦
+              alike i inside (record {
+                above = second;
+                below = λ next_in.
+                    omega (
+                      arith,
+                      between.below (omega (arith, length-remove starts i inside)),
+                      above_is starts i (at + 1) next_to inside,
+                      ap (λ k. slice_index starts (k + 1)) next,
+                    );
+              })
+              ∙ same ∙ ap (λ k. chosen profile (slice_index starts k) call) here
+              ∙ ap (λ k. chosen profile k call) (sym is)
+        ]
+  ]
+]
 
--- three ranges made one
-pub three_short : (profile : Profile) (starts : List ℕ) (at n : ℕ) → n ≡ 3
-    → range_size profile (slice_index starts at) (slice_index starts (at + 1))
-    + 2 ≤ split_size profile starts starts at n
-three_short profile starts at n three =
-    let here : at + 0 ≡ at = omega arith in
-    let P : ℕ → Type 0 = λ k. range_size profile (slice_index starts at) (slice_index starts (at + 1))
-    + 2 ≤ split_size profile starts starts at k in
-    subst P (sym three) (omega (
-      arith,
-      split_size-suc profile starts starts at 0,
-      split_size-suc profile starts starts at 1,
-      split_size-suc profile starts starts at 2,
-      split_size-zero profile starts starts at,
-      range_size_most profile (slice_index starts at) (slice_index starts (at + 1)),
-      ap (λ k. range_size profile (slice_index starts k) (slice_index starts k)) here,
-      same_size profile (slice_index starts at),
-      same_size profile (slice_index starts (at + 1)),
-      same_size profile (slice_index starts (at + 2)),
-    ))
-
-pub three_alike : (profile : Profile) (starts : List ℕ) (at nr : ℕ) (call : SysCall)
-    → AreRanges profile starts → at + 3 ≤ length starts
-    → slice_index starts (at + 2) ≡ slice_index starts (at + 1) + 1
-    → chosen profile (slice_index starts (at + 2)) call ≡ chosen profile (slice_index starts at) call
-    → IsBetween starts at (at + 3) nr → nr ≢ slice_index starts (at + 1)
-    → chosen profile nr call ≡ chosen profile (slice_index starts at) call
-three_alike profile starts at nr call split inside one outer between other =
-    elim (cases_lt nr (slice_index starts (at + 1))) [
-      | inl first ↦ whole_alike profile starts at nr call split (omega arith)
-          (record { above = between.above; below = λ _. first })
-      | inr behind ↦
-          let two : at + 2 + 1 ≡ at + 3 = omega arith in
-          let last : slice_index starts (at + 2) ≤ nr = omega (arith, other) in
-          let within : IsBetween starts (at + 2) (at + 2 + 1) nr = record {
-            above = last;
-            below = λ next_in. omega (arith, between.below (omega arith), ap (λ k. slice_index starts k) two);
-          } in
-          whole_alike profile starts (at + 2) nr call split (omega arith) within ∙ outer
-    ]
-
-pub split_size-add : (profile : Profile) (starts singles : List ℕ) (at m n : ℕ)
-    → split_size profile starts singles at (m + n) ≡ split_size profile starts singles at m
-    + split_size profile starts singles (at + m) n
-split_size-add profile starts singles at m zero =
+size_before : (profile : Profile) (starts : List ℕ) (i at n : ℕ) → i < length starts → at + n ≤ i
+    → tree_size profile (remove starts i) at n ≡ tree_size profile starts at n
+size_before profile starts i at zero inside before =
+    omega (arith, tree_size-zero profile (remove starts i) at, tree_size-zero profile starts at)
+size_before profile starts i at (suc n) inside before =
     omega (
       arith,
-      split_size-zero profile starts singles (at + m),
-      ap (λ k. split_size profile starts singles at k) (let none : m + 0 ≡ m = omega arith in none),
+      tree_size-suc profile (remove starts i) at n,
+      tree_size-suc profile starts at n,
+      size_before profile starts i at n inside (omega arith),
+      ap (λ k. added_of profile.entries k) (below_is starts i (at + n) (omega arith) inside),
     )
-split_size-add profile starts singles at m (suc n) =
+
+size_behind : (profile : Profile) (starts : List ℕ) (i at n : ℕ) → i < length starts → i ≤ at
+    → tree_size profile (remove starts i) at n ≡ tree_size profile starts (at + 1) n
+size_behind profile starts i at zero inside behind =
+    omega (arith, tree_size-zero profile (remove starts i) at, tree_size-zero profile starts (at + 1))
+size_behind profile starts i at (suc n) inside behind =
+    let place : at + n + 1 ≡ at + 1 + n = omega arith in
+    omega (
+      arith,
+      tree_size-suc profile (remove starts i) at n,
+      tree_size-suc profile starts (at + 1) n,
+      size_behind profile starts i at n inside behind,
+      ap (λ k. added_of profile.entries k) (above_is starts i (at + n) (omega arith) inside),
+      ap (λ k. added_of profile.entries (slice_index starts k)) place,
+    )
+
+tree_size-add : (profile : Profile) (starts : List ℕ) (at m n : ℕ)
+    → tree_size profile starts at (m + n) ≡ tree_size profile starts at m + tree_size profile starts (at + m) n
+tree_size-add profile starts at m zero =
+    omega (
+      arith,
+      tree_size-zero profile starts (at + m),
+      ap (λ k. tree_size profile starts at k) (let none : m + 0 ≡ m = omega arith in none),
+    )
+tree_size-add profile starts at m (suc n) =
     let sum : m + suc n ≡ suc (m + n) = omega arith in
     let place : at + (m + n) ≡ at + m + n = omega arith in
     omega (
       arith,
-      ap (λ k. split_size profile starts singles at k) sum,
-      split_size-suc profile starts singles at (m + n),
-      split_size-suc profile starts singles (at + m) n,
-      split_size-add profile starts singles at m n,
-      ap (λ k. range_size profile (slice_index starts k) (slice_index singles k)) place,
+      ap (λ k. tree_size profile starts at k) sum,
+      tree_size-suc profile starts at (m + n),
+      tree_size-suc profile starts (at + m) n,
+      tree_size-add profile starts at m n,
+      ap (λ k. added_of profile.entries (slice_index starts k)) place,
     )
 
--- what was made of the ranges before this one
-pub record SplitSoFar (profile : Profile) (starts : List ℕ) (done : ℕ) (news singles : List ℕ) : Type 0 where
-  pub within : done ≤ length starts
-  pub paired : length singles ≡ length news
-  pub begun : 0 < done → 0 < length news
-  pub first : 0 < length news → slice_index news 0 ≡ slice_index starts 0
-  pub begins : length news ≡ 0 → done ≡ 0
-  pub alike : (at nr : ℕ) (call : SysCall) → at < length news → IsBetween news at (at + 1) nr
-      → (length news ≤ at + 1 → done < length starts → nr < slice_index starts done)
-      → nr ≢ slice_index singles at
-      → chosen profile nr call ≡ chosen profile (slice_index news at) call
-  pub few : length news ≤ done
-  pub many : 2 ≤ length starts → done ≡ length starts → 2 ≤ length news
-  pub short : split_size profile news singles 0 (length news) ≤ split_size profile starts starts 0 done
-
-pub split_start : (profile : Profile) (starts news singles : List ℕ) → news ≡ [] → singles ≡ []
-    → SplitSoFar profile starts 0 news singles
-split_start profile starts news singles no_news no_singles =
-    let none : length news ≡ 0 = ap length no_news in
-    record {
-      within = omega arith;
-      paired = ap length no_singles ∙ sym none;
-      begun = λ some. absurd (omega arith);
-      first = λ some. absurd (omega arith);
-      begins = λ _. refl;
-      alike = λ at nr call inside. absurd (omega arith);
-      few = omega arith;
-      many = λ two whole. absurd (omega arith);
-      short = omega (
-        arith,
-        ap (λ k. split_size profile news singles 0 k) none,
-        split_size-zero profile news singles 0,
-      );
-    }
-
-pub split_more : (profile : Profile) (starts news singles wider paired : List ℕ) (done single next : ℕ)
-    → SplitSoFar profile starts done news singles → done < length starts → done < next → next ≤ length starts
-    → (next ≡ length starts → next ≡ done + 1)
-    → range_size profile (slice_index starts done) single + 2 ≤ split_size profile starts starts done
-    (next - done)
-    → ((nr : ℕ) (call : SysCall) → IsBetween starts done next nr → nr ≢ single
-    → chosen profile nr call ≡ chosen profile (slice_index starts done) call)
-    → wider ≡ news ++ slice_index starts done ∷ [] → paired ≡ singles ++ single ∷ []
-    → SplitSoFar profile starts next wider paired
-split_more profile starts news singles wider paired done single next so_far inside onward next_in last_one
-    size alike wider_is paired_is =
-    let P : List ℕ → Type 0 = λ ws. SplitSoFar profile starts next ws paired in
-    let Q : List ℕ → Type 0 = λ ps. SplitSoFar profile starts next (news ++ slice_index starts done ∷ []) ps
-    in
-    let start : ℕ = slice_index starts done in
-    let ws : List ℕ = news ++ start ∷ [] in
-    let ps : List ℕ = singles ++ single ∷ [] in
-    let len : length ws ≡ length news + 1 = len_seam news start in
-    let lens : length ps ≡ length singles + 1 = len_seam singles single in
-    let last : 0 + length news ≡ length news = omega arith in
-    subst P (sym wider_is) (subst Q (sym paired_is) (record {
-      within = next_in;
-      paired = omega (arith, so_far.paired);
-      begun = λ _. omega arith;
-      first = λ _. elim (cases_lt 0 (length news)) [
-        | inl some ↦ index_front news start 0 some ∙ so_far.first some
-        | inr none ↦
-            let empty : length news ≡ 0 = omega arith in
-            index_last news start 0 (sym empty) ∙ ap (λ k. slice_index starts k) (so_far.begins empty)
-      ];
-      begins = λ none. absurd (omega arith);
-      alike = λ at nr call at_in between end other. elim (cases_lt at (length news)) [
-        | inl earlier ↦
-            let is : slice_index ws at ≡ slice_index news at = index_front news start at earlier in
-            let within : IsBetween news at (at + 1) nr = record {
-              above = omega (arith, between.above);
-              below = λ at_next. omega (
-                arith,
-                between.below (omega arith),
-                index_front news start (at + 1) at_next,
-              );
-            } in
-            so_far.alike at nr call earlier within (λ none _.
-            omega (arith, between.below (omega arith), index_last news start (at + 1) (omega arith)))
-            (λ same. other (same ∙ sym (index_front singles single at (omega (arith, so_far.paired)))))
-            ∙ ap (λ k. chosen profile k call) (sym is)
-        | inr later ↦
-            let here : at ≡ length news = omega arith in
-            let is : slice_index ws at ≡ start = index_last news start at here in
-            let single_is : slice_index ps at ≡ single =
-            index_last singles single at (omega (arith, so_far.paired)) in
-            alike nr call (record {
-              above = omega (arith, between.above);
-              below = λ some.
-                  end (omega arith) some;
-            }) (λ same. other (same ∙ sym single_is))
-            ∙ ap (λ k. chosen profile k call) (sym is)
-      ];
-      few = omega (arith, so_far.few);
-      many = λ two whole. omega (arith, so_far.begun (omega (arith, last_one whole)));
-      short =
-          let sum : done + (next - done) ≡ next = omega arith in
-          let from_start : 0 + done ≡ done = omega arith in
-          omega (
-            arith,
-            ap (λ k. split_size profile ws ps 0 k) (len ∙ add-one (length news)),
-            split_size-suc profile ws ps 0 (length news),
-            split_size-append profile news singles (start ∷ []) (single ∷ []) 0 (length news) (omega arith)
-                (omega (arith, so_far.paired)),
-            so_far.short,
-            size,
-            split_size-add profile starts starts 0 done (next - done),
-            ap (λ k. split_size profile starts starts 0 k) sum,
-            ap (λ k. split_size profile starts starts k (next - done)) from_start,
-            ap (λ k. range_size profile k (slice_index ps (0 + length news)))
-                (index_last news start (0 + length news) last),
-            ap (λ k. range_size profile start k)
-                (index_last singles single (0 + length news) (omega (arith, so_far.paired))),
-          );
-    }))
-
-pub split_end : (profile : Profile) (starts news singles : List ℕ) (done : ℕ) → AreRanges profile starts
-    → SplitSoFar profile starts done news singles → length starts ≤ done → AreSplit profile news singles
-split_end profile starts news singles done split so_far whole =
-    let some : 0 < length news = so_far.begun (omega (arith, split.some)) in
-    record {
-      some = some;
-      first = so_far.first some ∙ split.first;
-      paired = so_far.paired;
-      alike = λ at nr call inside between other.
-          so_far.alike at nr call inside between (λ _ more. absurd (omega arith)) other;
-    }
-
-pub split_at : (profile : Profile) (starts singles : List ℕ) (from middle to : ℕ) → from ≤ middle
-    → middle ≤ to
-    → split_size profile starts singles from (to - from) ≡ split_size profile starts singles from
-    (middle - from) + split_size profile starts singles middle (to - middle)
-split_at profile starts singles from middle to low high =
+pub size_at : (profile : Profile) (starts : List ℕ) (from middle to : ℕ) → from ≤ middle → middle ≤ to
+    → tree_size profile starts from (to - from) ≡ tree_size profile starts from (middle - from)
+    + tree_size profile starts middle (to - middle)
+size_at profile starts from middle to low high =
     let sum : middle - from + (to - middle) ≡ to - from = omega arith in
     let place : from + (middle - from) ≡ middle = omega arith in
     omega (
       arith,
-      split_size-add profile starts singles from (middle - from) (to - middle),
-      ap (λ k. split_size profile starts singles from k) sum,
-      ap (λ k. split_size profile starts singles k (to - middle)) place,
+      tree_size-add profile starts from (middle - from) (to - middle),
+      ap (λ k. tree_size profile starts from k) sum,
+      ap (λ k. tree_size profile starts k (to - middle)) place,
     )
 
-pub split_one : (profile : Profile) (starts singles : List ℕ) (from n : ℕ) → n ≡ 1
-    → split_size profile starts singles from n ≡ range_size profile (slice_index starts from)
-    (slice_index singles from) + 2
-split_one profile starts singles from n one =
+pub size_one : (profile : Profile) (starts : List ℕ) (from n : ℕ) → n ≡ 1
+    → tree_size profile starts from n ≡ added_of profile.entries (slice_index starts from) + 3
+size_one profile starts from n one =
     let here : from + 0 ≡ from = omega arith in
     omega (
       arith,
-      ap (λ k. split_size profile starts singles from k) one,
-      split_size-suc profile starts singles from 0,
-      split_size-zero profile starts singles from,
-      ap (λ k. range_size profile (slice_index starts k) (slice_index singles k)) here,
+      ap (λ k. tree_size profile starts from k) one,
+      tree_size-suc profile starts from 0,
+      tree_size-zero profile starts from,
+      ap (λ k. added_of profile.entries (slice_index starts k)) here,
+    )
+
+-- the instructions that are left when one range is taken out
+pub size_without : (profile : Profile) (starts : List ℕ) (from to i : ℕ) → from ≤ i → i < to
+    → i < length starts
+    → tree_size profile starts from (to - from) ≡ tree_size profile (remove starts i) from (to - 1 - from)
+    + (added_of profile.entries (slice_index starts i) + 3)
+size_without profile starts from to i from_in in_to inside =
+    let one : i + 1 - i ≡ 1 = omega arith in
+    let rest : to - 1 - i ≡ to - (i + 1) = omega arith in
+    let begins : from + (i - from) ≡ i = omega arith in
+    omega (
+      arith,
+      size_at profile starts from i to from_in (omega arith),
+      size_at profile starts i (i + 1) to (omega arith) (omega arith),
+      size_one profile starts i (i + 1 - i) one,
+      size_at profile (remove starts i) from i (to - 1) from_in (omega arith),
+      size_before profile starts i from (i - from) inside (omega arith),
+      size_behind profile starts i i (to - 1 - i) inside (omega arith),
+      ap (λ k. tree_size profile starts (i + 1) k) rest,
     )

@@ -1,6 +1,6 @@
--- A range of numbers, and the tree over ranges, as code.
+-- The tree over ranges of numbers, as code.
 use Rattle.std.proofs.Common.{◌≡◌, ◌≢◌, ℕ, zero, suc, ◌+◌, ◌-◌, ◌*◌, ◌^◌, ◌<◌, ◌≤◌, ◌==◌, inl, inr, Bool}
-use Rattle.std.proofs.Common.{true, false, cond, List, [], ◌∷◌, length, refl, sym, ap, ◌∙◌, subst, arith}
+use Rattle.std.proofs.Common.{true, false, cond, List, [], ◌∷◌, length, refl, sym, ap, subst, arith}
 use Rattle.std.specs.Prelude.{slice_index, nat_le}
 use Rattle.std.proofs.Math.Nat.{pow-suc}
 use Rattle.std.proofs.lemmas.Bool.{cases_lt, cases_eq, eq-eqb}
@@ -14,8 +14,8 @@ use Rattle.oci_profile.specs.declared.profile.Profile.{Profile}
 use Rattle.oci_profile.specs.Meaning.{chosen, names}
 use Rattle.compile.specs.Backward.{Gives, GivesAlways, Keeps}
 use Rattle.compile.specs.Bounds.{IsBare, AreBare}
-use Rattle.compile.specs.Ranges.{IsBetween}
-use Rattle.compile.specs.Sizes.{IsEnough, steps_at, added_of, range_size}
+use Rattle.compile.specs.Ranges.{IsAlike, IsBetween}
+use Rattle.compile.specs.Sizes.{IsEnough, steps_at}
 use Rattle.compile.proofs.Building.{gives_more}
 use Rattle.compile.proofs.Leaves.{counted_most}
 
@@ -34,133 +34,171 @@ pub enough_steps : (profile : Profile) (nr most : ℕ) → IsEnough profile most
 enough_steps profile nr most (inl steps) = omega (arith, steps nr)
 enough_steps profile nr most (inr bare) = omega (arith, bare_steps profile.entries nr bare.0, bare.1)
 
-pub other_size : (profile : Profile) (start single : ℕ) → single ≢ start
-    → range_size profile start single ≡ 4 + added_of profile.entries start + added_of profile.entries single
-unfolding range_size
-other_size profile start single other =
-    let apart : (single == start) ≡ false = grind (arith, nat_tests) in
-    ap (λ b. 1 + added_of profile.entries start + cond b 0 (3 + added_of profile.entries single)) apart
-    ∙ omega arith
-
-pub least_size : (profile : Profile) (start single : ℕ)
-    → 1 + added_of profile.entries start ≤ range_size profile start single
-unfolding range_size
-least_size profile start single = omega arith
-
--- the rest of a range, behind the branch that leads to its single number: with a step to spare
-pub record IsBehind (profile : Profile) (code : List Insn) (call : SysCall)
-    (place value most : ℕ) : Type 0 where
-  pub left : ℕ
-  pub less : left < most
-  pub steps : (nr : ℕ) → steps_at profile.entries nr ≤ left
-  pub gives : GivesAlways code call place value left
-
-pub behind : (profile : Profile) (code new : List Insn) (call : SysCall) (start other miss value most : ℕ)
-    → IsEnough profile most → GivesAlways code call other value (steps_at profile.entries start)
-    → ((a v m : ℕ) → Gives code call other a v m → Gives new call miss a v (m + 1))
-    → (AreBare profile.entries → (miss ≡ other) × (new ≡ code)) → IsBehind profile new call miss value most
-behind profile code new call start other miss value most (inl enough) gives nears same =
-    record {
-      left = most - 1;
-      less = omega (arith, enough start);
-      steps = λ nr. omega (arith, enough nr);
-      gives = λ a. gives_more new call miss a value (steps_at profile.entries start + 1) (most - 1)
-          (nears a value (steps_at profile.entries start) (gives a)) (omega (arith, enough start));
-    }
-behind profile code new call start other miss value most (inr bare) gives nears same =
-    let is = same bare.0 in
-    record {
-      left = steps_at profile.entries start;
-      less = omega (arith, bare_steps profile.entries start bare.0, bare.1);
-      steps = λ nr. omega (
-        arith,
-        bare_steps profile.entries start bare.0,
-        bare_steps profile.entries nr bare.0,
-      );
-      gives = rw (is.0, is.1) gives;
-    }
-
-either_place : (code : List Insn) (call : SysCall) (holds : Bool) (hit miss a one other most : ℕ)
-    → Gives code call hit a one most → Gives code call miss a other most
-    → Gives code call (cond holds hit miss) a (cond holds one other) most
-either_place code call true hit miss a one other most hits misses = hits
-either_place code call false hit miss a one other most hits misses = misses
-
--- the single number, or the rest
-pub range_given : (profile : Profile) (code new : List Insn) (call : SysCall)
-    (nr single hit miss hit_value value most : ℕ) → IsBehind profile code call miss value most
-    → GivesAlways code call hit hit_value (steps_at profile.entries single)
-    → ((v m : ℕ) → Gives code call (cond (nr == single) hit miss) nr v m
-    → Gives new call (length new - 1) nr v (m + 1))
-    → Gives new call (length new - 1) nr (cond (nr == single) hit_value value) most
-range_given profile code new call nr single hit miss hit_value value most rest hits jumps =
-    gives_more new call (length new - 1) nr (cond (nr == single) hit_value value) (rest.left + 1) most
-    (jumps (cond (nr == single) hit_value value) rest.left
-    (either_place code call (nr == single) hit miss nr hit_value value rest.left
-    (gives_more code call hit nr hit_value (steps_at profile.entries single) rest.left (hits nr)
-    (rest.steps single)) (rest.gives nr)))
-    (omega (arith, rest.less))
-
-pub range_value : (profile : Profile) (call : SysCall) (nr start single : ℕ)
-    → (nr ≢ single → chosen profile nr call ≡ chosen profile start call)
-    → cond (nr == single) (chosen profile single call) (chosen profile start call) ≡ chosen profile nr call
-range_value profile call nr start single alike = elim (cases_eq nr single) [
-  | inl same ↦ ap (λ b. cond b (chosen profile single call) (chosen profile start call))
-      (eq-eqb nr single same) ∙ ap (λ n. chosen profile n call) (sym same)
-  | inr other ↦ let apart : (nr == single) ≡ false = grind (arith, nat_tests) in
-      ap (λ b. cond b (chosen profile single call) (chosen profile start call)) apart ∙ sym (alike other)
-]
-
-pub start_value : (profile : Profile) (call : SysCall) (nr start single : ℕ) → single ≡ start
-    → (nr ≢ single → chosen profile nr call ≡ chosen profile start call)
-    → chosen profile start call ≡ chosen profile nr call
-start_value profile call nr start single is alike = elim (cases_eq nr single) [
-  | inl same ↦ ap (λ n. chosen profile n call) (sym (same ∙ is))
-  | inr other ↦ sym (alike other)
-]
-
 -- what a part of the tree gives
 abbrev pub TreeGives : Profile → List ℕ → List Insn → ℕ → ℕ → ℕ → ℕ → Type 0
 TreeGives profile starts code at from to room =
-    (call : SysCall) (levels most : ℕ) → IsCall call → IsEnough profile most
+    (call : SysCall) (levels most : ℕ) → IsCall call → IsEnough profile most → IsAlike profile starts call
     → IsBetween starts from to call.nr → room ≤ 2 ^ levels
-    → Gives code call at call.nr (chosen profile call.nr call) (most + 2 * levels)
+    → Gives code call at call.nr (chosen profile call.nr call) (most + (2 * levels - 1))
 
-pub node_gives : (profile : Profile) (starts : List ℕ) (one two three new : List Insn)
+-- what one range gives
+abbrev pub OneGives : Profile → List ℕ → List Insn → ℕ → ℕ → ℕ → Type 0
+OneGives profile starts code at from to =
+    to - from ≡ 1 → (call : SysCall) → IsCall call
+    → GivesAlways code call at (chosen profile (slice_index starts from) call)
+    (steps_at profile.entries (slice_index starts from))
+
+-- a range of one
+one_value : (profile : Profile) (starts : List ℕ) (from to : ℕ) (call : SysCall) → to - from ≡ 1
+    → from < length starts → IsAlike profile starts call → IsBetween starts from to call.nr
+    → chosen profile call.nr call ≡ chosen profile (slice_index starts from) call
+one_value profile starts from to call one inside alike between =
+    let next : from + 1 ≡ to = omega arith in
+    alike from inside (record {
+      above = between.above;
+      below = λ next_in.
+          omega (arith, between.below (omega arith), ap (λ k. slice_index starts k) next);
+    })
+
+pub one_tree : (profile : Profile) (starts : List ℕ) (code : List Insn) (at from to room : ℕ)
+    → to - from ≡ 1 → from < length starts → OneGives profile starts code at from to
+    → TreeGives profile starts code at from to room
+one_tree profile starts code at from to room one inside gives call levels most is_call enough alike between
+    small =
+    let start : ℕ = slice_index starts from in
+    let P : ℕ → Type 0 = λ value. Gives code call at call.nr value (most + (2 * levels - 1)) in
+    subst P (sym (one_value profile starts from to call one inside alike between))
+    (gives_more code call at call.nr (chosen profile start call) (steps_at profile.entries start)
+    (most + (2 * levels - 1)) (gives one call is_call call.nr)
+    (omega (arith, enough_steps profile start most enough)))
+
+-- a part of the tree behind a jump that may have been needed to reach it: it is not needed to reach a return
+pub behind : (profile : Profile) (starts : List ℕ) (one three : List Insn) (from to place miss half : ℕ)
+    (call : SysCall) (levels most : ℕ) → from < to → from < length starts → to - from ≤ half
+    → TreeGives profile starts one place from to half → OneGives profile starts one place from to
+    → ((a v m : ℕ) → Gives one call place a v m → Gives three call miss a v (m + 1))
+    → (AreBare profile.entries → half ≤ 1 → (a v m : ℕ) → Gives one call place a v m
+    → Gives three call miss a v m)
+    → IsCall call → IsEnough profile most → IsAlike profile starts call → IsBetween starts from to call.nr
+    → half ≤ 2 ^ levels
+    → Gives three call miss call.nr (chosen profile call.nr call) (most + 2 * levels)
+behind profile starts one three from to place miss half call (suc levels) most some inside room gives is_one
+    nears same is_call enough alike between small =
+    let value : ℕ = chosen profile call.nr call in
+    gives_more three call miss call.nr value (most + (2 * suc levels - 1) + 1) (most + 2 * suc levels)
+    (nears call.nr value (most + (2 * suc levels - 1))
+    (gives call (suc levels) most is_call enough alike between small)) (omega arith)
+behind profile starts one three from to place miss half call zero most some inside room gives is_one nears
+    same is_call enough alike between small =
+    let start : ℕ = slice_index starts from in
+    let value : ℕ = chosen profile start call in
+    let single : to - from ≡ 1 = omega arith in
+    let P : ℕ → Type 0 = λ v. Gives three call miss call.nr v (most + 2 * 0) in
+    subst P (sym (one_value profile starts from to call single inside alike between))
+    (elim enough [
+      | inl steps ↦
+          gives_more three call miss call.nr value (steps_at profile.entries start + 1) (most + 2 * 0)
+          (nears call.nr value (steps_at profile.entries start) (is_one single call is_call call.nr))
+          (omega (arith, steps start))
+      | inr bare ↦
+          gives_more three call miss call.nr value (steps_at profile.entries start) (most + 2 * 0)
+          (same bare.0 (omega arith) call.nr value (steps_at profile.entries start)
+          (is_one single call is_call call.nr))
+          (omega (arith, bare_steps profile.entries start bare.0, bare.1))
+    ])
+
+-- a split of the ranges
+pub split_gives : (profile : Profile) (starts : List ℕ) (one two three new : List Insn)
     (from middle to low high miss room half : ℕ) → 1 < room → half + half ≤ room + 1
-    → TreeGives profile starts one low from middle half → TreeGives profile starts two high middle to half
+    → from < middle → middle < to → to ≤ length starts → middle - from ≤ half → to - middle ≤ half
+    → TreeGives profile starts one low from middle half → OneGives profile starts one low from middle
+    → TreeGives profile starts two high middle to half
     → Keeps one two
     → ((call : SysCall) (a v m : ℕ) → Gives two call low a v m → Gives three call miss a v (m + 1))
+    → (AreBare profile.entries → half ≤ 1 → (miss ≡ low) × (three ≡ two))
     → Keeps two three
     → ((call : SysCall) (a v m : ℕ) → Gives three call (cond (nat_le (slice_index starts middle) a) high miss)
     a v m → Gives new call (length new - 1) a v (m + 1))
     → TreeGives profile starts new (length new - 1) from to room
-node_gives profile starts one two three new from middle to low high miss room half some halved lows highs
-    keeps nears keeps_more jumps call zero most is_call enough between small = absurd (omega arith)
-node_gives profile starts one two three new from middle to low high miss room half some halved lows highs
-    keeps nears keeps_more jumps call (suc levels) most is_call enough between small =
+split_gives profile starts one two three new from middle to low high miss room half some halved before behind_it
+    to_in low_room high_room lows low_one highs keeps nears same keeps_more jumps call zero most is_call
+    enough alike between small = absurd (omega arith)
+split_gives profile starts one two three new from middle to low high miss room half some halved before behind_it
+    to_in low_room high_room lows low_one highs keeps nears same keeps_more jumps call (suc levels) most
+    is_call enough alike between small =
     let twice : 2 ^ suc levels ≡ 2 ^ levels * 2 = pow-suc 2 levels in
     let nr : ℕ = call.nr in
     let value : ℕ = chosen profile nr call in
-    let left : ℕ = most + 2 * levels + 1 in
+    let left : ℕ = most + 2 * levels in
     elim (cases_lt nr (slice_index starts middle)) [
-      | inl before ↦
+      | inl first ↦
           let below : nat_le (slice_index starts middle) nr ≡ false = grind (arith, nat_tests) in
-          let found = lows call levels most is_call enough
-          (record { above = between.above; below = λ _. before }) (omega arith) in
           let there : Gives three call miss nr value left =
-          nears call nr value (most + 2 * levels) (keeps call low nr value (most + 2 * levels) found) in
+          behind profile starts one three from middle low miss half call levels most before (omega arith)
+          low_room lows low_one
+          (λ a v m g. nears call a v m (keeps call low a v m g))
+          (λ bare tiny a v m g. let is = same bare tiny in rw (is.0, is.1) (keeps call low a v m g))
+          is_call enough alike (record { above = between.above; below = λ _. first }) (omega arith) in
           let P : Bool → Type 0 = λ holds. Gives three call (cond holds high miss) nr value left in
-          gives_more new call (length new - 1) nr value (left + 1) (most + 2 * suc levels)
+          gives_more new call (length new - 1) nr value (left + 1) (most + (2 * suc levels - 1))
           (jumps call nr value left (subst P (sym below) there)) (omega arith)
       | inr from_there ↦
           let above : nat_le (slice_index starts middle) nr ≡ true = grind (arith, nat_tests) in
-          let found = highs call levels most is_call enough
-          (record { above = from_there; below = between.below }) (omega arith) in
           let there : Gives three call high nr value left =
-          gives_more three call high nr value (most + 2 * levels) left
-          (keeps_more call high nr value (most + 2 * levels) found) (omega arith) in
+          gives_more three call high nr value (most + (2 * levels - 1)) left
+          (keeps_more call high nr value (most + (2 * levels - 1)) (highs call levels most is_call enough alike
+          (record { above = from_there; below = between.below }) (omega arith))) (omega arith) in
           let P : Bool → Type 0 = λ holds. Gives three call (cond holds high miss) nr value left in
-          gives_more new call (length new - 1) nr value (left + 1) (most + 2 * suc levels)
+          gives_more new call (length new - 1) nr value (left + 1) (most + (2 * suc levels - 1))
           (jumps call nr value left (subst P (sym above) there)) (omega arith)
+    ]
+
+-- a test of one number
+pub tested_gives : (profile : Profile) (starts rest : List ℕ) (one two three new : List Insn)
+    (from to end single other hit miss room half : ℕ) → 1 < room → half + half ≤ room + 1
+    → from < end → end ≤ length rest → end - from ≤ half
+    → TreeGives profile rest one other from end half → OneGives profile rest one other from end
+    → ((nr : ℕ) → nr ≢ single → IsBetween starts from to nr → IsBetween rest from end nr)
+    → ((call : SysCall) → call.nr ≢ single → IsAlike profile starts call → IsAlike profile rest call)
+    → ((call : SysCall) → IsCall call → GivesAlways two call hit (chosen profile single call)
+    (steps_at profile.entries single))
+    → Keeps one two
+    → ((call : SysCall) (a v m : ℕ) → Gives two call other a v m → Gives three call miss a v (m + 1))
+    → (AreBare profile.entries → half ≤ 1 → (miss ≡ other) × (three ≡ two))
+    → Keeps two three
+    → ((call : SysCall) (a v m : ℕ) → Gives three call (cond (a == single) hit miss) a v m
+    → Gives new call (length new - 1) a v (m + 1))
+    → TreeGives profile starts new (length new - 1) from to room
+tested_gives profile starts rest one two three new from to end single other hit miss room half some halved
+    before inside rest_room others other_one between_rest alike_rest hits keeps nears same keeps_more jumps call
+    zero most is_call enough alike between small = absurd (omega arith)
+tested_gives profile starts rest one two three new from to end single other hit miss room half some halved
+    before inside rest_room others other_one between_rest alike_rest hits keeps nears same keeps_more jumps call
+    (suc levels) most is_call enough alike between small =
+    let twice : 2 ^ suc levels ≡ 2 ^ levels * 2 = pow-suc 2 levels in
+    let nr : ℕ = call.nr in
+    let value : ℕ = chosen profile nr call in
+    let left : ℕ = most + 2 * levels in
+    elim (cases_eq nr single) [
+      | inl is ↦
+          let there : Gives three call hit nr value left =
+          let P : ℕ → Type 0 = λ n. Gives three call hit nr (chosen profile n call) left in
+          subst P (sym is)
+          (gives_more three call hit nr (chosen profile single call) (steps_at profile.entries single) left
+          (keeps_more call hit nr (chosen profile single call) (steps_at profile.entries single)
+          (hits call is_call nr)) (omega (arith, enough_steps profile single most enough))) in
+          let P : Bool → Type 0 = λ holds. Gives three call (cond holds hit miss) nr value left in
+          gives_more new call (length new - 1) nr value (left + 1) (most + (2 * suc levels - 1))
+          (jumps call nr value left (subst P (sym (eq-eqb nr single is)) there)) (omega arith)
+      | inr apart ↦
+          let differs : (nr == single) ≡ false = grind (arith, nat_tests) in
+          let there : Gives three call miss nr value left =
+          behind profile rest one three from end other miss half call levels most before (omega arith)
+          rest_room others other_one
+          (λ a v m g. nears call a v m (keeps call other a v m g))
+          (λ bare tiny a v m g. let is = same bare tiny in rw (is.0, is.1) (keeps call other a v m g))
+          is_call enough (alike_rest call apart alike) (between_rest nr apart between) (omega arith) in
+          let P : Bool → Type 0 = λ holds. Gives three call (cond holds hit miss) nr value left in
+          gives_more new call (length new - 1) nr value (left + 1) (most + (2 * suc levels - 1))
+          (jumps call nr value left (subst P (sym differs) there)) (omega arith)
     ]

@@ -207,8 +207,19 @@ steps_all (entry ∷ entries) nr = omega (
   steps_all entries nr,
 )
 
-pub four_times : (d : ℕ) → 2 ^ (d + 2) ≡ 4 * 2 ^ d
-four_times d =
-    let more : d + 2 ≡ suc (suc d) = omega arith in
-    let twice : 2 ^ suc (suc d) ≡ 4 * 2 ^ d = omega (arith, pow-suc 2 (suc d), pow-suc 2 d) in
+pub two_times : (d : ℕ) → 2 ^ (d + 1) ≡ 2 * 2 ^ d
+two_times d =
+    let more : d + 1 ≡ suc d = omega arith in
+    let twice : 2 ^ suc d ≡ 2 * 2 ^ d = omega (arith, pow-suc 2 d) in
     ap (λ n. 2 ^ n) more ∙ twice
+
+pub eight_times : (d : ℕ) → 2 ^ (d + 3) ≡ 8 * 2 ^ d
+eight_times d =
+    let more : d + 3 ≡ suc (suc (suc d)) = omega arith in
+    let thrice : 2 ^ suc (suc (suc d)) ≡ 8 * 2 ^ d = omega (
+      arith,
+      pow-suc 2 (suc (suc d)),
+      pow-suc 2 (suc d),
+      pow-suc 2 d,
+    ) in
+    ap (λ n. 2 ^ n) more ∙ thrice

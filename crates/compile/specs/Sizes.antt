@@ -1,6 +1,6 @@
 -- This project's own: bounds of the code and of the steps that a profile's numbers lead to. Only private
 -- functions cite this.
-use Rattle.std.specs.Prelude.{ℕ, zero, suc, ◌+◌, ◌*◌, ◌≤◌, ◌<◌, ◌==◌, ◌⊎◌, if◌then◌else◌, List, [], ◌∷◌}
+use Rattle.std.specs.Prelude.{ℕ, zero, suc, ◌+◌, ◌*◌, ◌≤◌, ◌<◌, ◌⊎◌, if◌then◌else◌, List, [], ◌∷◌}
 use Rattle.std.specs.Prelude.{length, slice_index}
 use Rattle.oci_profile.specs.declared.profile.Entry.{Entry}
 use Rattle.oci_profile.specs.declared.profile.Profile.{Profile}
@@ -23,22 +23,16 @@ added_below entries (suc n) = added_of entries n + added_below entries n
 abbrev pub steps_at : List Entry → ℕ → ℕ
 steps_at entries nr = 1 + 6 * conditions_at entries nr
 
--- so many steps are enough in a range: one test finds its single number, and a jump may lead to the rest
+-- so many steps are enough in a range: one is left for a jump to it, unless a return is all that it needs
 abbrev pub IsEnough : Profile → ℕ → Type 0
-IsEnough profile most = ((nr : ℕ) → steps_at profile.entries nr + 2 ≤ most) ⊎ (AreBare profile.entries
-    × (2 ≤ most))
+IsEnough profile most = ((nr : ℕ) → steps_at profile.entries nr + 1 ≤ most) ⊎ (AreBare profile.entries
+    × (1 ≤ most))
 
--- the instructions of one range, where the single number that is treated in another way is not its start
-unfoldable pub range_size : Profile → ℕ → ℕ → ℕ
-range_size profile start single =
-    1 + added_of profile.entries start + (if single == start then 0 else 3 + added_of profile.entries single)
-
--- and of so many ranges from one on, each with its part of the tree
-unfoldable pub split_size : Profile → List ℕ → List ℕ → ℕ → ℕ → ℕ
-split_size profile starts singles at zero = 0
-split_size profile starts singles at (suc n) =
-    split_size profile starts singles at n
-    + (range_size profile (slice_index starts (at + n)) (slice_index singles (at + n)) + 2)
+-- the instructions of so many ranges from one on, each with a return, a test that leads to it and a jump
+unfoldable pub tree_size : Profile → List ℕ → ℕ → ℕ → ℕ
+tree_size profile starts at zero = 0
+tree_size profile starts at (suc n) =
+    tree_size profile starts at n + (added_of profile.entries (slice_index starts (at + n)) + 3)
 
 -- the length of the code whose ranges ask for so much: in little code no jump is too far
 abbrev pub IsAsLong : ℕ → ℕ → Type 0

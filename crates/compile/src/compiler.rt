@@ -1,4 +1,4 @@
-ghost use Rattle.std.specs.Prelude.{◌≡◌, ◌≤◌, ◌<◌, ◌+◌, ◌*◌, ◌^◌, ◌↔◌, ℕ, Err, IfOk, length, true};
+ghost use Rattle.std.specs.Prelude.{◌≡◌, ◌≤◌, ◌<◌, ◌+◌, ◌-◌, ◌*◌, ◌^◌, ◌↔◌, ℕ, Err, IfOk, length, true};
 ghost use Rattle.bpf_code.specs.declared.limits.TheConstants.{MAX_INSNS};
 ghost use Rattle.bpf_machine.specs.Runs.{Runs};
 ghost use Rattle.bpf_verify.specs.Sound.{IsSound};
@@ -8,14 +8,14 @@ ghost use Rattle.oci_profile.specs.Meaning.{meaning, weight};
 ghost use Rattle.sys_table.specs.declared.table.TheConstants.{NUMBER_LIMIT};
 ghost use Rattle.compile.specs.declared.fault.CompileFault.{CompileFault};
 ghost use Rattle.compile.specs.Bounds.{AreBare, HasDigits, conditions_at, named_below};
-ghost use Rattle.compile.specs.Ranges.{AreSplit};
-ghost use Rattle.compile.specs.Sizes.{IsAsLong, IsEnough, split_size};
+ghost use Rattle.compile.specs.Ranges.{AreRanges};
+ghost use Rattle.compile.specs.Sizes.{IsAsLong, IsEnough, tree_size};
 
 use crate::code::{Code, REACH, Test};
 use crate::fault::CompileFault;
 use crate::halves::words;
 use crate::ranges::ranges;
-use crate::singles::with_singles;
+use crate::remaining::Remaining;
 use crate::tree::tree;
 use crate::weight::is_heavy;
 use bpf_verify::Filter;
@@ -27,37 +27,25 @@ use std::alloc::{AllocError, Global};
 fn assemble(
     alloc: Global,
     profile: &Profile,
-    starts: &[u32],
-    singles: &[u32],
-    shares: &[u64],
+    all: &Remaining,
     room: usize,
 ) -> Result<Filter, AllocError>
-    requires paired { length shares.now ≡ length starts.now }
-    requires room_in { length starts.now ≤ room }
-    requires split { AreSplit profile.now starts.now singles.now }
-    requires many { 2 ≤ length starts.now }
-    requires short { split_size profile.now starts.now singles.now 0 (length starts.now) + 4 ≤ MAX_INSNS }
+    requires room_in { length all.now ≤ room }
+    requires ranges { AreRanges profile.now all.now }
+    requires many { 2 ≤ length all.now }
+    requires short { tree_size profile.now all.now 0 (length all.now) + 4 ≤ MAX_INSNS }
     ensures sound { IfOk result (λ filter. IsSound filter) }
     ensures long { IfOk result (λ filter. IsAsLong
-        (split_size profile.now starts.now singles.now 0 (length starts.now)) (length filter)) }
+        (tree_size profile.now all.now 0 (length all.now)) (length filter)) }
     ensures runs { IfOk result (λ filter. (call : SysCall) (levels most : ℕ) → IsCall call
         → IsEnough profile.now most → room ≤ 2 ^ levels
-        → (steps : ℕ) × (steps ≤ most + 2 * levels + 3) × Runs filter call (meaning profile.now call) steps) }
+        → (steps : ℕ) × (steps ≤ most + (2 * levels - 1) + 3)
+        × Runs filter call (meaning profile.now call) steps) }
 {
     words();
     let mut code = Code::new(alloc);
     let kill = code.value(Decision::KillProcess.value())?;
-    tree(
-        &mut code,
-        alloc,
-        profile,
-        starts,
-        singles,
-        shares,
-        0,
-        starts.len(),
-        room,
-    )?;
+    tree(&mut code, alloc, profile, all, 0, all.len(), room)?;
     let native = code.load(0)?;
     let foreign = code.near(kill, REACH)?;
     code.jump(Test::Equal, NATIVE_ARCH, native, foreign)?;
@@ -65,17 +53,18 @@ fn assemble(
     Ok(code.filter())
 }
 
-/// How many ranges the tree has room for. If there are conditions, it has two levels more than are needed, so
-/// that numbers with conditions can be found by fewer tests than the others.
+/// How many ranges the tree has room for: it has one level more than are needed, so that ranges which one test
+/// tells from the others stay together. If there are conditions, it has three more, so that numbers with
+/// conditions can be found by fewer tests than the others.
 fn room(profile: &Profile, many: usize) -> usize
-    ensures bare { AreBare profile.now.entries → result ≡ many }
+    ensures bare { AreBare profile.now.entries → result ≤ 2 * many }
     ensures least { many ≤ result }
-    ensures most { result ≤ 4 * many }
+    ensures most { result ≤ 8 * many }
 {
     if are_bare(profile.entries.as_slice()) {
-        many
+        many.saturating_mul(2)
     } else {
-        many.saturating_mul(4)
+        many.saturating_mul(8)
     }
 }
 
@@ -102,17 +91,9 @@ fn light_filter(alloc: Global, profile: &Profile) -> Result<Filter, AllocError>
         → ((nr : ℕ) → conditions_at profile.now.entries nr ≤ m)
         → (steps : ℕ) × (steps ≤ 10 + 2 * d + 6 * m) × Runs filter call (meaning profile.now call) steps) }
 {
-    let plain = ranges(alloc, profile)?;
-    let split = with_singles(alloc, profile, plain.as_slice())?;
-    let room = room(profile, split.starts.len());
-    assemble(
-        alloc,
-        profile,
-        split.starts.as_slice(),
-        split.singles.as_slice(),
-        split.shares.as_slice(),
-        room,
-    )
+    let starts = ranges(alloc, profile)?;
+    let all = Remaining::new(alloc, profile, starts)?;
+    assemble(alloc, profile, &all, room(profile, all.len()))
 }
 
 /// Compiles a profile to a filter.

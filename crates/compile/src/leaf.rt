@@ -44,6 +44,26 @@ fn bare_end(entries: &[Entry], default: Decision, nr: u32) -> (usize, Decision)
     (entries.len(), default)
 }
 
+/// Whether the entry names the number and decides something else than this.
+fn differs(entry: &Entry, last: &Decision, nr: u32) -> bool
+    ensures { OnFalse result (names entry.now nr ≡ true → entry.now.decision ≡ last.now) }
+{
+    entry.names(nr) && entry.decision != *last
+}
+
+/// How many entries are needed before this decision: those at the end that decide the same are not.
+fn needed(entries: &[Entry], last: &Decision, nr: u32) -> usize
+    ensures inside { result ≤ length entries.now }
+    ensures same { (call : SysCall) → decision_of entries.now last.now nr call
+        ≡ decision_of (take result entries.now) last.now nr call }
+{
+    let mut end = entries.len();
+    while end > 0 && !differs(&entries[end - 1], last, nr) {
+        end -= 1;
+    }
+    end
+}
+
 /// Puts an entry in front if it names the number.
 fn add_named(code: &mut Code, entry: &Entry, nr: u32, chain: Chain) -> Result<Chain, AllocError>
     requires stands { Stands code.old chain.known chain.place }
@@ -164,5 +184,6 @@ pub(crate) fn leaf(
     }
     let entries = profile.entries.as_slice();
     let (end, last) = bare_end(entries, profile.default, nr);
-    entries_leaf(code, alloc, &entries[..end], &last, nr)
+    let before = &entries[..end];
+    entries_leaf(code, alloc, &before[..needed(before, &last, nr)], &last, nr)
 }

@@ -19,10 +19,11 @@ mod halves;
 mod hiding;
 mod leaf;
 mod lows;
+mod order;
 mod plan;
 mod ranges;
+mod remaining;
 mod shares;
-mod singles;
 mod tree;
 mod weight;
 

@@ -8,7 +8,7 @@ ghost use Rattle.oci_profile.specs.Meaning.{chosen, decision_of};
 ghost use Rattle.sys_table.specs.declared.table.TheConstants.{NUMBER_LIMIT};
 ghost use Rattle.compile.specs.Bounds.{named, named_below};
 ghost use Rattle.compile.specs.Ranges.{AreRanges};
-ghost use Rattle.compile.specs.Sizes.{added_below, split_size};
+ghost use Rattle.compile.specs.Sizes.{added_below, tree_size};
 
 use crate::leaf::decides;
 use oci_profile::{Decision, Entry, Profile, X32_BIT};
@@ -65,7 +65,7 @@ pub(crate) fn ranges(alloc: Global, profile: &Profile) -> Result<Vec<u32>, Alloc
     ensures few { IfOk result (λ starts. length starts.items ≤ 2
         + 2 * named_below profile.now.entries NUMBER_LIMIT) }
     ensures short { IfOk result (λ starts.
-        split_size profile.now starts.items starts.items 0 (length starts.items)
+        tree_size profile.now starts.items 0 (length starts.items)
         ≤ 3 * length starts.items + added_below profile.now.entries (NUMBER_LIMIT + 1)) }
 {
     let mut starts = Vec::new(alloc);

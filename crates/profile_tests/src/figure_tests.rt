@@ -22,9 +22,9 @@ fn figures_of_the_default(rt: HostRuntime) -> Result<(), Fail> {
     let profile = runtime_default(rt.alloc())?;
     let filter = filter_of(&rt, &profile)?;
     let (most, all) = steps_of(&filter);
-    assert!(rt; filter.len() <= 62, "{}", filter.len());
+    assert!(rt; filter.len() <= 60, "{}", filter.len());
     assert!(rt; most <= 12, "{most}");
-    assert!(rt; all <= 4170, "{all}");
+    assert!(rt; all <= 4284, "{all}");
     let mut with_args = 0;
     let mut plain = 0;
     for nr in 0..451 {
@@ -47,8 +47,8 @@ fn figures_of_the_default(rt: HostRuntime) -> Result<(), Fail> {
             plain = plain.max(steps);
         }
     }
-    assert!(rt; plain <= 11, "{plain}");
-    assert!(rt; with_args <= 16, "{with_args}");
+    assert!(rt; plain <= 12, "{plain}");
+    assert!(rt; with_args <= 15, "{with_args}");
     Ok(())
 }
 

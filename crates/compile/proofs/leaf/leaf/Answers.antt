@@ -9,7 +9,7 @@ use Rattle.oci_profile.specs.Meaning.{chosen, decision_of}
 use Rattle.std.specs.Prelude.{take}
 use Rattle.compile.specs.Backward.{Gives, GivesAlways}
 use Rattle.compile.specs.Sizes.{added_of, steps_at}
-use Rattle.compile.specs.Bounds.{conditions_at}
+use Rattle.compile.specs.Bounds.{AreBare, conditions_at}
 use Rattle.compile.proofs.Words.{GivesAlways-more}
 use Rattle.compile.proofs.Leaves.{x32_chosen, native_chosen, conditions_take, added_take}
 use Rattle.compile.proofs.leaf.leaf.Goals as goal
@@ -22,6 +22,8 @@ entries_leaf-requires c =
             arith,
             c.requires,
             added_take c.as_slice-entries.result.now c.bare_end-end.result.0 c.args.nr,
+            added_take (take c.bare_end-end.result.0 c.as_slice-entries.result.now) c.needed.result
+                c.args.nr,
             ap (λ es. added_of es c.args.nr) c.as_slice-entries.ensures.value,
           );
     }
@@ -44,7 +46,8 @@ returns-clause-gives c =
     let profile = c.args.profile.now in
     let new : List Insn = c.entries_leaf.new.code in
     let entries : List Entry = c.as_slice-entries.result.now in
-    let part : List Entry = take c.bare_end-end.result.0 entries in
+    let before : List Entry = take c.bare_end-end.result.0 entries in
+    let part : List Entry = take c.needed.result before in
     let Decided : ℕ → Type 0 = λ at. (call : SysCall) → IsCall call
     → GivesAlways new call at (value_of (decision_of part c.bare_end-end.result.1 c.args.nr call))
     (steps_at part c.args.nr) in
@@ -55,11 +58,12 @@ returns-clause-gives c =
     ≡ value_of (decision_of part c.bare_end-end.result.1 c.args.nr call) =
     native_chosen profile c.args.nr call c.if-nr-ge-X32_BIT.false
     ∙ ap (λ es. value_of (decision_of es profile.default c.args.nr call))
-    (sym c.as_slice-entries.ensures.value) ∙ ap value_of (c.bare_end-end.ensures.same call) in
+    (sym c.as_slice-entries.ensures.value) ∙ ap value_of (c.bare_end-end.ensures.same call ∙ c.needed.ensures.same call) in
     let fewer : steps_at part c.args.nr ≤ steps_at profile.entries c.args.nr =
     omega (
       arith,
       conditions_take entries c.bare_end-end.result.0 c.args.nr,
+      conditions_take before c.needed.result c.args.nr,
       ap (λ es. conditions_at es c.args.nr) c.as_slice-entries.ensures.value,
     ) in
     rw same (GivesAlways-more new call at _ (steps_at part c.args.nr) (steps_at profile.entries c.args.nr)
@@ -72,5 +76,18 @@ returns-clause-longer c =
       arith,
       longer,
       added_take c.as_slice-entries.result.now c.bare_end-end.result.0 c.args.nr,
+      added_take (take c.bare_end-end.result.0 c.as_slice-entries.result.now) c.needed.result c.args.nr,
       ap (λ es. added_of es c.args.nr) c.as_slice-entries.ensures.value,
+    )) c.entries_leaf.ensures.longer
+
+pub returns-clause-bare : goal.returns-clause-bare
+returns-clause-bare c = λ bare.
+    let P : List Entry → Type 0 = λ es. AreBare es in
+    let none = c.bare_end-end.ensures.bare (subst P (sym c.as_slice-entries.ensures.value) bare) in
+    on_ok_weaker c.entries_leaf.result (λ longer.
+    omega (
+      arith,
+      longer,
+      none,
+      added_take (take c.bare_end-end.result.0 c.as_slice-entries.result.now) c.needed.result c.args.nr,
     )) c.entries_leaf.ensures.longer
