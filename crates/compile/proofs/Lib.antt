@@ -12,5 +12,6 @@ pub mod Assembled
 pub mod Asking
 pub mod Chaining
 pub mod Choices
+pub mod Holding
 pub mod Lowering
 pub mod Planning

@@ -212,13 +212,3 @@ arm_same entry call conds index value same one op is =
     ap (λ cs. all_of cs call) (sym same) ∙ one_holds conds call one
     ∙ ap (λ i. compares first.op first.value first.value_two (slice_index call.args i)) (sym is)
     ∙ two_unseen first.op first.value first.value_two (slice_index call.args index) op
-
--- an entry whose one condition stands among those of another
-pub holds_too : (earlier entry : Entry) (call : SysCall) (conds others : List Cond) → conds ≡ earlier.conds
-    → length conds ≡ 1 → others ≡ entry.conds
-    → (all_of others call ≡ true → holds_on (get_or conds 0 no_cond) call ≡ true) → all_hold entry call ≡ true
-    → all_hold earlier call ≡ true
-unfolding all_hold
-holds_too earlier entry call conds others same one same_others found holds =
-    ap (λ cs. all_of cs call) (sym same) ∙ one_holds conds call one
-    ∙ found (ap (λ cs. all_of cs call) same_others ∙ holds)

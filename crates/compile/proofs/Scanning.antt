@@ -221,7 +221,8 @@ two_defaults last value default last_is value_is other = let P : Option ℕ → 
     other (subst P (sym last_is) refl) (last_is ∙ sym value_is)
 
 seam_size : (profile : Profile) (starts : List ℕ) (x : ℕ)
-    → added_of profile.entries (slice_index (starts ++ x ∷ []) (0 + length starts)) ≡ added_of profile.entries x
+    → added_of profile.entries (slice_index (starts ++ x ∷ []) (0 + length starts))
+    ≡ added_of profile.entries x
 seam_size profile starts x =
     ap (λ k. added_of profile.entries k) (index_last starts x (0 + length starts) (omega arith))
 

@@ -187,7 +187,8 @@ size_behind profile starts i at (suc n) inside behind =
     )
 
 tree_size-add : (profile : Profile) (starts : List ℕ) (at m n : ℕ)
-    → tree_size profile starts at (m + n) ≡ tree_size profile starts at m + tree_size profile starts (at + m) n
+    → tree_size profile starts at (m + n) ≡ tree_size profile starts at m
+    + tree_size profile starts (at + m) n
 tree_size-add profile starts at m zero =
     omega (
       arith,

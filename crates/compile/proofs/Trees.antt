@@ -120,12 +120,12 @@ pub split_gives : (profile : Profile) (starts : List ℕ) (one two three new : L
     → ((call : SysCall) (a v m : ℕ) → Gives three call (cond (nat_le (slice_index starts middle) a) high miss)
     a v m → Gives new call (length new - 1) a v (m + 1))
     → TreeGives profile starts new (length new - 1) from to room
-split_gives profile starts one two three new from middle to low high miss room half some halved before behind_it
-    to_in low_room high_room lows low_one highs keeps nears same keeps_more jumps call zero most is_call
-    enough alike between small = absurd (omega arith)
-split_gives profile starts one two three new from middle to low high miss room half some halved before behind_it
-    to_in low_room high_room lows low_one highs keeps nears same keeps_more jumps call (suc levels) most
-    is_call enough alike between small =
+split_gives profile starts one two three new from middle to low high miss room half some halved before
+    behind_it to_in low_room high_room lows low_one highs keeps nears same keeps_more jumps call zero most
+    is_call enough alike between small = absurd (omega arith)
+split_gives profile starts one two three new from middle to low high miss room half some halved before
+    behind_it to_in low_room high_room lows low_one highs keeps nears same keeps_more jumps call (suc levels)
+    most is_call enough alike between small =
     let twice : 2 ^ suc levels ≡ 2 ^ levels * 2 = pow-suc 2 levels in
     let nr : ℕ = call.nr in
     let value : ℕ = chosen profile nr call in
@@ -146,7 +146,8 @@ split_gives profile starts one two three new from middle to low high miss room h
           let above : nat_le (slice_index starts middle) nr ≡ true = grind (arith, nat_tests) in
           let there : Gives three call high nr value left =
           gives_more three call high nr value (most + (2 * levels - 1)) left
-          (keeps_more call high nr value (most + (2 * levels - 1)) (highs call levels most is_call enough alike
+          (keeps_more call high nr value (most + (2 * levels - 1))
+          (highs call levels most is_call enough alike
           (record { above = from_there; below = between.below }) (omega arith))) (omega arith) in
           let P : Bool → Type 0 = λ holds. Gives three call (cond holds high miss) nr value left in
           gives_more new call (length new - 1) nr value (left + 1) (most + (2 * suc levels - 1))
@@ -170,11 +171,11 @@ pub tested_gives : (profile : Profile) (starts rest : List ℕ) (one two three n
     → Gives new call (length new - 1) a v (m + 1))
     → TreeGives profile starts new (length new - 1) from to room
 tested_gives profile starts rest one two three new from to end single other hit miss room half some halved
-    before inside rest_room others other_one between_rest alike_rest hits keeps nears same keeps_more jumps call
-    zero most is_call enough alike between small = absurd (omega arith)
+    before inside rest_room others other_one between_rest alike_rest hits keeps nears same keeps_more jumps
+    call zero most is_call enough alike between small = absurd (omega arith)
 tested_gives profile starts rest one two three new from to end single other hit miss room half some halved
-    before inside rest_room others other_one between_rest alike_rest hits keeps nears same keeps_more jumps call
-    (suc levels) most is_call enough alike between small =
+    before inside rest_room others other_one between_rest alike_rest hits keeps nears same keeps_more jumps
+    call (suc levels) most is_call enough alike between small =
     let twice : 2 ^ suc levels ≡ 2 ^ levels * 2 = pow-suc 2 levels in
     let nr : ℕ = call.nr in
     let value : ℕ = chosen profile nr call in

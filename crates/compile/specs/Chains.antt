@@ -1,10 +1,11 @@
 -- This project's own: the entries that one number leads to, as code, from the last to the first. Only
 -- private functions cite this.
-use Rattle.std.specs.Prelude.{◌≡◌, ℕ, ◌+◌, ◌*◌, ◌<◌, ◌≤◌, ◌==◌, ◌&&◌, Bool, false, if◌then◌else◌, List}
-use Rattle.std.specs.Prelude.{Option, Some, None, length, take, drop}
+use Rattle.std.specs.Prelude.{◌≡◌, ℕ, ◌+◌, ◌*◌, ◌^◌, ◌<◌, ◌≤◌, ◌==◌, ◌&&◌, Bool, true, false}
+use Rattle.std.specs.Prelude.{if◌then◌else◌, List, Option, Some, None, length, take, drop}
 use Rattle.std.specs.List.{list_any}
 use Rattle.oci_profile.specs.declared.profile.Entry.{Entry}
-use Rattle.oci_profile.specs.Meaning.{all_hold, decision_of, names}
+use Rattle.oci_profile.specs.declared.conditions.Cond.{Cond}
+use Rattle.oci_profile.specs.Meaning.{all_hold, compares, decision_of, names}
 use Rattle.oci_profile.specs.declared.decision.Decision.{Decision}
 use Rattle.oci_profile.specs.Decision.{value_of}
 use Rattle.compile.specs.Sizes.{steps_at}
@@ -26,6 +27,18 @@ LinkGives code call (Some known) place value most =
 -- whether an entry applies to the call
 abbrev pub applies : Entry → ℕ → SysCall → Bool
 applies entry nr call = names entry nr && all_hold entry call
+
+-- whether the condition holds of an argument
+abbrev pub holds_at : Cond → ℕ → Bool
+holds_at cond arg = compares cond.op cond.value cond.value_two arg
+
+-- the second condition holds of each argument of which the first one does
+abbrev pub Implies : Cond → Cond → Type 0
+Implies one other = (arg : ℕ) → arg < 2 ^ 64 → holds_at one arg ≡ true → holds_at other arg ≡ true
+
+-- the condition holds of some argument
+abbrev pub MayHold : Cond → Type 0
+MayHold cond = (arg : ℕ) × (arg < 2 ^ 64) × (holds_at cond arg ≡ true)
 
 -- where none of the entries before it applies, this entry does not either
 abbrev pub IsHidden : List Entry → Entry → ℕ → SysCall → Type 0

@@ -8,6 +8,7 @@ ghost use Rattle.oci_profile.specs.Meaning.{all_hold, decision_of};
 ghost use Rattle.compile.specs.Arms.{arm_holds, arms_value};
 ghost use Rattle.compile.specs.Sizes.{added_of, steps_at};
 
+use crate::condition::compares;
 use oci_profile::{Cond, Entry, Op};
 use std::alloc::{AllocError, Global};
 
@@ -25,15 +26,7 @@ impl Arm {
     fn holds(&self, arg: u64) -> bool
         ensures { result ≡ arm_holds self.now arg }
     {
-        match self.op {
-            Op::NotEqual => arg != self.with,
-            Op::Less => arg < self.with,
-            Op::LessOrEqual => arg <= self.with,
-            Op::Equal => arg == self.with,
-            Op::GreaterOrEqual => arg >= self.with,
-            Op::Greater => arg > self.with,
-            Op::MaskedEqual => arg & self.with == 0,
-        }
+        compares(self.op, self.with, 0, arg)
     }
 
     /// A number up to which the arm gives the same answer as at this one.

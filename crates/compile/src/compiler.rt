@@ -53,8 +53,8 @@ fn assemble(
     Ok(code.filter())
 }
 
-/// How many ranges the tree has room for: it has one level more than are needed, so that ranges which one test
-/// tells from the others stay together. If there are conditions, it has three more, so that numbers with
+/// How many ranges the tree has room for: it has one level more than are needed, so that ranges which one
+/// test tells from the others stay together. If there are conditions, it has three more, so that numbers with
 /// conditions can be found by fewer tests than the others.
 fn room(profile: &Profile, many: usize) -> usize
     ensures bare { AreBare profile.now.entries → result ≤ 2 * many }

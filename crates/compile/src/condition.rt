@@ -1,7 +1,7 @@
 ghost use Rattle.std.specs.Prelude.{◌≡◌, ◌≤◌, ◌<◌, ◌+◌, ◌-◌, ℕ, length, IfOk, OnOk, if◌then◌else◌};
 ghost use Rattle.call_data.specs.declared.sys_call.SysCall.{SysCall};
 ghost use Rattle.call_data.specs.CallData.{IsCall};
-ghost use Rattle.oci_profile.specs.Meaning.{holds_on};
+ghost use Rattle.oci_profile.specs.Meaning.{compares, holds_on};
 ghost use Rattle.compile.specs.Backward.{GivesAlways, Keeps};
 ghost use Rattle.compile.specs.declared.code.TheConstants.{REACH};
 
@@ -41,5 +41,20 @@ pub(crate) fn test_condition(
         Op::Greater => test_from(code, index, Test::Greater, value, hit, miss),
         Op::LessOrEqual => test_from(code, index, Test::Greater, value, miss, hit),
         Op::MaskedEqual => test_masked(code, index, value, cond.value_two, hit, miss),
+    }
+}
+
+/// Whether the comparison holds of an argument.
+pub(crate) fn compares(op: Op, value: u64, value_two: u64, arg: u64) -> bool
+    ensures { result ≡ compares op value value_two arg }
+{
+    match op {
+        Op::NotEqual => arg != value,
+        Op::Less => arg < value,
+        Op::LessOrEqual => arg <= value,
+        Op::Equal => arg == value,
+        Op::GreaterOrEqual => arg >= value,
+        Op::Greater => arg > value,
+        Op::MaskedEqual => arg & value == value_two,
     }
 }

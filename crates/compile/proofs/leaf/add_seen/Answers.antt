@@ -16,7 +16,7 @@ pub returns-then-is_hidden-clause-gives : goal.returns-then-is_hidden-clause-giv
 returns-then-is_hidden-clause-gives c = λ call last is_call rest.
     chain_hidden c.args.code.now call c.args.chain.known c.args.chain.place c.args.entries.now last c.args.nr
     c.args.at c.index-entries-at.result c.requires.at_in c.index-entries-at.is
-    (c.is_hidden.ensures c.if-is_hidden.true call) rest
+    (c.is_hidden.ensures c.if-is_hidden.true call is_call) rest
 
 pub returns-then-is_hidden-clause-longer : goal.returns-then-is_hidden-clause-longer
 returns-then-is_hidden-clause-longer c =

@@ -58,7 +58,8 @@ returns-clause-gives c =
     ≡ value_of (decision_of part c.bare_end-end.result.1 c.args.nr call) =
     native_chosen profile c.args.nr call c.if-nr-ge-X32_BIT.false
     ∙ ap (λ es. value_of (decision_of es profile.default c.args.nr call))
-    (sym c.as_slice-entries.ensures.value) ∙ ap value_of (c.bare_end-end.ensures.same call ∙ c.needed.ensures.same call) in
+    (sym c.as_slice-entries.ensures.value)
+    ∙ ap value_of (c.bare_end-end.ensures.same call ∙ c.needed.ensures.same call) in
     let fewer : steps_at part c.args.nr ≤ steps_at profile.entries c.args.nr =
     omega (
       arith,
