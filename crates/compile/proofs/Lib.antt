@@ -13,5 +13,9 @@ pub mod Asking
 pub mod Chaining
 pub mod Choices
 pub mod Holding
+pub mod Finding
+pub mod Lowest
+pub mod Highest
+pub mod Gathering
 pub mod Lowering
 pub mod Planning

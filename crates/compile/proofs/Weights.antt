@@ -186,7 +186,7 @@ no_heavier profile n big limit end long fit few short is =
       | inr some ↦ omega (arith, is.0)
     ]
 
-grows_above : (n : ℕ) → suc n ≤ 2 ^ n
+pub grows_above : (n : ℕ) → suc n ≤ 2 ^ n
 grows_above zero = omega arith
 grows_above (suc n) = omega (arith, pow-suc 2 n, grows_above n)
 

@@ -5,4 +5,5 @@ pub mod Chains
 pub mod Sizes
 pub mod Ranges
 pub mod Arms
+pub mod Points
 pub mod FaultText

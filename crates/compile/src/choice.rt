@@ -24,7 +24,7 @@ fn is_point(starts: &[u32], places: &[usize], from: usize, to: usize) -> bool
 }
 
 /// The middle between two places. The second half may have one more.
-fn half_way(from: usize, to: usize) -> usize
+pub(crate) fn half_way(from: usize, to: usize) -> usize
     requires { from + 1 < to }
     ensures inside { (from < result) × (result < to) }
     ensures half { (result - from ≤ to - result) × (to - result ≤ result - from + 1) }

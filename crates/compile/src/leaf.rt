@@ -14,9 +14,11 @@ ghost use Rattle.compile.specs.declared.code.TheConstants.{RECENT};
 
 use crate::chain::{Chain, add_link, settle};
 use crate::code::Code;
+use crate::equals::equals;
 use crate::fan::fan;
 use crate::hiding::is_hidden;
 use crate::plan::plan_for;
+use crate::points::points_for;
 use oci_profile::{Decision, Entry, Profile, X32_BIT};
 use std::alloc::{AllocError, Global};
 
@@ -138,7 +140,8 @@ fn chain_leaf(
     settle(code, chain)
 }
 
-/// Emits what `chain_leaf` does, as a choice by one argument if that is no longer.
+/// Emits what `chain_leaf` does, as a choice by one argument if that is no longer: among its ranges, or among
+/// numbers that it may equal.
 fn entries_leaf(
     code: &mut Code,
     alloc: Global,
@@ -156,10 +159,13 @@ fn entries_leaf(
     ensures keeps { Keeps code.old code.new }
     ensures grows { length code.old ≤ length code.new }
 {
-    let Some(plan) = plan_for(alloc, entries, *last, nr)? else {
-        return chain_leaf(code, entries, *last, nr);
-    };
-    fan(code, alloc, &plan)
+    if let Some(plan) = plan_for(alloc, entries, *last, nr)? {
+        return fan(code, alloc, &plan);
+    }
+    if let Some((index, points)) = points_for(alloc, entries, nr)? {
+        return equals(code, index, &points, last.value());
+    }
+    chain_leaf(code, entries, *last, nr)
 }
 
 /// What the profile decides of a number, whatever is in A.

@@ -102,7 +102,7 @@ fn returned(values: &[u32], beyond: u32, at: usize) -> usize
 }
 
 /// Whether a chain is as short, as for a few equalities that share their check of the upper half.
-fn is_chain(arms: &[Arm]) -> bool
+pub(crate) fn is_chain(arms: &[Arm]) -> bool
     ensures { OnFalse result (0 < length arms.now) }
 {
     let Some(first) = arms.first() else {

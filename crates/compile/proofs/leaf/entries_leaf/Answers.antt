@@ -1,21 +1,25 @@
-use Rattle.std.proofs.Common.{ℕ, ◌+◌, ◌*◌, ◌^◌, ◌≤◌, List, Option, IfSome, length, subst, arith}
+use Rattle.std.proofs.Common.{ℕ, ◌+◌, ◌*◌, ◌^◌, ◌<◌, ◌≤◌, List, Option, IfSome, length, sym, subst, arith}
+use Rattle.std.specs.Prelude.{slice_index}
 use Rattle.std.proofs.lemmas.Result.{IfOk-weaker}
 use Rattle.bpf_code.specs.declared.insn.Insn.{Insn}
 use Rattle.call_data.specs.declared.sys_call.SysCall.{SysCall}
 use Rattle.call_data.specs.CallData.{IsCall}
 use Rattle.oci_profile.specs.declared.profile.Entry.{Entry}
+use Rattle.oci_profile.specs.declared.decision.Decision.{Decision}
 use Rattle.oci_profile.specs.Decision.{value_of}
 use Rattle.oci_profile.specs.Meaning.{decision_of}
 use Rattle.compile.specs.declared.plan.Plan.{Plan}
+use Rattle.compile.specs.declared.points.Points.{Points}
 use Rattle.compile.specs.Arms.{Plans}
 use Rattle.compile.specs.Backward.{GivesAlways}
+use Rattle.compile.specs.Points.{IsFound}
 use Rattle.compile.specs.Sizes.{steps_at}
-use Rattle.compile.proofs.Weights.{levels_enough}
+use Rattle.compile.proofs.Weights.{grows_above, levels_enough}
 use Rattle.compile.proofs.Words.{GivesAlways-more}
 use Rattle.compile.proofs.leaf.entries_leaf.Goals as goal
 
-pub returns-clause-gives : goal.returns-clause-gives
-returns-clause-gives c =
+pub returns-in-Some-clause-gives : goal.returns-in-Some-clause-gives
+returns-in-Some-clause-gives c =
     let new : List Insn = c.fan.new.code in
     let entries : List Entry = c.args.entries.now in
     let plan : Plan = c.in-Some.plan in
@@ -37,3 +41,34 @@ returns-clause-gives c =
     GivesAlways-more new call at value (4 + 2 * many) (steps_at entries c.args.nr)
     (planned call value many is_call (plans call is_call) (levels_enough many)) (omega (arith, few)))
     c.fan.ensures.gives
+
+pub returns-in-Some-2-clause-gives : goal.returns-in-Some-2-clause-gives
+returns-in-Some-2-clause-gives c =
+    let new : List Insn = c.equals.new.code in
+    let entries : List Entry = c.args.entries.now in
+    let numbers : List ℕ = c.in-Some-2.points.numbers.items in
+    let values : List ℕ = c.in-Some-2.points.values.items in
+    let index : ℕ = c.in-Some-2.index in
+    let many : ℕ = length numbers in
+    let Planned : ℕ → Type 0 = λ at. (call : SysCall) (answer levels : ℕ) → IsCall call
+    → IsFound numbers values 0 many (slice_index call.args index) c.value.result answer
+    → many < 2 ^ levels → GivesAlways new call at answer (5 * levels + 3) in
+    let Wanted : ℕ → Type 0 = λ at. (call : SysCall) → IsCall call
+    → GivesAlways new call at (value_of (decision_of entries c.args.last.now c.args.nr call))
+    (steps_at entries c.args.nr) in
+    let Found : Option (ℕ × Points) → Type 0 = λ found. IfSome found (λ it. (last : Decision) (call : SysCall)
+    → IsFound it.1.numbers.items it.1.values.items 0 (length it.1.numbers.items) (slice_index call.args it.0)
+    (value_of last) (value_of (decision_of entries last c.args.nr call))) in
+    let Few : Option (ℕ × Points) → Type 0 = λ found.
+    IfSome found (λ it. 5 * length it.1.numbers.items + 3 ≤ steps_at entries c.args.nr) in
+    let found = subst Found c.in-Some-2.is c.in_ok-index.ensures.found in
+    let few : 5 * many + 3 ≤ steps_at entries c.args.nr =
+    subst Few c.in-Some-2.is c.in_ok-index.ensures.few in
+    IfOk-weaker c.equals.result Planned Wanted (λ at planned call is_call.
+    let value : ℕ = value_of (decision_of entries c.args.last.now c.args.nr call) in
+    let Other : ℕ → Type 0 = λ other. IsFound numbers values 0 many (slice_index call.args index) other
+    value in
+    GivesAlways-more new call at value (5 * many + 3) (steps_at entries c.args.nr)
+    (planned call value many is_call (subst Other (sym c.value.ensures) (found c.args.last.now call))
+    (omega (arith, grows_above many))) few)
+    c.equals.ensures.gives
