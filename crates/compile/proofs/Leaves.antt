@@ -49,7 +49,7 @@ same_either : (b : Bool) (one last : Decision) → (b ≡ true → one ≡ last)
 same_either true one last same = same refl
 same_either false one last same = refl
 
-same_both : (b c : Bool) (one last : Decision) → (b ≡ true → one ≡ last) → cond (b && c) one last ≡ last
+pub same_both : (b c : Bool) (one last : Decision) → (b ≡ true → one ≡ last) → cond (b && c) one last ≡ last
 same_both true c one last same = same_either c one last (λ _. same refl)
 same_both false c one last same = refl
 

@@ -19,3 +19,5 @@ pub mod Highest
 pub mod Gathering
 pub mod Lowering
 pub mod Planning
+mod Settling
+mod Certain

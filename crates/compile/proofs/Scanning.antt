@@ -2,7 +2,7 @@
 use Rattle.std.proofs.Common.{◌≡◌, ◌≢◌, ℕ, zero, suc, ◌+◌, ◌*◌, ◌<◌, ◌≤◌, ◌==◌, ◌&&◌, inl, inr, Bool, true}
 use Rattle.std.proofs.Common.{false, cond, List, [], ◌∷◌, ◌++◌, Option, Some, None, length, refl, sym, ap}
 use Rattle.std.proofs.Common.{◌∙◌, subst, arith, add-one}
-use Rattle.std.specs.Prelude.{◌||◌, slice_index, IfSome, IsSome}
+use Rattle.std.specs.Prelude.{◌||◌, ◌⊎◌, slice_index, IfSome, IsSome}
 use Rattle.std.specs.List.{list_any}
 use Rattle.std.proofs.Math.Seq.{get_or-append_seam}
 use Rattle.std.proofs.Math.ListN.{get_or-append}
@@ -19,9 +19,10 @@ use Rattle.oci_profile.specs.Entries.{AreEntries, IsFit}
 use Rattle.oci_profile.specs.Meaning.{all_hold, names, decision_of, chosen}
 use Rattle.sys_table.specs.declared.table.TheConstants.{NUMBER_LIMIT}
 use Rattle.compile.specs.Bounds.{named, named_below}
-use Rattle.compile.specs.Ranges.{IsBetween, AreRanges}
-use Rattle.compile.specs.Sizes.{added_of, added_below, tree_size}
+use Rattle.compile.specs.Ranges.{IsBetween, IsLike, AreRanges}
+use Rattle.compile.specs.Sizes.{added_of, added_below, settles, tree_size}
 use Rattle.compile.proofs.Leaves.{x32_chosen, native_chosen}
+use Rattle.compile.proofs.Settling.{or_false, settled_unnamed}
 
 unequal : (number nr : ℕ) → number < NUMBER_LIMIT → NUMBER_LIMIT ≤ nr → (number == nr) ≡ false
 unequal number nr small large = grind (arith, nat_tests)
@@ -47,10 +48,6 @@ unnamed_past [] nr fit past = refl
 unnamed_past (entry ∷ entries) nr fit past =
     ap (λ b. b || named entries nr) (unnamed_by entry nr (All-head IsFit entry entries fit) past)
     ∙ unnamed_past entries nr (All-tail IsFit entry entries fit) past
-
-or_false : (one other : Bool) → (one || other) ≡ false → (one ≡ false) × (other ≡ false)
-or_false true other e = absurd (cc)
-or_false false other e = (refl, e)
 
 pub unnamed_default : (entries : List Entry) (default : Decision) (nr : ℕ) (call : SysCall)
     → named entries nr ≡ false → decision_of entries default nr call ≡ default
@@ -111,6 +108,7 @@ tree_size-append profile starts more at (suc n) starts_in =
 pub record IsSaid (profile : Profile) (value : Option ℕ) (nr : ℕ) : Type 0 where
   pub valued : IfSome value (λ v. (call : SysCall) → chosen profile nr call ≡ v)
   pub unnamed : named profile.entries nr ≡ false → value ≡ Some (value_of profile.default)
+  pub settled : IfSome value (λ _. settles profile.entries nr ≡ true)
 
 -- what the scan has found of the numbers below this one
 pub record Scan (profile : Profile) (starts : List ℕ) (last : Option ℕ) (nr : ℕ) : Type 0 where
@@ -120,12 +118,22 @@ pub record Scan (profile : Profile) (starts : List ℕ) (last : Option ℕ) (nr 
   pub first : slice_index starts 0 ≡ 0
   pub below : (at : ℕ) → at < length starts → slice_index starts at < nr
   pub alike : (at n : ℕ) (call : SysCall) → at < length starts → IsBetween starts at (at + 1) n → n < nr
-      → chosen profile n call ≡ chosen profile (slice_index starts at) call
+      → IsLike profile (slice_index starts at) n call
   pub few : length starts ≤ 1 + named_below profile.entries nr + named_below profile.entries before
   pub short : tree_size profile starts 0 (length starts) ≤ 3 * length starts
       + added_below profile.entries nr
   pub said : IsSaid profile last before
   pub fit : AreEntries profile.entries
+
+like_itself : (profile : Profile) (start nr : ℕ) (call : SysCall) → nr ≡ start
+    → IsLike profile start nr call
+like_itself profile start nr call is = record { same = ap (λ k. chosen profile k call) is; settled = inl is }
+
+-- a number that decides alone is in the range of one that does
+settled_start : (entries : List Entry) (start nr : ℕ) → (nr ≡ start) ⊎ (settles entries start ≡ true)
+    → settles entries nr ≡ true → settles entries start ≡ true
+settled_start entries start nr (inl is) settled = sym (ap (λ k. settles entries k) is) ∙ settled
+settled_start entries start nr (inr settled) alone = settled
 
 pub index_front : (starts : List ℕ) (x at : ℕ) → at < length starts
     → slice_index (starts ++ x ∷ []) at ≡ slice_index starts at
@@ -150,8 +158,8 @@ scan_start profile last said fit = record {
       ap (λ n. slice_index (0 ∷ []) n) here in omega arith;
   alike = λ at n call inside between small.
       let here : at ≡ 0 = omega arith in
-      let zeroth : n ≡ slice_index (0 ∷ []) at = omega (arith, ap (λ k. slice_index (0 ∷ []) k) here) in
-      ap (λ k. chosen profile k call) zeroth;
+      like_itself profile (slice_index (0 ∷ []) at) n call
+      (omega (arith, ap (λ k. slice_index (0 ∷ []) k) here));
   few = omega arith;
   short =
       omega (
@@ -188,8 +196,13 @@ scan_same profile starts last value nr v scan said last_is value_is =
               above = omega (arith, scan.below at inside, scan.is);
               below = λ next_in. absurd (omega (arith, scan.below (at + 1) next_in, between.below next_in));
             } in
-            ap (λ k. chosen profile k call) here ∙ is_now call ∙ sym (was call)
-            ∙ scan.alike at scan.before call inside back (omega (arith, scan.is))
+            let like = scan.alike at scan.before call inside back (omega (arith, scan.is)) in
+            let R : Option ℕ → Type 0 = λ o. IfSome o (λ _. settles profile.entries scan.before ≡ true) in
+            record {
+              same = ap (λ k. chosen profile k call) here ∙ is_now call ∙ sym (was call) ∙ like.same;
+              settled = inr (settled_start profile.entries (slice_index starts at) scan.before like.settled
+                  (subst R last_is scan.said.settled));
+            }
       ];
       few = omega (
         arith,
@@ -266,12 +279,11 @@ scan_push profile starts news last value nr scan said other news_is =
                 index_last starts nr (at + 1) (omega arith),
               )
             ] in
-            scan.alike at n call earlier within before
-            ∙ ap (λ k. chosen profile k call) (sym (index_front starts nr at earlier))
+            let Q : ℕ → Type 0 = λ k. IsLike profile k n call in
+            subst Q (sym (index_front starts nr at earlier)) (scan.alike at n call earlier within before)
         | inr later ↦
             let start : slice_index new at ≡ nr = index_last starts nr at (omega arith) in
-            let here : n ≡ slice_index new at = omega (arith, between.above, start) in
-            ap (λ k. chosen profile k call) here
+            like_itself profile (slice_index new at) n call (omega (arith, between.above, start))
       ];
       few =
           omega (
@@ -304,7 +316,7 @@ scan_push profile starts news last value nr scan said other news_is =
 end_alike : (profile : Profile) (starts : List ℕ) (last : Option ℕ) (at n : ℕ) (call : SysCall)
     → Scan profile starts last (NUMBER_LIMIT + 1) → at < length starts → IsBetween starts at (at + 1) n
     → (length starts ≤ at + 1 → n < 0x40000000)
-    → chosen profile n call ≡ chosen profile (slice_index starts at) call
+    → IsLike profile (slice_index starts at) n call
 end_alike profile starts last at n call scan inside between native = elim (cases_lt n (NUMBER_LIMIT + 1)) [
   | inl earlier ↦ scan.alike at n call inside between earlier
   | inr later ↦ elim (cases_lt (at + 1) (length starts)) [
@@ -312,11 +324,15 @@ end_alike profile starts last at n call scan inside between native = elim (cases
     | inr next_out ↦
         let back : IsBetween starts at (at + 1) NUMBER_LIMIT =
         record { above = omega (arith, scan.below at inside); below = λ next_in. absurd (omega arith) } in
-        unnamed_chosen profile n call (unnamed_past profile.entries n scan.fit (omega arith))
-        (native next_out)
-        ∙ sym (unnamed_chosen profile NUMBER_LIMIT call
-        (unnamed_past profile.entries NUMBER_LIMIT scan.fit (omega arith)) (omega arith))
-        ∙ scan.alike at NUMBER_LIMIT call inside back (omega arith)
+        let past = unnamed_past profile.entries NUMBER_LIMIT scan.fit (omega arith) in
+        let like = scan.alike at NUMBER_LIMIT call inside back (omega arith) in
+        record {
+          same = unnamed_chosen profile n call (unnamed_past profile.entries n scan.fit (omega arith))
+              (native next_out)
+              ∙ sym (unnamed_chosen profile NUMBER_LIMIT call past (omega arith)) ∙ like.same;
+          settled = inr (settled_start profile.entries (slice_index starts at) NUMBER_LIMIT like.settled
+              (settled_unnamed profile.entries NUMBER_LIMIT past));
+        }
   ]
 ]
 
@@ -340,17 +356,22 @@ scan_end profile starts news last scan news_is =
                 index_front starts 0x40000000 (at + 1) next_in,
               );
             } in
-            end_alike profile starts last at n call scan earlier within (λ next_out.
+            let Q : ℕ → Type 0 = λ k. IsLike profile k n call in
+            subst Q (sym (index_front starts 0x40000000 at earlier))
+            (end_alike profile starts last at n call scan earlier within (λ next_out.
             omega (
               arith,
               between.below (omega arith),
               index_last starts 0x40000000 (at + 1) (omega arith),
-            ))
-            ∙ ap (λ k. chosen profile k call) (sym (index_front starts 0x40000000 at earlier))
+            )))
         | inr later ↦
             let start : slice_index new at ≡ 0x40000000 = index_last starts 0x40000000 at (omega arith) in
-            x32_chosen profile n call (omega (arith, between.above, start))
-            ∙ sym (x32_chosen profile (slice_index new at) call (omega (arith, start)))
+            record {
+              same = x32_chosen profile n call (omega (arith, between.above, start))
+                  ∙ sym (x32_chosen profile (slice_index new at) call (omega (arith, start)));
+              settled = inr (settled_unnamed profile.entries (slice_index new at)
+                  (unnamed_past profile.entries (slice_index new at) scan.fit (omega (arith, start))));
+            }
       ];
     })
 

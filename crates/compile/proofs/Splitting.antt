@@ -1,7 +1,7 @@
 -- Ranges of which one begin is taken out: of a number that was tested, or of a range that is treated like
 -- the one before it.
-use Rattle.std.proofs.Common.{◌≡◌, ◌≢◌, ℕ, zero, suc, ◌+◌, ◌-◌, ◌<◌, ◌≤◌, inl, inr, List, length}
-use Rattle.std.proofs.Common.{sym, ap, ◌∙◌, arith}
+use Rattle.std.proofs.Common.{◌≡◌, ◌≢◌, ℕ, zero, suc, ◌+◌, ◌-◌, ◌<◌, ◌≤◌, inl, inr, true, List, length}
+use Rattle.std.proofs.Common.{sym, ap, ◌∙◌, subst, arith}
 use Rattle.std.specs.Prelude.{slice_index}
 use Rattle.std.specs.List.{remove}
 use Rattle.std.proofs.lemmas.Bool.{cases_lt}
@@ -9,8 +9,8 @@ use Rattle.std.proofs.lemmas.List.Edits.{get_or-remove_below, get_or-remove_abov
 use Rattle.call_data.specs.declared.sys_call.SysCall.{SysCall}
 use Rattle.oci_profile.specs.declared.profile.Profile.{Profile}
 use Rattle.oci_profile.specs.Meaning.{chosen}
-use Rattle.compile.specs.Ranges.{IsBetween, IsAlike}
-use Rattle.compile.specs.Sizes.{added_of, tree_size}
+use Rattle.compile.specs.Ranges.{IsBetween, IsAlike, IsLike}
+use Rattle.compile.specs.Sizes.{added_of, settles, tree_size}
 use Rattle.compile.proofs.Scanning.{tree_size-suc, tree_size-zero}
 
 below_is : (starts : List ℕ) (i at : ℕ) → at < i → i < length starts
@@ -71,30 +71,30 @@ between_joined starts from to i nr from_in in_to inside between =
 alike_behind : (profile : Profile) (starts : List ℕ) (i at : ℕ) (call : SysCall) → IsAlike profile starts call
     → i < length starts → i ≤ at → at < length (remove starts i)
     → IsBetween (remove starts i) at (at + 1) call.nr
-    → chosen profile call.nr call ≡ chosen profile (slice_index (remove starts i) at) call
+    → IsLike profile (slice_index (remove starts i) at) call.nr call
 alike_behind profile starts i at call alike inside behind at_in between =
     let len = length-remove starts i inside in
     let is = above_is starts i at behind inside in
-    alike (at + 1) (omega arith) (record {
+    let P : ℕ → Type 0 = λ k. IsLike profile k call.nr call in
+    subst P (sym is) (alike (at + 1) (omega arith) (record {
       above = omega (arith, between.above, is);
       below = λ next_in.
           omega (arith, between.below (omega arith), above_is starts i (at + 1) (omega arith) inside);
-    })
-    ∙ ap (λ k. chosen profile k call) (sym is)
+    }))
 
 -- a range that is not next to it on that side
 alike_before : (profile : Profile) (starts : List ℕ) (i at : ℕ) (call : SysCall) → IsAlike profile starts call
     → i < length starts → at + 1 < i → IsBetween (remove starts i) at (at + 1) call.nr
-    → chosen profile call.nr call ≡ chosen profile (slice_index (remove starts i) at) call
+    → IsLike profile (slice_index (remove starts i) at) call.nr call
 alike_before profile starts i at call alike inside before between =
     let len = length-remove starts i inside in
     let is = below_is starts i at (omega arith) inside in
-    alike at (omega arith) (record {
+    let P : ℕ → Type 0 = λ k. IsLike profile k call.nr call in
+    subst P (sym is) (alike at (omega arith) (record {
       above = omega (arith, between.above, is);
       below = λ next_in.
           omega (arith, between.below (omega arith), below_is starts i (at + 1) before inside);
-    })
-    ∙ ap (λ k. chosen profile k call) (sym is)
+    }))
 
 pub alike_untested : (profile : Profile) (starts : List ℕ) (i : ℕ) (call : SysCall)
     → i + 1 < length starts → slice_index starts (i + 1) ≡ slice_index starts i + 1
@@ -106,7 +106,8 @@ alike_untested profile starts i call inside one other alike at at_in between = e
     | inr next_to ↦
         let next : at + 1 ≡ i = omega arith in
         let is = below_is starts i at before (omega arith) in
-        alike at (omega arith) (record {
+        let P : ℕ → Type 0 = λ k. IsLike profile k call.nr call in
+        subst P (sym is) (alike at (omega arith) (record {
           above = omega (arith, between.above, is);
           below = λ next_in.
               omega (
@@ -118,15 +119,15 @@ alike_untested profile starts i call inside one other alike at at_in between = e
                 one,
                 other,
               );
-        })
-        ∙ ap (λ k. chosen profile k call) (sym is)
+        }))
   ]
 ]
 
 pub alike_joined : (profile : Profile) (starts : List ℕ) (i : ℕ) (call : SysCall) → 0 < i → i < length starts
     → chosen profile (slice_index starts i) call ≡ chosen profile (slice_index starts (i - 1)) call
+    → settles profile.entries (slice_index starts (i - 1)) ≡ true
     → IsAlike profile starts call → IsAlike profile (remove starts i) call
-alike_joined profile starts i call some inside same alike at at_in between = elim (cases_lt at i) [
+alike_joined profile starts i call some inside same settled alike at at_in between = elim (cases_lt at i) [
   | inr behind ↦ alike_behind profile starts i at call alike inside behind at_in between
   | inl before ↦ elim (cases_lt (at + 1) i) [
     | inl apart ↦ alike_before profile starts i at call alike inside apart between
@@ -134,14 +135,15 @@ alike_joined profile starts i call some inside same alike at at_in between = eli
         let next : at + 1 ≡ i = omega arith in
         let here : i - 1 ≡ at = omega arith in
         let is = below_is starts i at before inside in
-        elim (cases_lt call.nr (slice_index starts i)) [
+        let P : ℕ → Type 0 = λ k. IsLike profile k call.nr call in
+        subst P (sym is) (elim (cases_lt call.nr (slice_index starts i)) [
           | inl first ↦
               alike at (omega arith) (record {
                 above = omega (arith, between.above, is);
                 below = λ _. omega (arith, first, ap (λ k. slice_index starts k) next);
               })
-              ∙ ap (λ k. chosen profile k call) (sym is)
           | inr second ↦
+              let like : IsLike profile (slice_index starts i) call.nr call =
               alike i inside (record {
                 above = second;
                 below = λ next_in.
@@ -151,10 +153,12 @@ alike_joined profile starts i call some inside same alike at at_in between = eli
                       above_is starts i (at + 1) next_to inside,
                       ap (λ k. slice_index starts (k + 1)) next,
                     );
-              })
-              ∙ same ∙ ap (λ k. chosen profile (slice_index starts k) call) here
-              ∙ ap (λ k. chosen profile k call) (sym is)
-        ]
+              }) in
+              record {
+                same = like.same ∙ same ∙ ap (λ k. chosen profile (slice_index starts k) call) here;
+                settled = inr (sym (ap (λ k. settles profile.entries (slice_index starts k)) here) ∙ settled);
+              }
+        ])
   ]
 ]
 

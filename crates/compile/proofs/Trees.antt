@@ -1,58 +1,43 @@
 -- The tree over ranges of numbers, as code.
 use Rattle.std.proofs.Common.{◌≡◌, ◌≢◌, ℕ, zero, suc, ◌+◌, ◌-◌, ◌*◌, ◌^◌, ◌<◌, ◌≤◌, ◌==◌, inl, inr, Bool}
-use Rattle.std.proofs.Common.{true, false, cond, List, [], ◌∷◌, length, refl, sym, ap, subst, arith}
+use Rattle.std.proofs.Common.{true, false, cond, List, length, sym, ap, subst, arith}
 use Rattle.std.specs.Prelude.{slice_index, nat_le}
 use Rattle.std.proofs.Math.Nat.{pow-suc}
 use Rattle.std.proofs.lemmas.Bool.{cases_lt, cases_eq, eq-eqb}
 use Rattle.std.proofs.lemmas.Bool.Decides.{nat_tests}
-use Rattle.std.proofs.lemmas.List.Elements.{All-head, All-tail}
 use Rattle.bpf_code.specs.declared.insn.Insn.{Insn}
 use Rattle.call_data.specs.declared.sys_call.SysCall.{SysCall}
 use Rattle.call_data.specs.CallData.{IsCall}
-use Rattle.oci_profile.specs.declared.profile.Entry.{Entry}
 use Rattle.oci_profile.specs.declared.profile.Profile.{Profile}
-use Rattle.oci_profile.specs.Meaning.{chosen, names}
+use Rattle.oci_profile.specs.Meaning.{chosen}
 use Rattle.compile.specs.Backward.{Gives, GivesAlways, Keeps}
-use Rattle.compile.specs.Bounds.{IsBare, AreBare}
-use Rattle.compile.specs.Ranges.{IsAlike, IsBetween}
-use Rattle.compile.specs.Sizes.{IsEnough, steps_at}
+use Rattle.compile.specs.Bounds.{AreBare}
+use Rattle.compile.specs.Ranges.{IsAlike, IsBetween, IsLike}
+use Rattle.compile.specs.Sizes.{IsEnough, Suffices}
+use Rattle.compile.specs.Sizes.Suffices.{at_once}
 use Rattle.compile.proofs.Building.{gives_more}
-use Rattle.compile.proofs.Leaves.{counted_most}
-
-bare_steps : (entries : List Entry) (nr : ℕ) → AreBare entries → steps_at entries nr ≡ 1
-bare_steps [] nr bare = refl
-bare_steps (entry ∷ entries) nr bare =
-    omega (
-      arith,
-      counted_most (names entry nr) (length entry.conds),
-      All-head IsBare entry entries bare,
-      bare_steps entries nr (All-tail IsBare entry entries bare),
-    )
-
-pub enough_steps : (profile : Profile) (nr most : ℕ) → IsEnough profile most
-    → steps_at profile.entries nr ≤ most
-enough_steps profile nr most (inl steps) = omega (arith, steps nr)
-enough_steps profile nr most (inr bare) = omega (arith, bare_steps profile.entries nr bare.0, bare.1)
+use Rattle.compile.proofs.Settling.{enough_here, enough_like, settled_bare}
 
 -- what a part of the tree gives
 abbrev pub TreeGives : Profile → List ℕ → List Insn → ℕ → ℕ → ℕ → ℕ → Type 0
 TreeGives profile starts code at from to room =
-    (call : SysCall) (levels most : ℕ) → IsCall call → IsEnough profile most → IsAlike profile starts call
+    (call : SysCall) (levels most : ℕ) → IsCall call → IsEnough profile call.nr most
+    → IsAlike profile starts call
     → IsBetween starts from to call.nr → room ≤ 2 ^ levels
     → Gives code call at call.nr (chosen profile call.nr call) (most + (2 * levels - 1))
 
 -- what one range gives
 abbrev pub OneGives : Profile → List ℕ → List Insn → ℕ → ℕ → ℕ → Type 0
 OneGives profile starts code at from to =
-    to - from ≡ 1 → (call : SysCall) → IsCall call
-    → GivesAlways code call at (chosen profile (slice_index starts from) call)
-    (steps_at profile.entries (slice_index starts from))
+    to - from ≡ 1 → (call : SysCall) (most : ℕ) → IsCall call
+    → Suffices profile.entries (slice_index starts from) most
+    → GivesAlways code call at (chosen profile (slice_index starts from) call) most
 
 -- a range of one
-one_value : (profile : Profile) (starts : List ℕ) (from to : ℕ) (call : SysCall) → to - from ≡ 1
+one_like : (profile : Profile) (starts : List ℕ) (from to : ℕ) (call : SysCall) → to - from ≡ 1
     → from < length starts → IsAlike profile starts call → IsBetween starts from to call.nr
-    → chosen profile call.nr call ≡ chosen profile (slice_index starts from) call
-one_value profile starts from to call one inside alike between =
+    → IsLike profile (slice_index starts from) call.nr call
+one_like profile starts from to call one inside alike between =
     let next : from + 1 ≡ to = omega arith in
     alike from inside (record {
       above = between.above;
@@ -66,11 +51,13 @@ pub one_tree : (profile : Profile) (starts : List ℕ) (code : List Insn) (at fr
 one_tree profile starts code at from to room one inside gives call levels most is_call enough alike between
     small =
     let start : ℕ = slice_index starts from in
+    let like = one_like profile starts from to call one inside alike between in
     let P : ℕ → Type 0 = λ value. Gives code call at call.nr value (most + (2 * levels - 1)) in
-    subst P (sym (one_value profile starts from to call one inside alike between))
-    (gives_more code call at call.nr (chosen profile start call) (steps_at profile.entries start)
-    (most + (2 * levels - 1)) (gives one call is_call call.nr)
-    (omega (arith, enough_steps profile start most enough)))
+    subst P (sym like.same)
+    (gives_more code call at call.nr (chosen profile start call) most (most + (2 * levels - 1))
+    (gives one call most is_call
+    (enough_like profile.entries start call.nr most like.settled (enough_here profile call.nr most enough))
+    call.nr) (omega arith))
 
 -- a part of the tree behind a jump that may have been needed to reach it: it is not needed to reach a return
 pub behind : (profile : Profile) (starts : List ℕ) (one three : List Insn) (from to place miss half : ℕ)
@@ -79,7 +66,8 @@ pub behind : (profile : Profile) (starts : List ℕ) (one three : List Insn) (fr
     → ((a v m : ℕ) → Gives one call place a v m → Gives three call miss a v (m + 1))
     → (AreBare profile.entries → half ≤ 1 → (a v m : ℕ) → Gives one call place a v m
     → Gives three call miss a v m)
-    → IsCall call → IsEnough profile most → IsAlike profile starts call → IsBetween starts from to call.nr
+    → IsCall call → IsEnough profile call.nr most → IsAlike profile starts call
+    → IsBetween starts from to call.nr
     → half ≤ 2 ^ levels
     → Gives three call miss call.nr (chosen profile call.nr call) (most + 2 * levels)
 behind profile starts one three from to place miss half call (suc levels) most some inside room gives is_one
@@ -94,17 +82,19 @@ behind profile starts one three from to place miss half call zero most some insi
     let value : ℕ = chosen profile start call in
     let single : to - from ≡ 1 = omega arith in
     let P : ℕ → Type 0 = λ v. Gives three call miss call.nr v (most + 2 * 0) in
-    subst P (sym (one_value profile starts from to call single inside alike between))
+    let like = one_like profile starts from to call single inside alike between in
+    subst P (sym like.same)
     (elim enough [
-      | inl steps ↦
-          gives_more three call miss call.nr value (steps_at profile.entries start + 1) (most + 2 * 0)
-          (nears call.nr value (steps_at profile.entries start) (is_one single call is_call call.nr))
-          (omega (arith, steps start))
+      | inl few ↦
+          gives_more three call miss call.nr value (few.0 + 1) (most + 2 * 0)
+          (nears call.nr value few.0 (is_one single call few.0 is_call
+          (enough_like profile.entries start call.nr few.0 like.settled few.2) call.nr))
+          (omega (arith, few.1))
       | inr bare ↦
-          gives_more three call miss call.nr value (steps_at profile.entries start) (most + 2 * 0)
-          (same bare.0 (omega arith) call.nr value (steps_at profile.entries start)
-          (is_one single call is_call call.nr))
-          (omega (arith, bare_steps profile.entries start bare.0, bare.1))
+          gives_more three call miss call.nr value 1 (most + 2 * 0)
+          (same bare.0 (omega arith) call.nr value 1 (is_one single call 1 is_call
+          (at_once (settled_bare profile.entries start bare.0) (omega arith)) call.nr))
+          (omega (arith, bare.1))
     ])
 
 -- a split of the ranges
@@ -161,8 +151,8 @@ pub tested_gives : (profile : Profile) (starts rest : List ℕ) (one two three n
     → TreeGives profile rest one other from end half → OneGives profile rest one other from end
     → ((nr : ℕ) → nr ≢ single → IsBetween starts from to nr → IsBetween rest from end nr)
     → ((call : SysCall) → call.nr ≢ single → IsAlike profile starts call → IsAlike profile rest call)
-    → ((call : SysCall) → IsCall call → GivesAlways two call hit (chosen profile single call)
-    (steps_at profile.entries single))
+    → ((call : SysCall) (most : ℕ) → IsCall call → Suffices profile.entries single most
+    → GivesAlways two call hit (chosen profile single call) most)
     → Keeps one two
     → ((call : SysCall) (a v m : ℕ) → Gives two call other a v m → Gives three call miss a v (m + 1))
     → (AreBare profile.entries → half ≤ 1 → (miss ≡ other) × (three ≡ two))
@@ -184,10 +174,11 @@ tested_gives profile starts rest one two three new from to end single other hit 
       | inl is ↦
           let there : Gives three call hit nr value left =
           let P : ℕ → Type 0 = λ n. Gives three call hit nr (chosen profile n call) left in
+          let Q : ℕ → Type 0 = λ n. Suffices profile.entries n most in
           subst P (sym is)
-          (gives_more three call hit nr (chosen profile single call) (steps_at profile.entries single) left
-          (keeps_more call hit nr (chosen profile single call) (steps_at profile.entries single)
-          (hits call is_call nr)) (omega (arith, enough_steps profile single most enough))) in
+          (gives_more three call hit nr (chosen profile single call) most left
+          (keeps_more call hit nr (chosen profile single call) most
+          (hits call most is_call (subst Q is (enough_here profile nr most enough)) nr)) (omega arith)) in
           let P : Bool → Type 0 = λ holds. Gives three call (cond holds hit miss) nr value left in
           gives_more new call (length new - 1) nr value (left + 1) (most + (2 * suc levels - 1))
           (jumps call nr value left (subst P (sym (eq-eqb nr single is)) there)) (omega arith)

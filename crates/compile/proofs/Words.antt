@@ -100,6 +100,12 @@ from_alone x v low =
     ∙ from_split (x / 4294967296) (v / 4294967296) (x % 4294967296)
 
 -- the same of the words that hold the halves
+pub and_turned : (one other : Bool) → cond one other false ≡ cond other one false
+and_turned true true = refl
+and_turned true false = refl
+and_turned false true = refl
+and_turned false false = refl
+
 pub equal_words : (arg with arg_high arg_low with_high with_low : ℕ) → arg_high ≡ arg / 4294967296
     → arg_low ≡ arg % 4294967296 → with_high ≡ with / 4294967296 → with_low ≡ with % 4294967296
     → (arg == with) ≡ cond (arg_high == with_high) (arg_low == with_low) false

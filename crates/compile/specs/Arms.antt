@@ -1,9 +1,10 @@
 -- This project's own: entries of a number that ask one argument for where it lies. Only private functions
 -- cite this.
 use Rattle.std.specs.Prelude.{◌≡◌, ◌≢◌, ℕ, zero, suc, ◌+◌, ◌*◌, ◌/◌, ◌%◌, ◌^◌, ◌<◌, ◌≤◌, ◌==◌, Bool}
-use Rattle.std.specs.Prelude.{if◌then◌else◌, List, [], ◌∷◌, length, slice_index, take}
+use Rattle.std.specs.Prelude.{if◌then◌else◌, List, [], ◌∷◌, length, slice_index, take, All}
 use Rattle.std.specs.List.{list_any}
 use Rattle.call_data.specs.declared.sys_call.SysCall.{SysCall}
+use Rattle.oci_profile.specs.declared.conditions.Op.TheVariants.{Equal}
 use Rattle.oci_profile.specs.Meaning.{compares}
 use Rattle.compile.specs.declared.arms.Arm.{Arm}
 use Rattle.compile.specs.declared.plan.Plan.{Plan}
@@ -16,6 +17,10 @@ arm_holds arm arg = compares arm.op arm.with 0 arg
 abbrev pub arms_value : List Arm → ℕ → ℕ → ℕ
 arms_value [] arg other = other
 arms_value (arm ∷ arms) arg other = if arm_holds arm arg then arm.value else arms_value arms arg other
+
+-- arms that all ask for equality
+abbrev pub AreEqual : List Arm → Type 0
+AreEqual arms = All (λ arm. arm.op ≡ Equal) arms
 
 -- ranges of all lower halves from 0 on, and a value for each
 pub record AreWhole (starts values : List ℕ) : Type 0 where

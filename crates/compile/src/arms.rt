@@ -1,15 +1,16 @@
 ghost use Rattle.std.specs.Bool.{OnFalse};
 ghost use Rattle.std.specs.Prelude.{◌≡◌, ◌≢◌, ◌≤◌, ◌<◌, ◌+◌, ◌*◌, ℕ, length, IfOk, IfSome, IsTrue};
-ghost use Rattle.std.specs.Prelude.{slice_index};
+ghost use Rattle.std.specs.Prelude.{slice_index, IsSome, true};
 ghost use Rattle.call_data.specs.declared.sys_call.SysCall.{SysCall};
 ghost use Rattle.oci_profile.specs.declared.decision.Decision.{Decision};
 ghost use Rattle.oci_profile.specs.Decision.{value_of};
-ghost use Rattle.oci_profile.specs.Meaning.{all_hold, decision_of};
-ghost use Rattle.compile.specs.Arms.{arm_holds, arms_value};
-ghost use Rattle.compile.specs.Sizes.{added_of, steps_at};
+ghost use Rattle.oci_profile.specs.Meaning.{all_hold, decision_of, names};
+ghost use Rattle.compile.specs.Arms.{AreEqual, arm_holds, arms_value};
+ghost use Rattle.compile.specs.Bounds.{IsBare, IsEquality, conditions_at};
+ghost use Rattle.compile.specs.Sizes.{AreAsked, added_of};
 
 use crate::condition::compares;
-use oci_profile::{Cond, Entry, Op};
+use oci_profile::{Entry, Op};
 use std::alloc::{AllocError, Global};
 
 /// An entry whose only condition compares one argument without a mask.
@@ -97,9 +98,17 @@ fn arm_of(entry: &Entry, index: u32) -> Option<Arm>
     ensures value { IfSome result (λ arm. arm.value ≡ value_of entry.now.decision) }
     ensures same { IfSome result (λ arm. (call : SysCall)
         → all_hold entry.now call ≡ arm_holds arm (slice_index call.args index)) }
+    ensures all { IsEquality index entry.now → IsSome result }
+    ensures equal { IsEquality index entry.now → IfSome result (λ arm. arm.op ≡ Op.Equal) }
 {
     let conds = entry.conds.as_slice();
-    if !is_single(conds) || u32::from(conds[0].index) != index || is_masked(conds[0].op) {
+    if conds.len() != 1 {
+        return None;
+    }
+    if u32::from(conds[0].index) != index {
+        return None;
+    }
+    if is_masked(conds[0].op) {
         return None;
     }
     Some(Arm {
@@ -109,11 +118,22 @@ fn arm_of(entry: &Entry, index: u32) -> Option<Arm>
     })
 }
 
+/// Whether the entry names the number and has conditions.
+fn asks(entry: &Entry, nr: u32) -> bool
+    ensures yes { IsTrue result → (names entry.now nr ≡ true) × (0 < length entry.now.conds) }
+    ensures no { OnFalse result (names entry.now nr ≡ true → IsBare entry.now) }
+{
+    entry.names(nr) && !entry.conds.as_slice().is_empty()
+}
+
 /// The argument that is compared by the first of these entries that names the number and has conditions.
-fn asked(entries: &[Entry], nr: u32) -> u32 {
+fn asked(entries: &[Entry], nr: u32) -> u32
+    ensures { (index : ℕ) → AreAsked index entries.now nr → 0 < conditions_at entries.now nr
+        → result ≡ index }
+{
     for entry in entries {
-        if let ([cond, ..], true) = (entry.conds.as_slice(), entry.names(nr)) {
-            return u32::from(cond.index);
+        if asks(entry, nr) {
+            return u32::from(entry.conds.as_slice()[0].index);
         }
     }
     0
@@ -140,8 +160,11 @@ pub(crate) fn asked_arms(
     ensures index_in { IfOk result (λ found. IfSome found (λ it. 0 < length it.arms.items → it.index < 6)) }
     ensures many { IfOk result (λ found. IfSome found
         (λ it. 7 * length it.arms.items ≤ added_of entries.now nr)) }
-    ensures steps { IfOk result (λ found. IfSome found
-        (λ it. 6 * length it.arms.items + 1 ≤ steps_at entries.now nr)) }
+    ensures count { IfOk result (λ found. IfSome found
+        (λ it. length it.arms.items ≡ conditions_at entries.now nr)) }
+    ensures all { (index : ℕ) → AreAsked index entries.now nr → IfOk result (λ found. IsSome found) }
+    ensures equal { (index : ℕ) → AreAsked index entries.now nr
+        → IfOk result (λ found. IfSome found (λ it. AreEqual it.arms.items)) }
 {
     let index = asked(entries, nr);
     let mut arms = Vec::new(alloc);
@@ -156,14 +179,9 @@ pub(crate) fn asked_arms(
     Ok(Some(Arms { index, arms }))
 }
 
-fn is_single(conds: &[Cond]) -> bool
-    ensures { IsTrue result → length conds.now ≡ 1 }
-{
-    conds.len() == 1
-}
-
 fn is_masked(op: Op) -> bool
-    ensures { OnFalse result (op ≢ Op.MaskedEqual) }
+    ensures yes { IsTrue result → op ≡ Op.MaskedEqual }
+    ensures no { OnFalse result (op ≢ Op.MaskedEqual) }
 {
     matches!(op, Op::MaskedEqual)
 }

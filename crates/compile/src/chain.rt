@@ -1,5 +1,5 @@
 ghost use Rattle.std.specs.Prelude.{◌≡◌, All, drop, ◌≤◌, ◌<◌, ◌+◌, ◌-◌, ◌*◌, ◌==◌, ℕ, None, Some, length};
-ghost use Rattle.std.specs.Prelude.{IfOk, IfSome, OnOk, IsTrue, if◌then◌else◌, slice_index};
+ghost use Rattle.std.specs.Prelude.{IfOk, IfSome, OnOk, if◌then◌else◌, slice_index};
 ghost use Rattle.call_data.specs.declared.sys_call.SysCall.{SysCall};
 ghost use Rattle.call_data.specs.CallData.{IsCall};
 ghost use Rattle.oci_profile.specs.Conditions.{AreConds};
@@ -10,9 +10,9 @@ ghost use Rattle.compile.specs.Chains.{LinkGives, Stands, owed};
 ghost use Rattle.compile.specs.declared.code.TheConstants.{REACH, RECENT};
 
 use crate::code::{Code, REACH, RECENT, Test};
-use crate::condition::test_condition;
+use crate::condition::{is_equal, test_condition};
 use crate::halves::{high, low, test_word, words};
-use oci_profile::{Cond, Entry, Op};
+use oci_profile::{Cond, Entry};
 use std::alloc::AllocError;
 
 /// What a place relies on that tests the low half of an argument without loading it.
@@ -97,12 +97,6 @@ fn only_equal(entry: &Entry) -> Option<(u32, u64)>
         return None;
     }
     Some((u32::from(conds[0].index), conds[0].value))
-}
-
-fn is_equal(op: Op) -> bool
-    ensures { IsTrue result → op ≡ Op.Equal }
-{
-    matches!(op, Op::Equal)
 }
 
 /// The place of the check that the chain has already, if it is this one and is near enough.

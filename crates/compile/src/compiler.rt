@@ -7,7 +7,7 @@ ghost use Rattle.call_data.specs.CallData.{IsCall};
 ghost use Rattle.oci_profile.specs.Meaning.{meaning, weight};
 ghost use Rattle.sys_table.specs.declared.table.TheConstants.{NUMBER_LIMIT};
 ghost use Rattle.compile.specs.declared.fault.CompileFault.{CompileFault};
-ghost use Rattle.compile.specs.Bounds.{AreBare, HasDigits, conditions_at, named_below};
+ghost use Rattle.compile.specs.Bounds.{AreBare, AreEqualities, HasDigits, conditions_at, named_below};
 ghost use Rattle.compile.specs.Ranges.{AreRanges};
 ghost use Rattle.compile.specs.Sizes.{IsAsLong, IsEnough, tree_size};
 
@@ -38,7 +38,7 @@ fn assemble(
     ensures long { IfOk result (λ filter. IsAsLong
         (tree_size profile.now all.now 0 (length all.now)) (length filter)) }
     ensures runs { IfOk result (λ filter. (call : SysCall) (levels most : ℕ) → IsCall call
-        → IsEnough profile.now most → room ≤ 2 ^ levels
+        → IsEnough profile.now call.nr most → room ≤ 2 ^ levels
         → (steps : ℕ) × (steps ≤ most + (2 * levels - 1) + 3)
         × Runs filter call (meaning profile.now call) steps) }
 {
@@ -86,10 +86,15 @@ fn light_filter(alloc: Global, profile: &Profile) -> Result<Filter, AllocError>
     ensures few { IfOk result (λ filter. AreBare profile.now.entries → (call : SysCall) (d : ℕ) → IsCall call
         → HasDigits (2 * named_below profile.now.entries NUMBER_LIMIT + 1) d → (steps : ℕ)
         × (steps ≤ 5 + 2 * d) × Runs filter call (meaning profile.now call) steps) }
-    ensures bounded { IfOk result (λ filter. (call : SysCall) (d m : ℕ) → IsCall call
+    ensures bounded { IfOk result (λ filter. (call : SysCall) (d : ℕ) → IsCall call
+        → HasDigits (2 * named_below profile.now.entries NUMBER_LIMIT + 1) d → (steps : ℕ)
+        × (steps ≤ 10 + 2 * d + 6 * conditions_at profile.now.entries call.nr)
+        × Runs filter call (meaning profile.now call) steps) }
+    ensures balanced { IfOk result (λ filter. (call : SysCall) (d index k : ℕ) → IsCall call
         → HasDigits (2 * named_below profile.now.entries NUMBER_LIMIT + 1) d
-        → ((nr : ℕ) → conditions_at profile.now.entries nr ≤ m)
-        → (steps : ℕ) × (steps ≤ 10 + 2 * d + 6 * m) × Runs filter call (meaning profile.now call) steps) }
+        → AreEqualities index profile.now.entries call.nr
+        → HasDigits (conditions_at profile.now.entries call.nr) k
+        → (steps : ℕ) × (steps ≤ 10 + 2 * d + 12 * k) × Runs filter call (meaning profile.now call) steps) }
 {
     let starts = ranges(alloc, profile)?;
     let all = Remaining::new(alloc, profile, starts)?;
@@ -99,8 +104,8 @@ fn light_filter(alloc: Global, profile: &Profile) -> Result<Filter, AllocError>
 /// Compiles a profile to a filter.
 ///
 /// A tree finds the call's number among ranges of numbers that the profile treats alike; a number with
-/// conditions leads to its entries in order, or to a choice among ranges of the one argument that they
-/// compare.
+/// conditions leads to its entries in order, or to a choice by the one argument that they compare: among its
+/// ranges, or among the numbers that it may equal.
 pub fn compile(alloc: Global, profile: &Profile) -> Result<Filter, CompileFault>
     // Reported even if memory runs out. The only other reason for a refusal is lack of memory.
     ensures long { (result ≡ Err CompileFault.TooLong) ↔ (MAX_INSNS < weight profile.now) }
@@ -119,12 +124,20 @@ pub fn compile(alloc: Global, profile: &Profile) -> Result<Filter, CompileFault>
         → HasDigits (2 * named_below profile.now.entries NUMBER_LIMIT + 1) d → (steps : ℕ)
         × (steps ≤ 5 + 2 * d) × Runs filter call (meaning profile.now call) steps) }
 
-    // If the entries that name a number have at most m conditions, for every number, there are six steps more
-    // for each of these, and five more in all.
-    ensures bounded { IfOk result (λ filter. (call : SysCall) (d m : ℕ) → IsCall call
+    // With conditions five steps more are enough, and six for each condition of the entries that name the
+    // call's number.
+    ensures bounded { IfOk result (λ filter. (call : SysCall) (d : ℕ) → IsCall call
+        → HasDigits (2 * named_below profile.now.entries NUMBER_LIMIT + 1) d → (steps : ℕ)
+        × (steps ≤ 10 + 2 * d + 6 * conditions_at profile.now.entries call.nr)
+        × Runs filter call (meaning profile.now call) steps) }
+
+    // If each of these entries has no condition or just one, that the same argument equals a number, twelve
+    // for each binary digit of the count of conditions are enough.
+    ensures balanced { IfOk result (λ filter. (call : SysCall) (d index k : ℕ) → IsCall call
         → HasDigits (2 * named_below profile.now.entries NUMBER_LIMIT + 1) d
-        → ((nr : ℕ) → conditions_at profile.now.entries nr ≤ m)
-        → (steps : ℕ) × (steps ≤ 10 + 2 * d + 6 * m) × Runs filter call (meaning profile.now call) steps) }
+        → AreEqualities index profile.now.entries call.nr
+        → HasDigits (conditions_at profile.now.entries call.nr) k
+        → (steps : ℕ) × (steps ≤ 10 + 2 * d + 12 * k) × Runs filter call (meaning profile.now call) steps) }
 {
     if is_heavy(profile) {
         return Err(CompileFault::TooLong);

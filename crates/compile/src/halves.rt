@@ -126,7 +126,7 @@ fn test_order(
     code.load(offset)
 }
 
-/// Tests whether an argument is a number.
+/// Tests whether an argument is a number, by its lower half first: that is the one which mostly differs.
 pub(crate) fn test_equal(
     code: &mut Code,
     index: u32,
@@ -150,8 +150,8 @@ pub(crate) fn test_equal(
     words();
     let with_high = high(with);
     let with_low = low(with);
-    let rest = test_word(code, 16 + 8 * index, Test::Equal, with_low, hit, miss)?;
-    test_word(code, 20 + 8 * index, Test::Equal, with_high, rest, miss)
+    let rest = test_word(code, 20 + 8 * index, Test::Equal, with_high, hit, miss)?;
+    test_word(code, 16 + 8 * index, Test::Equal, with_low, rest, miss)
 }
 
 /// Tests whether an argument is above a number, or at least as large.

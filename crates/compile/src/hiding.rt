@@ -92,7 +92,7 @@ fn follows(wanted: &Cond, conds: &[Cond]) -> bool
 }
 
 /// Whether the second condition holds wherever the first one does, as far as one argument shows it.
-fn implies(one: &Cond, other: &Cond) -> bool
+pub(crate) fn implies(one: &Cond, other: &Cond) -> bool
     ensures { IsTrue result → (call : SysCall) → IsCall call → holds_on one.now call ≡ true
         → holds_on other.now call ≡ true }
 {

@@ -7,13 +7,14 @@ ghost use Rattle.oci_profile.specs.declared.decision.Decision.{Decision};
 ghost use Rattle.oci_profile.specs.Decision.{value_of};
 ghost use Rattle.oci_profile.specs.Meaning.{all_hold, chosen, decision_of, names};
 ghost use Rattle.compile.specs.Backward.{GivesAlways, Keeps};
-ghost use Rattle.compile.specs.Bounds.{AreBare, IsBare};
+ghost use Rattle.compile.specs.Bounds.{AreBare, IsBare, conditions_at};
 ghost use Rattle.compile.specs.Chains.{ChainGives, LinkGives, Stands, owed};
-ghost use Rattle.compile.specs.Sizes.{added_of, steps_at};
+ghost use Rattle.compile.specs.Sizes.{AreAsked, NoneDecides, Suffices, added_of, settles, steps_at};
 ghost use Rattle.compile.specs.declared.code.TheConstants.{RECENT};
 
 use crate::chain::{Chain, add_link, settle};
 use crate::code::Code;
+use crate::ending::{bare_end, certain_end, needed};
 use crate::equals::equals;
 use crate::fan::fan;
 use crate::hiding::is_hidden;
@@ -21,50 +22,6 @@ use crate::plan::plan_for;
 use crate::points::points_for;
 use oci_profile::{Decision, Entry, Profile, X32_BIT};
 use std::alloc::{AllocError, Global};
-
-/// Whether the entry decides the number without a condition.
-pub(crate) fn decides(entry: &Entry, nr: u32) -> bool
-    ensures yes { IsTrue result → (names entry.now nr ≡ true) × IsBare entry.now }
-    ensures no { OnFalse result (IsBare entry.now → names entry.now nr ≡ false) }
-{
-    entry.names(nr) && entry.conds.as_slice().is_empty()
-}
-
-/// How many entries come before the first that decides the number without a condition, and the decision after
-/// them. Later entries are never reached.
-fn bare_end(entries: &[Entry], default: Decision, nr: u32) -> (usize, Decision)
-    ensures same { (call : SysCall) → decision_of entries.now default nr call
-        ≡ decision_of (take result.0 entries.now) result.1 nr call }
-    ensures inside { result.0 ≤ length entries.now }
-    ensures bare { AreBare entries.now → added_of (take result.0 entries.now) nr ≡ 0 }
-{
-    for (at, entry) in entries.iter().enumerate() {
-        if decides(entry, nr) {
-            return (at, entry.decision);
-        }
-    }
-    (entries.len(), default)
-}
-
-/// Whether the entry names the number and decides something else than this.
-fn differs(entry: &Entry, last: &Decision, nr: u32) -> bool
-    ensures { OnFalse result (names entry.now nr ≡ true → entry.now.decision ≡ last.now) }
-{
-    entry.names(nr) && entry.decision != *last
-}
-
-/// How many entries are needed before this decision: those at the end that decide the same are not.
-fn needed(entries: &[Entry], last: &Decision, nr: u32) -> usize
-    ensures inside { result ≤ length entries.now }
-    ensures same { (call : SysCall) → decision_of entries.now last.now nr call
-        ≡ decision_of (take result entries.now) last.now nr call }
-{
-    let mut end = entries.len();
-    while end > 0 && !differs(&entries[end - 1], last, nr) {
-        end -= 1;
-    }
-    end
-}
 
 /// Puts an entry in front if it names the number.
 fn add_named(code: &mut Code, entry: &Entry, nr: u32, chain: Chain) -> Result<Chain, AllocError>
@@ -153,6 +110,10 @@ fn entries_leaf(
     ensures gives { IfOk result (λ at. (call : SysCall) → IsCall call
         → GivesAlways code.new call at (value_of (decision_of entries.now last.now nr call))
         (steps_at entries.now nr)) }
+    ensures balanced { IfOk result (λ at. (call : SysCall) (index digits : ℕ) → IsCall call
+        → AreAsked index entries.now nr → conditions_at entries.now nr < 2 ^ digits
+        → GivesAlways code.new call at (value_of (decision_of entries.now last.now nr call))
+        (1 + 12 * digits)) }
     ensures inside { IfOk result (λ at. at < length code.new) }
     ensures recent { IfOk result (λ at. length code.new ≤ at + RECENT) }
     ensures longer { OnOk result (length code.new ≤ length code.old + 1 + added_of entries.now nr) }
@@ -176,8 +137,9 @@ pub(crate) fn leaf(
     nr: u32,
 ) -> Result<usize, AllocError>
     requires short { length code.old + added_of profile.now.entries nr < 2 ^ 32 }
-    ensures gives { IfOk result (λ at. (call : SysCall) → IsCall call
-        → GivesAlways code.new call at (chosen profile.now nr call) (steps_at profile.now.entries nr)) }
+    ensures gives { IfOk result (λ at. (call : SysCall) (most : ℕ) → IsCall call
+        → Suffices profile.now.entries nr most
+        → GivesAlways code.new call at (chosen profile.now nr call) most) }
     ensures inside { IfOk result (λ at. at < length code.new) }
     ensures recent { IfOk result (λ at. length code.new ≤ at + RECENT) }
     ensures longer { OnOk result (length code.new ≤ length code.old + 1 + added_of profile.now.entries nr) }
@@ -189,7 +151,9 @@ pub(crate) fn leaf(
         return code.value(Decision::KillProcess.value());
     }
     let entries = profile.entries.as_slice();
-    let (end, last) = bare_end(entries, profile.default, nr);
-    let before = &entries[..end];
+    let (end, bare_last) = bare_end(entries, profile.default, nr);
+    let reached = &entries[..end];
+    let (certain, last) = certain_end(reached, bare_last, nr);
+    let before = &reached[..certain];
     entries_leaf(code, alloc, &before[..needed(before, &last, nr)], &last, nr)
 }

@@ -4,7 +4,7 @@ use crate::remaining::Remaining;
 
 /// A number with conditions is tested first if it has one part in so many of the weight, or more: a split
 /// would put one more test before its own.
-const HEAVY: u64 = 6;
+const HEAVY: u64 = 7;
 
 /// The number that is tested first among these ranges, if the first test is of one number. It is a range by
 /// itself, and half of the room is enough for the others.

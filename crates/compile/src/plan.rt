@@ -10,10 +10,11 @@ ghost use Rattle.compile.specs.Arms.{AreWhole, Plans, arms_value, leaf_sizes, le
 ghost use Rattle.compile.specs.Sizes.{added_of, steps_at};
 
 use crate::arms::{Arm, Arms, alike_to, asked_arms, value_at};
+use crate::condition::is_equal;
 use crate::halves::high;
 use crate::lows::{HALF, Lows, low_ranges};
 use bpf_code::MAX_INSNS;
-use oci_profile::{Decision, Entry, Op};
+use oci_profile::{Decision, Entry};
 use std::alloc::{AllocError, Global};
 
 /// A choice by one argument: by its lower half, if its upper half is one certain number.
@@ -103,7 +104,8 @@ fn returned(values: &[u32], beyond: u32, at: usize) -> usize
 
 /// Whether a chain is as short, as for a few equalities that share their check of the upper half.
 pub(crate) fn is_chain(arms: &[Arm]) -> bool
-    ensures { OnFalse result (0 < length arms.now) }
+    ensures some { OnFalse result (0 < length arms.now) }
+    ensures few { IsTrue result → length arms.now ≤ 6 }
 {
     let Some(first) = arms.first() else {
         return true;
@@ -112,10 +114,6 @@ pub(crate) fn is_chain(arms: &[Arm]) -> bool
         && arms.iter().all(|arm| {
             is_equal(arm.op) && arm.value == first.value && high(arm.with) == high(first.with)
         })
-}
-
-fn is_equal(op: Op) -> bool {
-    matches!(op, Op::Equal)
 }
 
 /// The plan for a number's arms, if it is no longer and no slower than a chain may be.

@@ -1,17 +1,19 @@
 ghost use Rattle.std.specs.Prelude.{◌≡◌, ◌≢◌, ◌≤◌, ◌<◌, ◌+◌, ◌*◌, ℕ, List, length, IfOk, IsTrue, slice_index};
-ghost use Rattle.std.specs.Prelude.{if◌then◌else◌, ◌==◌, IfSome, []};
+ghost use Rattle.std.specs.Prelude.{if◌then◌else◌, ◌==◌, IfSome, IsSome, None, []};
 ghost use Rattle.std.specs.Bool.{OnFalse};
 ghost use Rattle.call_data.specs.declared.sys_call.SysCall.{SysCall};
 ghost use Rattle.oci_profile.specs.declared.decision.Decision.{Decision};
 ghost use Rattle.oci_profile.specs.Decision.{value_of};
 ghost use Rattle.oci_profile.specs.Meaning.{decision_of};
-ghost use Rattle.compile.specs.Arms.{arms_value};
+ghost use Rattle.compile.specs.Arms.{AreEqual, arms_value};
+ghost use Rattle.compile.specs.Bounds.{conditions_at};
 ghost use Rattle.compile.specs.Points.{AreSorted, IsFound};
-ghost use Rattle.compile.specs.Sizes.{added_of, steps_at};
+ghost use Rattle.compile.specs.Sizes.{AreAsked, added_of, steps_at};
 
 use crate::arms::{Arm, asked_arms};
+use crate::condition::is_equal;
 use crate::plan::is_chain;
-use oci_profile::{Entry, Op};
+use oci_profile::Entry;
 use std::alloc::{AllocError, Global};
 
 /// The numbers that entries ask an argument for, each larger than the one before it, and what is returned for
@@ -108,6 +110,7 @@ pub(crate) fn points_of(alloc: Global, arms: &[Arm]) -> Result<Option<Points>, A
     ensures few { IfOk result (λ found. IfSome found (λ it. length it.numbers.items ≤ length arms.now)) }
     ensures some { IfOk result (λ found. IfSome found (λ it. 0 < length arms.now
         → 0 < length it.numbers.items)) }
+    ensures all { AreEqual arms.now → IfOk result (λ found. IsSome found) }
 {
     let mut points = Points::new(alloc);
     for arm in arms {
@@ -140,6 +143,12 @@ pub(crate) fn points_for(
         (λ it. 7 * length it.1.numbers.items ≤ added_of entries.now nr)) }
     ensures few { IfOk result (λ found. IfSome found
         (λ it. 5 * length it.1.numbers.items + 3 ≤ steps_at entries.now nr)) }
+    ensures many { IfOk result (λ found. IfSome found
+        (λ it. length it.1.numbers.items ≤ conditions_at entries.now nr)) }
+
+    // Equalities of one argument are left to a chain only if they are few.
+    ensures left { IfOk result (λ found. found ≡ None → (index : ℕ) → AreAsked index entries.now nr
+        → conditions_at entries.now nr ≤ 6) }
 {
     let Some(asked) = asked_arms(alloc, entries, nr)? else {
         return Ok(None);
@@ -152,10 +161,4 @@ pub(crate) fn points_for(
         return Ok(None);
     };
     Ok(Some((asked.index, points)))
-}
-
-fn is_equal(op: Op) -> bool
-    ensures { IsTrue result → op ≡ Op.Equal }
-{
-    matches!(op, Op::Equal)
 }

@@ -1,5 +1,5 @@
 ghost use Rattle.std.specs.Prelude.{◌≡◌, ◌≢◌, ◌≤◌, ◌<◌, ◌+◌, ◌*◌, ℕ, None, Some, length, vec_len, IfOk};
-ghost use Rattle.std.specs.Prelude.{IfSome, IsTrue, IsSome, false, if◌then◌else◌};
+ghost use Rattle.std.specs.Prelude.{IfSome, IsTrue, IsSome, true, false, if◌then◌else◌};
 ghost use Rattle.std.specs.Bool.{OnFalse};
 ghost use Rattle.call_data.specs.declared.sys_call.SysCall.{SysCall};
 ghost use Rattle.oci_profile.specs.Decision.{value_of};
@@ -8,9 +8,9 @@ ghost use Rattle.oci_profile.specs.Meaning.{chosen, decision_of};
 ghost use Rattle.sys_table.specs.declared.table.TheConstants.{NUMBER_LIMIT};
 ghost use Rattle.compile.specs.Bounds.{named, named_below};
 ghost use Rattle.compile.specs.Ranges.{AreRanges};
-ghost use Rattle.compile.specs.Sizes.{added_below, tree_size};
+ghost use Rattle.compile.specs.Sizes.{added_below, settles, tree_size};
 
-use crate::leaf::decides;
+use crate::ending::decides;
 use oci_profile::{Decision, Entry, Profile, X32_BIT};
 use std::alloc::{AllocError, Global};
 use sys_table::NUMBER_LIMIT;
@@ -20,6 +20,7 @@ pub(crate) fn decided(profile: &Profile, nr: u32) -> Option<u32>
     ensures value { IfSome result (λ value. (call : SysCall) → chosen profile.now nr call ≡ value) }
     ensures unnamed { named profile.now.entries nr ≡ false → nr < 0x40000000
         → result ≡ Some (value_of profile.now.default) }
+    ensures settled { IfSome result (λ _. settles profile.now.entries nr ≡ true) }
     ensures fit { AreEntries profile.now.entries }
 {
     let entries = profile.entries.as_slice();
@@ -33,6 +34,7 @@ fn decided_by(entries: &[Entry], default: Decision, nr: u32) -> Option<u32>
     ensures value { IfSome result (λ value. (call : SysCall)
         → value_of (decision_of entries.now default nr call) ≡ value) }
     ensures unnamed { named entries.now nr ≡ false → result ≡ Some (value_of default) }
+    ensures settled { IfSome result (λ _. settles entries.now nr ≡ true) }
 {
     for entry in entries {
         if decides(entry, nr) {

@@ -1,10 +1,10 @@
 ghost use Rattle.std.specs.Prelude.{◌≡◌, ◌≢◌, ◌≤◌, ◌<◌, ◌+◌, ◌-◌, ℕ, List, length, IfOk, IsTrue};
-ghost use Rattle.std.specs.Prelude.{slice_index};
+ghost use Rattle.std.specs.Prelude.{slice_index, true};
 ghost use Rattle.std.specs.List.{remove};
 ghost use Rattle.call_data.specs.declared.sys_call.SysCall.{SysCall};
 ghost use Rattle.oci_profile.specs.Meaning.{chosen};
 ghost use Rattle.compile.specs.Ranges.{IsAlike, IsBetween};
-ghost use Rattle.compile.specs.Sizes.{added_of, tree_size};
+ghost use Rattle.compile.specs.Sizes.{added_of, settles, tree_size};
 
 use crate::ranges::{are_alike, decided};
 use crate::shares::{RANGE, share};
@@ -148,8 +148,10 @@ impl Remaining {
     fn is_joined(&self, profile: &Profile, at: usize) -> bool
         requires some { 0 < at }
         requires inside { at < length self.now }
-        ensures { IsTrue result → (call : SysCall) → chosen profile.now (slice_index self.now at) call
+        ensures same { IsTrue result → (call : SysCall) → chosen profile.now (slice_index self.now at) call
             ≡ chosen profile.now (slice_index self.now (at - 1)) call }
+        ensures settled { IsTrue result
+            → settles profile.now.entries (slice_index self.now (at - 1)) ≡ true }
     {
         let before = decided(profile, self.starts[at - 1]);
         are_alike(before, decided(profile, self.starts[at]))

@@ -6,7 +6,7 @@ ghost use Rattle.oci_profile.specs.Meaning.{chosen};
 ghost use Rattle.compile.specs.Backward.{Gives, GivesAlways, Keeps};
 ghost use Rattle.compile.specs.Bounds.{AreBare};
 ghost use Rattle.compile.specs.Ranges.{IsAlike, IsBetween};
-ghost use Rattle.compile.specs.Sizes.{IsEnough, steps_at, tree_size};
+ghost use Rattle.compile.specs.Sizes.{IsEnough, Suffices, tree_size};
 ghost use Rattle.compile.specs.declared.code.TheConstants.{RECENT};
 
 use crate::code::{Code, REACH, Test};
@@ -32,14 +32,14 @@ pub(crate) fn tree(
     requires to_in { to ≤ length remaining.now }
     requires short { length code.old + tree_size profile.now remaining.now from (to - from) < 2 ^ 32 }
     ensures gives { IfOk result (λ at. (call : SysCall) (levels most : ℕ) → IsCall call
-        → IsEnough profile.now most → IsAlike profile.now remaining.now call
+        → IsEnough profile.now call.nr most → IsAlike profile.now remaining.now call
         → IsBetween remaining.now from to call.nr → room ≤ 2 ^ levels
         → Gives code.new call at call.nr (chosen profile.now call.nr call) (most + (2 * levels - 1))) }
 
     // One range is what its start's entries are.
-    ensures one { IfOk result (λ at. to - from ≡ 1 → (call : SysCall) → IsCall call
-        → GivesAlways code.new call at (chosen profile.now (slice_index remaining.now from) call)
-        (steps_at profile.now.entries (slice_index remaining.now from))) }
+    ensures one { IfOk result (λ at. to - from ≡ 1 → (call : SysCall) (most : ℕ) → IsCall call
+        → Suffices profile.now.entries (slice_index remaining.now from) most
+        → GivesAlways code.new call at (chosen profile.now (slice_index remaining.now from) call) most) }
     ensures bare { to - from ≡ 1 → AreBare profile.now.entries
         → OnOk result (length code.new ≤ length code.old + 1) }
     ensures inside { IfOk result (λ at. at < length code.new) }

@@ -6,7 +6,7 @@ use Rattle.oci_profile.specs.Decision.{value_of}
 use Rattle.oci_profile.specs.Meaning.{meaning}
 use Rattle.compile.specs.Backward.{Gives, GivesAlways}
 use Rattle.compile.specs.Ranges.{IsBetween}
-use Rattle.compile.proofs.Trees.{enough_steps}
+use Rattle.compile.proofs.Settling.{enough_here, enough_some}
 use Rattle.compile.proofs.Assembled.{assembled}
 use Rattle.compile.proofs.compiler.assemble.Goals as goal
 
@@ -21,7 +21,8 @@ returns-clause-runs c = λ call levels most is_call enough small.
       above = omega (arith, c.requires.ranges.first);
       below = λ more. absurd (omega (arith, c.len.ensures, more));
     } in
-    let some : 0 < most = omega (arith, enough_steps profile call.nr most enough) in
+    let some : 0 < most =
+    enough_some profile.entries call.nr most (enough_here profile call.nr most enough) in
     let root = c.in_ok-tree.ensures.front (omega (arith, c.len.ensures, c.requires.many)) in
     let found = c.in_ok-tree.ensures.gives call levels most is_call enough
     (λ at inside within. c.requires.ranges.alike at call.nr call inside within) between small in

@@ -1,6 +1,7 @@
 use Rattle.std.proofs.Common.{◌∙◌, sym, ap, refl}
 use Rattle.oci_profile.specs.Decision.{value_of}
 use Rattle.compile.proofs.Deciding.{decision_here, decision_behind, named_here, named_behind, not_both}
+use Rattle.compile.proofs.Settling.{settles_here, settles_behind}
 use Rattle.compile.proofs.ranges.decided_by.Goals as goal
 
 pub returns-then-decides-clause-value : goal.returns-then-decides-clause-value
@@ -30,4 +31,13 @@ loop-entry-preserved c =
           c.loop-entry-test.true c.entry-item.is unnamed) ∙ c.loop-entry.invariant.0,
       λ call. sym (decision_behind c.args.entries.now c.args.default c.args.nr c.loop-entry.entry-index call
           c.entry-item.result c.loop-entry-test.true c.entry-item.is unnamed) ∙ c.loop-entry.invariant.1 call,
+      sym (settles_behind c.args.entries.now c.args.nr c.loop-entry.entry-index c.entry-item.result
+          c.loop-entry-test.true c.entry-item.is unnamed) ∙ c.loop-entry.invariant.2,
     )
+
+pub returns-then-decides-clause-settled : goal.returns-then-decides-clause-settled
+returns-then-decides-clause-settled c =
+    let yes = c.if-decides.ensures.yes refl in
+    sym c.loop-entry.invariant.2
+    ∙ settles_here c.args.entries.now c.args.nr c.loop-entry.entry-index c.entry-item.result
+    c.loop-entry-test.true c.entry-item.is yes.0 yes.1

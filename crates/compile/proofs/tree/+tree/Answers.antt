@@ -1,4 +1,4 @@
-use Rattle.std.proofs.Common.{ℕ, ◌-◌, ◌/◌, ◌==◌, List, cond, length, sym, ap, subst, arith}
+use Rattle.std.proofs.Common.{◌≡◌, ℕ, ◌-◌, ◌/◌, ◌==◌, List, cond, length, sym, ap, subst, arith}
 use Rattle.std.specs.Prelude.{slice_index, nat_le}
 use Rattle.std.proofs.lemmas.Result.{on_ok_weaker, IfOk-weaker}
 use Rattle.bpf_code.specs.declared.insn.Insn.{Insn}
@@ -7,7 +7,7 @@ use Rattle.call_data.specs.CallData.{IsCall}
 use Rattle.oci_profile.specs.declared.profile.Profile.{Profile}
 use Rattle.oci_profile.specs.Meaning.{chosen}
 use Rattle.compile.specs.Backward.{Gives, GivesAlways}
-use Rattle.compile.specs.Sizes.{added_of, steps_at}
+use Rattle.compile.specs.Sizes.{Suffices, added_of}
 use Rattle.compile.proofs.Building.{front_is}
 use Rattle.compile.proofs.Splitting.{size_at, size_one}
 use Rattle.compile.proofs.Trees.{TreeGives, one_tree, split_gives, tested_gives}
@@ -30,13 +30,24 @@ returns-then-to-from-eq1-clause-gives t c =
     let profile : Profile = c.args.profile.now in
     let starts : List ℕ = c.args.remaining.now in
     let new : List Insn = c.leaf.new.code in
-    let Found : ℕ → ℕ → Type 0 = λ at n. (call : SysCall) → IsCall call
-    → GivesAlways new call at (chosen profile n call) (steps_at profile.entries n) in
+    let Found : ℕ → ℕ → Type 0 = λ at n. (call : SysCall) (most : ℕ) → IsCall call
+    → Suffices profile.entries n most → GivesAlways new call at (chosen profile n call) most in
     let Wanted : ℕ → Type 0 = λ at. TreeGives profile starts new at c.args.from c.args.to c.args.room in
     IfOk-weaker c.leaf.result (λ at. Found at c.start.result) Wanted (λ at found.
     one_tree profile starts new at c.args.from c.args.to c.args.room c.if-to-from-eq1.true
     (omega (arith, c.requires.some, c.requires.to_in))
     (λ _. subst (Found at) c.start.ensures found)) c.leaf.ensures.gives
+
+pub returns-then-to-from-eq1-clause-one : goal.returns-then-to-from-eq1-clause-one
+returns-then-to-from-eq1-clause-one t c =
+    let profile : Profile = c.args.profile.now in
+    let new : List Insn = c.leaf.new.code in
+    let Found : ℕ → ℕ → Type 0 = λ at n. (call : SysCall) (most : ℕ) → IsCall call
+    → Suffices profile.entries n most → GivesAlways new call at (chosen profile n call) most in
+    let start : ℕ = slice_index c.args.remaining.now c.args.from in
+    let Wanted : ℕ → Type 0 = λ at. c.args.to - c.args.from ≡ 1 → Found at start in
+    IfOk-weaker c.leaf.result (λ at. Found at c.start.result) Wanted (λ at found _.
+    subst (Found at) c.start.ensures found) c.leaf.ensures.gives
 
 pub returns-then-to-from-eq1-clause-longer : goal.returns-then-to-from-eq1-clause-longer
 returns-then-to-from-eq1-clause-longer t c =
@@ -60,8 +71,8 @@ returns-in-Some-clause-gives t c =
     let single : ℕ = slice_index starts c.in-Some.at in
     let hit : ℕ = c.in_ok-hit.hit in
     let miss : ℕ = c.in_ok-miss.miss in
-    let Hits : ℕ → Type 0 = λ n. (call : SysCall) → IsCall call
-    → GivesAlways two call hit (chosen profile n call) (steps_at profile.entries n) in
+    let Hits : ℕ → Type 0 = λ n. (call : SysCall) (most : ℕ) → IsCall call
+    → Suffices profile.entries n most → GivesAlways two call hit (chosen profile n call) most in
     front_is (λ at. TreeGives profile starts new at c.args.from c.args.to c.args.room) new c.jump.result
     c.jump.ensures.at
     (on_ok_weaker c.jump.result (λ jumps.

@@ -72,7 +72,7 @@ returns-then-is_joined-clause-alike c = λ call other alike.
     subst P (sym once) (alike_untested profile starts c.args.at call c.requires.inside c.requires.single other
     alike) in
     subst P (sym c.join.ensures) (alike_joined profile mid c.args.at call (omega (arith, c.if-from-at.true))
-    inside (c.if-is_joined.ensures refl call) there)
+    inside (c.if-is_joined.ensures.same refl call) (c.if-is_joined.ensures.settled refl) there)
 
 pub returns-then-is_joined-clause-short : goal.returns-then-is_joined-clause-short
 returns-then-is_joined-clause-short c =

@@ -1,7 +1,7 @@
 use Rattle.std.proofs.Common.{◌≡◌, ◌≤◌, ℕ, suc, ◌-◌, length, take, sym, ap, ◌∙◌, arith}
 use Rattle.oci_profile.specs.Meaning.{decision_of}
 use Rattle.compile.proofs.Leaves.{needless_at}
-use Rattle.compile.proofs.leaf.needed.Goals as goal
+use Rattle.compile.proofs.ending.needed.Goals as goal
 
 pub loop-end-preserved : goal.loop-end-preserved
 loop-end-preserved c =

@@ -1,7 +1,7 @@
 use Rattle.std.proofs.Common.{◌≡◌, ◌≤◌, length, take}
 use Rattle.call_data.specs.declared.sys_call.SysCall.{SysCall}
 use Rattle.oci_profile.specs.Meaning.{decision_of}
-use Rattle.compile.proofs.leaf.needed.Given as goal
+use Rattle.compile.proofs.ending.needed.Given as goal
 
 abbrev pub invariant-loop-end : goal.invariant-loop-end
 invariant-loop-end l = (l.end ≤ length l.fn.entries) × ((call : SysCall)
