@@ -19,7 +19,7 @@ pub(crate) fn decides(entry: &Entry, nr: u32) -> bool
 
 /// How many entries come before the first that decides the number without a condition, and the decision after
 /// them. Later entries are never reached.
-pub(crate) fn bare_end(entries: &[Entry], default: Decision, nr: u32) -> (usize, Decision)
+fn bare_end(entries: &[Entry], default: Decision, nr: u32) -> (usize, Decision)
     ensures same { (call : SysCall) → decision_of entries.now default nr call
         ≡ decision_of (take result.0 entries.now) result.1 nr call }
     ensures inside { result.0 ≤ length entries.now }
@@ -148,7 +148,7 @@ fn is_last(entry: &Entry, entries: &[Entry], last: &Decision, value: &Decision, 
 
 /// How many entries are needed before one decision is certain, and that decision. What an entry behind them
 /// would ask is settled by the condition that did not hold.
-pub(crate) fn certain_end(entries: &[Entry], last: Decision, nr: u32) -> (usize, Decision)
+fn certain_end(entries: &[Entry], last: Decision, nr: u32) -> (usize, Decision)
     ensures inside { result.0 ≤ length entries.now }
     ensures same { (call : SysCall) → IsCall call → decision_of entries.now last nr call
         ≡ decision_of (take result.0 entries.now) result.1 nr call }
@@ -164,7 +164,7 @@ pub(crate) fn certain_end(entries: &[Entry], last: Decision, nr: u32) -> (usize,
 }
 
 /// How many entries are needed before this decision: those at the end that decide the same are not.
-pub(crate) fn needed(entries: &[Entry], last: &Decision, nr: u32) -> usize
+fn needed(entries: &[Entry], last: &Decision, nr: u32) -> usize
     ensures inside { result ≤ length entries.now }
     ensures same { (call : SysCall) → decision_of entries.now last.now nr call
         ≡ decision_of (take result entries.now) last.now nr call }
@@ -174,4 +174,18 @@ pub(crate) fn needed(entries: &[Entry], last: &Decision, nr: u32) -> usize
         end -= 1;
     }
     end
+}
+
+/// How many of a number's entries are needed, and the decision behind them.
+pub(crate) fn needed_end(entries: &[Entry], default: Decision, nr: u32) -> (usize, Decision)
+    ensures inside { result.0 ≤ length entries.now }
+    ensures same { (call : SysCall) → IsCall call → decision_of entries.now default nr call
+        ≡ decision_of (take result.0 entries.now) result.1 nr call }
+    ensures settled { settles entries.now nr ≡ true → added_of (take result.0 entries.now) nr ≡ 0 }
+    ensures reached { NoneDecides (take result.0 entries.now) nr }
+{
+    let (end, bare_last) = bare_end(entries, default, nr);
+    let reached = &entries[..end];
+    let (certain, last) = certain_end(reached, bare_last, nr);
+    (needed(&reached[..certain], &last, nr), last)
 }

@@ -14,7 +14,7 @@ ghost use Rattle.compile.specs.declared.code.TheConstants.{RECENT};
 
 use crate::chain::{Chain, add_link, settle};
 use crate::code::Code;
-use crate::ending::{bare_end, certain_end, needed};
+use crate::ending::needed_end;
 use crate::equals::equals;
 use crate::fan::fan;
 use crate::hiding::is_hidden;
@@ -151,9 +151,6 @@ pub(crate) fn leaf(
         return code.value(Decision::KillProcess.value());
     }
     let entries = profile.entries.as_slice();
-    let (end, bare_last) = bare_end(entries, profile.default, nr);
-    let reached = &entries[..end];
-    let (certain, last) = certain_end(reached, bare_last, nr);
-    let before = &reached[..certain];
-    entries_leaf(code, alloc, &before[..needed(before, &last, nr)], &last, nr)
+    let (end, last) = needed_end(entries, profile.default, nr);
+    entries_leaf(code, alloc, &entries[..end], &last, nr)
 }

@@ -1,7 +1,8 @@
 ghost use Rattle.std.specs.Prelude.{◌≤◌, ◌<◌, length};
 
 use crate::condition::is_equal;
-use crate::ending::decides;
+use crate::ending::needed_end;
+use crate::hiding::is_hidden;
 use crate::ranges::decided;
 use oci_profile::{Entry, Profile};
 
@@ -31,7 +32,7 @@ pub(crate) fn share(profile: &Profile, starts: &[u32], at: usize) -> u64
     if decided(profile, starts[at]).is_some() {
         return RANGE + NUMBER * numbers(starts, at);
     }
-    CONDITIONAL + ENTRY * asked(profile.entries.as_slice(), starts[at]).min(ENTRIES)
+    CONDITIONAL + ENTRY * asked(profile, starts[at]).min(ENTRIES)
 }
 
 /// How many numbers of the range count.
@@ -45,15 +46,18 @@ fn numbers(starts: &[u32], at: usize) -> u64
     u64::from(starts[at + 1].saturating_sub(starts[at])).min(NUMBERS)
 }
 
-/// How many equalities the entries with conditions for the number count as.
-fn asked(entries: &[Entry], nr: u32) -> u64 {
+/// How many equalities the entries that are needed for the number count as.
+fn asked(profile: &Profile, nr: u32) -> u64 {
+    let entries = profile.entries.as_slice();
+    let (end, _) = needed_end(entries, profile.default, nr);
     let mut count = 0u64;
-    for entry in entries {
-        if decides(entry, nr) {
-            break;
-        }
-        if entry.names(nr) {
-            count = count.saturating_add(if are_equalities(entry) { 1 } else { OTHER });
+    for at in 0..end {
+        if !is_hidden(&entries[..at], &entries[at], nr) {
+            count = count.saturating_add(if are_equalities(&entries[at]) {
+                1
+            } else {
+                OTHER
+            });
         }
     }
     count

@@ -1,4 +1,4 @@
-use Rattle.std.proofs.Common.{◌≡◌, ℕ, ◌+◌, ◌*◌, ◌^◌, ◌<◌, ◌∙◌, List, sym, ap, subst, arith}
+use Rattle.std.proofs.Common.{◌≡◌, ℕ, ◌+◌, ◌*◌, ◌^◌, ◌<◌, ◌∙◌, List, sym, ap, subst, take, arith}
 use Rattle.std.proofs.lemmas.Result.{IfOk-weaker, on_ok_weaker}
 use Rattle.bpf_code.specs.declared.insn.Insn.{Insn}
 use Rattle.call_data.specs.declared.sys_call.SysCall.{SysCall}
@@ -13,20 +13,17 @@ use Rattle.compile.specs.Sizes.{AreAsked, Suffices, added_of, steps_at}
 use Rattle.compile.specs.Bounds.{AreBare, conditions_at}
 use Rattle.compile.proofs.Words.{GivesAlways-more}
 use Rattle.compile.proofs.Leaves.{x32_chosen, native_chosen, added_take}
-use Rattle.compile.proofs.Settling.{IfOk-both, enough_some, part, part_adds, part_gives, settled_bare}
+use Rattle.compile.proofs.Settling.{IfOk-both, enough_some, part_gives, settled_bare}
 use Rattle.compile.proofs.leaf.leaf.Goals as goal
 
 pub entries_leaf-requires : goal.entries_leaf-requires
 entries_leaf-requires c =
-    let entries : List Entry = c.as_slice-entries.result.now in
-    let end : ℕ = c.bare_end-end.result.0 in
     record {
       short =
           omega (
             arith,
             c.requires,
-            part_adds entries end c.certain_end-certain.result.0 c.needed.result c.args.nr,
-            added_take entries end c.args.nr,
+            added_take c.as_slice-entries.result.now c.needed_end-end.result.0 c.args.nr,
             ap (λ es. added_of es c.args.nr) c.as_slice-entries.ensures.value,
           );
     }
@@ -53,30 +50,28 @@ returns-clause-gives c =
     let nr : ℕ = c.args.nr in
     let new : List Insn = c.entries_leaf.new.code in
     let entries : List Entry = c.as_slice-entries.result.now in
-    let end : ℕ = c.bare_end-end.result.0 in
-    let certain : ℕ = c.certain_end-certain.result.0 in
-    let last : Decision = c.certain_end-certain.result.1 in
+    let end : ℕ = c.needed_end-end.result.0 in
+    let last : Decision = c.needed_end-end.result.1 in
     let Each : ℕ → Type 0 = λ at. (call : SysCall) → IsCall call
-    → GivesAlways new call at (value_of (decision_of (part entries end certain c.needed.result) last nr call))
-    (steps_at (part entries end certain c.needed.result) nr) in
+    → GivesAlways new call at (value_of (decision_of (take end entries) last nr call))
+    (steps_at (take end entries) nr) in
     let Few : ℕ → Type 0 = λ at. (call : SysCall) (index digits : ℕ) → IsCall call
-    → AreAsked index (part entries end certain c.needed.result) nr
-    → conditions_at (part entries end certain c.needed.result) nr < 2 ^ digits
-    → GivesAlways new call at (value_of (decision_of (part entries end certain c.needed.result) last nr call))
+    → AreAsked index (take end entries) nr
+    → conditions_at (take end entries) nr < 2 ^ digits
+    → GivesAlways new call at (value_of (decision_of (take end entries) last nr call))
     (1 + 12 * digits) in
     let Wanted : ℕ → Type 0 = λ at. (call : SysCall) (most : ℕ) → IsCall call
     → Suffices profile.entries nr most → GivesAlways new call at (chosen profile nr call) most in
     IfOk-both c.entries_leaf.result Each Few Wanted (λ at each few call most is_call enough.
     let same : chosen profile nr call
-    ≡ value_of (decision_of (part entries end certain c.needed.result) last nr call) =
+    ≡ value_of (decision_of (take end entries) last nr call) =
     native_chosen profile nr call c.if-nr-ge-X32_BIT.false
     ∙ ap (λ es. value_of (decision_of es profile.default nr call)) (sym c.as_slice-entries.ensures.value)
-    ∙ ap value_of (c.bare_end-end.ensures.same call ∙ c.certain_end-certain.ensures.same call is_call
-    ∙ c.needed.ensures.same call) in
+    ∙ ap value_of (c.needed_end-end.ensures.same call is_call) in
     let Enough : List Entry → Type 0 = λ es. Suffices es nr most in
     let P : ℕ → Type 0 = λ value. GivesAlways new call at value most in
-    subst P (sym same) (part_gives new call at _ entries end certain c.needed.result nr most
-    c.bare_end-end.ensures.settled c.bare_end-end.ensures.reached (each call is_call)
+    subst P (sym same) (part_gives new call at _ entries end nr most
+    c.needed_end-end.ensures.settled c.needed_end-end.ensures.reached (each call is_call)
     (λ index digits. few call index digits is_call)
     (subst Enough (sym c.as_slice-entries.ensures.value) enough)))
     c.entries_leaf.ensures.gives c.entries_leaf.ensures.balanced
@@ -87,9 +82,7 @@ returns-clause-longer c =
     omega (
       arith,
       longer,
-      added_take c.as_slice-entries.result.now c.bare_end-end.result.0 c.args.nr,
-      part_adds c.as_slice-entries.result.now c.bare_end-end.result.0 c.certain_end-certain.result.0
-          c.needed.result c.args.nr,
+      added_take c.as_slice-entries.result.now c.needed_end-end.result.0 c.args.nr,
       ap (λ es. added_of es c.args.nr) c.as_slice-entries.ensures.value,
     )) c.entries_leaf.ensures.longer
 
@@ -97,12 +90,11 @@ pub returns-clause-bare : goal.returns-clause-bare
 returns-clause-bare c = λ bare.
     let entries : List Entry = c.as_slice-entries.result.now in
     let P : List Entry → Type 0 = λ es. AreBare es in
-    let none = c.bare_end-end.ensures.settled
+    let none = c.needed_end-end.ensures.settled
     (settled_bare entries c.args.nr (subst P (sym c.as_slice-entries.ensures.value) bare)) in
     on_ok_weaker c.entries_leaf.result (λ longer.
     omega (
       arith,
       longer,
       none,
-      part_adds entries c.bare_end-end.result.0 c.certain_end-certain.result.0 c.needed.result c.args.nr,
     )) c.entries_leaf.ensures.longer
