@@ -7,7 +7,7 @@ ghost use Rattle.compile.specs.Ranges.{IsAlike, IsBetween};
 ghost use Rattle.compile.specs.Sizes.{added_of, settles, tree_size};
 
 use crate::ranges::{are_alike, decided};
-use crate::shares::{RANGE, share};
+use crate::shares::{RANGE, are_conditional, share};
 use oci_profile::Profile;
 use std::alloc::{AllocError, Global};
 use std::marker::Model;
@@ -48,20 +48,17 @@ impl Remaining {
     ) -> Result<Remaining, AllocError>
         ensures { IfOk result (λ all. all ≡ starts.items) }
     {
+        let conditional = are_conditional(profile, starts.as_slice());
         let mut kinds = Vec::new(alloc);
-        let mut chain = 1;
         for at in 0..starts.len() {
             let value = decided(profile, starts[at]);
-            if value.is_none() {
-                chain = 2;
-            }
-            let share = share(profile, starts.as_slice(), at);
+            let share = share(profile, starts.as_slice(), at, conditional);
             kinds.push(Kind { value, share })?;
         }
         Ok(Remaining {
             starts,
             kinds,
-            chain,
+            chain: if conditional { 2 } else { 1 },
         })
     }
 

@@ -8,42 +8,58 @@ use oci_profile::{Entry, Profile};
 
 /// The weight of a number with conditions: more than that of most others, since no filter runs for a number
 /// that is always allowed (Linux 5.11), so that mostly these pay for steps.
-const CONDITIONAL: u64 = 22;
+const CONDITIONAL: u64 = 44;
 
 /// What an entry adds that asks for equality alone, and how many of these count.
-const ENTRY: u64 = 4;
+const ENTRY: u64 = 8;
 
 const ENTRIES: u64 = 20;
 
 /// As how many of these another entry counts: more calls pass it.
 const OTHER: u64 = 10;
 
-/// The weight of a range by itself, what each of its numbers adds, and how many of these count.
-pub(crate) const RANGE: u64 = 1;
+/// The weight of a range by itself.
+pub(crate) const RANGE: u64 = 2;
 
-const NUMBER: u64 = 2;
+/// What each of its numbers adds, and how many of these count.
+const NUMBER: u64 = 4;
 
 const NUMBERS: u64 = 128;
 
-/// The weight of a range where tests are put in order: the heavier it is, the fewer lead to it.
-pub(crate) fn share(profile: &Profile, starts: &[u32], at: usize) -> u64
-    requires { at < length starts.now }
-{
-    if decided(profile, starts[at]).is_some() {
-        return RANGE + NUMBER * numbers(starts, at);
-    }
-    CONDITIONAL + ENTRY * asked(profile, starts[at]).min(ENTRIES)
+/// How many count where no number has conditions, each as 1: then ranges of few numbers weigh more beside
+/// large ones, and filters of plain lists are shorter.
+const PLAIN_NUMBERS: u64 = 72;
+
+/// Whether some number has conditions.
+pub(crate) fn are_conditional(profile: &Profile, starts: &[u32]) -> bool {
+    starts
+        .iter()
+        .any(|start| decided(profile, *start).is_none())
 }
 
-/// How many numbers of the range count.
+/// The weight of a range where tests are put in order: the heavier it is, the fewer lead to it.
+pub(crate) fn share(profile: &Profile, starts: &[u32], at: usize, conditional: bool) -> u64
+    requires { at < length starts.now }
+{
+    if decided(profile, starts[at]).is_none() {
+        return CONDITIONAL + ENTRY * asked(profile, starts[at]).min(ENTRIES);
+    }
+    let numbers = numbers(starts, at);
+    if conditional {
+        RANGE + NUMBER * numbers.min(NUMBERS)
+    } else {
+        RANGE + numbers.min(PLAIN_NUMBERS)
+    }
+}
+
+/// How many numbers the range has, the x32 interface being one.
 fn numbers(starts: &[u32], at: usize) -> u64
     requires { at < length starts.now }
-    ensures { result ≤ NUMBERS }
 {
     if at + 1 == starts.len() {
         return 1;
     }
-    u64::from(starts[at + 1].saturating_sub(starts[at])).min(NUMBERS)
+    u64::from(starts[at + 1].saturating_sub(starts[at]))
 }
 
 /// How many equalities the entries that are needed for the number count as.
