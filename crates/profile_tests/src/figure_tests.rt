@@ -48,7 +48,7 @@ fn figures_of_the_default(rt: HostRuntime) -> Result<(), Fail> {
         }
     }
     assert!(rt; plain <= 12, "{plain}");
-    assert!(rt; with_args <= 15, "{with_args}");
+    assert!(rt; with_args <= 16, "{with_args}");
     Ok(())
 }
 
