@@ -6,6 +6,7 @@ pub mod Leaves
 pub mod Deciding
 pub mod Scanning
 pub mod Splitting
+pub mod Passing
 pub mod Trees
 pub mod Weights
 pub mod Assembled

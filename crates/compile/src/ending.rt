@@ -1,4 +1,4 @@
-ghost use Rattle.std.specs.Prelude.{◌≡◌, ◌≤◌, length, take, IfSome, IsTrue, ℕ, true, false};
+ghost use Rattle.std.specs.Prelude.{◌≡◌, ◌≢◌, ◌≤◌, length, take, IfSome, IsSome, IsTrue, None, ℕ, true, false};
 ghost use Rattle.std.specs.Bool.{OnFalse};
 ghost use Rattle.call_data.specs.declared.sys_call.SysCall.{SysCall};
 ghost use Rattle.call_data.specs.CallData.{IsCall};
@@ -10,11 +10,11 @@ use crate::hiding::implies;
 use oci_profile::{Cond, Decision, Entry, Op};
 
 /// Whether the entry decides the number without a condition.
-pub(crate) fn decides(entry: &Entry, nr: u32) -> bool
+fn decides(entry: &Entry, nr: u32) -> bool
     ensures yes { IsTrue result → (names entry.now nr ≡ true) × IsBare entry.now }
     ensures no { OnFalse result (IsBare entry.now → names entry.now nr ≡ false) }
 {
-    entry.names(nr) && entry.conds.as_slice().is_empty()
+    entry.conds.as_slice().is_empty() && entry.names(nr)
 }
 
 /// How many entries come before the first that decides the number without a condition, and the decision after
@@ -36,8 +36,9 @@ fn bare_end(entries: &[Entry], default: Decision, nr: u32) -> (usize, Decision)
 
 /// The comparison that holds where this one doesn't.
 fn opposite(op: Op) -> Option<Op>
-    ensures { IfSome result (λ other. (value two arg : ℕ) → compares op value two arg ≡ false
+    ensures opposite { IfSome result (λ other. (value two arg : ℕ) → compares op value two arg ≡ false
         → compares other value two arg ≡ true) }
+    ensures none { result ≡ None → op ≡ Op.MaskedEqual }
 {
     match op {
         Op::NotEqual => Some(Op::Equal),
@@ -52,8 +53,9 @@ fn opposite(op: Op) -> Option<Op>
 
 /// The condition that holds where this one doesn't.
 fn without(cond: &Cond) -> Option<Cond>
-    ensures { IfSome result (λ other. (call : SysCall) → holds_on cond.now call ≡ false
+    ensures opposite { IfSome result (λ other. (call : SysCall) → holds_on cond.now call ≡ false
         → holds_on other call ≡ true) }
+    ensures none { result ≡ None → cond.now.op ≡ Op.MaskedEqual }
 {
     let op = opposite(cond.op)?;
     Some(Cond { op, ..*cond })
@@ -82,9 +84,10 @@ fn all_where(conds: &[Cond], fact: &Cond) -> bool
 
 /// Whether the entry names the number and decides something else than this.
 fn differs(entry: &Entry, last: &Decision, nr: u32) -> bool
-    ensures { OnFalse result (names entry.now nr ≡ true → entry.now.decision ≡ last.now) }
+    ensures yes { IsTrue result → (names entry.now nr ≡ true) × (entry.now.decision ≢ last.now) }
+    ensures no { OnFalse result (names entry.now nr ≡ true → entry.now.decision ≡ last.now) }
 {
-    entry.names(nr) && entry.decision != *last
+    entry.decision != *last && entry.names(nr)
 }
 
 /// Whether the entries come to this decision on each call of which the condition holds.
@@ -136,14 +139,22 @@ fn next_decision(entries: &[Entry], last: Decision, nr: u32) -> Decision {
     last
 }
 
-/// Whether what is decided is certain wherever this entry doesn't apply.
+/// What is decided wherever this entry doesn't apply, if it names the number and that is certain.
 #[tactic(auto, unfolding(oci_profile::specs::Meaning::all_hold))]
-fn is_last(entry: &Entry, entries: &[Entry], last: &Decision, value: &Decision, nr: u32) -> bool
-    ensures yes { IsTrue result → names entry.now nr ≡ true }
-    ensures rest { IsTrue result → (call : SysCall) → IsCall call → all_hold entry.now call ≡ false
-        → decision_of entries.now last.now nr call ≡ value.now }
+fn certain_rest(entry: &Entry, entries: &[Entry], last: &Decision, nr: u32) -> Option<Decision>
+    ensures yes { IsSome result → names entry.now nr ≡ true }
+    ensures rest { IfSome result (λ value. (call : SysCall) → IsCall call → all_hold entry.now call ≡ false
+        → decision_of entries.now last.now nr call ≡ value) }
 {
-    entry.names(nr) && is_decided_without(entry.conds.as_slice(), entries, last, value, nr)
+    if !entry.names(nr) {
+        return None;
+    }
+    let value = next_decision(entries, *last, nr);
+    if is_decided_without(entry.conds.as_slice(), entries, last, &value, nr) {
+        Some(value)
+    } else {
+        None
+    }
 }
 
 /// How many entries are needed before one decision is certain, and that decision. What an entry behind them
@@ -154,9 +165,7 @@ fn certain_end(entries: &[Entry], last: Decision, nr: u32) -> (usize, Decision)
         ≡ decision_of (take result.0 entries.now) result.1 nr call }
 {
     for (at, entry) in entries.iter().enumerate() {
-        let rest = &entries[at + 1..];
-        let value = next_decision(rest, last, nr);
-        if is_last(entry, rest, &last, &value, nr) {
+        if let Some(value) = certain_rest(entry, &entries[at + 1..], &last, nr) {
             return (at + 1, value);
         }
     }

@@ -6,11 +6,10 @@ ghost use Rattle.oci_profile.specs.Decision.{value_of};
 ghost use Rattle.oci_profile.specs.Entries.{AreEntries};
 ghost use Rattle.oci_profile.specs.Meaning.{chosen, decision_of};
 ghost use Rattle.sys_table.specs.declared.table.TheConstants.{NUMBER_LIMIT};
-ghost use Rattle.compile.specs.Bounds.{named, named_below};
+ghost use Rattle.compile.specs.Bounds.{IsBare, named, named_below};
 ghost use Rattle.compile.specs.Ranges.{AreRanges};
 ghost use Rattle.compile.specs.Sizes.{added_below, settles, tree_size};
 
-use crate::ending::decides;
 use oci_profile::{Decision, Entry, Profile, X32_BIT};
 use std::alloc::{AllocError, Global};
 use sys_table::NUMBER_LIMIT;
@@ -30,6 +29,17 @@ pub(crate) fn decided(profile: &Profile, nr: u32) -> Option<u32>
     decided_by(entries, profile.default, nr)
 }
 
+/// What the entry returns, if it has no condition.
+fn bare_value(entry: &Entry) -> Option<u32>
+    ensures { IfSome result (λ value. IsBare entry.now × (value_of entry.now.decision ≡ value)) }
+{
+    if entry.conds.as_slice().is_empty() {
+        Some(entry.decision.value())
+    } else {
+        None
+    }
+}
+
 fn decided_by(entries: &[Entry], default: Decision, nr: u32) -> Option<u32>
     ensures value { IfSome result (λ value. (call : SysCall)
         → value_of (decision_of entries.now default nr call) ≡ value) }
@@ -37,11 +47,8 @@ fn decided_by(entries: &[Entry], default: Decision, nr: u32) -> Option<u32>
     ensures settled { IfSome result (λ _. settles entries.now nr ≡ true) }
 {
     for entry in entries {
-        if decides(entry, nr) {
-            return Some(entry.decision.value());
-        }
         if entry.names(nr) {
-            return None;
+            return bare_value(entry);
         }
     }
     Some(default.value())

@@ -1,5 +1,5 @@
 ghost use Rattle.std.specs.Prelude.{◌≡◌, ◌≢◌, ◌≤◌, ◌<◌, ◌+◌, ◌-◌, ℕ, List, length, IfOk, IsTrue};
-ghost use Rattle.std.specs.Prelude.{slice_index, true};
+ghost use Rattle.std.specs.Prelude.{min, slice_index, slice_range, true};
 ghost use Rattle.std.specs.List.{remove};
 ghost use Rattle.call_data.specs.declared.sys_call.SysCall.{SysCall};
 ghost use Rattle.oci_profile.specs.Meaning.{chosen};
@@ -7,7 +7,7 @@ ghost use Rattle.compile.specs.Ranges.{IsAlike, IsBetween};
 ghost use Rattle.compile.specs.Sizes.{added_of, settles, tree_size};
 
 use crate::ranges::{are_alike, decided};
-use crate::shares::{RANGE, are_conditional, share};
+use crate::shares::{RANGE, asked_share, numbers_share};
 use oci_profile::Profile;
 use std::alloc::{AllocError, Global};
 use std::marker::Model;
@@ -48,12 +48,21 @@ impl Remaining {
     ) -> Result<Remaining, AllocError>
         ensures { IfOk result (λ all. all ≡ starts.items) }
     {
-        let conditional = are_conditional(profile, starts.as_slice());
+        let mut values = Vec::new(alloc);
+        for start in starts.as_slice() {
+            values.push(decided(profile, *start))?;
+        }
+        let conditional = values.as_slice().iter().any(|value| value.is_none());
         let mut kinds = Vec::new(alloc);
-        for at in 0..starts.len() {
-            let value = decided(profile, starts[at]);
-            let share = share(profile, starts.as_slice(), at, conditional);
-            kinds.push(Kind { value, share })?;
+        for (at, value) in values.as_slice().iter().enumerate() {
+            let share = match value {
+                Some(_) => numbers_share(starts.as_slice(), at, conditional),
+                None => asked_share(profile, starts[at]),
+            };
+            kinds.push(Kind {
+                value: *value,
+                share,
+            })?;
         }
         Ok(Remaining {
             starts,
@@ -107,13 +116,17 @@ impl Remaining {
         self.starts[at + 1] - self.starts[at] == 1
     }
 
-    fn copy(&self, alloc: Global) -> Result<Remaining, AllocError>
-        ensures { IfOk result (λ same. same ≡ self.now) }
+    /// The ranges from one to another by themselves, with the one behind them, which is where they end.
+    fn part(&self, alloc: Global, from: usize, to: usize) -> Result<Remaining, AllocError>
+        requires some { from < to }
+        requires to_in { to ≤ length self.now }
+        ensures { IfOk result (λ part. part ≡ slice_range self.now from (min (length self.now) (to + 1))) }
     {
+        let end = self.len().min(to.saturating_add(1));
         let mut starts = Vec::new(alloc);
-        starts.extend_from_slice(self.starts.as_slice())?;
+        starts.extend_from_slice(&self.starts.as_slice()[from..end])?;
         let mut kinds = Vec::new(alloc);
-        kinds.extend_from_slice(self.kinds.as_slice())?;
+        kinds.extend_from_slice(&self.kinds.as_slice()[from..end])?;
         Ok(Remaining {
             starts,
             kinds,
@@ -155,7 +168,7 @@ impl Remaining {
     }
 
     /// What remains of the ranges from one to another where a test of a number, which is a range by itself,
-    /// failed, and where they end. If the ranges around it are treated alike, they become one.
+    /// failed, and how many these are. If the ranges around it are treated alike, they become one.
     pub(crate) fn past(
         &self,
         alloc: Global,
@@ -169,24 +182,25 @@ impl Remaining {
         requires to_in { to ≤ length self.now }
         requires inside { at + 1 < length self.now }
         requires single { slice_index self.now (at + 1) ≡ slice_index self.now at + 1 }
-        ensures fewer { IfOk result (λ rest. rest.1 < to) }
-        ensures some { IfOk result (λ rest. from + 1 < to → from < rest.1) }
+        ensures fewer { IfOk result (λ rest. rest.1 < to - from) }
+        ensures some { IfOk result (λ rest. from + 1 < to → 0 < rest.1) }
         ensures inside { IfOk result (λ rest. rest.1 ≤ length rest.0) }
         ensures between { IfOk result (λ rest. (nr : ℕ) → nr ≢ slice_index self.now at
-            → IsBetween self.now from to nr → IsBetween rest.0 from rest.1 nr) }
+            → IsBetween self.now from to nr → IsBetween rest.0 0 rest.1 nr) }
         ensures alike { IfOk result (λ rest. (call : SysCall) → call.nr ≢ slice_index self.now at
-            → IsAlike profile.now self.now call → IsAlike profile.now rest.0 call) }
-        ensures short { IfOk result (λ rest. tree_size profile.now rest.0 from (rest.1 - from)
+            → IsAlike profile.now self.now from to call → IsAlike profile.now rest.0 0 rest.1 call) }
+        ensures short { IfOk result (λ rest. tree_size profile.now rest.0 0 rest.1
             + (added_of profile.now.entries (slice_index self.now at) + 3)
             ≤ tree_size profile.now self.now from (to - from)) }
     {
-        let mut rest = self.copy(alloc)?;
-        rest.remove(at);
-        let end = to - 1;
-        if from < at && at < end && rest.is_joined(profile, at) {
-            rest.join(at);
-            return Ok((rest, end - 1));
+        let mut rest = self.part(alloc, from, to)?;
+        let tested = at - from;
+        rest.remove(tested);
+        let many = to - from - 1;
+        if 0 < tested && tested < many && rest.is_joined(profile, tested) {
+            rest.join(tested);
+            return Ok((rest, many - 1));
         }
-        Ok((rest, end))
+        Ok((rest, many))
     }
 }

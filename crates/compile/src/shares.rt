@@ -3,7 +3,6 @@ ghost use Rattle.std.specs.Prelude.{◌≤◌, ◌<◌, length};
 use crate::condition::is_equal;
 use crate::ending::needed_end;
 use crate::hiding::is_hidden;
-use crate::ranges::decided;
 use oci_profile::{Entry, Profile};
 
 /// The weight of a number with conditions: more than that of most others, since no filter runs for a number
@@ -30,20 +29,16 @@ const NUMBERS: u64 = 128;
 /// large ones, and filters of plain lists are shorter.
 const PLAIN_NUMBERS: u64 = 72;
 
-/// Whether some number has conditions.
-pub(crate) fn are_conditional(profile: &Profile, starts: &[u32]) -> bool {
-    starts
-        .iter()
-        .any(|start| decided(profile, *start).is_none())
+/// The weight of a number with conditions where tests are put in order: the heavier a range is, the fewer
+/// lead to it.
+pub(crate) fn asked_share(profile: &Profile, nr: u32) -> u64 {
+    CONDITIONAL + ENTRY * asked(profile, nr).min(ENTRIES)
 }
 
-/// The weight of a range where tests are put in order: the heavier it is, the fewer lead to it.
-pub(crate) fn share(profile: &Profile, starts: &[u32], at: usize, conditional: bool) -> u64
+/// The weight of a range whose numbers alone decide, where some number has conditions or none has.
+pub(crate) fn numbers_share(starts: &[u32], at: usize, conditional: bool) -> u64
     requires { at < length starts.now }
 {
-    if decided(profile, starts[at]).is_none() {
-        return CONDITIONAL + ENTRY * asked(profile, starts[at]).min(ENTRIES);
-    }
     let numbers = numbers(starts, at);
     if conditional {
         RANGE + NUMBER * numbers.min(NUMBERS)

@@ -13,5 +13,5 @@ loop-end-preserved c =
           ∙ ap (λ n. decision_of (take n c.args.entries.now) c.args.last.now c.args.nr call) (sym last_one)
           ∙ needless_at c.args.entries.now c.args.last.now c.args.nr before call c.index-entries-end.result
           (omega (arith, c.loop-end.invariant.0, c.loop-end-test.true)) c.index-entries-end.is
-          c.if-not-differs.ensures,
+          c.if-not-differs.ensures.no,
     )
