@@ -4,11 +4,12 @@ use Rattle.std.proofs.Common.{slice_get, refl, sym, ap, ◌∙◌, arith, inl, i
 use Rattle.std.proofs.Common.{OnOk, Bool, true, false, cond}
 use Rattle.std.proofs.lemmas.Option.{same_Some}
 use Rattle.bpf_code.specs.declared.insn.Insn.{Insn}
-use Rattle.bpf_code.specs.declared.operation.Operation.TheVariants.{ReturnK}
+use Rattle.bpf_code.specs.declared.operation.Operation.TheVariants.{LoadData, ReturnK}
 use Rattle.bpf_code.specs.declared.operation.Operation.{Operation}
 use Rattle.std.specs.declared.alloc.AllocError.{AllocError}
 use Rattle.call_data.specs.declared.sys_call.SysCall.{SysCall}
 use Rattle.compile.specs.Backward.{LeadsTo, Gives, Keeps, Puts, IsBackward, PointsInside, Returns, BranchesTo}
+use Rattle.compile.specs.Backward.{data_word}
 use Rattle.compile.specs.Tests.{operation_of, holds_of}
 use Rattle.compile.specs.declared.code.Test.{Test}
 use Rattle.compile.specs.declared.code.Test.TheVariants.{Equal, Greater, GreaterOrEqual}
@@ -106,6 +107,26 @@ return_value code call at a value most insn stands op (leads other other_stands 
     (same_Some other insn (sym other_stands ∙ stands)) ∙ op in
     let P : Operation → Type 0 = λ o. LeadsTo o call other at a to b in
     absurd (subst P returns to_is)
+
+-- at a load nothing is given but what is given behind it with the word in A
+pub load_past : (code : List Insn) (call : SysCall) (at a value most : ℕ) (insn : Insn)
+    → slice_get code at ≡ Some insn → insn.op ≡ LoadData → Gives code call at a value most
+    → Gives code call (at - 1) (data_word call insn.k) value most
+load_past code call at a value most insn stands op (ends other other_stands other_op is some) =
+    let same : other.op ≡ LoadData = ap (λ (i : Insn). i.op)
+    (same_Some other insn (sym other_stands ∙ stands)) ∙ op in
+    absurd (cc)
+load_past code call at a value most insn stands op (leads other other_stands to b left to_is less on) =
+    let whole = same_Some other insn (sym other_stands ∙ stands) in
+    let P : Operation → Type 0 = λ o. LeadsTo o call other at a to b in
+    let loads : (to + 1 ≡ at) × (b ≡ data_word call other.k) =
+    subst P (ap (λ (i : Insn). i.op) whole ∙ op) to_is in
+    let before : to ≡ at - 1 = omega (arith, loads.0) in
+    let word : b ≡ data_word call insn.k = loads.1 ∙ ap (λ (i : Insn). data_word call i.k) whole in
+    let Q : ℕ → Type 0 = λ t. Gives code call t (data_word call insn.k) value left in
+    let R : ℕ → Type 0 = λ w. Gives code call to w value left in
+    gives_more code call (at - 1) (data_word call insn.k) value left most (subst Q before (subst R word on))
+    (omega (arith, less))
 
 -- a copy of a return that stands further behind
 pub copy_gives : (insn : Insn) (old new : List Insn) (call : SysCall) (at a value most : ℕ)

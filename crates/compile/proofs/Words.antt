@@ -202,6 +202,34 @@ turns_to old mid call true hit miss other a value most more keeps larger then_ot
     gives_more mid call hit a value most more (keeps call hit a value most gives) larger
 turns_to old mid call false hit miss other a value most more keeps larger then_other gives = then_other gives
 
+-- one of two places, each behind the load of what is in A, if it begins with that
+pub past_either : (code : List Insn) (call : SysCall) (holds : Bool)
+    (hit miss past_hit past_miss a value most : ℕ)
+    → ((v m : ℕ) → GivesAlways code call hit v m → Gives code call past_hit a v m)
+    → ((v m : ℕ) → GivesAlways code call miss v m → Gives code call past_miss a v m)
+    → GivesAlways code call (cond holds hit miss) value most
+    → Gives code call (cond holds past_hit past_miss) a value most
+past_either code call true hit miss past_hit past_miss a value most hits misses gives = hits value most gives
+past_either code call false hit miss past_hit past_miss a value most hits misses gives =
+    misses value most gives
+
+-- one of three places, of which two are such, the other two by a branch in front of the first
+pub past_order : (old mid : List Insn) (call : SysCall) (over same : Bool)
+    (above equal below past_above past_below other a value most more : ℕ) → Keeps old mid → most ≤ more
+    → ((v m : ℕ) → GivesAlways mid call above v m → Gives mid call past_above a v m)
+    → ((v m : ℕ) → GivesAlways old call below v m → Gives old call past_below a v m)
+    → (Gives old call (cond same equal past_below) a value most → Gives mid call other a value more)
+    → GivesAlways old call (cond over above (cond same equal below)) value most
+    → Gives mid call (cond over past_above other) a value more
+past_order old mid call true same above equal below past_above past_below other a value most more keeps
+    larger aboves belows then_other gives =
+    gives_more mid call past_above a value most more
+    (aboves value most (λ b. keeps call above b value most (gives b))) larger
+past_order old mid call false true above equal below past_above past_below other a value most more keeps
+    larger aboves belows then_other gives = then_other (gives a)
+past_order old mid call false false above equal below past_above past_below other a value most more keeps
+    larger aboves belows then_other gives = then_other (belows value most gives)
+
 -- the opposite test, with the places the other way round
 pub by_opposite : (code : List Insn) (call : SysCall) (one other : Bool) (hit miss value most : ℕ)
     → one ≡ not other

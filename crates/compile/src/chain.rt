@@ -1,5 +1,5 @@
 ghost use Rattle.std.specs.Prelude.{◌≡◌, All, drop, ◌≤◌, ◌<◌, ◌+◌, ◌-◌, ◌*◌, ◌==◌, ℕ, None, Some, length};
-ghost use Rattle.std.specs.Prelude.{IfOk, IfSome, OnOk, if◌then◌else◌, slice_index, ◌⊎◌};
+ghost use Rattle.std.specs.Prelude.{IfOk, IfSome, OnOk, if◌then◌else◌, slice_index};
 ghost use Rattle.call_data.specs.declared.sys_call.SysCall.{SysCall};
 ghost use Rattle.call_data.specs.CallData.{IsCall};
 ghost use Rattle.oci_profile.specs.Conditions.{AreConds};
@@ -114,18 +114,6 @@ fn shared(known: Option<Known>, len: usize, index: u32, high: u32, value: u32) -
     }
 }
 
-/// Where the chain goes on with the low half of this argument in A: behind the load of that half, if it begins
-/// with it, else at the place where it is settled.
-fn past_load(chain: Chain, index: u32, settled: usize) -> usize
-    ensures { (result ≡ settled) ⊎ ((result ≡ chain.place) × (known : Known) × (chain.known ≡ Some known)
-        × (known.index ≡ index)) }
-{
-    match chain.known {
-        Some(known) if known.index == index => chain.place,
-        _ => settled,
-    }
-}
-
 /// The place of a check of an argument's high half, and the place to go to if its low half, which is in A,
 /// already differs. If the chain has this check, it is shared; a half that it tests too is not loaded again.
 fn check_of(
@@ -157,7 +145,7 @@ fn check_of(
     let place = settle(code, chain)?;
     let hit = code.value(value)?;
     let check = test_word(code, 20 + 8 * index, Test::Equal, high, hit, place)?;
-    Ok((check, past_load(chain, index, place)))
+    Ok((check, code.past_load(place, 16 + 8 * index)))
 }
 
 /// Puts an entry in front whose condition is that an argument equals a number. If the one before compares the

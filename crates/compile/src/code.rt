@@ -3,11 +3,12 @@ ghost use Rattle.std.specs.Prelude.{slice_get, length, IfOk, IfSome, OnOk, IsTru
 ghost use Rattle.std.specs.Prelude.{◌==◌, nat_lt, nat_le};
 ghost use Rattle.bpf_code.specs.declared.insn.Insn.{Insn};
 ghost use Rattle.bpf_code.specs.declared.limits.TheConstants.{DATA_LEN, MAX_INSNS};
-ghost use Rattle.bpf_code.specs.declared.operation.Operation.TheVariants.{ReturnK};
+ghost use Rattle.bpf_code.specs.declared.operation.Operation.TheVariants.{LoadData, ReturnK};
 ghost use Rattle.call_data.specs.declared.sys_call.SysCall.{SysCall};
 ghost use Rattle.bpf_verify.specs.Sound.{IsSound};
 ghost use Rattle.bpf_machine.specs.Runs.{Runs};
-ghost use Rattle.compile.specs.Backward.{Gives, IsBackward, Keeps, PointsInside, Puts, Returns, data_word};
+ghost use Rattle.compile.specs.Backward.{Gives, GivesAlways, IsBackward, Keeps, PointsInside, Puts, Returns};
+ghost use Rattle.compile.specs.Backward.{data_word};
 ghost use Rattle.compile.specs.Tests.{holds_of, operation_of};
 ghost use Rattle.compile.specs.declared.code.TheConstants.{REACH, RECENT};
 
@@ -156,6 +157,23 @@ impl Code {
         })
     }
 
+    /// Where to go on in the place of this one if A has the word at this offset: if that is what is loaded
+    /// first, it need not be loaded again.
+    pub(crate) fn past_load(&self, place: usize, offset: u32) -> usize
+        requires { place < length self.now }
+        ensures gives { (call : SysCall) (value most : ℕ) → GivesAlways self.now call place value most
+            → Gives self.now call result (data_word call offset) value most }
+        ensures inside { result < length self.now }
+        ensures near { length self.now ≤ place + 1 + REACH → length self.now ≤ result + 1 + REACH }
+    {
+        let insn = self.at(place);
+        if is_load(insn.op) && insn.k == offset && self.len() - place <= REACH {
+            place - 1
+        } else {
+            place
+        }
+    }
+
     /// Keeps only these bits of A, and goes on with the code.
     pub(crate) fn mask(&mut self, bits: u32) -> Result<usize, AllocError>
         requires some { 0 < length self.old }
@@ -259,6 +277,12 @@ fn turned(mut insns: Vec<Insn>) -> Vec<Insn>
 {
     insns.as_mut_slice().reverse();
     insns
+}
+
+fn is_load(op: Operation) -> bool
+    ensures { IsTrue result → op ≡ LoadData }
+{
+    matches!(op, Operation::LoadData)
 }
 
 fn is_return(op: Operation) -> bool

@@ -39,7 +39,7 @@ pub(crate) fn words()
     words_of_fields();
 }
 
-/// Tests a word of the call's data against a number.
+/// Tests a word of the call's data against a number. What loads the same word next need not.
 pub(crate) fn test_word(
     code: &mut Code,
     offset: u32,
@@ -62,6 +62,8 @@ pub(crate) fn test_word(
     ensures keeps { Keeps code.old code.new }
     ensures grows { length code.old ≤ length code.new }
 {
+    let hit = code.past_load(hit, offset);
+    let miss = code.past_load(miss, offset);
     code.jump(test, k, hit, miss)?;
     code.load(offset)
 }
@@ -95,7 +97,8 @@ fn test_bits(
     code.load(offset)
 }
 
-/// Branches to one of three places, as a word is above, equal to or below a number.
+/// Branches to one of three places, as a word is above, equal to or below a number. Above and below, what
+/// loads the same word next need not.
 fn test_order(
     code: &mut Code,
     offset: u32,
@@ -121,7 +124,9 @@ fn test_order(
     ensures keeps { Keeps code.old code.new }
     ensures grows { length code.old ≤ length code.new }
 {
+    let below = code.past_load(below, offset);
     let other = code.jump(Test::Equal, k, equal, below)?;
+    let above = code.past_load(above, offset);
     code.jump(Test::Greater, k, above, other)?;
     code.load(offset)
 }
