@@ -111,7 +111,7 @@ return_value code call at a value most insn stands op (leads other other_stands 
 -- at a load nothing is given but what is given behind it with the word in A
 pub load_past : (code : List Insn) (call : SysCall) (at a value most : ℕ) (insn : Insn)
     → slice_get code at ≡ Some insn → insn.op ≡ LoadData → Gives code call at a value most
-    → Gives code call (at - 1) (data_word call insn.k) value most
+    → (less : ℕ) × (less < most) × Gives code call (at - 1) (data_word call insn.k) value less
 load_past code call at a value most insn stands op (ends other other_stands other_op is some) =
     let same : other.op ≡ LoadData = ap (λ (i : Insn). i.op)
     (same_Some other insn (sym other_stands ∙ stands)) ∙ op in
@@ -125,8 +125,7 @@ load_past code call at a value most insn stands op (leads other other_stands to 
     let word : b ≡ data_word call insn.k = loads.1 ∙ ap (λ (i : Insn). data_word call i.k) whole in
     let Q : ℕ → Type 0 = λ t. Gives code call t (data_word call insn.k) value left in
     let R : ℕ → Type 0 = λ w. Gives code call to w value left in
-    gives_more code call (at - 1) (data_word call insn.k) value left most (subst Q before (subst R word on))
-    (omega (arith, less))
+    (left, less, subst Q before (subst R word on))
 
 -- a copy of a return that stands further behind
 pub copy_gives : (insn : Insn) (old new : List Insn) (call : SysCall) (at a value most : ℕ)

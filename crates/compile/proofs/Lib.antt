@@ -1,4 +1,5 @@
 pub mod Building
+pub mod Branching
 pub mod Turning
 pub mod Words
 pub mod Links

@@ -1,5 +1,5 @@
-ghost use Rattle.std.specs.Prelude.{◌≡◌, All, drop, ◌≤◌, ◌<◌, ◌+◌, ◌-◌, ◌*◌, ◌==◌, ℕ, None, Some, length};
-ghost use Rattle.std.specs.Prelude.{IfOk, IfSome, OnOk, if◌then◌else◌, slice_index};
+ghost use Rattle.std.specs.Prelude.{◌≡◌, All, drop, take, ◌≤◌, ◌<◌, ◌+◌, ◌-◌, ◌*◌, ◌==◌, ℕ, None, Some, length};
+ghost use Rattle.std.specs.Prelude.{IfOk, IfSome, OnOk, if◌then◌else◌, slice_index, true};
 ghost use Rattle.call_data.specs.declared.sys_call.SysCall.{SysCall};
 ghost use Rattle.call_data.specs.CallData.{IsCall};
 ghost use Rattle.oci_profile.specs.Conditions.{AreConds};
@@ -12,6 +12,7 @@ ghost use Rattle.compile.specs.declared.code.TheConstants.{REACH, RECENT};
 use crate::code::{Code, REACH, RECENT, Test};
 use crate::condition::{is_equal, test_condition};
 use crate::halves::{high, low, test_word, words};
+use crate::settled::past_settled;
 use oci_profile::{Cond, Entry};
 use std::alloc::AllocError;
 
@@ -53,8 +54,8 @@ pub(crate) fn settle(code: &mut Code, chain: Chain) -> Result<usize, AllocError>
     }
 }
 
-/// Tests the conditions from this one on, the last one first: branches to one place if all hold, else to the
-/// other.
+/// Tests the conditions from this one on, those before it being met, the last one first: branches to one
+/// place if all hold, else to the other, behind the tests there that the conditions before settle.
 fn test_all(
     code: &mut Code,
     conds: &[Cond],
@@ -70,6 +71,7 @@ fn test_all(
     requires hit_recent { length code.old ≤ hit + RECENT }
     requires miss_near { length code.old + 6 * (length conds.now - from) + 5 ≤ miss + 1 + REACH }
     ensures gives { IfOk result (λ at. (call : SysCall) (value most : ℕ) → IsCall call
+        → all_of (take from conds.now) call ≡ true
         → GivesAlways code.old call (if all_of (drop from conds.now) call then hit else miss) value most
         → GivesAlways code.new call at value (most + 6 * (length conds.now - from))) }
     ensures inside { IfOk result (λ at. at < length code.new) }
@@ -82,6 +84,7 @@ fn test_all(
         return Ok(hit);
     }
     let rest = test_all(code, conds, from + 1, hit, miss)?;
+    let miss = past_settled(code, &conds[..from], miss);
     test_condition(code, &conds[from], rest, miss)
 }
 

@@ -77,7 +77,7 @@ impl Code {
     }
 
     /// The instruction at a place.
-    fn at(&self, place: usize) -> Insn
+    pub(crate) fn at(&self, place: usize) -> Insn
         requires { place < length self.now }
         ensures stands { slice_get self.now place ≡ Some result }
         ensures inside { PointsInside result.op result place }
@@ -279,7 +279,7 @@ fn turned(mut insns: Vec<Insn>) -> Vec<Insn>
     insns
 }
 
-fn is_load(op: Operation) -> bool
+pub(crate) fn is_load(op: Operation) -> bool
     ensures { IsTrue result → op ≡ LoadData }
 {
     matches!(op, Operation::LoadData)

@@ -3,8 +3,9 @@
 //! A filter's value is what its profile says, `specs/Meaning.antt` of `oci_profile`, at every call. Code is
 //! built from its end, so that places do not change while more is put in front (`code.rt`): first a number's
 //! entries (`leaf.rt`) as far as they are needed (`ending.rt`, `hiding.rt`), in tests of 32-bit halves, one
-//! after another (`chain.rt`) or as a choice by one argument (`fan.rt`, `equals.rt`), then a tree over ranges
-//! of numbers that are treated alike (`tree.rt`), then the test of the architecture (`compiler.rt`).
+//! after another but for those that are settled (`chain.rt`, `settled.rt`) or as a choice by one argument
+//! (`fan.rt`, `equals.rt`), then a tree over ranges of numbers that are treated alike (`tree.rt`), then the
+//! test of the architecture (`compiler.rt`).
 #![tactic(auto)]
 
 mod arms;
@@ -26,6 +27,7 @@ mod plan;
 mod points;
 mod ranges;
 mod remaining;
+mod settled;
 mod shares;
 mod tree;
 mod weight;
