@@ -98,7 +98,7 @@ gives_more code call at a value most more (leads insn stands to b left to_is les
     leads insn stands to b left to_is (omega arith) on
 
 -- at a return nothing but its value is given
-return_value : (code : List Insn) (call : SysCall) (at a value most : ℕ) (insn : Insn)
+pub return_value : (code : List Insn) (call : SysCall) (at a value most : ℕ) (insn : Insn)
     → slice_get code at ≡ Some insn → insn.op ≡ ReturnK → Gives code call at a value most → value ≡ insn.k
 return_value code call at a value most insn stands op (ends other other_stands other_op is some) =
     is ∙ ap (λ (i : Insn). i.k) (same_Some other insn (sym other_stands ∙ stands))

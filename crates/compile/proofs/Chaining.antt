@@ -1,11 +1,11 @@
 -- What the entries of a profile decide of one number, as chains from the last entry to the first.
-use Rattle.std.proofs.Common.{◌≡◌, ℕ, ◌+◌, ◌-◌, ◌*◌, ◌<◌, ◌≤◌, inl, inr, Bool, true, false, cond, List, []}
+use Rattle.std.proofs.Common.{◌≡◌, ℕ, ◌+◌, ◌*◌, ◌<◌, ◌≤◌, inl, inr, Bool, true, false, cond, List, []}
 use Rattle.std.proofs.Common.{◌∷◌, ◌++◌, Option, Some, None, length, refl, sym, ap, ◌∙◌, subst, arith, drop}
 use Rattle.std.proofs.Common.{take, get_or}
 use Rattle.std.specs.Prelude.{◌||◌}
 use Rattle.std.specs.List.{list_any}
 use Rattle.std.proofs.lemmas.Bool.{cases_Bool}
-use Rattle.std.proofs.lemmas.List.{take_more, drop_all}
+use Rattle.std.proofs.lemmas.List.{take_more}
 use Rattle.std.proofs.lemmas.List.Folds.{list_any-append}
 use Rattle.bpf_code.specs.declared.insn.Insn.{Insn}
 use Rattle.call_data.specs.declared.sys_call.SysCall.{SysCall}
@@ -114,64 +114,45 @@ pub added_put : (entries : List Entry) (nr at : ℕ) (entry : Entry) → at < le
     + added_of (drop (at + 1) entries) nr
 added_put entries nr at entry inside is = added_from entries nr at entry inside is
 
--- what a loop over the entries from the last one has put so far
+-- what a loop over the entries from the last one has put so far: those from this place on
 pub record ChainSoFar (old code : List Insn) (chain : Chain) (entries : List Entry) (last : Decision)
-    (nr done : ℕ) : Type 0 where
+    (nr at : ℕ) : Type 0 where
+  pub inside : at ≤ length entries
   pub gives : (call : SysCall) → IsCall call
-      → ChainGives code call chain.known chain.place entries last nr (length entries - done)
+      → ChainGives code call chain.known chain.place entries last nr at
   pub stands : Stands code chain.known chain.place
-  pub short : length code + owed chain.known ≤ length old + 1
-      + added_of (drop (length entries - done) entries) nr
+  pub short : length code + owed chain.known ≤ length old + 1 + added_of (drop at entries) nr
   pub keeps : Keeps old code
   pub grows : length old ≤ length code
 
-pub chain_start : (old code : List Insn) (chain : Chain) (entries : List Entry) (last : Decision) (nr : ℕ)
-    → ((call : SysCall) → IsCall call → LinkGives code call chain.known chain.place (value_of last) 1)
-    → Stands code chain.known chain.place → length code + owed chain.known ≤ length old + 1 → Keeps old code
-    → length old ≤ length code → ChainSoFar old code chain entries last nr 0
-chain_start old code chain entries last nr gives stands short keeps grows =
-    let whole : drop (length entries - 0) entries ≡ [] =
-    drop_all (length entries - 0) entries (omega arith) in
-    record {
-      gives = λ call is_call. record {
-        value = value_of last;
-        gives = LinkGives-more code call chain.known chain.place (value_of last) 1
-            (steps_at (drop (length entries - 0) entries) nr) (omega arith) (gives call is_call);
-        right = λ _. sym (ap (λ es. value_of (decision_of es last nr call)) whole);
-      };
-      stands = stands;
-      short = omega (arith, short);
-      keeps = keeps;
-      grows = grows;
-    }
+-- what gives what the entries from one on decide
+pub chain_from : (code : List Insn) (call : SysCall) (link : Option Known) (place : ℕ)
+    (entries : List Entry) (last : Decision) (nr at : ℕ)
+    → LinkGives code call link place (value_of (decision_of (drop at entries) last nr call))
+    (steps_at (drop at entries) nr)
+    → ChainGives code call link place entries last nr at
+chain_from code call link place entries last nr at gives = record {
+  value = value_of (decision_of (drop at entries) last nr call);
+  gives = gives;
+  right = λ _. refl;
+}
 
--- one more entry looked at
+-- more entries put in front
 pub chain_more : (old code new : List Insn) (chain next : Chain) (entries : List Entry) (last : Decision)
-    (nr done : ℕ) → done < length entries → ChainSoFar old code chain entries last nr done
+    (nr at front : ℕ) → front < at → ChainSoFar old code chain entries last nr at
     → ((call : SysCall) (given : Decision) → IsCall call
-    → ChainGives code call chain.known chain.place entries given nr (length entries - 1 - done + 1)
-    → ChainGives new call next.known next.place entries given nr (length entries - 1 - done))
+    → ChainGives code call chain.known chain.place entries given nr at
+    → ChainGives new call next.known next.place entries given nr front)
     → Stands new next.known next.place
-    → length new + owed next.known + added_of (drop (length entries - 1 - done + 1) entries) nr ≤ length code
-    + owed chain.known + added_of (drop (length entries - 1 - done) entries) nr
-    → Keeps code new → length code ≤ length new → ChainSoFar old new next entries last nr (done + 1)
-chain_more old code new chain next entries last nr done inside so_far adds stands short keeps grows =
-    let at : ℕ = length entries - 1 - done in
-    let now : at ≡ length entries - (done + 1) = omega arith in
-    let before : length entries - done ≡ at + 1 = omega arith in
+    → length new + owed next.known + added_of (drop at entries) nr ≤ length code
+    + owed chain.known + added_of (drop front entries) nr
+    → Keeps code new → length code ≤ length new → ChainSoFar old new next entries last nr front
+chain_more old code new chain next entries last nr at front less so_far adds stands short keeps grows =
     record {
-      gives = λ call is_call.
-          let P : ℕ → Type 0 = λ n. ChainGives new call next.known next.place entries last nr n in
-          let Q : ℕ → Type 0 = λ n. ChainGives code call chain.known chain.place entries last nr n in
-          subst P now (adds call last is_call (subst Q before (so_far.gives call is_call)));
+      inside = omega (arith, so_far.inside);
+      gives = λ call is_call. adds call last is_call (so_far.gives call is_call);
       stands = stands;
-      short = omega (
-        arith,
-        so_far.short,
-        short,
-        ap (λ n. added_of (drop n entries) nr) before,
-        ap (λ n. added_of (drop n entries) nr) now,
-      );
+      short = omega (arith, so_far.short, short);
       keeps = λ call place a value most gives.
           keeps call place a value most (so_far.keeps call place a value most gives);
       grows = omega (arith, so_far.grows, grows);
@@ -179,12 +160,10 @@ chain_more old code new chain next entries last nr done inside so_far adds stand
 
 -- all entries were looked at
 pub chain_whole : (old code : List Insn) (chain : Chain) (entries : List Entry) (last : Decision)
-    (nr done : ℕ) (call : SysCall) → length entries ≤ done → IsCall call
-    → ChainSoFar old code chain entries last nr done
+    (nr at : ℕ) (call : SysCall) → at ≡ 0 → IsCall call → ChainSoFar old code chain entries last nr at
     → LinkGives code call chain.known chain.place (value_of (decision_of entries last nr call))
     (steps_at entries nr)
-chain_whole old code chain entries last nr done call whole is_call so_far =
-    let none : length entries - done ≡ 0 = omega arith in
+chain_whole old code chain entries last nr at call none is_call so_far =
     let Q : ℕ → Type 0 = λ n. ChainGives code call chain.known chain.place entries last nr n in
     let all : ChainGives code call chain.known chain.place entries last nr 0 =
     subst Q none (so_far.gives call is_call) in

@@ -1,5 +1,6 @@
 pub mod Building
 pub mod Branching
+pub mod Marking
 pub mod Turning
 pub mod Words
 pub mod Links
@@ -13,6 +14,7 @@ pub mod Weights
 pub mod Assembled
 pub mod Asking
 pub mod Chaining
+pub mod Running
 pub mod Choices
 pub mod Holding
 pub mod Finding

@@ -1,7 +1,7 @@
 -- This project's own: the entries that one number leads to, as code, from the last to the first. Only
 -- private functions cite this.
 use Rattle.std.specs.Prelude.{◌≡◌, ℕ, ◌+◌, ◌*◌, ◌^◌, ◌<◌, ◌≤◌, ◌==◌, ◌&&◌, Bool, true, false}
-use Rattle.std.specs.Prelude.{if◌then◌else◌, List, Option, Some, None, length, take, drop}
+use Rattle.std.specs.Prelude.{if◌then◌else◌, List, [], ◌∷◌, Option, Some, None, length, take, drop}
 use Rattle.std.specs.List.{list_any}
 use Rattle.oci_profile.specs.declared.profile.Entry.{Entry}
 use Rattle.oci_profile.specs.declared.conditions.Cond.{Cond}
@@ -27,6 +27,12 @@ LinkGives code call (Some known) place value most =
 -- whether an entry applies to the call
 abbrev pub applies : Entry → ℕ → SysCall → Bool
 applies entry nr call = names entry nr && all_hold entry call
+
+-- what the first entry that applies decides, as a filter's value, else this
+abbrev pub value_among : List Entry → ℕ → SysCall → ℕ → ℕ
+value_among [] nr call other = other
+value_among (entry ∷ entries) nr call other = if applies entry nr call then value_of entry.decision
+    else value_among entries nr call other
 
 -- whether the condition holds of an argument
 abbrev pub holds_at : Cond → ℕ → Bool

@@ -1,14 +1,15 @@
 ghost use Rattle.std.specs.Prelude.{◌≡◌, ◌≤◌, ◌<◌, ◌+◌, ◌-◌, ◌*◌, ◌%◌, ◌^◌, ℕ, List, [], reverse, Some};
 ghost use Rattle.std.specs.Prelude.{slice_get, length, IfOk, IfSome, OnOk, IsTrue, bit_and, if◌then◌else◌};
-ghost use Rattle.std.specs.Prelude.{◌==◌, nat_lt, nat_le};
+ghost use Rattle.std.specs.Prelude.{◌==◌, ◌≢◌, nat_lt, nat_le};
+ghost use Rattle.std.specs.Bool.{OnFalse};
 ghost use Rattle.bpf_code.specs.declared.insn.Insn.{Insn};
 ghost use Rattle.bpf_code.specs.declared.limits.TheConstants.{DATA_LEN, MAX_INSNS};
 ghost use Rattle.bpf_code.specs.declared.operation.Operation.TheVariants.{LoadData, ReturnK};
 ghost use Rattle.call_data.specs.declared.sys_call.SysCall.{SysCall};
 ghost use Rattle.bpf_verify.specs.Sound.{IsSound};
 ghost use Rattle.bpf_machine.specs.Runs.{Runs};
-ghost use Rattle.compile.specs.Backward.{Gives, GivesAlways, IsBackward, Keeps, PointsInside, Puts, Returns};
-ghost use Rattle.compile.specs.Backward.{data_word};
+ghost use Rattle.compile.specs.Backward.{Gives, GivesAlways, IsBackward, Keeps, Marks, NeverGives};
+ghost use Rattle.compile.specs.Backward.{NoneReturns, PointsInside, Puts, Returns, Unmarks, data_word};
 ghost use Rattle.compile.specs.Tests.{holds_of, operation_of};
 ghost use Rattle.compile.specs.declared.code.TheConstants.{REACH, RECENT};
 
@@ -129,7 +130,7 @@ impl Code {
         for back in 0..RECENT.min(len) {
             let at = len - 1 - back;
             let insn = self.at(at);
-            if is_return(insn.op) && insn.k == value {
+            if returns(&insn, value) {
                 return Some(at);
             }
         }
@@ -255,6 +256,60 @@ impl Code {
         })
     }
 
+    /// Whether no place returns this value.
+    pub(crate) fn is_unused(&self, value: u32) -> bool
+        ensures { IsTrue result → NoneReturns self.now value }
+    {
+        for at in 0..self.insns.len() {
+            if returns(&self.insns[at], value) {
+                return false;
+            }
+        }
+        true
+    }
+
+    /// Puts a return of a value, the mark, in the place of the instruction that was put last, and answers what
+    /// stood there.
+    pub(crate) fn mark(&mut self, value: u32) -> Insn
+        requires some { 0 < length self.old }
+        requires unused { NoneReturns self.old value }
+        ensures { Marks self.old self.new value result }
+    {
+        let at = self.insns.len() - 1;
+        let insn = self.insns[at];
+        self.insns[at] = Insn {
+            op: Operation::ReturnK,
+            jt: 0,
+            jf: 0,
+            k: value,
+        };
+        insn
+    }
+
+    /// Puts an instruction back in the place of its mark, and makes each other return of the mark's value a
+    /// jump to it.
+    pub(crate) fn unmark(&mut self, at: usize, insn: Insn, value: u32)
+        requires at_in { at < length self.old }
+        requires inside { PointsInside insn.op insn at }
+        requires given { (call : SysCall) (a : ℕ) → Gives self.old call at a value 1 }
+        requires never { NeverGives self.old at value }
+        ensures { Unmarks self.old self.new at insn value }
+    {
+        self.insns[at] = insn;
+        // A jump has 32 bits for its distance, which is enough for any filter.
+        let end = self.insns.len().min(u32::MAX as usize);
+        for place in at + 1..end {
+            if returns(&self.insns[place], value) {
+                self.insns[place] = Insn {
+                    op: Operation::Jump,
+                    jt: 0,
+                    jf: 0,
+                    k: (place - 1 - at) as u32,
+                };
+            }
+        }
+    }
+
     /// The finished filter, which starts at the instruction that was put last.
     pub(crate) fn filter(self) -> Filter
         requires some { 0 < length self }
@@ -286,7 +341,15 @@ pub(crate) fn is_load(op: Operation) -> bool
 }
 
 fn is_return(op: Operation) -> bool
-    ensures { IsTrue result → op ≡ ReturnK }
+    ensures yes { IsTrue result → op ≡ ReturnK }
+    ensures no { OnFalse result (op ≢ ReturnK) }
 {
     matches!(op, Operation::ReturnK)
+}
+
+fn returns(insn: &Insn, value: u32) -> bool
+    ensures yes { IsTrue result → (insn.now.op ≡ ReturnK) × (insn.now.k ≡ value) }
+    ensures no { OnFalse result (insn.now.op ≡ ReturnK → insn.now.k ≢ value) }
+{
+    is_return(insn.op) && insn.k == value
 }

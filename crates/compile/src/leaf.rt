@@ -12,14 +12,12 @@ ghost use Rattle.compile.specs.Chains.{ChainGives, LinkGives, Stands, owed};
 ghost use Rattle.compile.specs.Sizes.{AreAsked, NoneDecides, Suffices, added_of, settles, steps_at};
 ghost use Rattle.compile.specs.declared.code.TheConstants.{RECENT};
 
+use crate::by_argument::by_argument;
 use crate::chain::{Chain, add_link, settle};
 use crate::code::Code;
 use crate::ending::needed_end;
-use crate::equals::equals;
-use crate::fan::fan;
 use crate::hiding::is_hidden;
-use crate::plan::plan_for;
-use crate::points::points_for;
+use crate::run::{run_before, run_start};
 use oci_profile::{Decision, Entry, Profile, X32_BIT};
 use std::alloc::{AllocError, Global};
 
@@ -72,16 +70,97 @@ fn add_seen(
     }
 }
 
+/// Puts the entries from one place to another in front if they are a run that makes a choice by one argument,
+/// else just the last of them. It also says from where on the entries are put now.
+fn add_part(
+    code: &mut Code,
+    alloc: Global,
+    entries: &[Entry],
+    from: usize,
+    end: usize,
+    nr: u32,
+    chain: Chain,
+) -> Result<(Chain, usize), AllocError>
+    requires some { from < end }
+    requires end_in { end ≤ length entries.now }
+    requires stands { Stands code.old chain.known chain.place }
+    requires short { length code.old + owed chain.known + added_of (drop from entries.now) nr < 2 ^ 32
+        + added_of (drop end entries.now) nr }
+    ensures below { IfOk result (λ put. put.1 < end) }
+    ensures gives { IfOk result (λ put. (call : SysCall) (last : Decision) → IsCall call
+        → ChainGives code.old call chain.known chain.place entries.now last nr end
+        → ChainGives code.new call put.0.known put.0.place entries.now last nr put.1) }
+    ensures stands { IfOk result (λ put. Stands code.new put.0.known put.0.place) }
+    ensures longer { IfOk result (λ put. length code.new + owed put.0.known
+        + added_of (drop end entries.now) nr ≤ length code.old + owed chain.known
+        + added_of (drop put.1 entries.now) nr) }
+    ensures keeps { Keeps code.old code.new }
+    ensures grows { length code.old ≤ length code.new }
+{
+    if end - from == 1 {
+        let next = add_seen(code, entries, from, nr, chain)?;
+        return Ok((next, from));
+    }
+    let place = settle(code, chain)?;
+    if let Some(at) = run_before(code, alloc, &entries[from..end], nr, place)? {
+        let put = Chain {
+            place: at,
+            known: None,
+        };
+        return Ok((put, from));
+    }
+    let next = add_seen(code, entries, end - 1, nr, Chain { place, known: None })?;
+    Ok((next, end - 1))
+}
+
+/// What the last entries decide of a number, if they are a run that makes a choice by one argument, and where
+/// they begin; else what is decided if none applies. It also says where a run begins that makes no choice.
+fn last_run(
+    code: &mut Code,
+    alloc: Global,
+    entries: &[Entry],
+    last: &Decision,
+    nr: u32,
+) -> Result<(usize, usize, usize), AllocError>
+    requires short { length code.old + added_of entries.now nr + 1 < 2 ^ 32 }
+    ensures inside { IfOk result (λ put. put.1 ≤ length entries.now) }
+    ensures gives { IfOk result (λ put. (call : SysCall) → IsCall call → GivesAlways code.new call put.0
+        (value_of (decision_of (drop put.1 entries.now) last.now nr call))
+        (steps_at (drop put.1 entries.now) nr)) }
+    ensures at { IfOk result (λ put. put.0 < length code.new) }
+    ensures recent { IfOk result (λ put. length code.new ≤ put.0 + RECENT) }
+    ensures longer { IfOk result (λ put. length code.new ≤ length code.old + 1
+        + added_of (drop put.1 entries.now) nr) }
+    ensures keeps { Keeps code.old code.new }
+    ensures grows { length code.old ≤ length code.new }
+{
+    let end = entries.len();
+    let start = if end == 0 {
+        0
+    } else {
+        run_start(entries, end, nr)
+    };
+    if end - start > 1 {
+        if let Some(at) = by_argument(code, alloc, &entries[start..], last, nr, 3)? {
+            return Ok((at, start, start));
+        }
+    }
+    let place = code.value(last.value())?;
+    Ok((place, end, start))
+}
+
 /// What the entries decide of a number, the last entry put first: the first that names the number and
 /// whose conditions all hold, else this.
 fn chain_leaf(
     code: &mut Code,
+    alloc: Global,
     entries: &[Entry],
-    last: Decision,
+    last: &Decision,
     nr: u32,
 ) -> Result<usize, AllocError>
+    requires short { length code.old + added_of entries.now nr + 1 < 2 ^ 32 }
     ensures gives { IfOk result (λ at. (call : SysCall) → IsCall call
-        → GivesAlways code.new call at (value_of (decision_of entries.now last nr call))
+        → GivesAlways code.new call at (value_of (decision_of entries.now last.now nr call))
         (steps_at entries.now nr)) }
     ensures inside { IfOk result (λ at. at < length code.new) }
     ensures recent { IfOk result (λ at. length code.new ≤ at + RECENT) }
@@ -89,16 +168,26 @@ fn chain_leaf(
     ensures keeps { Keeps code.old code.new }
     ensures grows { length code.old ≤ length code.new }
 {
-    let place = code.value(last.value())?;
+    let (place, begin, tried) = last_run(code, alloc, entries, last, nr)?;
     let mut chain = Chain { place, known: None };
-    for done in 0..entries.len() {
-        chain = add_seen(code, entries, entries.len() - 1 - done, nr, chain)?;
+    let mut end = begin;
+    // The entries from here to the end make no choice, and are put one by one.
+    let mut start = tried;
+    while end > 0 {
+        let from = if start < end {
+            end - 1
+        } else {
+            run_start(entries, end, nr)
+        };
+        let put = add_part(code, alloc, entries, from, end, nr, chain)?;
+        chain = put.0;
+        end = put.1;
+        start = start.min(from);
     }
     settle(code, chain)
 }
 
-/// Emits what `chain_leaf` does, as a choice by one argument if that is no longer: among its ranges, or among
-/// numbers that it may equal.
+/// Emits what the entries decide of a number, as a choice by one argument if that is no longer.
 fn entries_leaf(
     code: &mut Code,
     alloc: Global,
@@ -106,7 +195,7 @@ fn entries_leaf(
     last: &Decision,
     nr: u32,
 ) -> Result<usize, AllocError>
-    requires short { length code.old + added_of entries.now nr < 2 ^ 32 }
+    requires short { length code.old + added_of entries.now nr + 1 < 2 ^ 32 }
     ensures gives { IfOk result (λ at. (call : SysCall) → IsCall call
         → GivesAlways code.new call at (value_of (decision_of entries.now last.now nr call))
         (steps_at entries.now nr)) }
@@ -120,13 +209,10 @@ fn entries_leaf(
     ensures keeps { Keeps code.old code.new }
     ensures grows { length code.old ≤ length code.new }
 {
-    if let Some(plan) = plan_for(alloc, entries, *last, nr)? {
-        return fan(code, alloc, &plan);
+    match by_argument(code, alloc, entries, last, nr, 3)? {
+        Some(place) => Ok(place),
+        None => chain_leaf(code, alloc, entries, last, nr),
     }
-    if let Some((index, points)) = points_for(alloc, entries, nr)? {
-        return equals(code, index, &points, last.value());
-    }
-    chain_leaf(code, entries, *last, nr)
 }
 
 /// What the profile decides of a number, whatever is in A.
@@ -136,7 +222,7 @@ pub(crate) fn leaf(
     profile: &Profile,
     nr: u32,
 ) -> Result<usize, AllocError>
-    requires short { length code.old + added_of profile.now.entries nr < 2 ^ 32 }
+    requires short { length code.old + added_of profile.now.entries nr + 1 < 2 ^ 32 }
     ensures gives { IfOk result (λ at. (call : SysCall) (most : ℕ) → IsCall call
         → Suffices profile.now.entries nr most
         → GivesAlways code.new call at (chosen profile.now nr call) most) }

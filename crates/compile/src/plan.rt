@@ -117,8 +117,9 @@ pub(crate) fn is_chain(arms: &[Arm]) -> bool
 }
 
 /// The plan for a number's arms, if it is no longer and no slower than a chain may be.
-fn plan_of(alloc: Global, asked: &Arms, other: u32) -> Result<Option<Plan>, AllocError>
+fn plan_of(alloc: Global, asked: &Arms, other: u32, room: usize) -> Result<Option<Plan>, AllocError>
     requires some { 0 < length asked.now.arms.items }
+    requires room { room ≤ 3 }
     ensures plans { IfOk result (λ found. IfSome found (λ plan. (call : SysCall) → IsCall call
         → asked.now.index < 6
         → Plans plan call (arms_value asked.now.arms.items (slice_index call.args asked.now.index) other))) }
@@ -127,7 +128,7 @@ fn plan_of(alloc: Global, asked: &Arms, other: u32) -> Result<Option<Plan>, Allo
         IfSome found (λ plan. AreWhole plan.starts.items plan.values.items)) }
     ensures short { IfOk result (λ found. IfSome found (λ plan.
         leaf_sizes plan.values.items plan.beyond (length plan.values.items)
-        + 3 * length plan.starts.items ≤ 7 * length asked.now.arms.items + 3)) }
+        + 3 * length plan.starts.items ≤ 7 * length asked.now.arms.items + room)) }
     ensures few { IfOk result (λ found. IfSome found (λ plan.
         length plan.starts.items + 2 ≤ 3 * length asked.now.arms.items)) }
 {
@@ -137,7 +138,7 @@ fn plan_of(alloc: Global, asked: &Arms, other: u32) -> Result<Option<Plan>, Allo
         return Ok(None);
     };
     let lows = low_ranges(alloc, arms, high, other)?;
-    if !is_small(&lows, beyond, arms.len()) {
+    if !is_small(&lows, beyond, arms.len(), room) {
         return Ok(None);
     }
     Ok(Some(Plan {
@@ -149,29 +150,33 @@ fn plan_of(alloc: Global, asked: &Arms, other: u32) -> Result<Option<Plan>, Allo
     }))
 }
 
-/// Whether a choice among these ranges is no longer than a chain of `links` links may be, and no slower.
-fn is_small(lows: &Lows, beyond: u32, links: usize) -> bool
+/// Whether a choice among these ranges is no slower than a chain of `links` links may be, and takes no more
+/// than `room` instructions more than its links.
+fn is_small(lows: &Lows, beyond: u32, links: usize, room: usize) -> bool
     requires values { length lows.now.values.items ≤ 2 ^ 32 }
     requires starts { length lows.now.starts.items ≤ 2 ^ 32 }
+    requires room { room ≤ 3 }
     ensures short { IsTrue result → leaf_sizes lows.now.values.items beyond (length lows.now.values.items)
-        + 3 * length lows.now.starts.items ≤ 7 * links + 3 }
+        + 3 * length lows.now.starts.items ≤ 7 * links + room }
     ensures few { IsTrue result → length lows.now.starts.items + 2 ≤ 3 * links }
 {
     let many = lows.starts.len();
     if links >= MAX_INSNS || many + 2 > 3 * links {
         return false;
     }
-    size(lows.values.as_slice(), beyond) + 3 * many <= 7 * links + 3
+    size(lows.values.as_slice(), beyond) + 3 * many <= 7 * links + room
 }
 
 /// The plan for the entries that name a number, if all compare just one argument without a mask, and the plan
-/// is no longer and no slower than their chain may be.
+/// is no slower than their chain may be and takes no more than `room` instructions more than its links.
 pub(crate) fn plan_for(
     alloc: Global,
     entries: &[Entry],
     last: Decision,
     nr: u32,
+    room: usize,
 ) -> Result<Option<Plan>, AllocError>
+    requires room { room ≤ 3 }
     ensures plans { IfOk result (λ found. IfSome found (λ plan. (call : SysCall) → IsCall call
         → Plans plan call (value_of (decision_of entries.now last nr call)))) }
     ensures index_in { IfOk result (λ found. IfSome found (λ plan. plan.index < 6)) }
@@ -179,7 +184,7 @@ pub(crate) fn plan_for(
         IfSome found (λ plan. AreWhole plan.starts.items plan.values.items)) }
     ensures short { IfOk result (λ found. IfSome found (λ plan.
         leaf_sizes plan.values.items plan.beyond (length plan.values.items)
-        + 3 * length plan.starts.items ≤ added_of entries.now nr + 3)) }
+        + 3 * length plan.starts.items ≤ added_of entries.now nr + room)) }
     ensures few { IfOk result (λ found. IfSome found (λ plan.
         2 * length plan.starts.items + 5 ≤ steps_at entries.now nr)) }
 {
@@ -189,5 +194,5 @@ pub(crate) fn plan_for(
     if is_chain(asked.arms.as_slice()) {
         return Ok(None);
     }
-    plan_of(alloc, &asked, last.value())
+    plan_of(alloc, &asked, last.value(), room)
 }

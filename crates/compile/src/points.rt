@@ -142,7 +142,7 @@ pub(crate) fn points_for(
     ensures short { IfOk result (λ found. IfSome found
         (λ it. 7 * length it.1.numbers.items ≤ added_of entries.now nr)) }
     ensures few { IfOk result (λ found. IfSome found
-        (λ it. 5 * length it.1.numbers.items + 3 ≤ steps_at entries.now nr)) }
+        (λ it. 5 * length it.1.numbers.items + 4 ≤ steps_at entries.now nr)) }
     ensures many { IfOk result (λ found. IfSome found
         (λ it. length it.1.numbers.items ≤ conditions_at entries.now nr)) }
 

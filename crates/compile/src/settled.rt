@@ -1,6 +1,5 @@
 ghost use Rattle.std.specs.Prelude.{◌≡◌, ◌≤◌, ◌<◌, ◌+◌, ◌*◌, ◌/◌, ◌%◌, ◌^◌, ◌⊎◌, ℕ, All, length, IfSome};
-ghost use Rattle.std.specs.Prelude.{IsTrue, true};
-ghost use Rattle.std.specs.Prelude.{slice_get, Some, if◌then◌else◌};
+ghost use Rattle.std.specs.Prelude.{IsTrue, Some, if◌then◌else◌, slice_get, true};
 ghost use Rattle.bpf_code.specs.declared.operation.Operation.TheVariants.{LoadData, ReturnK};
 ghost use Rattle.call_data.specs.declared.sys_call.SysCall.{SysCall};
 ghost use Rattle.call_data.specs.CallData.{IsCall};
@@ -10,17 +9,16 @@ ghost use Rattle.compile.specs.Backward.{Gives, GivesAlways, data_word};
 ghost use Rattle.compile.specs.Tests.{holds_of, operation_of};
 ghost use Rattle.compile.specs.declared.code.Test.{Test};
 ghost use Rattle.compile.specs.declared.code.TheConstants.{REACH};
+ghost use Rattle.compile.specs.declared.settled.TheConstants.{ROOM};
 
 use crate::code::{Code, REACH, is_load};
 use crate::halves::{high, low, words};
+use crate::lows::HALF;
 use bpf_code::{Insn, Operation};
 use oci_profile::{Cond, Op};
 
 /// How many instructions the tests of a condition may take in front of the last branch.
 const ROOM: usize = 5;
-
-/// The first number whose upper half is not 0.
-const LOWER: u64 = 1 << 32;
 
 /// The lower half of each argument of which the condition holds, if that is one.
 fn known_low(cond: &Cond) -> Option<u32>
@@ -38,8 +36,8 @@ fn known_high(cond: &Cond) -> Option<u32>
 {
     match cond.op {
         Op::Equal => Some(high(cond.value)),
-        Op::Less if cond.value <= LOWER => Some(0),
-        Op::LessOrEqual if cond.value < LOWER => Some(0),
+        Op::Less if cond.value <= HALF => Some(0),
+        Op::LessOrEqual if cond.value < HALF => Some(0),
         _ => None,
     }
 }
@@ -153,7 +151,7 @@ fn next_place(code: &Code, conds: &[Cond], place: usize) -> Option<usize>
         → all_of conds.now call ≡ true → GivesAlways code.now call place value most
         → GivesAlways code.now call at value most) }
     ensures behind { IfSome result (λ at. at < place) }
-    ensures near { IfSome result (λ at. length code.now + 5 ≤ at + 1 + REACH) }
+    ensures near { IfSome result (λ at. length code.now + ROOM ≤ at + 1 + REACH) }
 {
     let offset = loaded(code, place)?;
     let word = known_half(conds, offset)?;
@@ -173,7 +171,8 @@ pub(crate) fn past_settled(code: &Code, conds: &[Cond], place: usize) -> usize
     ensures gives { (call : SysCall) (value most : ℕ) → IsCall call → all_of conds.now call ≡ true
         → GivesAlways code.now call place value most → GivesAlways code.now call result value most }
     ensures inside { result < length code.now }
-    ensures near { length code.now + 5 ≤ place + 1 + REACH → length code.now + 5 ≤ result + 1 + REACH }
+    ensures near { length code.now + ROOM ≤ place + 1 + REACH
+        → length code.now + ROOM ≤ result + 1 + REACH }
 {
     match next_place(code, conds, place) {
         Some(at) => past_settled(code, conds, at),
