@@ -98,6 +98,8 @@ class Terminal:
 
     def __init__(self, command, below, how):
         self.command, self.below, self.how = command, below, how
+        # A shell that starts the tests in the background has interrupts ignored, and so would the runtime.
+        signal.signal(signal.SIGINT, signal.default_int_handler)
         self.ran = subprocess.Popen(command, stderr=subprocess.STDOUT, start_new_session=True, **how)
         self.room = how["cwd"]
         while not os.path.exists(f"{self.room}/node.sock") and self.ran.poll() is None:
