@@ -268,8 +268,8 @@ impl Code {
         true
     }
 
-    /// Puts a return of a value, the mark, in the place of the instruction that was put last, and answers what
-    /// stood there.
+    /// Puts a return of a value, the mark, in the place of the instruction that was put last, and answers
+    /// what stood there.
     pub(crate) fn mark(&mut self, value: u32) -> Insn
         requires some { 0 < length self.old }
         requires unused { NoneReturns self.old value }

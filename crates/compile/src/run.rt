@@ -57,8 +57,8 @@ pub(crate) fn run_start(entries: &[Entry], end: usize, nr: u32) -> usize
     start
 }
 
-/// From how many equalities on a choice in front of other entries takes no more steps than a chain, which
-/// has one load, and one branch for each.
+/// From how many equalities on a choice in front of other entries takes no more steps than a chain where none
+/// holds: a chain has one load, and one branch for each.
 const EQUALITIES: usize = 6;
 
 /// Whether a choice in front of other entries takes no more steps than a chain of these.
