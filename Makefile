@@ -62,7 +62,7 @@ copy:
 	install -D -m 644 out/install/motchidu.pc $(DESTDIR)$(PREFIX)/lib/pkgconfig/motchidu.pc
 	install -D -m 644 out/install/motchidu.h $(DESTDIR)$(PREFIX)/include/motchidu.h
 
-# Says so and goes on where the machine has no libpcap or no libseccomp. The plain interpreter is assembled
+# Says so and goes on where the machine has no libpcap, no libseccomp or no gVisor. The plain interpreter is assembled
 # so that its jumps keep within 32 bytes, or its speed would hang on where the link puts it.
 bench: lib
 	@mkdir -p out/bench
@@ -73,8 +73,9 @@ bench: lib
 	@out/bench/bench
 	@tools/call_names.sh > out/bench/names.h
 	@seccomp=$$(printf '#if __has_include(<seccomp.h>)\n-lseccomp\n#endif\n' | $(CC) -E -P -x c -); \
+	  gvisor=$$(tools/gvisor.sh out/bench $(ENGINES)) || exit 1; \
 	  for program in profiles drawn costs compare; do \
-	    $(CC) $(BENCH_FLAGS) -Iout/c -Iout/bench bench/$$program.c out/c/libmotchidu.a $$seccomp \
+	    $(CC) $(BENCH_FLAGS) -Iout/c -Iout/bench bench/$$program.c out/c/libmotchidu.a $$seccomp $$gvisor \
 	      -o out/bench/$$program || exit 1; done
 	@out/bench/profiles $$(tools/engine_profiles.py out/bench/engines $(ENGINES))
 	@out/bench/drawn

@@ -1,6 +1,6 @@
-/* How long comparisons of two filters take: RuntimeDefault beside the same profile by libseccomp's list and
- * by its binary tree, on native calls, and two lists of compares of 4,000 instructions in different orders,
- * on every call. */
+/* How long comparisons of two filters take: RuntimeDefault beside the same profile by libseccomp's list, by
+ * its binary tree and by gVisor, on native calls, and two lists of compares of 4,000 instructions in
+ * different orders, on every call. */
 #include "rules.h"
 #include "times.h"
 #include <linux/filter.h>
@@ -49,21 +49,19 @@ static void long_lists(void) {
 }
 
 int main(void) {
-    static uint8_t ours[32768];
+    static const char *const whose[COMPILERS] = {"itself", "libseccomp's", "its binary tree's", "gVisor's"};
+    static uint8_t ours[32768], theirs[32768];
     printf("| compared | instructions | found | takes |\n|---|---|---|---|\n");
     runtime_default();
     text_len = json(text);
-    size_t length = compiled(ours, 0);
-    row("RuntimeDefault and itself", ours, length, ours, length, 0);
-#ifdef HAS_SECCOMP
-    static uint8_t theirs[32768];
-    size_t their_length = compiled(theirs, 1);
-    row("RuntimeDefault and libseccomp's", ours, length, theirs, their_length, 1);
-    their_length = compiled(theirs, 2);
-    row("RuntimeDefault and its binary tree's", ours, length, theirs, their_length, 1);
-#else
-    (void)length;
-#endif
+    size_t length = compiled(ours, MOTCHIDU);
+    for (int compiler = 0; compiler < COMPILERS; compiler++) {
+        size_t their_length = compiled(theirs, compiler);
+        char what[64];
+        snprintf(what, sizeof what, "RuntimeDefault and %s", whose[compiler]);
+        if (their_length > 0)
+            row(what, ours, length, theirs, their_length, compiler != MOTCHIDU);
+    }
     long_lists();
     return 0;
 }

@@ -1,5 +1,5 @@
-/* What a call costs in the running kernel under a filter of the library and of libseccomp, as a ratio to what
- * getppid costs without one: a call that is always allowed (since Linux 5.11 no filter runs for it), one that
+/* What a call costs in the running kernel under a filter of each compiler, as a ratio to what getppid costs
+ * without one: a call that is always allowed (since Linux 5.11 no filter runs for it), one that
  * is allowed by a condition, and one that is denied. All on one processor, medians of interleaved rounds. */
 #include "rules.h"
 #include "times.h"
@@ -41,7 +41,7 @@ static void measure(const uint8_t *filter, size_t length, double *took) {
 /* The names of a drawn list, and those that the measured child calls. */
 static void drawn_with_ours(void) {
     static const char *const ours[] = {"getppid", "exit_group", "clock_gettime"};
-    drawn_names();
+    drawn_names(200, 20);
     int kept = 0;
     for (int i = 0; i < rule_count; i++) {
         int is_ours = !strcmp(rules[i].name, "personality") || !strcmp(rules[i].name, "add_key");
@@ -57,35 +57,33 @@ static void drawn_with_ours(void) {
 }
 
 static void rows(const char *profile) {
-    static const char *const compilers[] = {"motchidu", "libseccomp", "its binary tree"};
-    static uint8_t filters[3][32768];
-    static double samples[4][KINDS][ROUNDS], medians[4][KINDS];
-    size_t lengths[3];
-    int there = 1;
-#ifdef HAS_SECCOMP
-    there = 3;
-#endif
+    static uint8_t filters[COMPILERS][32768];
+    static double samples[COMPILERS + 1][KINDS][ROUNDS], medians[COMPILERS + 1][KINDS];
+    size_t lengths[COMPILERS];
     double *took =
         mmap(NULL, sizeof(double) * KINDS, PROT_READ | PROT_WRITE, MAP_SHARED | MAP_ANONYMOUS, -1, 0);
     if (took == MAP_FAILED)
         exit(1);
     text_len = json(text);
-    for (int how = 0; how < there; how++)
+    for (int how = 0; how < COMPILERS; how++)
         lengths[how] = compiled(filters[how], how);
     for (int round = 0; round < ROUNDS; round++)
-        for (int how = NONE; how < there; how++) {
+        for (int how = NONE; how < COMPILERS; how++) {
+            if (how != NONE && lengths[how] == 0)
+                continue;
             measure(how == NONE ? NULL : filters[how], how == NONE ? 0 : lengths[how], took);
             for (int kind = 0; kind < KINDS; kind++)
                 samples[how + 1][kind][round] = took[kind];
         }
     munmap(took, sizeof(double) * KINDS);
-    for (int how = NONE; how < there; how++)
+    for (int how = NONE; how < COMPILERS; how++)
         for (int kind = 0; kind < KINDS; kind++)
             medians[how + 1][kind] = median(samples[how + 1][kind], ROUNDS);
     double plain = medians[0][0];
-    for (int how = 0; how < there; how++)
-        printf("| %s | %s | %.2f | %.2f | %.2f |\n", profile, compilers[how], medians[how + 1][0] / plain,
-               medians[how + 1][1] / plain, medians[how + 1][2] / plain);
+    for (int how = 0; how < COMPILERS; how++)
+        if (lengths[how] > 0)
+            printf("| %s | %s | %.2f | %.2f | %.2f |\n", profile, compilers[how], medians[how + 1][0] / plain,
+                   medians[how + 1][1] / plain, medians[how + 1][2] / plain);
 }
 
 int main(void) {

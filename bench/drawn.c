@@ -1,65 +1,98 @@
-/* Drawn lists of names with conditions, compiled by the library and by libseccomp: how many instructions
- * calls with conditions execute on average, and of how many lists another compiler's take fewer than the
- * library's. Since Linux 5.11 no filter runs for a call that is always allowed, so these are the steps that
- * count. */
+/* Drawn lists of names, of which some have conditions, compiled by the library and by others: how many
+ * instructions calls with conditions execute on average, how many any number does, and of how many lists
+ * another compiler's calls take fewer than the library's. Since Linux 5.11 no filter runs for a call that is
+ * always allowed, so the steps of calls with conditions are those that count. */
 #include "rules.h"
 
-enum { LISTS = 600, COMPILERS = 3 };
+enum { LISTS = 150, GROUPS = 4, MEASURES = 2, CALLS = 2 * RULES };
+
+/* How many of a list's names have conditions. */
+static const struct group {
+    const char *title;
+    int conditional; /* or 0: one in ten */
+} groups[GROUPS] = {{"5", 5}, {"10", 10}, {"20", 20}, {"one in ten", 0}};
+
+struct calls {
+    struct seccomp_data data[CALLS];
+    int count;
+};
 
 /* For each condition a call that passes it, and one that may not. */
-static int conditional_calls(struct seccomp_data *calls) {
-    int count = 0;
+static void conditional_calls(struct calls *calls) {
+    calls->count = 0;
     for (int i = 0; i < rule_count; i++)
         if (rules[i].test == EQUAL)
-            for (int more = 0; more < 2; more++) {
-                struct seccomp_data call = {.arch = AUDIT_ARCH_X86_64, .args = {rules[i].value + more}};
-                while (!names[call.nr] || strcmp(names[call.nr], rules[i].name))
-                    call.nr++;
-                calls[count++] = call;
-            }
-    return count;
+            for (int more = 0; more < 2; more++)
+                calls->data[calls->count++] = (struct seccomp_data){.nr = number_of(rules[i].name),
+                                                                    .arch = AUDIT_ARCH_X86_64,
+                                                                    .args = {rules[i].value + more}};
 }
 
-static double steps_on(const uint8_t *filter, size_t length, const struct seccomp_data *calls, int count) {
-    static uint32_t values[2 * RULES], steps[2 * RULES];
-    uint32_t status = motchidu_run_all(filter, length, (const uint8_t *)calls, count * sizeof *calls, values,
-                                       count, steps, count);
+/* The numbers 0 to 450, with arguments 0. */
+static void numbered_calls(struct calls *calls) {
+    for (calls->count = 0; calls->count < NUMBERS; calls->count++)
+        calls->data[calls->count] = (struct seccomp_data){.nr = calls->count, .arch = AUDIT_ARCH_X86_64};
+}
+
+static double steps_on(const uint8_t *filter, size_t length, const struct calls *calls) {
+    static uint32_t values[CALLS], steps[CALLS];
+    uint32_t status = motchidu_run_all(filter, length, (const uint8_t *)calls->data,
+                                       calls->count * sizeof *calls->data, values, calls->count, steps,
+                                       calls->count);
     if (status != MOTCHIDU_ACCEPTED) {
         fprintf(stderr, "motchidu_run_all: %u\n", status);
         exit(1);
     }
     double sum = 0;
-    for (int i = 0; i < count; i++)
+    for (int i = 0; i < calls->count; i++)
         sum += steps[i];
-    return sum / count;
+    return sum / calls->count;
+}
+
+/* What all lists of a group come to by one compiler. */
+struct figures {
+    double instructions, steps[MEASURES];
+    int fewer[MEASURES], there;
+};
+
+static void measure_list(struct figures *all) {
+    static struct calls calls[MEASURES];
+    static uint8_t filter[32768];
+    double ours[MEASURES];
+    text_len = json(text);
+    conditional_calls(&calls[0]);
+    numbered_calls(&calls[1]);
+    for (int how = 0; how < COMPILERS; how++) {
+        size_t length = compiled(filter, how);
+        if (length == 0)
+            continue;
+        all[how].there = 1;
+        all[how].instructions += length / 8.0;
+        for (int measure = 0; measure < MEASURES; measure++) {
+            double steps = steps_on(filter, length, &calls[measure]);
+            ours[measure] = how == MOTCHIDU ? steps : ours[measure];
+            all[how].steps[measure] += steps;
+            all[how].fewer[measure] += steps < ours[measure];
+        }
+    }
 }
 
 int main(void) {
-    static const char *const compilers[] = {"motchidu", "libseccomp", "its binary tree"};
-    static struct seccomp_data calls[2 * RULES];
-    static uint8_t filter[32768];
-    double sums[COMPILERS] = {0};
-    int fewer[COMPILERS] = {0}, there = 1;
-#ifdef HAS_SECCOMP
-    there = COMPILERS;
-#endif
-    for (int list = 0; list < LISTS; list++) {
-        drawn_names();
-        text_len = json(text);
-        int count = conditional_calls(calls);
-        if (count == 0)
-            continue;
-        double ours = 0;
-        for (int how = 0; how < there; how++) {
-            double steps = steps_on(filter, compiled(filter, how), calls, count);
-            ours = how == 0 ? steps : ours;
-            sums[how] += steps;
-            fewer[how] += steps < ours;
+    printf("| of 100 to 300 names so many have conditions | compiler | instructions | executed by calls with "
+           "conditions | lists with fewer | by the numbers 0 to 450 | lists with fewer |\n"
+           "|---|---|---|---|---|---|---|\n");
+    for (const struct group *group = groups; group < groups + GROUPS; group++) {
+        struct figures all[COMPILERS] = {0};
+        for (int list = 0; list < LISTS; list++) {
+            int wanted = 100 + below(201);
+            drawn_names(wanted, group->conditional ? group->conditional : wanted / 10);
+            measure_list(all);
         }
+        for (int how = 0; how < COMPILERS; how++)
+            if (all[how].there)
+                printf("| %s | %s | %.0f | %.1f | %d | %.1f | %d |\n", group->title, compilers[how],
+                       all[how].instructions / LISTS, all[how].steps[0] / LISTS, all[how].fewer[0],
+                       all[how].steps[1] / LISTS, all[how].fewer[1]);
     }
-    printf("| %d lists of 100 to 300 names | executed by calls with conditions | lists with fewer |\n"
-           "|---|---|---|\n", LISTS);
-    for (int how = 0; how < there; how++)
-        printf("| %s | %.1f | %d |\n", compilers[how], sums[how] / LISTS, fewer[how]);
     return 0;
 }

@@ -1,24 +1,26 @@
-/* Filters of profiles, compiled by the library and by libseccomp (by its list and by its binary tree):
- * instructions, how many of them a call executes at most and on average over the numbers 0 to 450 with
- * arguments 0, and the time from profile to filter. The library reads its profiles as JSON in that time.
+/* Filters of profiles, compiled by the library, by libseccomp (by its list and by its binary tree) and by
+ * gVisor: instructions, how many of them a call executes at most and on average over the numbers 0 to 450
+ * with arguments 0, and the time from profile to filter. The library reads its profiles as JSON in that time.
  * Profiles in files that are given are compiled by the library alone. */
 #include "rules.h"
 #include "times.h"
 
 enum { ROUNDS = 101 };
 
-static void row(const char *profile, const char *compiler, int how) {
+static void row(const char *profile, enum compiler compiler) {
     static uint8_t filter[32768];
     static struct seccomp_data calls[NUMBERS];
     static uint32_t values[NUMBERS], steps[NUMBERS];
     static double times[ROUNDS];
-    size_t length = compiled(filter, how);
+    size_t length = compiled(filter, compiler);
+    if (length == 0)
+        return;
     for (int i = 0; i < NUMBERS; i++)
         calls[i] = (struct seccomp_data){.nr = i, .arch = AUDIT_ARCH_X86_64};
     uint32_t status =
         motchidu_run_all(filter, length, (uint8_t *)calls, sizeof calls, values, NUMBERS, steps, NUMBERS);
     if (status != MOTCHIDU_ACCEPTED) {
-        printf("| %s | %s | %zu | refused %u |\n", profile, compiler, length / 8, status);
+        printf("| %s | %s | %zu | refused %u |\n", profile, compilers[compiler], length / 8, status);
         return;
     }
     uint32_t most = 0;
@@ -29,20 +31,17 @@ static void row(const char *profile, const char *compiler, int how) {
     }
     for (int i = 0; i < ROUNDS; i++) {
         double before = now_ns(CLOCK_PROCESS_CPUTIME_ID);
-        compiled(filter, how);
+        compiled(filter, compiler);
         times[i] = now_ns(CLOCK_PROCESS_CPUTIME_ID) - before;
     }
-    printf("| %s | %s | %zu | %u | %.1f | %.0f us |\n", profile, compiler, length / 8, most, sum / NUMBERS,
-           median(times, ROUNDS) / 1e3);
+    printf("| %s | %s | %zu | %u | %.1f | %.0f us |\n", profile, compilers[compiler], length / 8, most,
+           sum / NUMBERS, median(times, ROUNDS) / 1e3);
 }
 
 static void rows(const char *profile) {
     text_len = json(text);
-    row(profile, "motchidu", 0);
-#ifdef HAS_SECCOMP
-    row(profile, "libseccomp", 1);
-    row(profile, "its binary tree", 2);
-#endif
+    for (int compiler = 0; compiler < COMPILERS; compiler++)
+        row(profile, compiler);
 }
 
 static void file_row(const char *path) {
@@ -54,7 +53,7 @@ static void file_row(const char *path) {
     }
     text_len = fread(text, 1, sizeof text, file);
     fclose(file);
-    row(name ? name + 1 : path, "motchidu", 0);
+    row(name ? name + 1 : path, MOTCHIDU);
 }
 
 int main(int argc, char **argv) {

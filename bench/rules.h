@@ -1,5 +1,5 @@
-/* Rules of a profile, and the filter of them by the library, which is given them as JSON, and by libseccomp,
- * which is given them one by one: by its list and by its binary tree. */
+/* Rules of a profile, and the filter of them by the library, which is given them as JSON, and by libseccomp
+ * and gVisor, which are given them one by one: libseccomp by its list and by its binary tree. */
 #define _GNU_SOURCE
 #include <linux/audit.h>
 #include <linux/seccomp.h>
@@ -12,6 +12,9 @@
 #if __has_include(<seccomp.h>)
 #include <seccomp.h>
 #define HAS_SECCOMP 1
+#endif
+#ifdef HAS_GVISOR
+#include "gvisor.h"
 #endif
 #include "names.h" /* names: of each call at its number, NULL where there is none */
 
@@ -76,23 +79,31 @@ static inline void some_names(int count) {
         }
 }
 
-/* A list of 100 to 300 names, of which one in ten is allowed for one to four values of its first argument. */
-static inline void drawn_names(void) {
-    int wanted = 100 + below(201), left = 0;
+/* A list of so many names, of which some are allowed for one to four values of their first argument. */
+static inline void drawn_names(int wanted, int conditional) {
+    int left = 0;
     rule_count = 0;
     for (size_t nr = 0; nr < sizeof names / sizeof *names; nr++)
         left += names[nr] != NULL;
-    for (size_t nr = 0; nr < sizeof names / sizeof *names; nr++)
-        if (names[nr] && (int)below(left--) < wanted) {
-            wanted--;
-            if (below(10))
-                add(names[nr], 0, ALWAYS, 0);
-            else {
-                uint64_t value = below(2) ? below(64) : below(1ull << 32);
-                for (int values = 1 + below(4); values > 0; values--, value += 2 + below(3))
-                    add(names[nr], 0, EQUAL, value);
-            }
+    for (size_t nr = 0; nr < sizeof names / sizeof *names; nr++) {
+        if (!names[nr] || (int)below(left--) >= wanted)
+            continue;
+        if ((int)below(wanted--) >= conditional) {
+            add(names[nr], 0, ALWAYS, 0);
+            continue;
         }
+        conditional--;
+        uint64_t value = below(2) ? below(64) : below(1ull << 32);
+        for (int values = 1 + below(4); values > 0; values--, value += 2 + below(3))
+            add(names[nr], 0, EQUAL, value);
+    }
+}
+
+static inline int number_of(const char *name) {
+    int nr = 0;
+    while (!names[nr] || strcmp(names[nr], name))
+        nr++;
+    return nr;
 }
 
 /* The rules as a profile in JSON: neighbours without a test that have one action are one entry. */
@@ -157,12 +168,39 @@ static size_t by_seccomp(uint8_t *filter, int tree) {
 }
 #endif
 
-/* Who compiles: the library, libseccomp's list, its binary tree. */
-static size_t compiled(uint8_t *filter, int how) {
-#ifdef HAS_SECCOMP
-    if (how > 0)
-        return by_seccomp(filter, how == 2);
+#ifdef HAS_GVISOR
+static size_t by_gvisor(uint8_t *filter) {
+    static const enum gvisor_test tests[] = {GVISOR_ALWAYS, GVISOR_EQUAL, GVISOR_MASKED};
+    static struct gvisor_rule list[RULES];
+    for (int i = 0; i < rule_count; i++)
+        list[i] = (struct gvisor_rule){number_of(rules[i].name), rules[i].error, tests[rules[i].test],
+                                       rules[i].value};
+    size_t length = gvisor_compile(list, rule_count, filter, 32768);
+    if (length == 0)
+        exit(1);
+    return length;
+}
 #endif
-    (void)how;
-    return by_motchidu(filter);
+
+enum compiler { MOTCHIDU, SECCOMP_LIST, SECCOMP_TREE, GVISOR, COMPILERS };
+
+static const char *const compilers[COMPILERS] = {"motchidu", "libseccomp", "its binary tree", "gVisor"};
+
+/* The filter's length in bytes, 0 where this compiler is not there. */
+static size_t compiled(uint8_t *filter, enum compiler compiler) {
+    switch (compiler) {
+    case MOTCHIDU:
+        return by_motchidu(filter);
+#ifdef HAS_SECCOMP
+    case SECCOMP_LIST:
+    case SECCOMP_TREE:
+        return by_seccomp(filter, compiler == SECCOMP_TREE);
+#endif
+#ifdef HAS_GVISOR
+    case GVISOR:
+        return by_gvisor(filter);
+#endif
+    default:
+        return 0;
+    }
 }

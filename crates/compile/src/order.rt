@@ -1,10 +1,16 @@
 ghost use Rattle.std.specs.Prelude.{◌≡◌, ◌≤◌, ◌<◌, ◌+◌, ◌-◌, ◌*◌, length, slice_index, IfSome};
 
 use crate::remaining::Remaining;
+use crate::shares::Precedence;
 
 /// A number with conditions is tested first if it has one part in so many of the weight, or more: a split
 /// would put one more test before its own.
 const HEAVY: u64 = 7;
+
+/// Where numbers with conditions come first, one is tested if it has one part in so many of their weight, or
+/// more: three that weigh the same take two tests on average, one after another, and four no less than behind
+/// a split.
+const FIRST_HEAVY: u64 = 3;
 
 /// The number that is tested first among these ranges, if the first test is of one number. It is a range by
 /// itself, and half of the room is enough for the others.
@@ -39,12 +45,15 @@ pub(crate) fn first_number(
 fn heavy(remaining: &Remaining, from: usize, to: usize) -> Option<usize>
     requires { to ≤ length remaining.now }
 {
-    let all = sum(remaining, from, to);
+    let (all, parts) = match remaining.precedence() {
+        Precedence::First => (conditional_sum(remaining, from, to), FIRST_HEAVY),
+        _ => (sum(remaining, from, to), HEAVY),
+    };
     let mut found = None;
     let mut most = 0;
     for at in from..to {
         let share = remaining.share(at);
-        if remaining.value(at).is_none() && share > most && share.saturating_mul(HEAVY) >= all {
+        if remaining.value(at).is_none() && share > most && share.saturating_mul(parts) >= all {
             most = share;
             found = Some(at);
         }
@@ -122,6 +131,19 @@ fn sum(remaining: &Remaining, from: usize, to: usize) -> u64
     let mut sum = 0u64;
     for at in from..to {
         sum = sum.saturating_add(remaining.share(at));
+    }
+    sum
+}
+
+/// The weight of the numbers with conditions among these ranges.
+fn conditional_sum(remaining: &Remaining, from: usize, to: usize) -> u64
+    requires { to ≤ length remaining.now }
+{
+    let mut sum = 0u64;
+    for at in from..to {
+        if remaining.value(at).is_none() {
+            sum = sum.saturating_add(remaining.share(at));
+        }
     }
     sum
 }

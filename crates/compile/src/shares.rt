@@ -5,9 +5,44 @@ use crate::ending::needed_end;
 use crate::hiding::is_hidden;
 use oci_profile::{Entry, Profile};
 
-/// The weight of a number with conditions: more than that of most others, since no filter runs for a number
-/// that is always allowed (Linux 5.11), so that mostly these pay for steps.
+/// What precedence numbers with conditions have where tests are put in order. Since Linux 5.11 no filter runs
+/// for a call that is always allowed, so mostly calls with conditions pay for steps.
+#[derive(Clone, Copy)]
+pub(crate) enum Precedence {
+    /// There are none.
+    Plain,
+    /// They weigh more than others, as far as others take hardly more tests.
+    Weighed,
+    /// They come first: others take about two tests more on average.
+    First,
+}
+
+/// Of how many numbers with conditions all come first. The profiles of engines have fewer, and are to be
+/// short, and to take few steps on average over all numbers.
+const SEVERAL: usize = 5;
+
+/// In more ranges than these any number with conditions comes first: others take many tests anyway. The
+/// profiles of engines have 60 to 70 ranges.
+const MANY: usize = 80;
+
+impl Precedence {
+    /// The precedence of so many numbers with conditions in so many ranges.
+    pub(crate) fn of(conditional: usize, ranges: usize) -> Precedence {
+        if conditional == 0 {
+            Precedence::Plain
+        } else if conditional < SEVERAL && ranges <= MANY {
+            Precedence::Weighed
+        } else {
+            Precedence::First
+        }
+    }
+}
+
+/// The weight of a number with conditions: more than that of most others.
 const CONDITIONAL: u64 = 44;
+
+/// How many times that is where they come first.
+const FIRST: u64 = 32;
 
 /// What an entry adds that asks for equality alone, and how many of these count.
 const ENTRY: u64 = 8;
@@ -31,19 +66,22 @@ const PLAIN_NUMBERS: u64 = 72;
 
 /// The weight of a number with conditions where tests are put in order: the heavier a range is, the fewer
 /// lead to it.
-pub(crate) fn asked_share(profile: &Profile, nr: u32) -> u64 {
-    CONDITIONAL + ENTRY * asked(profile, nr).min(ENTRIES)
+pub(crate) fn asked_share(profile: &Profile, nr: u32, precedence: Precedence) -> u64 {
+    let share = CONDITIONAL + ENTRY * asked(profile, nr).min(ENTRIES);
+    match precedence {
+        Precedence::First => FIRST * share,
+        _ => share,
+    }
 }
 
-/// The weight of a range whose numbers alone decide, where some number has conditions or none has.
-pub(crate) fn numbers_share(starts: &[u32], at: usize, conditional: bool) -> u64
+/// The weight of a range whose numbers alone decide.
+pub(crate) fn numbers_share(starts: &[u32], at: usize, precedence: Precedence) -> u64
     requires { at < length starts.now }
 {
     let numbers = numbers(starts, at);
-    if conditional {
-        RANGE + NUMBER * numbers.min(NUMBERS)
-    } else {
-        RANGE + numbers.min(PLAIN_NUMBERS)
+    match precedence {
+        Precedence::Plain => RANGE + numbers.min(PLAIN_NUMBERS),
+        _ => RANGE + NUMBER * numbers.min(NUMBERS),
     }
 }
 
