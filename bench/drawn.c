@@ -21,11 +21,10 @@ struct calls {
 static void conditional_calls(struct calls *calls) {
     calls->count = 0;
     for (int i = 0; i < rule_count; i++)
-        if (rules[i].test == EQUAL)
+        if (rules[i].conditions > 0)
             for (int more = 0; more < 2; more++)
-                calls->data[calls->count++] = (struct seccomp_data){.nr = number_of(rules[i].name),
-                                                                    .arch = AUDIT_ARCH_X86_64,
-                                                                    .args = {rules[i].value + more}};
+                calls->data[calls->count++] = (struct seccomp_data){
+                    .nr = rules[i].nr, .arch = AUDIT_ARCH_X86_64, .args = {rules[i].when[0].value + more}};
 }
 
 /* The numbers 0 to 450, with arguments 0. */

@@ -2,7 +2,7 @@
 // library for C.
 package main
 
-// #include "gvisor.h"
+// #include "rule.h"
 import "C"
 
 import (
@@ -16,35 +16,53 @@ import (
 	"gvisor.dev/gvisor/pkg/seccomp"
 )
 
-func test(rule C.struct_gvisor_rule) seccomp.SyscallRule {
-	switch rule.test {
-	case C.GVISOR_EQUAL:
-		return seccomp.PerArg{seccomp.EqualTo(rule.value)}
-	case C.GVISOR_MASKED:
-		return seccomp.PerArg{seccomp.MaskedEqual(uintptr(rule.value), 0)}
+func matcher(condition C.struct_condition) seccomp.ValueMatcher {
+	value := uintptr(condition.value)
+	switch condition.op {
+	case C.NE:
+		return seccomp.NotEqual(value)
+	case C.LT:
+		return seccomp.LessThan(value)
+	case C.LE:
+		return seccomp.LessThanOrEqual(value)
+	case C.EQ:
+		return seccomp.EqualTo(value)
+	case C.GE:
+		return seccomp.GreaterThanOrEqual(value)
+	case C.GT:
+		return seccomp.GreaterThan(value)
 	default:
+		return seccomp.MaskedEqual(value, uintptr(condition.two))
+	}
+}
+
+// test holds where all conditions of the rule do.
+func test(rule C.struct_rule) seccomp.SyscallRule {
+	if rule.conditions == 0 {
 		return seccomp.MatchAll{}
 	}
-}
-
-func action(rule C.struct_gvisor_rule) linux.BPFAction {
-	if rule.error == 0 {
-		return linux.SECCOMP_RET_ALLOW
+	var all seccomp.And
+	for _, condition := range rule.when[:rule.conditions] {
+		var args seccomp.PerArg
+		args[condition.index] = matcher(condition)
+		all = append(all, args)
 	}
-	return linux.SECCOMP_RET_ERRNO | linux.BPFAction(rule.error)
+	return all
 }
 
-// ruleSets has a set for each action, in the order in which the rules have them.
-func ruleSets(rules []C.struct_gvisor_rule) []seccomp.RuleSet {
+// ruleSets has a set for each value, in the order in which the rules have them.
+func ruleSets(rules []C.struct_rule) []seccomp.RuleSet {
 	var sets []seccomp.RuleSet
-	places := map[linux.BPFAction]int{}
+	places := map[C.uint32_t]int{}
 	for _, rule := range rules {
-		action := action(rule)
-		place, there := places[action]
+		place, there := places[rule.value]
 		if !there {
 			place = len(sets)
-			places[action] = place
-			sets = append(sets, seccomp.RuleSet{Rules: seccomp.NewSyscallRules(), Action: action})
+			places[rule.value] = place
+			sets = append(sets, seccomp.RuleSet{
+				Rules:  seccomp.NewSyscallRules(),
+				Action: linux.BPFAction(rule.value),
+			})
 		}
 		sets[place].Rules.Add(uintptr(rule.nr), test(rule))
 	}
@@ -61,9 +79,10 @@ func write(program []bpf.Instruction, to []byte) {
 }
 
 //export gvisor_compile
-func gvisor_compile(rules *C.struct_gvisor_rule, count C.size_t, filter *C.uint8_t, room C.size_t) C.size_t {
+func gvisor_compile(rules *C.struct_rule, count C.size_t, other C.uint32_t, filter *C.uint8_t,
+	room C.size_t) C.size_t {
 	program, _, err := seccomp.BuildProgram(ruleSets(unsafe.Slice(rules, count)), seccomp.ProgramOptions{
-		DefaultAction: linux.SECCOMP_RET_ERRNO | linux.BPFAction(1),
+		DefaultAction: linux.BPFAction(other),
 		BadArchAction: linux.SECCOMP_RET_KILL_PROCESS,
 		Optimize:      true,
 	})

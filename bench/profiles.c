@@ -1,7 +1,7 @@
 /* Filters of profiles, compiled by the library, by libseccomp (by its list and by its binary tree) and by
  * gVisor: instructions, how many of them a call executes at most and on average over the numbers 0 to 450
  * with arguments 0, and the time from profile to filter. The library reads its profiles as JSON in that time.
- * Profiles in files that are given are compiled by the library alone. */
+ * A profile in a file NAME.json that is given is compiled by the others from the rules in NAME.rules. */
 #include "rules.h"
 #include "times.h"
 
@@ -44,8 +44,9 @@ static void rows(const char *profile) {
         row(profile, compiler);
 }
 
-static void file_row(const char *path) {
-    const char *name = strrchr(path, '/');
+static void file_rows(const char *path) {
+    const char *slash = strrchr(path, '/'), *name = slash ? slash + 1 : path;
+    char sibling[4096];
     FILE *file = fopen(path, "rb");
     if (!file) {
         perror(path);
@@ -53,7 +54,10 @@ static void file_row(const char *path) {
     }
     text_len = fread(text, 1, sizeof text, file);
     fclose(file);
-    row(name ? name + 1 : path, MOTCHIDU);
+    snprintf(sibling, sizeof sibling, "%.*s.rules", (int)(strlen(path) - strlen(".json")), path);
+    int have_rules = rules_from(sibling);
+    for (int compiler = 0; compiler < (have_rules ? COMPILERS : 1); compiler++)
+        row(name, compiler);
 }
 
 int main(int argc, char **argv) {
@@ -69,7 +73,7 @@ int main(int argc, char **argv) {
         rows(profile);
     }
     for (int i = 1; i < argc; i++)
-        file_row(argv[i]);
+        file_rows(argv[i]);
 #ifndef HAS_SECCOMP
     printf("libseccomp: skipped, this machine has no seccomp.h (Debian's libseccomp-dev)\n");
 #endif

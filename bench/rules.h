@@ -13,26 +13,31 @@
 #include <seccomp.h>
 #define HAS_SECCOMP 1
 #endif
-#ifdef HAS_GVISOR
-#include "gvisor.h"
-#endif
 #include "names.h" /* names: of each call at its number, NULL where there is none */
+#include "rule.h"
 
-enum { RULES = 1024, NUMBERS = 451 };
+enum { RULES = 1024, NUMBERS = 451, NAMES = sizeof names / sizeof *names };
 
-/* Calls with this name, whose first argument passes the test if there is one, get this action. */
-struct rule {
-    const char *name;
-    unsigned error; /* 0: ALLOW, else ERRNO with it */
-    enum { ALWAYS, EQUAL, MASKED } test;
-    uint64_t value;
-};
-
+/* The rules of a profile, of which the first that holds decides, and what every other call returns. */
 static struct rule rules[RULES];
 static int rule_count;
+static uint32_t other = SECCOMP_RET_ERRNO | 1;
 
-static void add(const char *name, unsigned error, int test, uint64_t value) {
-    rules[rule_count++] = (struct rule){name, error, test, value};
+/* -1 if there is no call of this name. */
+static inline int number_of(const char *name) {
+    for (int nr = 0; nr < NAMES; nr++)
+        if (names[nr] && !strcmp(names[nr], name))
+            return nr;
+    return -1;
+}
+
+static inline struct rule *add(int nr, uint32_t value) {
+    rules[rule_count] = (struct rule){.nr = nr, .value = value};
+    return &rules[rule_count++];
+}
+
+static inline void when(struct rule *rule, uint32_t index, enum op op, uint64_t value, uint64_t two) {
+    rule->when[rule->conditions++] = (struct condition){index, op, value, two};
 }
 
 /* xorshift64*, so that each run draws the same. */
@@ -56,15 +61,15 @@ static const char held_back[] =
 static inline void runtime_default(void) {
     static const uint64_t personas[] = {0, 8, 131072, 131080, 4294967295};
     rule_count = 0;
-    add("clone3", 38, ALWAYS, 0);
-    add("clone", 0, MASKED, 2114060288);
+    add(number_of("clone3"), SECCOMP_RET_ERRNO | 38);
+    when(add(number_of("clone"), SECCOMP_RET_ALLOW), 0, MASKED_EQ, 2114060288, 0);
     for (int i = 0; i < 5; i++)
-        add("personality", 0, EQUAL, personas[i]);
-    for (size_t nr = 0; nr < sizeof names / sizeof *names; nr++) {
+        when(add(number_of("personality"), SECCOMP_RET_ALLOW), 0, EQ, personas[i], 0);
+    for (int nr = 0; nr < NAMES; nr++) {
         char word[64];
         snprintf(word, sizeof word, " %s ", names[nr] ? names[nr] : "");
         if (names[nr] && !strstr(held_back, word))
-            add(names[nr], 0, ALWAYS, 0);
+            add(nr, SECCOMP_RET_ALLOW);
     }
 }
 
@@ -72,10 +77,10 @@ static inline void runtime_default(void) {
 static inline void some_names(int count) {
     int there = 0, taken = 0;
     rule_count = 0;
-    for (size_t nr = 0; nr < sizeof names / sizeof *names; nr++)
+    for (int nr = 0; nr < NAMES; nr++)
         if (names[nr] && ++there * count / 341 > taken) {
             taken++;
-            add(names[nr], 0, ALWAYS, 0);
+            add(nr, SECCOMP_RET_ALLOW);
         }
 }
 
@@ -83,50 +88,73 @@ static inline void some_names(int count) {
 static inline void drawn_names(int wanted, int conditional) {
     int left = 0;
     rule_count = 0;
-    for (size_t nr = 0; nr < sizeof names / sizeof *names; nr++)
+    for (int nr = 0; nr < NAMES; nr++)
         left += names[nr] != NULL;
-    for (size_t nr = 0; nr < sizeof names / sizeof *names; nr++) {
+    for (int nr = 0; nr < NAMES; nr++) {
         if (!names[nr] || (int)below(left--) >= wanted)
             continue;
         if ((int)below(wanted--) >= conditional) {
-            add(names[nr], 0, ALWAYS, 0);
+            add(nr, SECCOMP_RET_ALLOW);
             continue;
         }
         conditional--;
         uint64_t value = below(2) ? below(64) : below(1ull << 32);
         for (int values = 1 + below(4); values > 0; values--, value += 2 + below(3))
-            add(names[nr], 0, EQUAL, value);
+            when(add(nr, SECCOMP_RET_ALLOW), 0, EQ, value, 0);
     }
 }
 
-static inline int number_of(const char *name) {
-    int nr = 0;
-    while (!names[nr] || strcmp(names[nr], name))
-        nr++;
-    return nr;
+/* The rules in a file that tools/engine_profiles.py writes: what other calls return, and for each rule its
+ * name, what it returns, and its conditions. 0 if there is no such file. */
+static inline int rules_from(const char *path) {
+    FILE *file = fopen(path, "r");
+    rule_count = 0;
+    if (!file || fscanf(file, "%u", &other) != 1)
+        return 0;
+    char name[64];
+    uint32_t value, conditions;
+    while (rule_count < RULES && fscanf(file, "%63s %u %u", name, &value, &conditions) == 3) {
+        struct rule rule = {.value = value};
+        for (uint32_t i = 0; i < conditions && i < ARGUMENTS; i++) {
+            struct condition *at = &rule.when[rule.conditions++];
+            if (fscanf(file, "%u %u %lu %lu", &at->index, &at->op, &at->value, &at->two) != 4)
+                exit(1);
+        }
+        int nr = number_of(name);
+        if (nr >= 0) {
+            rule.nr = nr;
+            rules[rule_count++] = rule;
+        }
+    }
+    fclose(file);
+    return 1;
 }
 
-/* The rules as a profile in JSON: neighbours without a test that have one action are one entry. */
-static size_t json(char *to) {
+/* The rules, which allow or fail calls, as a profile in JSON: neighbours without conditions that return the
+ * same are one entry. */
+static inline size_t json(char *to) {
+    static const char *const ops[] = {"", "NE", "LT", "LE", "EQ", "GE", "GT", "MASKED_EQ"};
     char *at = to + sprintf(to, "{\"defaultAction\":\"SCMP_ACT_ERRNO\",\"defaultErrnoRet\":1,\"syscalls\":[");
     for (int i = 0; i < rule_count; i++) {
         const struct rule *rule = &rules[i], *before = rule - 1;
-        if (i > 0 && rule->test == ALWAYS && before->test == ALWAYS && rule->error == before->error) {
+        uint32_t error = rule->value == SECCOMP_RET_ALLOW ? 0 : rule->value & SECCOMP_RET_DATA;
+        if (i > 0 && !rule->conditions && !before->conditions && rule->value == before->value) {
             at -= strlen("]}");
-            at += sprintf(at, ",\"%s\"]}", rule->name);
+            at += sprintf(at, ",\"%s\"]}", names[rule->nr]);
             continue;
         }
-        at += sprintf(at, "%s{\"action\":\"SCMP_ACT_%s\",", i ? "," : "", rule->error ? "ERRNO" : "ALLOW");
-        if (rule->error)
-            at += sprintf(at, "\"errnoRet\":%u,", rule->error);
-        if (rule->test == EQUAL)
-            at += sprintf(at, "\"args\":[{\"index\":0,\"op\":\"SCMP_CMP_EQ\",\"value\":%llu}],",
-                          (unsigned long long)rule->value);
-        if (rule->test == MASKED)
-            at += sprintf(
-                at, "\"args\":[{\"index\":0,\"op\":\"SCMP_CMP_MASKED_EQ\",\"value\":%llu,\"valueTwo\":0}],",
-                (unsigned long long)rule->value);
-        at += sprintf(at, "\"names\":[\"%s\"]}", rule->name);
+        at += sprintf(at, "%s{\"action\":\"SCMP_ACT_%s\",", i ? "," : "", error ? "ERRNO" : "ALLOW");
+        if (error)
+            at += sprintf(at, "\"errnoRet\":%u,", error);
+        for (uint32_t k = 0; k < rule->conditions; k++) {
+            const struct condition *cond = &rule->when[k];
+            at += sprintf(at, "%s{\"index\":%u,\"op\":\"SCMP_CMP_%s\",\"value\":%lu", k ? "," : "\"args\":[",
+                          cond->index, ops[cond->op], cond->value);
+            if (cond->op == MASKED_EQ)
+                at += sprintf(at, ",\"valueTwo\":%lu", cond->two);
+            at += sprintf(at, k + 1 == rule->conditions ? "}]," : "}");
+        }
+        at += sprintf(at, "\"names\":[\"%s\"]}", names[rule->nr]);
     }
     return at + sprintf(at, "]}") - to;
 }
@@ -146,17 +174,20 @@ static size_t by_motchidu(uint8_t *filter) {
 
 #ifdef HAS_SECCOMP
 static size_t by_seccomp(uint8_t *filter, int tree) {
-    scmp_filter_ctx context = seccomp_init(SCMP_ACT_ERRNO(1));
+    scmp_filter_ctx context = seccomp_init(other);
     if (!context || (tree && seccomp_attr_set(context, SCMP_FLTATR_CTL_OPTIMIZE, 2)))
         exit(1);
     for (int i = 0; i < rule_count; i++) {
         const struct rule *rule = &rules[i];
-        int nr = seccomp_syscall_resolve_name(rule->name);
-        uint32_t action = rule->error ? SCMP_ACT_ERRNO(rule->error) : SCMP_ACT_ALLOW;
-        struct scmp_arg_cmp test = rule->test == EQUAL ? SCMP_A0(SCMP_CMP_EQ, rule->value)
-                                                       : SCMP_A0(SCMP_CMP_MASKED_EQ, rule->value, 0);
-        if (nr >= 0 && seccomp_rule_add_array(context, action, nr, rule->test != ALWAYS, &test))
+        struct scmp_arg_cmp tests[ARGUMENTS];
+        for (uint32_t k = 0; k < rule->conditions; k++)
+            tests[k] = (struct scmp_arg_cmp){rule->when[k].index, rule->when[k].op, rule->when[k].value,
+                                             rule->when[k].two};
+        int status = seccomp_rule_add_array(context, rule->value, rule->nr, rule->conditions, tests);
+        if (status) {
+            fprintf(stderr, "libseccomp: %s: %s\n", names[rule->nr], strerror(-status));
             exit(1);
+        }
     }
     int file = memfd_create("filter", 0);
     if (file < 0 || seccomp_export_bpf(context, file))
@@ -164,20 +195,6 @@ static size_t by_seccomp(uint8_t *filter, int tree) {
     ssize_t length = pread(file, filter, 32768, 0);
     close(file);
     seccomp_release(context);
-    return length;
-}
-#endif
-
-#ifdef HAS_GVISOR
-static size_t by_gvisor(uint8_t *filter) {
-    static const enum gvisor_test tests[] = {GVISOR_ALWAYS, GVISOR_EQUAL, GVISOR_MASKED};
-    static struct gvisor_rule list[RULES];
-    for (int i = 0; i < rule_count; i++)
-        list[i] = (struct gvisor_rule){number_of(rules[i].name), rules[i].error, tests[rules[i].test],
-                                       rules[i].value};
-    size_t length = gvisor_compile(list, rule_count, filter, 32768);
-    if (length == 0)
-        exit(1);
     return length;
 }
 #endif
@@ -198,7 +215,7 @@ static size_t compiled(uint8_t *filter, enum compiler compiler) {
 #endif
 #ifdef HAS_GVISOR
     case GVISOR:
-        return by_gvisor(filter);
+        return gvisor_compile(rules, rule_count, other, filter, 32768);
 #endif
     default:
         return 0;

@@ -1,5 +1,6 @@
 #!/usr/bin/env python3
-"""Puts the seccomp profiles that container engines ship into a folder, as JSON, and names their files.
+"""Puts the seccomp profiles that container engines ship into a folder, as JSON, and names their files. Beside
+each is a file of its rules, as the benchmarks give them to other compilers.
 
 They come from Debian's packages golang-github-containers-common (podman's), golang-github-docker-docker-dev
 (Docker's) and golang-github-containerd-containerd-dev (containerd's), whose files lie below the root that is
@@ -26,7 +27,12 @@ FAMILIES = {"AF_ALG": 38, "AF_VSOCK": 40}
 OPERATORS = {"OpEqualTo": "SCMP_CMP_EQ", "OpNotEqual": "SCMP_CMP_NE", "OpMaskedEqual": "SCMP_CMP_MASKED_EQ",
              "OpLessThan": "SCMP_CMP_LT", "OpLessEqual": "SCMP_CMP_LE", "OpGreaterThan": "SCMP_CMP_GT",
              "OpGreaterEqual": "SCMP_CMP_GE"}
-ENOSYS = 38
+EPERM, ENOSYS = 1, 38
+
+# The values of a filter (linux/seccomp.h), and libseccomp's numbers of comparisons.
+VALUES = {"KILL_PROCESS": 0x80000000, "KILL_THREAD": 0, "KILL": 0, "TRAP": 0x30000, "ERRNO": 0x50000,
+          "TRACE": 0x7ff00000, "LOG": 0x7ffc0000, "ALLOW": 0x7fff0000}
+COMPARISONS = ["", "NE", "LT", "LE", "EQ", "GE", "GT", "MASKED_EQ"]
 
 
 def number(text):
@@ -82,6 +88,34 @@ def containerd(source):
     return json.dumps({"defaultAction": "SCMP_ACT_ERRNO", "syscalls": syscalls})
 
 
+def value(action, error):
+    kind = action.removeprefix("SCMP_ACT_")
+    data = EPERM if error is None else error
+    return VALUES[kind] | (data if kind in ("ERRNO", "TRACE") else 0)
+
+
+def rules(profile):
+    """What other calls return, and a line for each name of each entry: what it returns, how many conditions
+    it has, and these. Left out is what an entry before decides, and, as no library takes it, what returns the
+    same as other calls do."""
+    other = value(profile["defaultAction"], profile.get("defaultErrnoRet"))
+    lines, decided = [str(other)], set()
+    for entry in profile["syscalls"]:
+        conditions = entry.get("args") or []
+        returned = value(entry["action"], entry.get("errnoRet"))
+        words = [returned, len(conditions)]
+        for condition in conditions:
+            words += [condition["index"], COMPARISONS.index(condition["op"].removeprefix("SCMP_CMP_")),
+                      condition["value"], condition.get("valueTwo") or 0]
+        for name in entry.get("names", []):
+            line = " ".join(map(str, [name, *words]))
+            if name not in decided and returned != other and line not in lines:
+                lines.append(line)
+            if not conditions:
+                decided.add(name)
+    return "\n".join(lines) + "\n"
+
+
 def main():
     folder = Path(sys.argv[1])
     root = Path(sys.argv[2] if len(sys.argv) > 2 else "/")
@@ -90,12 +124,13 @@ def main():
         source, target = root / path, folder / f"{engine}.json"
         if not source.exists():
             print(f"{engine}: skipped, this machine has no /{path}", file=sys.stderr)
-        elif path == CONTAINERD:
+            continue
+        if path == CONTAINERD:
             target.write_text(containerd(source.read_text()))
-            print(target)
         else:
             shutil.copyfile(source, target)
-            print(target)
+        target.with_suffix(".rules").write_text(rules(json.loads(target.read_text())))
+        print(target)
 
 
 main()
