@@ -5,7 +5,7 @@
 #include "times.h"
 #include <linux/filter.h>
 
-enum { ROUNDS = 11, TESTS = 1999, LONG = 2 * TESTS + 2 };
+enum { ROUNDS = 11, TESTS = 1999, LONG = 2 * TESTS + 2, LISTS = 400 };
 
 static void row(const char *what, const void *first, size_t first_len, const void *second, size_t second_len,
                 int native) {
@@ -48,6 +48,23 @@ static void long_lists(void) {
     row("two lists, in different orders", first, sizeof first, second, sizeof second, 0);
 }
 
+static void drawn_lists(void) {
+    static uint8_t ours[32768], theirs[32768];
+    int same = 0;
+    for (int list = 0; list < LISTS; list++) {
+        uint8_t call[64];
+        uint32_t values[2];
+        drawn_names(100 + below(201), 5 + below(16));
+        text_len = json(text);
+        size_t length = compiled(ours, MOTCHIDU), their_length = compiled(theirs, GVISOR);
+        if (their_length == 0)
+            return;
+        same += motchidu_compare(ours, length, theirs, their_length, 1, UINT64_MAX, call, values) ==
+                MOTCHIDU_SAME;
+    }
+    printf("of %d drawn lists gVisor's filter is the same for %d\n", LISTS, same);
+}
+
 int main(void) {
     static const char *const whose[COMPILERS] = {"itself", "libseccomp's", "its binary tree's", "gVisor's"};
     static uint8_t ours[32768], theirs[32768];
@@ -63,5 +80,6 @@ int main(void) {
             row(what, ours, length, theirs, their_length, compiler != MOTCHIDU);
     }
     long_lists();
+    drawn_lists();
     return 0;
 }
