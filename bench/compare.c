@@ -54,7 +54,7 @@ static void drawn_lists(void) {
     for (int list = 0; list < LISTS; list++) {
         uint8_t call[64];
         uint32_t values[2];
-        drawn_names(100 + below(201), 5 + below(16));
+        drawn_names(100 + below(201), 5 + below(6), list % (ARGUMENTS_TOO + 1));
         text_len = json(text);
         size_t length = compiled(ours, MOTCHIDU), their_length = compiled(theirs, GVISOR);
         if (their_length == 0)

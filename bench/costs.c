@@ -41,7 +41,7 @@ static void measure(const uint8_t *filter, size_t length, double *took) {
 /* The names of a drawn list, and those that the measured child calls. */
 static void drawn_with_ours(void) {
     static const int ours[] = {SYS_getppid, SYS_exit_group, SYS_clock_gettime};
-    drawn_names(200, 20);
+    drawn_names(200, 20, EQUALITIES);
     int kept = 0;
     for (int i = 0; i < rule_count; i++) {
         int is_ours = rules[i].nr == SYS_personality || rules[i].nr == SYS_add_key;

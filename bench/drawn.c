@@ -4,27 +4,44 @@
  * always allowed, so the steps of calls with conditions are those that count. */
 #include "rules.h"
 
-enum { LISTS = 150, GROUPS = 4, MEASURES = 2, CALLS = 2 * RULES };
+enum { LISTS = 150, GROUPS = 6, MEASURES = 2, CALLS = 2 * RULES };
 
-/* How many of a list's names have conditions. */
+/* How many of a list's names have conditions, and which. */
 static const struct group {
     const char *title;
     int conditional; /* or 0: one in ten */
-} groups[GROUPS] = {{"5", 5}, {"10", 10}, {"20", 20}, {"one in ten", 0}};
+    enum asked asked;
+} groups[GROUPS] = {{"5", 5, EQUALITIES},
+                    {"10", 10, EQUALITIES},
+                    {"20", 20, EQUALITIES},
+                    {"one in ten", 0, EQUALITIES},
+                    {"10, any comparisons", 10, COMPARISONS},
+                    {"10, any arguments", 10, ARGUMENTS_TOO}};
 
 struct calls {
     struct seccomp_data data[CALLS];
     int count;
 };
 
-/* For each condition a call that passes it, and one that may not. */
+/* A call whose arguments are what the conditions name. */
+static struct seccomp_data named_by(const struct rule *rule) {
+    struct seccomp_data call = {.nr = rule->nr, .arch = AUDIT_ARCH_X86_64};
+    for (uint32_t i = 0; i < rule->conditions; i++) {
+        const struct condition *cond = &rule->when[i];
+        call.args[cond->index] = cond->op == MASKED_EQ ? cond->two : cond->value;
+    }
+    return call;
+}
+
+/* For each rule with conditions the call that these name, which passes equalities, and its neighbour. */
 static void conditional_calls(struct calls *calls) {
     calls->count = 0;
     for (int i = 0; i < rule_count; i++)
-        if (rules[i].conditions > 0)
-            for (int more = 0; more < 2; more++)
-                calls->data[calls->count++] = (struct seccomp_data){
-                    .nr = rules[i].nr, .arch = AUDIT_ARCH_X86_64, .args = {rules[i].when[0].value + more}};
+        for (int more = 0; more < 2 && rules[i].conditions > 0; more++) {
+            struct seccomp_data call = named_by(&rules[i]);
+            call.args[rules[i].when[0].index] += more;
+            calls->data[calls->count++] = call;
+        }
 }
 
 /* The numbers 0 to 450, with arguments 0. */
@@ -84,7 +101,7 @@ int main(void) {
         struct figures all[COMPILERS] = {0};
         for (int list = 0; list < LISTS; list++) {
             int wanted = 100 + below(201);
-            drawn_names(wanted, group->conditional ? group->conditional : wanted / 10);
+            drawn_names(wanted, group->conditional ? group->conditional : wanted / 10, group->asked);
             measure_list(all);
         }
         for (int how = 0; how < COMPILERS; how++)

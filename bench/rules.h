@@ -84,8 +84,42 @@ static inline void some_names(int count) {
         }
 }
 
-/* A list of so many names, of which some are allowed for one to four values of their first argument. */
-static inline void drawn_names(int wanted, int conditional) {
+/* What entries of a drawn list ask for: that the first argument equals a number, or that it compares in any
+ * way, or any comparison of any argument, some with an equality of another one. */
+enum asked { EQUALITIES, COMPARISONS, ARGUMENTS_TOO };
+
+static inline uint64_t small_or_large(void) {
+    switch (below(4)) {
+    case 0: return below(1ull << 32);
+    case 1: return below(5) << 32 | below(64);
+    default: return below(64);
+    }
+}
+
+static inline void drawn_entry(int nr, enum asked asked) {
+    struct rule *rule = add(nr, SECCOMP_RET_ALLOW);
+    enum op op = NE + below(MASKED_EQ);
+    uint32_t index = asked == COMPARISONS ? 0 : below(ARGUMENTS);
+    uint64_t value = small_or_large();
+    when(rule, index, op, value, op == MASKED_EQ ? value & small_or_large() : 0);
+    if (asked == ARGUMENTS_TOO && below(3) == 0)
+        when(rule, (index + 1 + below(ARGUMENTS - 1)) % ARGUMENTS, EQ, small_or_large(), 0);
+}
+
+/* One to four entries of a number, equalities in order of their values. */
+static inline void drawn_entries(int nr, enum asked asked) {
+    if (asked == EQUALITIES) {
+        uint64_t value = below(2) ? below(64) : below(1ull << 32);
+        for (int values = 1 + below(4); values > 0; values--, value += 2 + below(3))
+            when(add(nr, SECCOMP_RET_ALLOW), 0, EQ, value, 0);
+        return;
+    }
+    for (int entries = 1 + below(4); entries > 0; entries--)
+        drawn_entry(nr, asked);
+}
+
+/* A list of so many names, of which some are allowed under conditions. */
+static inline void drawn_names(int wanted, int conditional, enum asked asked) {
     int left = 0;
     rule_count = 0;
     for (int nr = 0; nr < NAMES; nr++)
@@ -98,9 +132,7 @@ static inline void drawn_names(int wanted, int conditional) {
             continue;
         }
         conditional--;
-        uint64_t value = below(2) ? below(64) : below(1ull << 32);
-        for (int values = 1 + below(4); values > 0; values--, value += 2 + below(3))
-            when(add(nr, SECCOMP_RET_ALLOW), 0, EQ, value, 0);
+        drawn_entries(nr, asked);
     }
 }
 

@@ -22,7 +22,7 @@ pub(crate) enum Precedence {
 const SEVERAL: usize = 5;
 
 /// In more ranges than these any number with conditions comes first: others take many tests anyway. The
-/// profiles of engines have 60 to 70 ranges.
+/// profiles of engines have 43 to 63 ranges.
 const MANY: usize = 80;
 
 impl Precedence {
