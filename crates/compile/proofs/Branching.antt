@@ -10,7 +10,7 @@ use Rattle.compile.specs.Backward.{Gives, GivesAlways, LeadsTo, data_word}
 use Rattle.compile.specs.Backward.Gives.{ends, leads}
 use Rattle.compile.specs.Tests.{operation_of, holds_of}
 use Rattle.compile.specs.declared.code.Test.{Test}
-use Rattle.compile.specs.declared.code.Test.TheVariants.{Equal, Greater, GreaterOrEqual}
+use Rattle.compile.specs.declared.code.Test.TheVariants.{Equal, Greater, GreaterOrEqual, AnyBit}
 use Rattle.compile.proofs.Building.{load_past}
 
 -- what an instruction that leads on leads to, A being the same behind a branch
@@ -20,11 +20,13 @@ branch_to : (test : Test) (call : SysCall) (insn : Insn) (at a to b : ℕ)
 branch_to Equal call insn at a to b leads_on = leads_on
 branch_to Greater call insn at a to b leads_on = leads_on
 branch_to GreaterOrEqual call insn at a to b leads_on = leads_on
+branch_to AnyBit call insn at a to b leads_on = leads_on
 
 not_return : (test : Test) (op : Operation) → op ≡ operation_of test → op ≡ ReturnK → ⊥
 not_return Equal op is other = absurd (cc)
 not_return Greater op is other = absurd (cc)
 not_return GreaterOrEqual op is other = absurd (cc)
+not_return AnyBit op is other = absurd (cc)
 
 pub branch_past : (code : List Insn) (call : SysCall) (at a value most : ℕ) (insn : Insn) (test : Test)
     → slice_get code at ≡ Some insn → insn.op ≡ operation_of test → Gives code call at a value most

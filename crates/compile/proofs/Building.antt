@@ -12,7 +12,7 @@ use Rattle.compile.specs.Backward.{LeadsTo, Gives, Keeps, Puts, IsBackward, Poin
 use Rattle.compile.specs.Backward.{data_word}
 use Rattle.compile.specs.Tests.{operation_of, holds_of}
 use Rattle.compile.specs.declared.code.Test.{Test}
-use Rattle.compile.specs.declared.code.Test.TheVariants.{Equal, Greater, GreaterOrEqual}
+use Rattle.compile.specs.declared.code.Test.TheVariants.{Equal, Greater, GreaterOrEqual, AnyBit}
 use Rattle.compile.specs.Backward.Gives.{ends, leads}
 
 -- each instruction of the old code stands in the new one at the same place
@@ -155,6 +155,8 @@ branch_leads Equal call insn at a hit miss hit_in miss_in jt jf =
 branch_leads Greater call insn at a hit miss hit_in miss_in jt jf =
     (branch_to _ insn at hit miss hit_in miss_in jt jf, refl)
 branch_leads GreaterOrEqual call insn at a hit miss hit_in miss_in jt jf =
+    (branch_to _ insn at hit miss hit_in miss_in jt jf, refl)
+branch_leads AnyBit call insn at a hit miss hit_in miss_in jt jf =
     (branch_to _ insn at hit miss hit_in miss_in jt jf, refl)
 
 pub jump_gives : (test : Test) (insn : Insn) (old new : List Insn) (call : SysCall)

@@ -15,9 +15,11 @@ pub mod Assembled
 pub mod Asking
 pub mod Chaining
 pub mod Running
+pub mod Arranging
 pub mod Choices
 pub mod Holding
 pub mod Finding
+pub mod Alike
 pub mod Lowest
 pub mod Highest
 pub mod Gathering

@@ -3,14 +3,15 @@
 use Rattle.std.proofs.Common.{◌≡◌, ◌≢◌, ℕ, zero, suc, ◌+◌, ◌-◌, ◌<◌, ◌≤◌, List, [], ◌∷◌, ◌⊎◌, Some, length}
 use Rattle.std.proofs.Common.{slice_get, get_or, refl, sym, ap, ◌∙◌, arith, inl, inr, subst, set, Bool}
 use Rattle.std.proofs.Common.{true, false}
-use Rattle.std.specs.Prelude.{bit_and, ◌==◌, nat_lt, nat_le}
+use Rattle.std.specs.Prelude.{bit_and, ◌==◌, nat_lt, nat_le, not}
 use Rattle.std.proofs.lemmas.Bool.{cases_lt, cases_eq}
 use Rattle.std.proofs.lemmas.List.{length-set}
 use Rattle.std.proofs.lemmas.Option.{same_Some, slice_get-get_or, slice_get_within}
 use Rattle.bpf_code.specs.declared.insn.Insn.{Insn}
 use Rattle.bpf_code.specs.declared.operation.Operation.{Operation}
 use Rattle.bpf_code.specs.declared.operation.Operation.TheVariants.{LoadData, AndK, JumpEqualK, JumpGreaterK}
-use Rattle.bpf_code.specs.declared.operation.Operation.TheVariants.{JumpGreaterOrEqualK, Jump, ReturnK}
+use Rattle.bpf_code.specs.declared.operation.Operation.TheVariants.{JumpGreaterOrEqualK, JumpAnyBitK, Jump}
+use Rattle.bpf_code.specs.declared.operation.Operation.TheVariants.{ReturnK}
 use Rattle.call_data.specs.declared.sys_call.SysCall.{SysCall}
 use Rattle.compile.specs.Backward.{LeadsTo, Gives, GivesAlways, IsBackward, Marks, NeverGives}
 use Rattle.compile.specs.Backward.{NoneReturns, PointsInside, BranchesTo, Unmarks, data_word}
@@ -30,6 +31,8 @@ leads_alike JumpGreaterK call insn at a to b other c here there =
     (omega (arith, here.0, there.0), here.1 ∙ sym there.1)
 leads_alike JumpGreaterOrEqualK call insn at a to b other c here there =
     (omega (arith, here.0, there.0), here.1 ∙ sym there.1)
+leads_alike JumpAnyBitK call insn at a to b other c here there =
+    (omega (arith, here.0, there.0), here.1 ∙ sym there.1)
 leads_alike Jump call insn at a to b other c here there =
     (omega (arith, here.0, there.0), here.1 ∙ sym there.1)
 leads_alike _ call insn at a to b other c here there = absurd here
@@ -42,6 +45,7 @@ leads_back AndK call insn at a to b is = omega (arith, is.0)
 leads_back JumpEqualK call insn at a to b is = omega (arith, is.0)
 leads_back JumpGreaterK call insn at a to b is = omega (arith, is.0)
 leads_back JumpGreaterOrEqualK call insn at a to b is = omega (arith, is.0)
+leads_back JumpAnyBitK call insn at a to b is = omega (arith, is.0)
 leads_back Jump call insn at a to b is = omega (arith, is.0)
 leads_back _ call insn at a to b is = absurd is
 
@@ -115,6 +119,9 @@ onward JumpGreaterK call insn at a inside =
     inr (record { to = on.0; next = a; behind = on.1; is = (on.2, refl) })
 onward JumpGreaterOrEqualK call insn at a inside =
     let on = branch_on (nat_le insn.k a) insn at inside.0 inside.1 in
+    inr (record { to = on.0; next = a; behind = on.1; is = (on.2, refl) })
+onward JumpAnyBitK call insn at a inside =
+    let on = branch_on (not (bit_and a insn.k == 0)) insn at inside.0 inside.1 in
     inr (record { to = on.0; next = a; behind = on.1; is = (on.2, refl) })
 onward Jump call insn at a inside = inr (record {
   to = at - 1 - insn.k;

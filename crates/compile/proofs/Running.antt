@@ -34,14 +34,14 @@ among_is (entry ∷ entries) last nr call =
     value_of-cond (applies entry nr call) entry.decision (decision_of entries last nr call)
     ∙ ap (λ v. cond (applies entry nr call) (value_of entry.decision) v) (among_is entries last nr call)
 
-among-append : (run rest : List Entry) (nr : ℕ) (call : SysCall) (other : ℕ)
+pub among-append : (run rest : List Entry) (nr : ℕ) (call : SysCall) (other : ℕ)
     → value_among (run ++ rest) nr call other ≡ value_among run nr call (value_among rest nr call other)
 among-append [] rest nr call other = refl
 among-append (entry ∷ run) rest nr call other =
     ap (λ v. cond (applies entry nr call) (value_of entry.decision) v) (among-append run rest nr call other)
 
 -- where none applies two values that are the same there are enough
-among_agree : (run : List Entry) (nr : ℕ) (call : SysCall) (one other : ℕ)
+pub among_agree : (run : List Entry) (nr : ℕ) (call : SysCall) (one other : ℕ)
     → (list_any (λ entry. applies entry nr call) run ≡ false → one ≡ other)
     → value_among run nr call one ≡ value_among run nr call other
 among_agree [] nr call one other same = same refl
@@ -146,7 +146,7 @@ run_keeps old marked mid new marker behind insn last marks keeps unmarks call at
           (keeps call at a value most (marks.behind call at a value most below given))
     ]
 
-conditions-append : (run rest : List Entry) (nr : ℕ)
+pub conditions-append : (run rest : List Entry) (nr : ℕ)
     → conditions_at (run ++ rest) nr ≡ conditions_at run nr + conditions_at rest nr
 conditions-append [] rest nr = omega arith
 conditions-append (entry ∷ run) rest nr = omega (arith, conditions-append run rest nr)

@@ -28,7 +28,7 @@ unequal : (number nr : ℕ) → number < NUMBER_LIMIT → NUMBER_LIMIT ≤ nr �
 unequal number nr small large = grind (arith, nat_tests)
 
 -- numbers behind the table are named by no entry
-none_equal : (numbers : List ℕ) (nr : ℕ) → AreNumbers numbers → NUMBER_LIMIT ≤ nr
+pub none_equal : (numbers : List ℕ) (nr : ℕ) → AreNumbers numbers → NUMBER_LIMIT ≤ nr
     → list_any (λ number. number == nr) numbers ≡ false
 none_equal [] nr fit past = refl
 none_equal (number ∷ numbers) nr fit past =

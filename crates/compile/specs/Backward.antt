@@ -1,11 +1,12 @@
 -- This project's own: code that is built from its end. A place counts the instructions behind it, so what
 -- is put in front moves no place. Only private functions cite this.
 use Rattle.std.specs.Prelude.{◌≡◌, ◌≢◌, ℕ, ◌+◌, ◌-◌, ◌%◌, ◌^◌, ◌<◌, ◌==◌, nat_lt, nat_le, Bool}
-use Rattle.std.specs.Prelude.{if◌then◌else◌, List, Some, slice_get, length, bit_and}
+use Rattle.std.specs.Prelude.{if◌then◌else◌, List, Some, slice_get, length, bit_and, not}
 use Rattle.bpf_code.specs.declared.insn.Insn.{Insn}
 use Rattle.bpf_code.specs.declared.operation.Operation.{Operation}
 use Rattle.bpf_code.specs.declared.operation.Operation.TheVariants.{LoadData, AndK, JumpEqualK, JumpGreaterK}
-use Rattle.bpf_code.specs.declared.operation.Operation.TheVariants.{JumpGreaterOrEqualK, Jump, ReturnK}
+use Rattle.bpf_code.specs.declared.operation.Operation.TheVariants.{JumpGreaterOrEqualK, JumpAnyBitK, Jump}
+use Rattle.bpf_code.specs.declared.operation.Operation.TheVariants.{ReturnK}
 use Rattle.bpf_code.specs.declared.limits.TheConstants.{DATA_LEN}
 use Rattle.call_data.specs.declared.sys_call.SysCall.{SysCall}
 use Rattle.call_data.specs.CallData.{word_at}
@@ -17,6 +18,7 @@ PointsInside AndK insn at = 0 < at
 PointsInside JumpEqualK insn at = (insn.jt < at) × (insn.jf < at)
 PointsInside JumpGreaterK insn at = (insn.jt < at) × (insn.jf < at)
 PointsInside JumpGreaterOrEqualK insn at = (insn.jt < at) × (insn.jf < at)
+PointsInside JumpAnyBitK insn at = (insn.jt < at) × (insn.jf < at)
 PointsInside Jump insn at = insn.k < at
 PointsInside ReturnK insn at = Unit {0}
 PointsInside _ insn at = ⊥
@@ -40,6 +42,7 @@ LeadsTo AndK call insn at a to b = (to + 1 ≡ at) × (b ≡ bit_and a insn.k)
 LeadsTo JumpEqualK call insn at a to b = BranchesTo (a == insn.k) insn at to × (b ≡ a)
 LeadsTo JumpGreaterK call insn at a to b = BranchesTo (nat_lt insn.k a) insn at to × (b ≡ a)
 LeadsTo JumpGreaterOrEqualK call insn at a to b = BranchesTo (nat_le insn.k a) insn at to × (b ≡ a)
+LeadsTo JumpAnyBitK call insn at a to b = BranchesTo (not (bit_and a insn.k == 0)) insn at to × (b ≡ a)
 LeadsTo Jump call insn at a to b = (to + 1 + insn.k ≡ at) × (b ≡ a)
 LeadsTo _ call insn at a to b = ⊥
 

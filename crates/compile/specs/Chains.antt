@@ -8,9 +8,11 @@ use Rattle.oci_profile.specs.declared.conditions.Cond.{Cond}
 use Rattle.oci_profile.specs.Meaning.{all_hold, compares, decision_of, names}
 use Rattle.oci_profile.specs.declared.decision.Decision.{Decision}
 use Rattle.oci_profile.specs.Decision.{value_of}
-use Rattle.compile.specs.Sizes.{steps_at}
+use Rattle.compile.specs.Bounds.{conditions_at}
+use Rattle.compile.specs.Sizes.{added_of, steps_at}
 use Rattle.bpf_code.specs.declared.insn.Insn.{Insn}
 use Rattle.call_data.specs.declared.sys_call.SysCall.{SysCall}
+use Rattle.call_data.specs.CallData.{IsCall}
 use Rattle.compile.specs.declared.chain.Known.{Known}
 use Rattle.compile.specs.declared.code.TheConstants.{RECENT}
 use Rattle.compile.specs.Backward.{Gives, GivesAlways, data_word}
@@ -59,6 +61,13 @@ pub record ChainGives (code : List Insn) (call : SysCall) (known : Option Known)
   pub gives : LinkGives code call known place value (steps_at (drop at entries) nr)
   pub right : list_any (λ earlier. applies earlier nr call) (take at entries) ≡ false
       → value ≡ value_of (decision_of (drop at entries) last nr call)
+
+-- Other entries in the place of these: they decide the same of the number, and are no more code.
+pub record StandFor (entries others : List Entry) (nr : ℕ) : Type 0 where
+  pub same : (call : SysCall) (other : ℕ) → IsCall call
+      → value_among others nr call other ≡ value_among entries nr call other
+  pub conditions : conditions_at others nr ≤ conditions_at entries nr
+  pub added : added_of others nr ≤ added_of entries nr
 
 -- where the place of a chain stands
 abbrev pub Stands : List Insn → Option Known → ℕ → Type 0

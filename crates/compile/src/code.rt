@@ -31,6 +31,8 @@ pub(crate) enum Test {
     Equal,
     Greater,
     GreaterOrEqual,
+    /// Whether it has any of these bits.
+    AnyBit,
 }
 
 impl Test {
@@ -41,6 +43,7 @@ impl Test {
             Test::Equal => Operation::JumpEqualK,
             Test::Greater => Operation::JumpGreaterK,
             Test::GreaterOrEqual => Operation::JumpGreaterOrEqualK,
+            Test::AnyBit => Operation::JumpAnyBitK,
         }
     }
 }

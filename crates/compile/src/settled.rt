@@ -83,6 +83,7 @@ fn branches(op: Operation, k: u32, word: u32) -> Option<bool>
         Operation::JumpEqualK => Some(word == k),
         Operation::JumpGreaterK => Some(word > k),
         Operation::JumpGreaterOrEqualK => Some(word >= k),
+        Operation::JumpAnyBitK => Some(word & k != 0),
         _ => None,
     }
 }

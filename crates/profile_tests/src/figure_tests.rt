@@ -23,7 +23,7 @@ fn figures_of_the_default(rt: HostRuntime) -> Result<(), Fail> {
     let filter = filter_of(&rt, &profile)?;
     let (most, all) = steps_of(&filter);
     assert!(rt; filter.len() <= 60, "{}", filter.len());
-    assert!(rt; most <= 12, "{most}");
+    assert!(rt; most <= 13, "{most}");
     assert!(rt; all <= 4284, "{all}");
     let mut with_args = 0;
     let mut plain = 0;
@@ -48,7 +48,7 @@ fn figures_of_the_default(rt: HostRuntime) -> Result<(), Fail> {
         }
     }
     assert!(rt; plain <= 12, "{plain}");
-    assert!(rt; with_args <= 16, "{with_args}");
+    assert!(rt; with_args <= 15, "{with_args}");
     Ok(())
 }
 

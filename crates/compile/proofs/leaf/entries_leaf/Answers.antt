@@ -26,7 +26,7 @@ returns-in-Some-clause-gives c = λ call is_call.
 
 pub returns-in-None-clause-balanced : goal.returns-in-None-clause-balanced
 returns-in-None-clause-balanced c =
-    let new : List Insn = c.chain_leaf.new.code in
+    let new : List Insn = c.arranged_leaf.new.code in
     let entries : List Entry = c.args.entries.now in
     let count : ℕ = conditions_at entries c.args.nr in
     let Chained : ℕ → Type 0 = λ at. (call : SysCall) → IsCall call
@@ -36,8 +36,8 @@ returns-in-None-clause-balanced c =
     → AreAsked index entries c.args.nr → count < 2 ^ digits
     → GivesAlways new call at (value_of (decision_of entries c.args.last.now c.args.nr call))
     (1 + 12 * digits) in
-    IfOk-weaker c.chain_leaf.result Chained Wanted (λ at chained call index digits is_call asks below.
+    IfOk-weaker c.arranged_leaf.result Chained Wanted (λ at chained call index digits is_call asks below.
     GivesAlways-more new call at (value_of (decision_of entries c.args.last.now c.args.nr call))
     (steps_at entries c.args.nr) (1 + 12 * digits) (chained call is_call)
     (chain_steps count digits (c.in_ok-place.ensures.left c.in-None.is index asks) below))
-    c.chain_leaf.ensures.gives
+    c.arranged_leaf.ensures.gives
