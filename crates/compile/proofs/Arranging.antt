@@ -1,22 +1,26 @@
 -- The entries of a number in another order, and without those that are hidden.
 use Rattle.std.proofs.Common.{◌≡◌, ℕ, suc, ◌+◌, ◌*◌, ◌<◌, ◌≤◌, ◌&&◌, ◌==◌, inl, inr, Bool, true, false, cond}
 use Rattle.std.proofs.Common.{List, [], ◌∷◌}
-use Rattle.std.proofs.Common.{All, length, refl, sym, ap, ◌∙◌, subst, arith, drop, take, get_or}
+use Rattle.std.proofs.Common.{◌≢◌, zero, All, AllPairs, length, refl, sym, ap, ◌∙◌, subst, arith, drop, take, get_or}
 use Rattle.std.specs.List.{insert, list_any, remove}
 use Rattle.std.specs.Prelude.{◌||◌}
 use Rattle.std.proofs.lemmas.Bool.{cases_lt, eq-eqb}
-use Rattle.std.proofs.lemmas.List.{at_drop_more, drop_all, take-append-drop}
-use Rattle.std.proofs.lemmas.List.Elements.{All-head, All-push, All-tail}
+use Rattle.std.proofs.lemmas.List.{at_drop_more, drop_all, get_or_default, take-append-drop}
+use Rattle.std.proofs.lemmas.List.Edits.{get_or-remove_above, get_or-remove_below, length-remove}
+use Rattle.std.proofs.lemmas.List.Kept.{AllPairs-cons}
+use Rattle.std.proofs.lemmas.List.Quantifiers.{all_pairs_remove}
+use Rattle.std.proofs.lemmas.List.Elements.{All-cons, All-head, All-push, All-tail}
 use Rattle.sys_table.specs.declared.table.TheConstants.{NUMBER_LIMIT}
 use Rattle.call_data.specs.declared.sys_call.SysCall.{SysCall}
 use Rattle.call_data.specs.CallData.{IsCall}
+use Rattle.oci_profile.specs.declared.conditions.Cond.{Cond}
 use Rattle.oci_profile.specs.declared.decision.Decision.{Decision}
 use Rattle.oci_profile.specs.declared.profile.Entry.{Entry}
-use Rattle.oci_profile.specs.Conditions.{AreNumbers}
+use Rattle.oci_profile.specs.Conditions.{AreConds, AreNumbers}
 use Rattle.oci_profile.specs.Decision.{value_of}
-use Rattle.oci_profile.specs.Meaning.{all_hold, all_of, decision_of, names}
+use Rattle.oci_profile.specs.Meaning.{all_hold, all_of, decision_of, holds_on, names}
 use Rattle.compile.specs.Bounds.{conditions_at}
-use Rattle.compile.specs.Chains.{IsHidden, StandFor, applies, value_among}
+use Rattle.compile.specs.Chains.{AreReordered, IsHidden, StandFor, applies, value_among}
 use Rattle.compile.specs.Sizes.{added_of}
 use Rattle.compile.proofs.Asking.{added_from, conditions_from}
 use Rattle.compile.proofs.Deciding.{not_both}
@@ -115,11 +119,97 @@ ordered_start entries sorted nr none =
       added = omega arith;
     })
 
+-- conditions of which one was put in front
+both_of : (one other rest : Bool) → (one && (other && rest)) ≡ (other && (one && rest))
+both_of true true rest = refl
+both_of true false rest = refl
+both_of false true rest = refl
+both_of false false rest = refl
+
+front_holds : (conds : List Cond) (at : ℕ) (first : Cond) (call : SysCall) → at < length conds
+    → first ≡ get_or conds at first → all_of (first ∷ remove conds at) call ≡ all_of conds call
+front_holds [] at first call inside is = absurd (omega (arith, inside))
+front_holds (x ∷ conds) zero first call inside is = ap (λ (c : Cond). all_of (c ∷ conds) call) is
+front_holds (x ∷ conds) (suc at) first call inside is =
+    both_of (holds_on first call) (holds_on x call) (all_of (remove conds at) call)
+    ∙ ap (λ b. holds_on x call && b) (front_holds conds at first call (omega (arith, inside)) is)
+
+front_within : (conds : List Cond) (at : ℕ) (P : Cond → Type 0) → at < length conds → All P conds
+    → All P (remove conds at)
+front_within conds at P inside all k d within =
+    let long = length-remove conds at inside in
+    elim (cases_lt k at) [
+      | inl below ↦ subst P (sym (get_or-remove_below conds at d k below inside)) (all k d (omega (arith, below)))
+      | inr above ↦
+          subst P (sym (get_or-remove_above conds at d k above inside))
+          (all (k + 1) d (omega (arith, long, within)))
+    ]
+
+front_apart : (conds : List Cond) (at : ℕ) (first : Cond) → at < length conds
+    → first ≡ get_or conds at first → AllPairs (λ (one : Cond) (other : Cond). one.index ≢ other.index) conds
+    → All (λ (other : Cond). first.index ≢ other.index) (remove conds at)
+front_apart conds at first inside is apart k d within same =
+    let long = length-remove conds at inside in
+    let here : get_or conds at d ≡ first = get_or_default conds at d first inside ∙ sym is in
+    elim (cases_lt k at) [
+      | inl below ↦
+          let found : get_or (remove conds at) k d ≡ get_or conds k d =
+          get_or-remove_below conds at d k below inside in
+          apart k at d below inside
+          (ap (λ (c : Cond). c.index) (sym found) ∙ sym same ∙ ap (λ (c : Cond). c.index) (sym here))
+      | inr above ↦
+          let found : get_or (remove conds at) k d ≡ get_or conds (k + 1) d =
+          get_or-remove_above conds at d k above inside in
+          apart at (k + 1) d (omega (arith, above)) (omega (arith, long, within))
+          (ap (λ (c : Cond). c.index) here ∙ same ∙ ap (λ (c : Cond). c.index) found)
+    ]
+
+front_fits : (conds : List Cond) (at : ℕ) (first : Cond) → at < length conds
+    → first ≡ get_or conds at first → AreConds conds → AreConds (first ∷ remove conds at)
+front_fits conds at first inside is fit =
+    let rest : List Cond = remove conds at in
+    let long = length-remove conds at inside in
+    let Small : Cond → Type 0 = λ cond. cond.index < 6 in
+    record {
+      in_range = All-cons Small first rest (subst Small (sym is) (fit.in_range at first inside))
+          (front_within conds at Small inside fit.in_range);
+      apart = AllPairs-cons (λ (one : Cond) (other : Cond). one.index ≢ other.index) first rest
+          (front_apart conds at first inside is fit.apart)
+          (all_pairs_remove (λ (one : Cond) (other : Cond). one.index ≢ other.index) conds at inside fit.apart);
+      few = omega (arith, long, fit.few);
+    }
+
+-- other conditions in the place of these, which an entry may have
+pub record Reordered (conds others : List Cond) : Type 0 where
+  pub fit : AreConds others
+  pub same : AreReordered conds others
+
+pub reordered_itself : (conds others : List Cond) → others ≡ conds → AreConds conds → Reordered conds others
+reordered_itself conds others is fit =
+    subst (Reordered conds) (sym is) (record {
+      fit = fit;
+      same = record { count = refl; same = λ call. refl };
+    })
+
+pub reordered_front : (conds copied left others : List Cond) (at : ℕ) (first : Cond) → at < length copied
+    → copied ≡ conds → first ≡ get_or copied at first → left ≡ remove copied at → others ≡ first ∷ left
+    → AreConds conds → Reordered conds others
+reordered_front conds copied left others at first inside copied_is is left_is others_are fit =
+    let long = length-remove copied at inside in
+    let put : others ≡ first ∷ remove copied at = others_are ∙ ap (λ cs. first ∷ cs) left_is in
+    subst (Reordered conds) (sym put) (record {
+      fit = front_fits copied at first inside is (subst AreConds (sym copied_is) fit);
+      same = record {
+        count = omega (arith, long, ap length copied_is);
+        same = λ call. front_holds copied at first call inside is ∙ ap (λ cs. all_of cs call) copied_is;
+      };
+    })
+
 -- the entry as it is for the number
 pub record IsCopy (entry copy : Entry) (nr : ℕ) : Type 0 where
   pub named : names copy nr ≡ true
   pub decision : copy.decision ≡ entry.decision
-  pub conds : copy.conds ≡ entry.conds
+  pub conds : AreReordered entry.conds copy.conds
 
 among_here : (entries : List Entry) (nr at : ℕ) (entry : Entry) (call : SysCall) (rest : ℕ)
     → at < length entries → entry ≡ get_or entries at entry
@@ -135,7 +225,7 @@ copy_applies : (entry copy : Entry) (nr : ℕ) (call : SysCall) → names entry 
 unfolding all_hold
 copy_applies entry copy nr call named is =
     ap (λ b. b && all_hold copy call) is.named
-    ∙ ap (λ conds. all_of conds call) is.conds
+    ∙ is.conds.same call
     ∙ sym (ap (λ b. b && all_hold entry call) named)
 
 copy_among : (entry copy : Entry) (nr : ℕ) (call : SysCall) (rest : ℕ) → names entry nr ≡ true
@@ -148,16 +238,13 @@ copy_among entry copy nr call rest named is =
 pub ordered_more : (entries sorted put news : List Entry) (nr done at : ℕ) (entry copy : Entry)
     → done < length entries → entry ≡ get_or entries done entry → names entry nr ≡ true
     → IsCopy entry copy nr
-    → All (λ (other : Entry). value_of other.decision ≡ value_of entry.decision) (drop at sorted)
+    → All (λ (other : Entry). value_of other.decision ≡ value_of copy.decision) (drop at sorted)
     → put ≡ insert sorted at copy → news ≡ put → OrderedSoFar entries sorted nr done
     → OrderedSoFar entries news nr (done + 1)
 ordered_more entries sorted put news nr done at entry copy inside is named copied passed put_is news_are
     before =
     let P : List Entry → Type 0 = λ es. OrderedSoFar entries es nr (done + 1) in
-    let Q : ℕ → Type 0 = λ v. All (λ (other : Entry). value_of other.decision ≡ v) (drop at sorted) in
-    let same : value_of entry.decision ≡ value_of copy.decision = sym (ap value_of copied.decision) in
-    let passed_copy = subst Q same passed in
-    let count : length copy.conds ≡ length entry.conds = ap length copied.conds in
+    let count : length copy.conds ≡ length entry.conds = copied.conds.count in
     let copy_conditions = ap (λ b. cond b (length copy.conds) 0) copied.named in
     let entry_conditions = ap (λ b. cond b (length entry.conds) 0) named in
     let copy_added = ap (λ b. cond b (1 + 6 * length copy.conds) 0) copied.named in
@@ -165,7 +252,7 @@ ordered_more entries sorted put news nr done at entry copy inside is named copie
     subst P (sym (news_are ∙ put_is)) (record {
       same = λ call rest.
           let behind : ℕ = value_among (drop (done + 1) entries) nr call rest in
-          inserted_among sorted at copy nr call behind passed_copy
+          inserted_among sorted at copy nr call behind passed
           ∙ ap (λ v. value_among sorted nr call v) (copy_among entry copy nr call behind named copied)
           ∙ sym (ap (λ v. value_among sorted nr call v)
           (among_here entries nr done entry call rest inside is))

@@ -1,6 +1,6 @@
 -- A profile that is light enough has a filter that is short enough.
-use Rattle.std.proofs.Common.{◌≡◌, ℕ, zero, suc, ◌+◌, ◌*◌, ◌^◌, ◌≤◌, ◌==◌, inl, inr, Bool, true, false, cond}
-use Rattle.std.proofs.Common.{List, [], ◌∷◌, length, refl, ap, ◌∙◌, arith}
+use Rattle.std.proofs.Common.{◌≡◌, ℕ, zero, suc, ◌+◌, ◌-◌, ◌*◌, ◌^◌, ◌≤◌, ◌<◌, ◌==◌, inl, inr, Bool, true, false}
+use Rattle.std.proofs.Common.{List, [], ◌∷◌, length, refl, ap, ◌∙◌, arith, cond}
 use Rattle.std.specs.Prelude.{◌||◌, sum_by}
 use Rattle.std.specs.List.{list_any}
 use Rattle.std.proofs.Math.Nat.{pow-suc}
@@ -229,3 +229,23 @@ eight_times d =
       pow-suc 2 d,
     ) in
     ap (λ n. 2 ^ n) more ∙ thrice
+
+pow_grows : (d more : ℕ) → 2 ^ d ≤ 2 ^ (more + d)
+pow_grows d zero =
+    let same : 0 + d ≡ d = omega arith in
+    omega (arith, ap (λ n. 2 ^ n) same)
+pow_grows d (suc more) =
+    let next : suc more + d ≡ suc (more + d) = omega arith in
+    omega (arith, ap (λ n. 2 ^ n) next, pow-suc 2 (more + d), pow_grows d more)
+
+-- a number of fewer digits has at most half of the room
+pub sixteen_times : (l d : ℕ) → 2 ^ l < 2 ^ d → 16 * 2 ^ l ≤ 2 ^ (d + 3)
+sixteen_times l d less = elim (cases_lt l d) [
+  | inl below ↦
+      let up : (d - suc l) + suc l ≡ d = omega arith in
+      let most : 2 ^ suc l ≤ 2 ^ d = omega (arith, pow_grows (suc l) (d - suc l), ap (λ n. 2 ^ n) up) in
+      omega (arith, most, pow-suc 2 l, eight_times d)
+  | inr above ↦
+      let up : (l - d) + d ≡ l = omega arith in
+      absurd (omega (arith, less, pow_grows d (l - d), ap (λ n. 2 ^ n) up))
+]

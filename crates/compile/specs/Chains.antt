@@ -5,7 +5,7 @@ use Rattle.std.specs.Prelude.{if◌then◌else◌, List, [], ◌∷◌, Option, 
 use Rattle.std.specs.List.{list_any}
 use Rattle.oci_profile.specs.declared.profile.Entry.{Entry}
 use Rattle.oci_profile.specs.declared.conditions.Cond.{Cond}
-use Rattle.oci_profile.specs.Meaning.{all_hold, compares, decision_of, names}
+use Rattle.oci_profile.specs.Meaning.{all_hold, all_of, compares, decision_of, names}
 use Rattle.oci_profile.specs.declared.decision.Decision.{Decision}
 use Rattle.oci_profile.specs.Decision.{value_of}
 use Rattle.compile.specs.Bounds.{conditions_at}
@@ -61,6 +61,11 @@ pub record ChainGives (code : List Insn) (call : SysCall) (known : Option Known)
   pub gives : LinkGives code call known place value (steps_at (drop at entries) nr)
   pub right : list_any (λ earlier. applies earlier nr call) (take at entries) ≡ false
       → value ≡ value_of (decision_of (drop at entries) last nr call)
+
+-- As many conditions that hold of the same calls.
+pub record AreReordered (conds others : List Cond) : Type 0 where
+  pub count : length others ≡ length conds
+  pub same : (call : SysCall) → all_of others call ≡ all_of conds call
 
 -- Other entries in the place of these: they decide the same of the number, and are no more code.
 pub record StandFor (entries others : List Entry) (nr : ℕ) : Type 0 where

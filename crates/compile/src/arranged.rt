@@ -1,12 +1,13 @@
-ghost use Rattle.std.specs.Prelude.{◌≡◌, ◌≤◌, ◌<◌, ℕ, All, length, drop, IfOk, IsTrue, true};
+ghost use Rattle.std.specs.Prelude.{◌≡◌, ◌≤◌, ◌<◌, ℕ, All, length, drop, IfOk, IfSome, IsTrue, true};
 ghost use Rattle.sys_table.specs.declared.table.TheConstants.{NUMBER_LIMIT};
 ghost use Rattle.oci_profile.specs.Decision.{value_of};
 ghost use Rattle.oci_profile.specs.Meaning.{names};
-ghost use Rattle.compile.specs.Chains.{StandFor};
+ghost use Rattle.compile.specs.Chains.{AreReordered, StandFor};
 ghost use Rattle.compile.specs.declared.arranged.TheConstants.{TURNS};
 
+use crate::condition::is_equal;
 use crate::hiding::is_hidden;
-use oci_profile::{Conds, Entry, Numbers, Op};
+use oci_profile::{Cond, Conds, Entry, Numbers, Op};
 use std::alloc::{AllocError, Global};
 
 /// How many turns there are.
@@ -67,22 +68,41 @@ fn known(entry: &Entry, nr: u32)
     entry.numbers.as_slice();
 }
 
+/// Where the first equality stands.
+fn first_equality(conds: &[Cond]) -> Option<usize>
+    ensures { IfSome result (λ at. at < length conds.now) }
+{
+    conds.iter().position(|cond| is_equal(cond.op))
+}
+
+/// The conditions with the first equality before all others: few arguments pass it, so it mostly settles that
+/// the entry does not apply.
+fn equality_first(alloc: Global, conds: &Conds) -> Result<Conds, AllocError>
+    ensures { IfOk result (λ others. AreReordered conds.now others) }
+{
+    let mut others = Vec::new(alloc);
+    others.extend_from_slice(conds.as_slice())?;
+    if let Some(at) = first_equality(others.as_slice()) {
+        let equality = others.remove(at);
+        others.insert(0, equality)?;
+    }
+    Ok(Conds::new(others))
+}
+
 /// The entry as it is for a number that it names.
 fn copy_of(alloc: Global, entry: &Entry, nr: u32) -> Result<Entry, AllocError>
     requires { names entry.now nr ≡ true }
     ensures named { IfOk result (λ copy. names copy nr ≡ true) }
     ensures decision { IfOk result (λ copy. copy.decision ≡ entry.now.decision) }
-    ensures conds { IfOk result (λ copy. copy.conds ≡ entry.now.conds) }
+    ensures conds { IfOk result (λ copy. AreReordered entry.now.conds copy.conds) }
 {
     known(entry, nr);
     let mut numbers = Vec::new(alloc);
     numbers.push(nr)?;
-    let mut conds = Vec::new(alloc);
-    conds.extend_from_slice(entry.conds.as_slice())?;
     Ok(Entry {
         numbers: Numbers::new(numbers),
         decision: entry.decision,
-        conds: Conds::new(conds),
+        conds: equality_first(alloc, &entry.conds)?,
     })
 }
 
@@ -94,8 +114,9 @@ fn in_order(alloc: Global, entries: &[Entry], nr: u32) -> Result<Vec<Entry>, All
     let mut sorted = Vec::new(alloc);
     for entry in entries {
         if entry.names(nr) {
-            let at = place_for(sorted.as_slice(), entry.decision.value(), rank(entry));
-            sorted.insert(at, copy_of(alloc, entry, nr)?)?;
+            let copy = copy_of(alloc, entry, nr)?;
+            let at = place_for(sorted.as_slice(), copy.decision.value(), rank(&copy));
+            sorted.insert(at, copy)?;
         }
     }
     Ok(sorted)

@@ -8,9 +8,12 @@ use crate::shares::Precedence;
 const HEAVY: u64 = 7;
 
 /// Where numbers with conditions come first, one is tested if it has one part in so many of their weight, or
-/// more: three that weigh the same take two tests on average, one after another, and four no less than behind
-/// a split.
+/// more: three that weigh the same take two tests on average, one after another.
 const FIRST_HEAVY: u64 = 3;
+
+/// So many numbers with conditions are tested one after another, the heaviest first, if there is room for
+/// it: a split takes no fewer tests.
+const FEW: usize = 4;
 
 /// The number that is tested first among these ranges, if the first test is of one number. It is a range by
 /// itself, and half of the room is enough for the others.
@@ -30,7 +33,7 @@ pub(crate) fn first_number(
     if to - from > half.saturating_add(1) {
         return None;
     }
-    let at = match heavy(remaining, from, to) {
+    let at = match heavy(remaining, from, to, half) {
         Some(at) => at,
         None => in_chain(remaining, from, to)?,
     };
@@ -41,24 +44,51 @@ pub(crate) fn first_number(
     }
 }
 
-/// The heaviest number with conditions, if it is heavy enough to be tested first.
-fn heavy(remaining: &Remaining, from: usize, to: usize) -> Option<usize>
+/// The heaviest number with conditions, if it is to be tested first.
+fn heavy(remaining: &Remaining, from: usize, to: usize, half: usize) -> Option<usize>
     requires { to ≤ length remaining.now }
 {
-    let (all, parts) = match remaining.precedence() {
-        Precedence::First => (conditional_sum(remaining, from, to), FIRST_HEAVY),
-        _ => (sum(remaining, from, to), HEAVY),
+    let at = heaviest(remaining, from, to)?;
+    let share = remaining.share(at);
+    let is_first = match remaining.precedence() {
+        Precedence::First => {
+            share.saturating_mul(FIRST_HEAVY) >= conditional_sum(remaining, from, to)
+                || are_few(remaining, from, to, half)
+        }
+        _ => share.saturating_mul(HEAVY) >= sum(remaining, from, to),
     };
+    if is_first { Some(at) } else { None }
+}
+
+/// The heaviest number with conditions.
+fn heaviest(remaining: &Remaining, from: usize, to: usize) -> Option<usize>
+    requires { to ≤ length remaining.now }
+    ensures { IfSome result (λ at. at < length remaining.now) }
+{
     let mut found = None;
     let mut most = 0;
     for at in from..to {
         let share = remaining.share(at);
-        if remaining.value(at).is_none() && share > most && share.saturating_mul(parts) >= all {
+        if remaining.value(at).is_none() && share > most {
             most = share;
             found = Some(at);
         }
     }
     found
+}
+
+/// Whether few of these ranges are numbers with conditions, and the room is enough for the others when all
+/// of those but one are tested: each test halves it, and takes a number from a range, which is two fewer.
+fn are_few(remaining: &Remaining, from: usize, to: usize, half: usize) -> bool
+    requires { to ≤ length remaining.now }
+{
+    let mut count = 0;
+    for at in from..to {
+        if remaining.value(at).is_none() {
+            count += 1;
+        }
+    }
+    count <= FEW && to.saturating_sub(from) <= (half >> (FEW - 1)).saturating_add(2 * (FEW - 1))
 }
 
 /// The heaviest of the numbers in a range that is treated alike but for them, if these ranges are one.
@@ -96,8 +126,20 @@ fn chain_end(remaining: &Remaining, from: usize, to: usize) -> usize
     next
 }
 
+/// Where a part ends that no split divides.
+fn part_end(remaining: &Remaining, from: usize, to: usize) -> usize
+    requires some { from < to }
+    requires to_in { to ≤ length remaining.now }
+    ensures inside { (from < result) × (result ≤ to) }
+{
+    match remaining.precedence() {
+        Precedence::First => from + 1,
+        _ => chain_end(remaining, from, to),
+    }
+}
+
 /// The split that balances the weights on both sides best, among those with no more ranges on either side
-/// than there is room for, and such that what one range can be stays whole.
+/// than there is room for. What one range can be stays whole, unless numbers with conditions come first.
 pub(crate) fn parting(remaining: &Remaining, from: usize, to: usize, room: usize) -> usize
     requires some { from + 1 < to }
     requires to_in { to ≤ length remaining.now }
@@ -109,13 +151,13 @@ pub(crate) fn parting(remaining: &Remaining, from: usize, to: usize, room: usize
     let mut best = from + (to - from) / 2;
     let mut least = u64::MAX;
     let mut before = 0u64;
-    let mut end = chain_end(remaining, from, to);
+    let mut end = part_end(remaining, from, to);
     for at in from + 1..to {
         before = before.saturating_add(remaining.share(at - 1));
         if at != end {
             continue;
         }
-        end = chain_end(remaining, at, to);
+        end = part_end(remaining, at, to);
         let gap = before.abs_diff(all.saturating_sub(before));
         if at - from <= room && to - at <= room && gap < least {
             best = at;

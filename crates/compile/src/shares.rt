@@ -41,9 +41,6 @@ impl Precedence {
 /// The weight of a number with conditions: more than that of most others.
 const CONDITIONAL: u64 = 44;
 
-/// How many times that is where they come first.
-const FIRST: u64 = 32;
-
 /// What an entry adds that asks for equality alone, and how many of these count.
 const ENTRY: u64 = 8;
 
@@ -51,6 +48,12 @@ const ENTRIES: u64 = 20;
 
 /// As how many of these another entry counts: more calls pass it.
 const OTHER: u64 = 10;
+
+/// The weight of a number with conditions where they come first, and what each entry that names it adds: nearly
+/// all of the weight, as if as many calls were made for each.
+const FIRST: u64 = 64;
+
+const FIRST_ENTRY: u64 = 1408;
 
 /// The weight of a range by itself.
 pub(crate) const RANGE: u64 = 2;
@@ -67,10 +70,9 @@ const PLAIN_NUMBERS: u64 = 72;
 /// The weight of a number with conditions where tests are put in order: the heavier a range is, the fewer
 /// lead to it.
 pub(crate) fn asked_share(profile: &Profile, nr: u32, precedence: Precedence) -> u64 {
-    let share = CONDITIONAL + ENTRY * asked(profile, nr).min(ENTRIES);
     match precedence {
-        Precedence::First => FIRST * share,
-        _ => share,
+        Precedence::First => FIRST + FIRST_ENTRY * naming(profile, nr).min(ENTRIES),
+        _ => CONDITIONAL + ENTRY * asked(profile, nr).min(ENTRIES),
     }
 }
 
@@ -93,6 +95,12 @@ fn numbers(starts: &[u32], at: usize) -> u64
         return 1;
     }
     u64::from(starts[at + 1].saturating_sub(starts[at]))
+}
+
+/// How many entries name the number.
+fn naming(profile: &Profile, nr: u32) -> u64 {
+    let entries = profile.entries.as_slice();
+    entries.iter().filter(|entry| entry.names(nr)).count() as u64
 }
 
 /// How many equalities the entries that are needed for the number count as.
