@@ -7,13 +7,9 @@ use crate::shares::Precedence;
 /// would put one more test before its own.
 const HEAVY: u64 = 7;
 
-/// Where numbers with conditions come first, one is tested if it has one part in so many of their weight, or
-/// more: three that weigh the same take two tests on average, one after another.
+/// Where numbers with conditions come first, one of many is tested if it has one part in so many of their
+/// weight, or more.
 const FIRST_HEAVY: u64 = 3;
-
-/// So many numbers with conditions are tested one after another, the heaviest first, if there is room for
-/// it: a split takes no fewer tests.
-const FEW: usize = 4;
 
 /// The number that is tested first among these ranges, if the first test is of one number. It is a range by
 /// itself, and half of the room is enough for the others.
@@ -51,10 +47,7 @@ fn heavy(remaining: &Remaining, from: usize, to: usize, half: usize) -> Option<u
     let at = heaviest(remaining, from, to)?;
     let share = remaining.share(at);
     let is_first = match remaining.precedence() {
-        Precedence::First => {
-            share.saturating_mul(FIRST_HEAVY) >= conditional_sum(remaining, from, to)
-                || are_few(remaining, from, to, half)
-        }
+        Precedence::First => comes_first(remaining, from, to, half, share),
         _ => share.saturating_mul(HEAVY) >= sum(remaining, from, to),
     };
     if is_first { Some(at) } else { None }
@@ -77,18 +70,29 @@ fn heaviest(remaining: &Remaining, from: usize, to: usize) -> Option<usize>
     found
 }
 
-/// Whether few of these ranges are numbers with conditions, and the room is enough for the others when all
-/// of those but one are tested: each test halves it, and takes a number from a range, which is two fewer.
-fn are_few(remaining: &Remaining, from: usize, to: usize, half: usize) -> bool
+/// Whether the heaviest number, which has this weight, is tested first where numbers with conditions come
+/// first. Up to four of them take no fewer tests behind a split than one after another, the heaviest first; but
+/// the room has to be enough for the other ranges behind these tests, or behind two of them where these are
+/// fewer than four.
+fn comes_first(remaining: &Remaining, from: usize, to: usize, half: usize, share: u64) -> bool
     requires { to ≤ length remaining.now }
 {
-    let mut count = 0;
-    for at in from..to {
-        if remaining.value(at).is_none() {
-            count += 1;
-        }
+    let ranges = to.saturating_sub(from);
+    let count = conditional_count(remaining, from, to);
+    if count < 4 {
+        return has_room(ranges, half, count.min(2));
     }
-    count <= FEW && to.saturating_sub(from) <= (half >> (FEW - 1)).saturating_add(2 * (FEW - 1))
+    count == 4 && has_room(ranges, half, 4)
+        || share.saturating_mul(FIRST_HEAVY) >= conditional_sum(remaining, from, to)
+}
+
+/// Whether there is room for the other ranges behind so many tests of one number: each of them halves the
+/// room, and leaves two ranges fewer.
+fn has_room(ranges: usize, half: usize, tests: usize) -> bool
+    requires { tests ≤ 4 }
+{
+    let more = tests.saturating_sub(1);
+    ranges <= (half >> more).saturating_add(2 * more)
 }
 
 /// The heaviest of the numbers in a range that is treated alike but for them, if these ranges are one.
@@ -188,4 +192,17 @@ fn conditional_sum(remaining: &Remaining, from: usize, to: usize) -> u64
         }
     }
     sum
+}
+
+/// How many of these ranges are numbers with conditions.
+fn conditional_count(remaining: &Remaining, from: usize, to: usize) -> usize
+    requires { to ≤ length remaining.now }
+{
+    let mut count = 0;
+    for at in from..to {
+        if remaining.value(at).is_none() {
+            count += 1;
+        }
+    }
+    count
 }
