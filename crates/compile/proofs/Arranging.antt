@@ -175,7 +175,8 @@ front_fits conds at first inside is fit =
           (front_within conds at Small inside fit.in_range);
       apart = AllPairs-cons (λ (one : Cond) (other : Cond). one.index ≢ other.index) first rest
           (front_apart conds at first inside is fit.apart)
-          (all_pairs_remove (λ (one : Cond) (other : Cond). one.index ≢ other.index) conds at inside fit.apart);
+          (all_pairs_remove (λ (one : Cond) (other : Cond). one.index ≢ other.index) conds at inside
+          fit.apart);
       few = omega (arith, long, fit.few);
     }
 

@@ -71,9 +71,8 @@ fn heaviest(remaining: &Remaining, from: usize, to: usize) -> Option<usize>
 }
 
 /// Whether the heaviest number, which has this weight, is tested first where numbers with conditions come
-/// first. Up to four of them take no fewer tests behind a split than one after another, the heaviest first; but
-/// the room has to be enough for the other ranges behind these tests, or behind two of them where these are
-/// fewer than four.
+/// first. Up to four of them take no fewer tests behind a split than one after another, the heaviest first, if
+/// there is room for the other ranges behind these tests, or behind two where these are fewer than four.
 fn comes_first(remaining: &Remaining, from: usize, to: usize, half: usize, share: u64) -> bool
     requires { to ≤ length remaining.now }
 {

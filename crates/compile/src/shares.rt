@@ -49,8 +49,8 @@ const ENTRIES: u64 = 20;
 /// As how many of these another entry counts: more calls pass it.
 const OTHER: u64 = 10;
 
-/// The weight of a number with conditions where they come first, and what each entry that names it adds, as if
-/// as many calls were made for each: more than that of all other ranges together, mostly.
+/// The weight of a number with conditions where they come first, and what each entry that names it adds, as
+/// if as many calls were made for each: more than that of all other ranges together, mostly.
 const FIRST: u64 = 600;
 
 const FIRST_ENTRY: u64 = 1000;

@@ -10,8 +10,8 @@ reordered : (c : Joined-first_equality) → Reordered c.args.conds.now c.match-f
 reordered c =
     let conds : List Cond = c.args.conds.now in
     let copied : c.extend_from_slice.new.self.items ≡ conds =
-    c.in_ok-extend_from_slice.ensures.items ∙ ap (λ cs. cs ++ c.as_slice.result.now) c.new-others.ensures.items
-    ∙ c.as_slice.ensures.value in
+    c.in_ok-extend_from_slice.ensures.items
+    ∙ ap (λ cs. cs ++ c.as_slice.result.now) c.new-others.ensures.items ∙ c.as_slice.ensures.value in
     elim c.match-first_equality.branch [
       | in-Some+in_ok-insert w ↦
           reordered_front conds c.extend_from_slice.new.self.items w.remove-equality.new.self.items
