@@ -84,8 +84,10 @@ bench: lib
 	@tools/bench_runtime.sh
 	@$(CC) $(BENCH_FLAGS) -pthread bench/echo.c -o out/bench/echo
 	@tools/bench_calls.py out/bench/echo
+	@tools/bench_creations.py
 	@tools/bench_full.py
 	@tools/bench_node.py
+	@tools/bench_settle.py
 
 # What the running kernel does with drawn profiles, beside what the library says of COUNT calls.
 kernel: lib

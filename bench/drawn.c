@@ -4,7 +4,7 @@
  * always allowed, so the steps of calls with conditions are those that count. */
 #include "rules.h"
 
-enum { LISTS = 150, GROUPS = 6, MEASURES = 2, CALLS = 2 * RULES };
+enum { LISTS = 150, GROUPS = 13, MEASURES = 2, CALLS = 2 * RULES };
 
 /* How many of a list's names have conditions, and which. */
 static const struct group {
@@ -16,7 +16,14 @@ static const struct group {
                     {"20", 20, EQUALITIES},
                     {"one in ten", 0, EQUALITIES},
                     {"10, any comparisons", 10, COMPARISONS},
-                    {"10, any arguments", 10, ARGUMENTS_TOO}};
+                    {"10, any arguments", 10, ARGUMENTS_TOO},
+                    {"1, types under a mask", 1, TYPES},
+                    {"1, two equalities", 1, PAIRS},
+                    {"1, ranges", 1, RANGES},
+                    {"1, bits", 1, BITS},
+                    {"1, masks", 1, MASKS},
+                    {"1, two of four arguments", 1, TWO_ARGUMENTS},
+                    {"1, a shared condition", 1, SHARED}};
 
 struct calls {
     struct seccomp_data data[CALLS];

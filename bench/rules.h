@@ -85,8 +85,23 @@ static inline void some_names(int count) {
 }
 
 /* What entries of a drawn list ask for: that the first argument equals a number, or that it compares in any
- * way, or any comparison of any argument, some with an equality of another one. */
-enum asked { EQUALITIES, COMPARISONS, ARGUMENTS_TOO };
+ * way, or any comparison of any argument, some with an equality of another one. Of the other kinds a number
+ * has several entries, which ask for one of some types under the mask ~0xff, for a number of each of two
+ * arguments, for a side of a number and more than another one, for a bit that is set or clear, for a number
+ * under a mask, for numbers of two of four arguments, or for one number that all of them share and one of
+ * their own. */
+enum asked {
+    EQUALITIES,
+    COMPARISONS,
+    ARGUMENTS_TOO,
+    TYPES,
+    PAIRS,
+    RANGES,
+    BITS,
+    MASKS,
+    TWO_ARGUMENTS,
+    SHARED
+};
 
 static inline uint64_t small_or_large(void) {
     switch (below(4)) {
@@ -106,12 +121,49 @@ static inline void drawn_entry(int nr, enum asked asked) {
         when(rule, (index + 1 + below(ARGUMENTS - 1)) % ARGUMENTS, EQ, small_or_large(), 0);
 }
 
-/* One to four entries of a number, equalities in order of their values. */
+/* An entry of several of a number, no two of which are the same. */
+static inline void drawn_of_several(struct rule *rule, enum asked asked, int entry, uint64_t shared) {
+    uint64_t bit = 1ull << (3 * entry + below(3)), mask = 1 + below(65535), own = 8 * entry + below(8);
+    switch (asked) {
+    case TYPES:
+        when(rule, 1, MASKED_EQ, ~0xffull, own << 8);
+        break;
+    case PAIRS:
+        when(rule, 0, EQ, below(64), 0);
+        when(rule, 1, EQ, own, 0);
+        break;
+    case RANGES:
+        when(rule, 1, below(2) ? LE : GE, below(1000), 0);
+        when(rule, 2, GT, 10 * own, 0);
+        break;
+    case BITS:
+        when(rule, 1, MASKED_EQ, bit, below(2) ? bit : 0);
+        break;
+    case MASKS:
+        when(rule, 1, MASKED_EQ, mask, mask & below(65536));
+        break;
+    case TWO_ARGUMENTS:
+        when(rule, below(2), EQ, below(64), 0);
+        when(rule, 2 + below(2), EQ, own, 0);
+        break;
+    default:
+        when(rule, 1, EQ, shared, 0);
+        when(rule, 2, EQ, own, 0);
+    }
+}
+
+/* One to four entries of a number, equalities in order of their values, or several of other kinds. */
 static inline void drawn_entries(int nr, enum asked asked) {
     if (asked == EQUALITIES) {
         uint64_t value = below(2) ? below(64) : below(1ull << 32);
         for (int values = 1 + below(4); values > 0; values--, value += 2 + below(3))
             when(add(nr, SECCOMP_RET_ALLOW), 0, EQ, value, 0);
+        return;
+    }
+    if (asked > ARGUMENTS_TOO) {
+        uint64_t shared = below(64);
+        for (int entries = 5 + below(asked == TYPES ? 12 : 8); entries > 0; entries--)
+            drawn_of_several(add(nr, SECCOMP_RET_ALLOW), asked, entries, shared);
         return;
     }
     for (int entries = 1 + below(4); entries > 0; entries--)

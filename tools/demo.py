@@ -40,17 +40,17 @@ def shown_until(agent, told, wanted):
 
 def looked_after(room, env):
     os.mkdir(f"{room}/pods")
-    command = "nodeagent --socket node.sock --with-runtime --watch --pods pods"
+    command = "nodeagent --socket node.sock --with-runtime --watch --pods pods --run demo"
     print(f"$ {command} &", flush=True)
     with open(f"{room}/told", "w", encoding="utf-8") as out, open(f"{room}/told", encoding="utf-8") as told:
         agent = subprocess.Popen(command.split(), cwd=room, env=env, stdout=out)
         try:
             print("$ cp confined_pod.json pods/web.json", flush=True)
             shutil.copy(f"{room}/confined_pod.json", f"{room}/pods/web.json")
-            shown_until(agent, told, "default.confined Failed")
+            shown_until(agent, told, "default.confined.demo Failed")
             print("$ rm pods/web.json", flush=True)
             os.unlink(f"{room}/pods/web.json")
-            shown_until(agent, told, "default.confined Deleted")
+            shown_until(agent, told, "default.confined.demo Deleted")
         finally:
             agent.terminate()
             agent.wait()

@@ -80,3 +80,9 @@ stop_at ended.Memory = Server Memory
 -- the line with which it begins, where it tells of itself: over which socket it works, on how many pods
 abbrev pub working_text : List ℕ → ℕ → List ℕ
 working_text socket pods = codes "works over " ++ (socket ++ (codes ", pods: " ++ decimal pods))
+
+-- the name of a run: with a folder of pods one of its own, unless one is given
+abbrev pub run_name : Option (List ℕ) → Option (List ℕ) → List ℕ → Option (List ℕ)
+run_name (Some run) pods made = Some run
+run_name None (Some folder) made = Some made
+run_name None None made = None

@@ -8,7 +8,7 @@ use Rattle.manifest.specs.Reading.{first_fault_at}
 use Rattle.runtime_server.specs.Stops.{status_of as status_of_server}
 use Rattle.runtime_server.specs.declared.stops.ServerStop.TheVariants as server
 use Rattle.agent.specs.declared.stops.AgentStop.{AgentStop}
-use Rattle.agent.specs.declared.stops.AgentStop.TheVariants.{Server, Text, Manifest, Pod, RunName}
+use Rattle.agent.specs.declared.stops.AgentStop.TheVariants.{Server, Text, Manifest, Pod, State, RunName}
 use Rattle.agent.specs.declared.stops.AgentStop.TheVariants.{HistoryFull}
 
 abbrev pub status_of : AgentStop → ℕ
@@ -16,6 +16,7 @@ status_of (Server stop) = status_of_server stop
 status_of (Text path told) = 1
 status_of (Manifest path fault) = 1
 status_of (Pod path refusal) = 1
+status_of (State path line) = 1
 status_of (RunName name) = 2
 status_of HistoryFull = 4
 

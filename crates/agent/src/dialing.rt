@@ -54,7 +54,10 @@ pub(crate) fn connect<R: Wait + Clock>(
                 return Ok(stream);
             }
             Err(error) => {
-                let is_full = error.kind() == ErrorKind::WouldBlock;
+                let is_full = matches!(
+                    error.kind(),
+                    ErrorKind::WouldBlock | ErrorKind::Interrupted
+                );
                 if !is_full || deadline.left(rt).is_none() || open.is_closed(rt) {
                     return Err(error);
                 }
@@ -83,16 +86,29 @@ impl<R: Clock> TimedStream<'_, R> {
 }
 
 impl<R: Clock> Read for TimedStream<'_, R> {
+    // A read that a signal interrupts, as when the process was stopped and goes on, is made again.
     fn read(&mut self, buf: &mut [u8]) -> io::Result<usize> {
-        self.stream.set_read_timeout(Some(self.left()?))?;
-        self.stream.read(buf)
+        for _ in 0..u64::MAX {
+            self.stream.set_read_timeout(Some(self.left()?))?;
+            match self.stream.read(buf) {
+                Err(error) if error.kind() == ErrorKind::Interrupted => {}
+                read => return read,
+            }
+        }
+        Err(io::Error::from(ErrorKind::Interrupted))
     }
 }
 
 impl<R: Clock> Write for TimedStream<'_, R> {
     fn write(&mut self, buf: &[u8]) -> io::Result<usize> {
-        self.stream.set_write_timeout(Some(self.left()?))?;
-        self.stream.write(buf)
+        for _ in 0..u64::MAX {
+            self.stream.set_write_timeout(Some(self.left()?))?;
+            match self.stream.write(buf) {
+                Err(error) if error.kind() == ErrorKind::Interrupted => {}
+                written => return written,
+            }
+        }
+        Err(io::Error::from(ErrorKind::Interrupted))
     }
 
     fn flush(&mut self) -> io::Result<()> {

@@ -4,30 +4,24 @@ ghost use Rattle.std.specs.Prelude.{◌≡◌, IfSome};
 ghost use Rattle.node_lock.specs.Books.{worker_of};
 
 use crate::folders::PodsFolder;
-use crate::limits::FOLDER_LOOK;
+use crate::leftovers::StateFile;
+use crate::limits::ERRAND_LOOK;
+use crate::losses::Loss;
+use crate::node_ends::{TableEnd, TableTeller};
+use crate::reader::is_gone;
 use crate::removal::Removal;
-use crate::tables::told_table;
-use node_watch::{Form, Reasons};
+use crate::troubles::{LostPod, Troubles};
+use fault_notes::ShownPath;
+use manifest::Uid;
+use node_io::CausedFault;
 use runtime_server::Teller;
 use std::alloc::{AllocError, Global};
 use std::sync::Wait;
+use std::sync::atomic::{AtomicU64, Ordering};
 use std::sync::ledger::Ledger;
-use std::time::{Clock, Duration, Instant};
-use worker_core::{AgentEvent, Node, NodeRefusal};
-use worker_crew::{Changes, Ended, Errands, NodeTeller, Shared};
-
-/// Writes the table of a node.
-#[derive(Clone, Copy)]
-pub(crate) struct TableTeller {
-    pub(crate) alloc: Global,
-    pub(crate) form: Form,
-}
-
-impl NodeTeller for TableTeller {
-    fn text(&self, node: &Node, reasons: &Reasons) -> Result<String, AllocError> {
-        told_table(self.alloc, node, self.form, reasons)
-    }
-}
+use std::time::Clock;
+use worker_core::{AgentEvent, NodeRefusal};
+use worker_crew::{Changes, Ended, Errands, Shared};
 
 /// The errands of an agent.
 #[derive(Drop)]
@@ -38,50 +32,116 @@ pub(crate) struct AgentErrands<'s, 'a, L: Ledger, R: Wait> {
     pub(crate) table: TableTeller,
     /// The folder of manifests whose pods come and go with the files.
     pub(crate) folder: Option<PodsFolder<'s, 'a, L, R>>,
-    /// When it was looked into last.
-    pub(crate) looked: Option<Instant>,
     /// What is to be done at the end, if pods are removed then.
     pub(crate) removal: Option<Removal>,
+    /// The current moment, for those who log calls.
+    pub(crate) moment: &'s AtomicU64,
+    /// The file of the uids that are not to be left behind.
+    pub(crate) state: Option<StateFile<'a>>,
+    /// Why a uid could not be kept the last time, if it could not.
+    pub(crate) unkept: Option<CausedFault>,
+    /// What went wrong with calls.
+    pub(crate) troubles: &'s Troubles,
+    /// Where faults are reported.
+    pub(crate) teller: &'s Teller,
+    /// The pods whose loss was reported.
+    pub(crate) told: Vec<Uid>,
+    /// Whether the reader of the changes is gone.
+    pub(crate) unread: bool,
     /// Where changes are printed.
     pub(crate) changes: Option<&'s Teller>,
 }
 
 impl<L: Ledger, R: Wait> AgentErrands<'_, '_, L, R> {
-    /// The table of the pods as they were before they were removed, if they were.
-    pub(crate) fn into_table(self) -> Option<String> {
+    /// The table of the pods as they were before they were removed, if they were, and whether the reader of
+    /// the changes is gone.
+    pub(crate) fn into_end(self) -> (Option<TableEnd>, bool) {
         let AgentErrands {
             folder,
             removal,
+            told,
+            state,
+            unread,
             ..
         } = self;
-        drop(folder);
+        drop((folder, told, state));
         match removal {
-            Some(removal) => removal.into_table(),
-            None => None,
+            Some(removal) => (removal.into_table(), unread),
+            None => (None, unread),
         }
     }
 }
 
 impl<L: Ledger, R: Wait + Clock> AgentErrands<'_, '_, L, R> {
-    // Whether the folder is to be looked into now. Without a clock it always is.
-    fn is_time(&self) -> bool {
-        match self.looked.map(|looked| looked.elapsed(self.rt)) {
-            Some(Ok(passed)) => passed >= Duration::from_secs(FOLDER_LOOK),
-            Some(Err(_)) | None => true,
-        }
-    }
-
-    // Lack of memory is ignored: the folder is looked into again a second later.
     fn of_folder(&mut self) -> Option<AgentEvent>
         ensures { IfSome result (λ event. worker_of event ≡ 0) }
     {
-        let is_time = self.is_time();
         let folder = self.folder.as_mut()?;
-        if is_time {
-            self.looked = Instant::now(self.rt).ok();
-            folder.look(&self.system).ok()?;
+        folder.look(&self.system);
+        let event = folder.next()?;
+        if let AgentEvent::Admit(pod) = &event {
+            if !self.is_kept(&pod.uid) {
+                return None;
+            }
         }
-        folder.folder.next(&folder.reader).ok()?
+        Some(event)
+    }
+
+    // Keeps the uid of a pod that is about to be admitted. A fault is reported once.
+    fn is_kept(&mut self, uid: &Uid) -> bool {
+        let Some(state) = &mut self.state else {
+            return true;
+        };
+        match state.keep(uid) {
+            Ok(()) => {
+                self.unkept = None;
+                true
+            }
+            Err(fault) => {
+                let path = state.path();
+                self.unkept(path, fault);
+                false
+            }
+        }
+    }
+
+    fn unkept(&mut self, path: &str, fault: CausedFault) {
+        if self.unkept != Some(fault) {
+            let alloc = self.table.alloc;
+            let line = format!(in alloc; "nodeagent: {}: {fault}", ShownPath(path));
+            self.teller.tell(self.rt, line);
+        }
+        self.unkept = Some(fault);
+    }
+
+    // Forgets the uids of pods that have left the node.
+    fn forget_left(&mut self) {
+        let (rt, shared) = (self.rt, self.shared);
+        let has_left = self
+            .folder
+            .as_mut()
+            .is_some_and(|folder| folder.take_left());
+        if let (true, Some(state)) = (has_left, &mut self.state) {
+            // A uid that is kept for longer is removed once more, which does no harm.
+            let _ = state.forget_all_but(|uid| shared.has_pod(rt, uid));
+        }
+    }
+
+    /// Reports each pod that the runtime has lost once, and has it go on under its next uid if its file is in
+    /// the folder.
+    pub(crate) fn report_losses(&mut self) {
+        for LostPod { uid, loss } in self.troubles.take_lost(self.rt) {
+            let moves = match &mut self.folder {
+                Some(folder) => folder.lost(&uid),
+                None => false,
+            };
+            if self.told.iter().any(|told| *told == uid) {
+                continue;
+            }
+            self.teller
+                .tell(self.rt, loss_line(self.table.alloc, &uid, loss, moves));
+            drop(self.told.push(uid));
+        }
     }
 
     fn of_removal(&self) -> Option<AgentEvent>
@@ -92,17 +152,33 @@ impl<L: Ledger, R: Wait + Clock> AgentErrands<'_, '_, L, R> {
     }
 }
 
+fn loss_line(alloc: Global, uid: &Uid, loss: Loss, moves: bool) -> Result<String, AllocError> {
+    let uid = uid.as_str();
+    if moves {
+        format!(in alloc; "nodeagent: {uid}: lost: {loss}; it goes on under its next uid")
+    } else {
+        format!(in alloc; "nodeagent: {uid}: lost: {loss}")
+    }
+}
+
 impl<L: Ledger, R: Wait + Clock> Errands for AgentErrands<'_, '_, L, R> {
     fn next(&mut self) -> Option<AgentEvent> {
+        self.report_losses();
+        self.forget_left();
+        self.unread = self.changes.is_some() && is_gone(&self.system);
         match self.of_folder() {
             Some(event) => Some(event),
             None => self.of_removal(),
         }
     }
 
+    fn ticks(&mut self, moment: u64) {
+        self.moment.store(moment, Ordering::SeqCst);
+    }
+
     fn recorded(&mut self, refusal: Option<NodeRefusal>) {
         if let Some(folder) = &mut self.folder {
-            let _ = folder.folder.recorded(refusal, &folder.reader);
+            folder.recorded(refusal, self.shared.moment());
         }
         if let Some(removal) = &mut self.removal {
             removal.recorded();
@@ -110,7 +186,11 @@ impl<L: Ledger, R: Wait + Clock> Errands for AgentErrands<'_, '_, L, R> {
     }
 
     fn pause(&self) -> Option<u64> {
-        self.folder.as_ref().map(|_| FOLDER_LOOK)
+        match &self.folder {
+            Some(folder) if folder.is_looking() => Some(0),
+            Some(_) => Some(ERRAND_LOOK),
+            None => self.changes.map(|_| ERRAND_LOOK),
+        }
     }
 
     fn tell(&mut self, changes: Changes) {
@@ -129,8 +209,10 @@ impl<L: Ledger, R: Wait + Clock> Errands for AgentErrands<'_, '_, L, R> {
     }
 
     fn stops(&self) -> bool {
-        self.changes
-            .is_some_and(|teller| teller.failure(self.rt).is_some())
+        self.unread
+            || self
+                .changes
+                .is_some_and(|teller| teller.failure(self.rt).is_some())
     }
 
     fn until(&self, until: u64) -> u64 {

@@ -1,30 +1,38 @@
 //! A folder of manifests that come and go with their files.
+ghost use Rattle.std.specs.Prelude.{◌≡◌, IfOk, IfSome};
+ghost use Rattle.agent.specs.Looks.{IsManifest, rest_after};
+ghost use Rattle.node_lock.specs.Books.{worker_of};
+ghost use Rattle.pod_folder.specs.Looking.{ReadsAs};
 
 use crate::inputs::pod_of;
+use crate::limits::{LONGEST_REST, LOOK_SHARE, SHORTEST_REST, SLICE};
+use crate::repeats::Repeats;
 use crate::stops::AgentStop;
-use manifest::{Pod, PodFault, Uid};
+use fault_notes::ShownPath;
+use manifest::{PodFault, Uid};
 use node_io::CausedFault;
-use pod_folder::{Folder, Naming, PodReader, look_into};
+use pod_folder::{
+    Due, Folder, Look, Looking, MAX_FILES, Manifest, ManifestReader, Naming, OnNode, Reading,
+    Report, SystemFolder, gives_uid, names_in,
+};
 use runtime_server::{ServerStop, Teller};
 use std::alloc::{AllocError, Global};
+use std::mem;
 use std::sync::Wait;
 use std::sync::ledger::Ledger;
+use std::time::{Clock, Duration, Instant};
 use worker_core::{AgentEvent, NodeRefusal};
 use worker_crew::Shared;
 
-/// Reports what is wrong with files on standard error, and knows which pods are on the node.
+/// Reads manifests, reports what is wrong with files on standard error, and knows which pods are on the node.
 #[derive(Drop)]
-pub(crate) struct FileTeller<'s, L: Ledger, R: Wait> {
+pub(crate) struct FileTeller<'s, 'a, L: Ledger, R: Wait> {
     pub(crate) rt: &'s R,
     pub(crate) alloc: Global,
     pub(crate) shared: &'s Shared<L>,
     pub(crate) teller: &'s Teller,
-}
-
-impl<L: Ledger, R: Wait> FileTeller<'_, L, R> {
-    fn tell(&self, stop: &AgentStop<'_>) {
-        self.teller.tell(self.rt, line_of(self.alloc, stop));
-    }
+    // The folder's path.
+    pub(crate) folder: &'a str,
 }
 
 // The line of a stop, without its line end, which the teller writes.
@@ -34,28 +42,66 @@ fn line_of(alloc: Global, stop: &AgentStop<'_>) -> Result<String, AllocError> {
     String::from_str(alloc, line.strip_suffix("\n").unwrap_or(line))
 }
 
-impl<L: Ledger, R: Wait> PodReader for FileTeller<'_, L, R> {
-    fn pod(&self, path: &str, bytes: &[u8]) -> Result<Option<Pod>, AllocError> {
-        match pod_of(self.alloc, path, bytes) {
-            Ok(pod) => Ok(Some(pod)),
-            Err(AgentStop::Server(ServerStop::Memory)) => Err(AllocError),
-            Err(stop) => {
-                self.tell(&stop);
-                Ok(None)
-            }
+impl<L: Ledger, R: Wait> FileTeller<'_, '_, L, R> {
+    fn path_of(&self, name: &str) -> Result<String, AllocError> {
+        format!(in self.alloc; "{}/{name}", self.folder)
+    }
+
+    fn unread_line(&self, path: &str, fault: CausedFault) -> Result<String, AllocError> {
+        line_of(
+            self.alloc,
+            &AgentStop::Server(ServerStop::File(path, fault)),
+        )
+    }
+
+    // The line of what is reported of the file of this name.
+    fn line(&self, name: &str, report: Report) -> Result<String, AllocError> {
+        let path = self.path_of(name)?;
+        match report {
+            Report::Refused(line) => Ok(line),
+            Report::Unread(fault) => self.unread_line(path.as_str(), fault),
+            Report::KnownUid => self.refused_line(path.as_str(), NodeRefusal::KnownUid),
         }
     }
 
-    fn unread(&self, path: &str, fault: CausedFault) {
-        self.tell(&AgentStop::Server(ServerStop::File(path, fault)));
+    fn refused_line(&self, path: &str, refusal: NodeRefusal) -> Result<String, AllocError> {
+        line_of(self.alloc, &AgentStop::Pod(path, refusal))
     }
 
-    fn refused(&self, path: &str, refusal: NodeRefusal) {
-        self.tell(&AgentStop::Pod(path, refusal));
+    fn unnamed_line(&self, name: &str) -> Result<String, AllocError> {
+        let path = self.path_of(name)?;
+        line_of(
+            self.alloc,
+            &AgentStop::Manifest(path.as_str(), PodFault::BadName),
+        )
     }
 
-    fn unnamed(&self, path: &str) {
-        self.tell(&AgentStop::Manifest(path, PodFault::BadName));
+    fn tell(&self, line: Result<String, AllocError>) {
+        self.teller.tell(self.rt, line);
+    }
+
+    fn reading(&self, path: &str, bytes: &[u8]) -> Result<Reading, AllocError>
+        ensures { IfOk result (ReadsAs IsManifest bytes.now) }
+    {
+        match pod_of(self.alloc, path, bytes) {
+            Ok(pod) => {
+                let gives_uid = gives_uid(self.alloc, bytes)?;
+                Ok(Reading::Pod(Manifest { pod, gives_uid }))
+            }
+            Err(AgentStop::Server(ServerStop::Memory)) => Err(AllocError),
+            Err(stop) => Ok(Reading::Refused(line_of(self.alloc, &stop)?)),
+        }
+    }
+}
+
+impl<L: Ledger, R: Wait> ManifestReader for FileTeller<'_, '_, L, R> {
+    ghost use Rattle.agent.specs.Looks.{IsManifest};
+
+    ghost reads = { IsManifest };
+
+    fn read(&self, name: &str, bytes: &[u8]) -> Result<Reading, AllocError> {
+        let path = self.path_of(name)?;
+        self.reading(path.as_str(), bytes)
     }
 
     fn is_on_node(&self, uid: &Uid) -> bool {
@@ -63,46 +109,305 @@ impl<L: Ledger, R: Wait> PodReader for FileTeller<'_, L, R> {
     }
 }
 
+impl<L: Ledger, R: Wait> OnNode for FileTeller<'_, '_, L, R> {
+    fn has(&self, uid: &Uid) -> bool {
+        self.shared.has_pod(self.rt, uid)
+    }
+}
+
+// How many milliseconds after the beginning of a look that took so many the next one begins: looks take at
+// most a hundredth of a core, but there is one each ten seconds at least, and at most one each second.
+fn rest_after(spent: u64) -> u64
+    ensures { result ≡ rest_after spent }
+{
+    spent
+        .saturating_mul(LOOK_SHARE)
+        .max(SHORTEST_REST)
+        .min(LONGEST_REST)
+}
+
 /// The folder, and the state of its files.
 #[derive(Drop)]
 pub(crate) struct PodsFolder<'s, 'a, L: Ledger, R: Wait> {
-    pub(crate) path: &'a str,
-    pub(crate) reader: FileTeller<'s, L, R>,
-    pub(crate) folder: Folder<'a>,
-    // Why it could not be looked into the last time, if it could not.
+    reader: FileTeller<'s, 'a, L, R>,
+    folder: Folder<'a>,
+    // The look that is being made, and how long that took so far.
+    looking: Option<Looking>,
+    spent: Duration,
+    // When the last look began, and how many milliseconds later the next one begins.
+    begun: Option<Instant>,
+    rest: u64,
+    // Why the last look could not be made, if it could not.
     unseen: Option<CausedFault>,
+    // How many files the last whole look left out.
+    left_out: usize,
+    // How often the node was full.
+    full: Repeats,
+    // Whether pods have left the node that are still kept in the file of uids.
+    has_left: bool,
+    // Whether nothing was due, and nothing has changed since.
+    is_idle: bool,
 }
 
-impl<'s, 'a, L: Ledger, R: Wait> PodsFolder<'s, 'a, L, R> {
+impl<'s, 'a, L: Ledger, R: Wait + Clock> PodsFolder<'s, 'a, L, R> {
     /// A folder that was not looked into yet.
     pub(crate) fn new(
-        path: &'a str,
-        reader: FileTeller<'s, L, R>,
+        reader: FileTeller<'s, 'a, L, R>,
         naming: Naming<'a>,
     ) -> PodsFolder<'s, 'a, L, R> {
         let folder = Folder::new(reader.alloc, naming);
         PodsFolder {
-            path,
             reader,
             folder,
+            looking: None,
+            spent: Duration::ZERO,
+            begun: None,
+            rest: 0,
             unseen: None,
+            left_out: 0,
+            full: Repeats::new(),
+            has_left: false,
+            is_idle: false,
         }
     }
 
-    /// Looks into the folder. If that fails, nothing changes, and the fault is reported once.
-    pub(crate) fn look(&mut self, system: &HostRuntime) -> Result<(), AllocError> {
-        match look_into(system, self.path) {
-            Ok(found) => {
-                self.unseen = None;
-                self.folder.look(found, &self.reader)
-            }
+    /// Whether a look is being made, which is to go on at once.
+    pub(crate) fn is_looking(&self) -> bool {
+        self.looking.is_some()
+    }
+
+    // Whether the next look is to begin now. Without a clock it always is. A tenth of a second early is in
+    // time.
+    fn is_time(&self) -> bool {
+        match self.begun.map(|begun| begun.elapsed(self.reader.rt)) {
+            Some(Ok(passed)) => passed.saturating_add(Duration::from_millis(100))
+                >= Duration::from_millis(self.rest),
+            Some(Err(_)) | None => true,
+        }
+    }
+
+    /// Goes on with a look, for a moment, or begins one if it is time. If a look fails, nothing changes, and
+    /// the fault is reported once.
+    pub(crate) fn look(&mut self, system: &HostRuntime) {
+        if self.looking.is_none() && !self.is_time() {
+            return;
+        }
+        let start = Instant::now(self.reader.rt).ok();
+        if self.looking.is_none() {
+            self.begun = start;
+            self.rest = SHORTEST_REST;
+            self.spent = Duration::ZERO;
+        }
+        let came = self.go_on(system, start);
+        self.spent = self.spent.saturating_add(self.since(start));
+        match came {
+            Ok(true) => self.finish(),
+            Ok(false) => {}
             Err(fault) => {
-                if self.unseen != Some(fault) {
-                    self.reader.unread(self.path, fault);
-                }
-                self.unseen = Some(fault);
-                Ok(())
+                self.looking = None;
+                self.missed(fault);
             }
         }
+    }
+
+    fn since(&self, start: Option<Instant>) -> Duration {
+        match start.map(|start| start.elapsed(self.reader.rt)) {
+            Some(Ok(passed)) => passed,
+            Some(Err(_)) | None => Duration::ZERO,
+        }
+    }
+
+    // Looks at files until each was looked at, or a moment has passed. Returns whether each was.
+    fn go_on(&mut self, system: &HostRuntime, start: Option<Instant>) -> Result<bool, CausedFault> {
+        let mut files = SystemFolder::open(system, self.reader.folder)?;
+        let mut looking = match self.looking.take() {
+            Some(looking) => looking,
+            None => {
+                let names = names_in(self.reader.alloc, &mut files.entries()?)?;
+                Looking::begin(self.reader.alloc, names)?
+            }
+        };
+        let mut is_whole = false;
+        for _ in 0..MAX_FILES {
+            if !looking.step(&self.folder, &mut files, &self.reader)? {
+                is_whole = true;
+                break;
+            }
+            if self.since(start) >= Duration::from_millis(SLICE) {
+                break;
+            }
+        }
+        self.looking = Some(looking);
+        Ok(is_whole)
+    }
+
+    // From now on, what is known of the files is what this look found.
+    fn finish(&mut self) {
+        let Some(looking) = self.looking.take() else {
+            return;
+        };
+        match looking.finish() {
+            Ok(look) => self.take(look),
+            Err(looking) => self.looking = Some(looking),
+        }
+    }
+
+    fn take(&mut self, look: Look) {
+        let Look {
+            files,
+            reports,
+            left_out,
+        } = look;
+        self.rest = rest_after(u64::try_from(self.spent.as_millis()).unwrap_or(u64::MAX));
+        self.folder.take(files);
+        self.is_idle = false;
+        self.seen();
+        for (place, report) in reports {
+            let line = match self.folder.found().get(place) {
+                Some(file) => self.reader.line(file.name(), report),
+                None => continue,
+            };
+            self.reader.tell(line);
+        }
+        if left_out != self.left_out {
+            let line = self.left_out_line(left_out);
+            self.reader.tell(line);
+        }
+        self.left_out = left_out;
+    }
+
+    fn left_out_line(&self, left_out: usize) -> Result<String, AllocError> {
+        let alloc = self.reader.alloc;
+        format!(in alloc;
+            "nodeagent: {}: {left_out} files left out, at most {MAX_FILES} are read",
+            ShownPath(self.reader.folder)
+        )
+    }
+
+    // The folder could not be looked into, for this reason, which is reported once.
+    fn missed(&mut self, fault: CausedFault) {
+        if self.unseen != Some(fault) {
+            let line = self.reader.unread_line(self.reader.folder, fault);
+            self.reader.tell(line);
+        }
+        self.unseen = Some(fault);
+    }
+
+    // The folder was looked into, which is reported once if it could not be before.
+    fn seen(&mut self) {
+        if self.unseen.take().is_some() {
+            let alloc = self.reader.alloc;
+            let line = format!(in alloc;
+                "nodeagent: {}: read again",
+                ShownPath(self.reader.folder)
+            );
+            self.reader.tell(line);
+        }
+    }
+
+    // Forgets the pods that have left the node.
+    fn settle(&mut self) {
+        for _ in 0..self.folder.placed().len() {
+            if !self.folder.left(&self.reader) {
+                break;
+            }
+            self.has_left = true;
+            self.is_idle = false;
+        }
+    }
+
+    /// The next event that the folder asks of the node, if there is one.
+    pub(crate) fn next(&mut self) -> Option<AgentEvent>
+        ensures { IfSome result (λ event. worker_of event ≡ 0) }
+    {
+        if self.is_looking() {
+            return None;
+        }
+        self.settle();
+        if self.is_idle {
+            return None;
+        }
+        for _ in 0..=MAX_FILES {
+            match self.folder.next() {
+                Ok(Due::Event(event)) => return for_node(event),
+                Ok(Due::Unnamed(place)) => {
+                    let line = match self.folder.found().get(place) {
+                        Some(file) => self.reader.unnamed_line(file.name()),
+                        None => continue,
+                    };
+                    self.reader.tell(line);
+                }
+                Ok(Due::Idle) => {
+                    self.is_idle = true;
+                    return None;
+                }
+                Err(_) => return None,
+            }
+        }
+        None
+    }
+
+    /// Whether pods have left the node since the last call.
+    pub(crate) fn take_left(&mut self) -> bool {
+        mem::replace(&mut self.has_left, false)
+    }
+
+    /// The runtime has lost the pod of this uid. Returns whether it goes on under another uid.
+    pub(crate) fn lost(&mut self, uid: &Uid) -> bool {
+        self.is_idle = false;
+        self.folder.lost(uid)
+    }
+
+    /// The event became an entry, and the node refused it for this reason, if it did.
+    pub(crate) fn recorded(&mut self, refusal: Option<NodeRefusal>, now: u64) {
+        if let Some(refusal) = refusal {
+            self.refused(refusal, now);
+        }
+        self.is_idle = false;
+        self.folder.recorded(refusal);
+    }
+
+    // Reports a refusal, if it is not one after which another uid is tried. A full node is reported once, and
+    // then once a minute.
+    fn refused(&mut self, refusal: NodeRefusal, now: u64) {
+        let path = match self.folder.told_of(refusal) {
+            Some(name) => self.reader.path_of(name),
+            None => return,
+        };
+        let times = if refusal == NodeRefusal::Full {
+            self.full.note(now)
+        } else {
+            Some(1)
+        };
+        if let Some(times) = times {
+            let line = self.refusal_line(path, refusal, times);
+            self.reader.tell(line);
+        }
+    }
+
+    fn refusal_line(
+        &self,
+        path: Result<String, AllocError>,
+        refusal: NodeRefusal,
+        times: u64,
+    ) -> Result<String, AllocError> {
+        let alloc = self.reader.alloc;
+        let path = path?;
+        let line = self.reader.refused_line(path.as_str(), refusal)?;
+        if times == 1 {
+            Ok(line)
+        } else {
+            format!(in alloc; "{} ({times} times)", line.as_str())
+        }
+    }
+}
+
+// What worker 0 may record.
+fn for_node(event: AgentEvent) -> Option<AgentEvent>
+    ensures { IfSome result (λ event. worker_of event ≡ 0) }
+{
+    match event {
+        AgentEvent::Admit(_) | AgentEvent::Delete(_) => Some(event),
+        _ => None,
     }
 }

@@ -1,6 +1,7 @@
 //! The manifests that the command line names, and those of a folder.
 
-ghost use Rattle.std.specs.Prelude.{IfErr};
+ghost use Rattle.std.specs.Prelude.{IfErr, IfOk};
+ghost use Rattle.manifest.specs.Pod.{ReadsPod};
 ghost use Rattle.agent.specs.Stops.{IsOfText};
 
 use crate::stops::AgentStop;
@@ -13,7 +14,8 @@ use std::rt;
 
 /// The pod of a manifest's bytes.
 pub(crate) fn pod_of<'a>(alloc: Global, path: &'a str, bytes: &[u8]) -> Result<Pod, AgentStop<'a>>
-    ensures { IfErr result (IsOfText path.now bytes.now) }
+    ensures read { IfOk result (ReadsPod bytes.now) }
+    ensures fault { IfErr result (IsOfText path.now bytes.now) }
 {
     match manifest::read_placed(alloc, bytes) {
         Ok(pod) => Ok(pod),

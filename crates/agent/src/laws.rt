@@ -1,6 +1,7 @@
 ghost use Rattle.std.specs.Prelude.{◌≡◌};
 ghost use Rattle.agent.specs.declared.limits.TheConstants.{LAST_CALLS, LOOKS, MAX_WORKERS, PATIENCE, POLL};
-ghost use Rattle.agent.specs.declared.limits.TheConstants.{RUNNERS, SETTLE_UNTIL};
+ghost use Rattle.agent.specs.declared.limits.TheConstants.{LONGEST_REST, LOOK_SHARE, REPORT_REST};
+ghost use Rattle.agent.specs.declared.limits.TheConstants.{RUNNERS, SETTLE_UNTIL, SHORTEST_REST};
 ghost use Rattle.agent.specs.declared.dialing.TheConstants.{QUEUE_REST};
 
 /// The values of this crate's constants.
@@ -15,6 +16,13 @@ pub fn constants_are_as_stated()
     // a second, in milliseconds
     ensures last_calls { LAST_CALLS ≡ 1000 }
     ensures looks { LOOKS ≡ 100 }
+    // so looks take less than a hundredth of a core
+    ensures look_share { LOOK_SHARE ≡ 125 }
+    // milliseconds
+    ensures shortest_rest { SHORTEST_REST ≡ 1000 }
+    ensures longest_rest { LONGEST_REST ≡ 10000 }
+    // a minute
+    ensures report_rest { REPORT_REST ≡ 60 }
     // milliseconds
     ensures queue_rest { QUEUE_REST ≡ 10 }
 {}

@@ -20,8 +20,24 @@ pub(crate) const LAST_CALLS: u64 = 1_000;
 /// How often in that time it is checked whether a call is still in progress.
 pub(crate) const LOOKS: u64 = 100;
 
-/// How many seconds are between two looks into a folder of manifests.
-pub(crate) const FOLDER_LOOK: u64 = 1;
+/// In how many seconds of the machine's clock worker 0 looks whether there is an errand.
+pub(crate) const ERRAND_LOOK: u64 = 1;
+
+/// How many milliseconds worker 0 looks at files before it looks at its clock again.
+pub(crate) const SLICE: u64 = 50;
+
+/// How many times as long as a look into a folder took the time from its beginning to that of the next one
+/// is.
+pub(crate) const LOOK_SHARE: u64 = 125;
+
+/// The shortest time from the beginning of a look to that of the next one, in milliseconds.
+pub(crate) const SHORTEST_REST: u64 = 1_000;
+
+/// The longest such time, in milliseconds.
+pub(crate) const LONGEST_REST: u64 = 10_000;
+
+/// How many seconds pass at least between two reports of what happens again and again.
+pub(crate) const REPORT_REST: u64 = 60;
 
 /// How many seconds of the virtual clock an agent has at its end to remove its pods.
 pub(crate) const REMOVAL: u64 = 60;

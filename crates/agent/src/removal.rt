@@ -1,12 +1,13 @@
 //! How an agent that ends by itself removes its pods.
 
 use crate::limits::REMOVAL;
+use crate::node_ends::{TableEnd, TableTeller};
 use manifest::Uid;
 use std::alloc::{AllocError, Global};
 use std::sync::Wait;
 use std::sync::ledger::Ledger;
 use worker_core::MAX_PODS;
-use worker_crew::{Ended, NodeTeller, Shared};
+use worker_crew::{Ended, Shared};
 
 /// What is left to do at the end of a run.
 #[derive(Drop)]
@@ -19,7 +20,7 @@ pub(crate) struct Removal {
     // The pods that are still to be deleted.
     uids: Vec<Uid>,
     // The table of the pods as they were before.
-    table: Option<String>,
+    table: Option<TableEnd>,
 }
 
 fn uids_on<L: Ledger, R: Wait>(
@@ -48,7 +49,7 @@ impl Removal {
     }
 
     /// The table of the pods as they were before they were removed, if they were.
-    pub(crate) fn into_table(self) -> Option<String> {
+    pub(crate) fn into_table(self) -> Option<TableEnd> {
         let Removal { uids, table, .. } = self;
         drop(uids);
         table
@@ -56,11 +57,11 @@ impl Removal {
 
     /// Called when the run has come to this end at this moment. Returns how it ends at last, or `None` if
     /// pods are to leave first.
-    pub(crate) fn at_end<L: Ledger, R: Wait, T: NodeTeller>(
+    pub(crate) fn at_end<L: Ledger, R: Wait>(
         &mut self,
         rt: &R,
         shared: &Shared<L>,
-        teller: &T,
+        teller: &TableTeller,
         ended: Ended,
         now: u64,
     ) -> Option<Ended> {
@@ -78,11 +79,11 @@ impl Removal {
         }
     }
 
-    fn begin<L: Ledger, R: Wait, T: NodeTeller>(
+    fn begin<L: Ledger, R: Wait>(
         &mut self,
         rt: &R,
         shared: &Shared<L>,
-        teller: &T,
+        teller: &TableTeller,
         ended: Ended,
         now: u64,
     ) -> Result<(), AllocError> {

@@ -1,4 +1,5 @@
 use command_line::LineFault;
+use fault_notes::ShownPath;
 use manifest::PodFault;
 use runtime_server::{ServerStop, Told};
 use std::alloc::{AllocError, AllocFailed};
@@ -16,6 +17,8 @@ pub(crate) enum AgentStop<'a> {
     Manifest(&'a str, PodFault),
     /// The node does not admit the pod of a manifest.
     Pod(&'a str, worker_core::NodeRefusal),
+    /// A line of the file of uids that a former start left, from 1, is not a uid.
+    State(&'a str, usize),
     /// The name of the run can't be a part of a uid.
     RunName(&'a str),
     /// The history of the node has no room for a claim.
@@ -32,7 +35,10 @@ impl AgentStop<'_> {
     {
         match self {
             AgentStop::Server(stop) => stop.status(),
-            AgentStop::Text(_, _) | AgentStop::Manifest(_, _) | AgentStop::Pod(_, _) => 1,
+            AgentStop::Text(_, _)
+            | AgentStop::Manifest(_, _)
+            | AgentStop::Pod(_, _)
+            | AgentStop::State(_, _) => 1,
             AgentStop::RunName(_) => 2,
             AgentStop::HistoryFull => 4,
         }
@@ -54,10 +60,17 @@ impl fmt::Display for AgentStop<'_> {
                 },
                 f,
             ),
-            AgentStop::Manifest(path, fault) => writeln!(f, "nodeagent: {path}: {fault}"),
-            AgentStop::Text(path, told) => writeln!(f, "nodeagent: {path}{told}"),
-            AgentStop::Pod(path, refusal) => writeln!(f, "nodeagent: {path}: {refusal}"),
-            AgentStop::RunName(name) => writeln!(f, "nodeagent: {name}: BadName"),
+            AgentStop::Manifest(path, fault) => {
+                writeln!(f, "nodeagent: {}: {fault}", ShownPath(path))
+            }
+            AgentStop::Text(path, told) => writeln!(f, "nodeagent: {}{told}", ShownPath(path)),
+            AgentStop::Pod(path, refusal) => {
+                writeln!(f, "nodeagent: {}: {refusal}", ShownPath(path))
+            }
+            AgentStop::State(path, line) => {
+                writeln!(f, "nodeagent: {}: line {line}: BadUid", ShownPath(path))
+            }
+            AgentStop::RunName(name) => { writeln!(f, "nodeagent: {}: BadName", ShownPath(name)) }
             AgentStop::HistoryFull => writeln!(f, "nodeagent: HistoryFull"),
         }
     }

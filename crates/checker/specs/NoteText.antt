@@ -14,6 +14,7 @@ use Rattle.oci_profile.specs.Faults.{fault_text as profile_fault_text}
 use Rattle.profile_template.specs.Faults.{fault_text as template_fault_text}
 use Rattle.script.specs.FaultText.{fault_text as script_fault_text}
 use Rattle.verdict.specs.FaultText.{fault_text as stack_fault_text}
+use Rattle.fault_notes.specs.Paths.{shown_path}
 use Rattle.checker.specs.declared.notes.Named.{Named}
 use Rattle.checker.specs.declared.notes.Named.TheVariants as named
 use Rattle.checker.specs.declared.notes.Note.{Note}
@@ -65,8 +66,12 @@ abbrev pub shown_text : Option Insn → List ℕ
 shown_text None = codes "\n"
 shown_text (Some insn) = codes ": " ++ (text_of insn ++ codes "\n")
 
+-- the file, and the note on its text
+abbrev pub file_line : List ℕ → List ℕ → List ℕ
+file_line path note = codes "seccheck: " ++ (shown_path path ++ (note ++ codes "\n"))
+
 -- the file, the place in it, the fault's name, and what stands there
 abbrev pub note_text : Note → List ℕ
 note_text note =
-    codes "seccheck: " ++ (note.path.now ++
+    codes "seccheck: " ++ (shown_path note.path.now ++
     (spot_text note.spot ++ (codes ": " ++ (named_text note.fault ++ shown_text note.insn))))

@@ -1,5 +1,6 @@
 -- What is printed where a program ends before its work is done, this project's own: docs/SEMANTICS.md,
--- "Programs". Nothing is said of a refused command line: its text is clap's.
+-- "Programs". The name of a file, or a word, has its control characters escaped. Nothing is said of a refused
+-- command line: its text is clap's.
 use Rattle.std.specs.Prelude.{ℕ, List, ◌++◌, codes, Option, Some, None}
 use Rattle.bpf_verify.specs.RefusalText.{refusal_text}
 use Rattle.compile.specs.FaultText.{fault_text as compile_fault_text}
@@ -11,6 +12,7 @@ use Rattle.verdict.specs.FaultText.{fault_text as stack_fault_text}
 use Rattle.node_io.specs.Causes.{cause_text}
 use Rattle.node_io.specs.FaultText.{caused_text}
 use Rattle.check_answers.specs.Compared.{difference_text, reason_of}
+use Rattle.fault_notes.specs.Paths.{shown_path}
 use Rattle.checker.specs.BadWords.{word_fault_text}
 use Rattle.checker.specs.declared.stop.Stop.{Stop}
 use Rattle.checker.specs.declared.stop.Stop.TheVariants.{Refused, Profile, Template, Compile, Manifest}
@@ -30,12 +32,13 @@ stop_text (Stack path fault) = Some (codes "refused filter " ++ stack_fault_text
 stop_text (Differ difference) = Some (difference_text difference ++ codes "\n")
 stop_text (Undecided doubt) = Some (codes "undecided: " ++ reason_of doubt ++ codes "\n")
 stop_text (CommandLine error) = None
-stop_text (BadNumber word) = Some (codes "seccheck: " ++ word.now ++ codes ": BadNumber\n")
-stop_text (BadWord word fault) = Some (codes "seccheck: " ++ word.now ++ codes ": " ++ word_fault_text fault
-    ++ codes "\n")
-stop_text (File path caused) = Some (codes "seccheck: " ++ path.now ++ codes ": " ++ caused_text caused
-    ++ codes "\n")
-stop_text (SameFile path) = Some (codes "seccheck: " ++ path.now ++ codes ": Failed (the profile itself)\n")
+stop_text (BadNumber word) = Some (codes "seccheck: " ++ shown_path word.now ++ codes ": BadNumber\n")
+stop_text (BadWord word fault) = Some (codes "seccheck: " ++ shown_path word.now ++ codes ": "
+    ++ word_fault_text fault ++ codes "\n")
+stop_text (File path caused) = Some (codes "seccheck: " ++ shown_path path.now ++ codes ": "
+    ++ caused_text caused ++ codes "\n")
+stop_text (SameFile path) = Some (codes "seccheck: " ++ shown_path path.now
+    ++ codes ": Failed (the profile itself)\n")
 stop_text (Unwritten cause) = Some (codes "seccheck: standard output: Failed (" ++ cause_text cause
     ++ codes ")\n")
 stop_text Memory = Some (codes "seccheck: Memory\n")

@@ -6,6 +6,7 @@ use crate::form::Form;
 use crate::seccheck::bytes_at;
 use crate::stop::{Stop, profile_stop};
 use crate::told::Told;
+use fault_notes::ShownPath;
 use oci_profile::Profile;
 use profile_lint::{findings, lint_lines, lint_objects, passed_in};
 use std::alloc::{AllocError, Global};
@@ -52,6 +53,7 @@ pub(crate) fn beside(
 fn count_line(alloc: Global, path: &str, count: usize) -> Result<String, AllocError>
     ensures { IfOk result (λ text. string_bytes text ≡ count_text path.now count) }
 {
+    let path = ShownPath(path);
     match count {
         0 => Ok(String::new(alloc)),
         1 => format!(in alloc; "seccheck: {path}: 1 finding, see seccheck lint\n"),

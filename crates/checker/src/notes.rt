@@ -5,7 +5,7 @@ ghost use Rattle.checker.specs.NoteText.{refusal_name, refusal_spot};
 use crate::stop::Stop;
 use bpf_code::{CodeFault, Insn};
 use bpf_verify::{Fault, Refusal};
-use fault_notes::{manifest_note, profile_note, script_note, template_note};
+use fault_notes::{ShownPath, manifest_note, profile_note, script_note, template_note};
 use manifest::PodFault;
 use node_io::{MAX_FILE_BYTES, read_file};
 use oci_profile::ProfileFault;
@@ -32,6 +32,14 @@ pub(crate) struct Note<'a> {
     insn: Option<Insn>,
 }
 
+/// The line on a file whose text is refused, or is partly left out: `seccheck: s.json: steps: Missing`.
+#[derive(Clone, Copy)]
+pub(crate) struct FileLine<'a> {
+    pub(crate) path: &'a str,
+    /// From the `: ` on, without the line's end.
+    pub(crate) note: &'a str,
+}
+
 /// The fault that a file is refused for, by its name.
 #[derive(Clone, Copy)]
 pub(crate) enum Named {
@@ -42,6 +50,17 @@ pub(crate) enum Named {
     Manifest(PodFault),
     Script(ScriptFault),
     Stack(verdict::StackFault),
+}
+
+impl fmt::Display for FileLine<'_> {
+    ghost use Rattle.std.specs.Prelude.{Some};
+    ghost use Rattle.checker.specs.NoteText.{file_line};
+
+    ghost output = { λ line. Some (file_line line.path.now line.note.now) };
+
+    fn fmt<W: fmt::Write>(&self, f: &mut fmt::Formatter<W>) -> fmt::Result {
+        writeln!(f, "seccheck: {}{}", ShownPath(self.path), self.note)
+    }
 }
 
 impl fmt::Display for Spot {
@@ -84,7 +103,7 @@ impl fmt::Display for Note<'_> {
     ghost output = { λ note. Some (note_text note) };
 
     fn fmt<W: fmt::Write>(&self, f: &mut fmt::Formatter<W>) -> fmt::Result {
-        let (path, spot, fault) = (self.path, self.spot, self.fault);
+        let (path, spot, fault) = (ShownPath(self.path), self.spot, self.fault);
         match self.insn {
             Some(insn) => writeln!(f, "seccheck: {path}{spot}: {fault}: {insn}"),
             None => writeln!(f, "seccheck: {path}{spot}: {fault}"),
@@ -137,7 +156,8 @@ pub(crate) fn tell_note<R: rt::Files + AllocGlobal, E: Write>(
     err: &mut E,
 ) {
     if let Some((path, told)) = text_note(rt, stop) {
-        let _ = writeln!(err, "seccheck: {path}{told}");
+        let note = told.as_str();
+        let _ = write!(err, "{}", FileLine { path, note });
     } else if let Some(note) = note_of(rt, stop) {
         let _ = write!(err, "{note}");
     }

@@ -4,6 +4,7 @@ ghost use Rattle.std.specs.Prelude.{option_and_then};
 ghost use Rattle.profile_template.specs.Version.{version_of};
 
 use crate::bad_words::WordFault;
+use crate::notes::FileLine;
 use crate::seccheck::bytes_at;
 use crate::stop::{Stop, template_stop};
 use crate::told::Told;
@@ -72,8 +73,9 @@ fn aside(
     let tree = json_tree::read(alloc, bytes).map_err(|_| AllocError)?;
     for name in &left_out {
         let place = place_of(&tree, *name);
-        let note = left_out_note(alloc, &tree, &place)?;
-        write!(lines, "seccheck: {path}{note}\n")?;
+        let text = left_out_note(alloc, &tree, &place)?;
+        let note = text.as_str();
+        write!(lines, "{}", FileLine { path, note })?;
     }
     Ok(lines)
 }

@@ -1,6 +1,6 @@
 use crate::answer_object::AnswerObject;
 use crate::compared::{BUDGET, is_profile, same_or_stop};
-use crate::file::{is_same_file, write_file};
+use crate::file::is_same_file;
 use crate::form::Form;
 use crate::linting::{beside, lint_told};
 use crate::notes::tell_note;
@@ -24,6 +24,7 @@ use check_answers::{
 use clap::ArgMatches;
 use clap::error::ErrorKind;
 use compile::compile;
+use host_io::replace;
 use node_io::{Cause, MAX_FILE_BYTES, read_file};
 use oci_profile::Profile;
 use std::alloc::{AllocError, Global};
@@ -174,8 +175,8 @@ fn text_of<'a, R: rt::Files + AllocGlobal>(
     }
 }
 
-/// That the profile was compiled and its filter written, and beside it how much `lint` tells of it. The file
-/// is opened once there is a filter.
+/// That the profile was compiled and its filter written, and beside it how much `lint` tells of it. Once
+/// there is a filter, it replaces the old file as a whole.
 fn compile_told<'a, R: rt::Files + AllocGlobal>(
     rt: &R,
     path: &'a str,
@@ -191,7 +192,7 @@ fn compile_told<'a, R: rt::Files + AllocGlobal>(
     if is_same_file(rt, path, out) {
         return Err(Stop::SameFile(out));
     }
-    write_file(rt, out, &code).map_err(|fault| stop_at(out, fault))?;
+    replace(rt, out, &code).map_err(|fault| stop_at(out, fault))?;
     let text = match form {
         Form::Text => compiled_line(alloc, filter.len())?,
         Form::Json => compiled_object(alloc, filter.len())?,

@@ -8,6 +8,7 @@ use bpf_compare::Doubt;
 use bpf_verify::Refusal;
 use check_answers::{Difference, reason};
 use compile::CompileFault;
+use fault_notes::ShownPath;
 use manifest::{PodFault, PodFaultAt};
 use node_io::{Cause, CausedFault, FileFault};
 use oci_profile::{ProfileFault, ProfileFaultAt};
@@ -116,10 +117,16 @@ impl fmt::Display for Stop<'_> {
             Stop::Differ(difference) => writeln!(f, "{difference}"),
             Stop::Undecided(doubt) => writeln!(f, "undecided: {}", reason(*doubt)),
             Stop::CommandLine(error) => write!(f, "{error}"),
-            Stop::BadNumber(word) => writeln!(f, "seccheck: {word}: BadNumber"),
-            Stop::BadWord(word, fault) => writeln!(f, "seccheck: {word}: {fault}"),
-            Stop::File(path, fault) => writeln!(f, "seccheck: {path}: {fault}"),
-            Stop::SameFile(path) => writeln!(f, "seccheck: {path}: Failed (the profile itself)"),
+            Stop::BadNumber(word) => writeln!(f, "seccheck: {}: BadNumber", ShownPath(word)),
+            Stop::BadWord(word, fault) => writeln!(f, "seccheck: {}: {fault}", ShownPath(word)),
+            Stop::File(path, fault) => writeln!(f, "seccheck: {}: {fault}", ShownPath(path)),
+            Stop::SameFile(path) => {
+                writeln!(
+                    f,
+                    "seccheck: {}: Failed (the profile itself)",
+                    ShownPath(path)
+                )
+            }
             Stop::Unwritten(cause) => writeln!(f, "seccheck: standard output: Failed ({cause})"),
             Stop::Memory => writeln!(f, "seccheck: Memory"),
         }

@@ -9,12 +9,13 @@ use Rattle.command_line.specs.declared.fault.LineFault.TheVariants.{Refused, Bad
 use Rattle.command_line.specs.declared.fault.LineFault.TheVariants.{Memory}
 use Rattle.command_line.specs.declared.fault.Misfit.{Misfit}
 use Rattle.command_line.specs.declared.fault.Misfit.TheVariants.{WithoutRuntime, WithoutSettle, WithSettle}
-use Rattle.command_line.specs.declared.fault.Misfit.TheVariants.{NothingToTell, Missing}
+use Rattle.command_line.specs.declared.fault.Misfit.TheVariants.{WithoutPods, NothingToTell, Missing}
 
 abbrev pub misfit_text : Misfit → List ℕ
 misfit_text WithoutRuntime = codes "WithoutRuntime"
 misfit_text WithoutSettle = codes "WithoutSettle"
 misfit_text WithSettle = codes "WithSettle"
+misfit_text WithoutPods = codes "WithoutPods"
 misfit_text NothingToTell = codes "NothingToTell"
 misfit_text Missing = codes "Missing"
 

@@ -1,7 +1,7 @@
 -- The line `nodeagent --socket PATH [--with-runtime] [--scripts DIR] [--profiles DIR] [--baseline FILTER]
 -- [--seccomp-default] [--workers N] [--settle] [--until S] [--cri N] [--history N] [--pods DIR] [--run NAME]
--- [--remove] [--reasons] [--watch] [--json] [--verbose] [MANIFEST]..`, this project's own: docs/SEMANTICS.md,
--- "Programs".
+-- [--state FILE] [--remove] [--reasons] [--fail] [--watch] [--json] [--verbose] [MANIFEST]..`, this project's
+-- own: docs/SEMANTICS.md, "Programs".
 use Rattle.std.specs.Prelude.{ℕ, ◌^◌, ◌&&◌, List, Bool, not, if◌then◌else◌, codes, map, Option, Some, None}
 use Rattle.std.specs.Prelude.{Result, Ok, Err, option_map}
 use Rattle.clap.specs.Simple.{App, new_app, with_rule}
@@ -12,7 +12,7 @@ use Rattle.command_line.specs.Scriptd.{serving}
 use Rattle.command_line.specs.Words.{written_if_there, written_within}
 use Rattle.command_line.specs.declared.fault.Misfit.{Misfit}
 use Rattle.command_line.specs.declared.fault.Misfit.TheVariants.{WithoutRuntime, WithoutSettle, WithSettle}
-use Rattle.command_line.specs.declared.fault.Misfit.TheVariants.{NothingToTell, Missing}
+use Rattle.command_line.specs.declared.fault.Misfit.TheVariants.{WithoutPods, NothingToTell, Missing}
 use Rattle.command_line.specs.declared.nodeagent.NodeagentLine.{NodeagentLine}
 use Rattle.command_line.specs.declared.nodeagent.Numbers.{Numbers}
 
@@ -29,10 +29,12 @@ abbrev pub speaking : App → App
 speaking app = with_rule (with_rule app (option_rule (codes "cri"))) (option_rule (codes "history"))
 
 abbrev pub coming : App → App
-coming app = with_rule (with_rule app (option_rule (codes "pods"))) (option_rule (codes "run"))
+coming app = with_rule (with_rule (with_rule app (option_rule (codes "pods"))) (option_rule (codes "run")))
+    (option_rule (codes "state"))
 
 abbrev pub ending : App → App
-ending app = with_rule (with_rule app (flag_rule (codes "remove"))) (flag_rule (codes "reasons"))
+ending app = with_rule (with_rule (with_rule app (flag_rule (codes "remove"))) (flag_rule (codes "reasons")))
+    (flag_rule (codes "fail"))
 
 abbrev pub telling : App → App
 telling app = with_rule (with_rule app (flag_rule (codes "watch"))) (flag_rule (codes "json"))
@@ -80,8 +82,10 @@ pub record Nodeagent : Type 0 where
   pub settle : Bool
   pub pods : Option (List ℕ)
   pub run : Option (List ℕ)
+  pub state : Option (List ℕ)
   pub remove : Bool
   pub reasons : Bool
+  pub fail : Bool
   pub watch : Bool
   pub json : Bool
   pub verbose : Bool
@@ -100,8 +104,10 @@ nodeagent_with rows (Ok numbers) = Ok (record {
   settle = is_set (codes "settle") rows;
   pods = first_of (codes "pods") rows;
   run = first_of (codes "run") rows;
+  state = first_of (codes "state") rows;
   remove = is_set (codes "remove") rows;
   reasons = is_set (codes "reasons") rows;
+  fail = is_set (codes "fail") rows;
   watch = is_set (codes "watch") rows;
   json = is_set (codes "json") rows;
   verbose = is_set (codes "verbose") rows;
@@ -115,13 +121,23 @@ settles rows = is_set (codes "settle") rows
 abbrev pub reads_nothing : List ℕ → List Row → Bool
 reads_nothing folder rows = not (is_set (codes "with-runtime") rows) && is_there folder rows
 
--- a run that ends once its pods are over has no use for pods that come later, nor for changes that are told
--- meanwhile; one that goes on prints no table
+-- a run that ends once its pods are over has no use for pods that come later, nor for a file of them; the
+-- file keeps the pods of a folder
+abbrev pub misfit_of_folder : List Row → Option (List ℕ × Misfit)
+misfit_of_folder rows =
+    if settles rows && is_there (codes "pods") rows then Some (codes "--pods", WithSettle)
+    else if settles rows && is_there (codes "state") rows then Some (codes "--state", WithSettle)
+    else if not (is_there (codes "pods") rows) && is_there (codes "state") rows
+    then Some (codes "--state", WithoutPods)
+    else None
+
+-- a run that ends once its pods are over prints no changes meanwhile; one that goes on prints no table, and
+-- has no end at which pods are removed or looked at
 abbrev pub misfit_of_end : List Row → Option (List ℕ × Misfit)
 misfit_of_end rows =
-    if settles rows && is_there (codes "pods") rows then Some (codes "--pods", WithSettle)
-    else if not (settles rows) && is_set (codes "remove") rows then Some (codes "--remove", WithoutSettle)
+    if not (settles rows) && is_set (codes "remove") rows then Some (codes "--remove", WithoutSettle)
     else if not (settles rows) && is_set (codes "reasons") rows then Some (codes "--reasons", WithoutSettle)
+    else if not (settles rows) && is_set (codes "fail") rows then Some (codes "--fail", WithoutSettle)
     else if settles rows && is_set (codes "watch") rows then Some (codes "--watch", WithSettle)
     else if not (settles rows) && (not (is_set (codes "watch") rows) && is_set (codes "json") rows)
     then Some (codes "--json", NothingToTell)
@@ -138,12 +154,15 @@ abbrev pub or_else : Option (List ℕ × Misfit) → Option (List ℕ × Misfit)
 or_else (Some first) other = Some first
 or_else None other = other
 
+abbrev pub misfit_of_rest : List Row → Option (List ℕ × Misfit)
+misfit_of_rest rows = or_else (misfit_of_end rows) (misfit_of_pods rows)
+
 -- the first word, in the order of the line, that does not go with the others
 abbrev pub misfit_in : List Row → Option (List ℕ × Misfit)
 misfit_in rows =
     if reads_nothing (codes "scripts") rows then Some (codes "--scripts", WithoutRuntime)
     else if reads_nothing (codes "profiles") rows then Some (codes "--profiles", WithoutRuntime)
-    else or_else (misfit_of_end rows) (misfit_of_pods rows)
+    else or_else (misfit_of_folder rows) (misfit_of_rest rows)
 
 -- what the matches of a line say, or the first word that writes no number of its range
 abbrev pub nodeagent_in : List Row → Result Nodeagent (List ℕ)
@@ -162,8 +181,10 @@ nodeagent_of line = record {
   settle = line.settle;
   pods = option_map (λ w. w.now) line.pods;
   run = option_map (λ w. w.now) line.run;
+  state = option_map (λ w. w.now) line.state;
   remove = line.remove;
   reasons = line.reasons;
+  fail = line.fail;
   watch = line.watch;
   json = line.json;
   verbose = line.verbose;

@@ -10,6 +10,8 @@ pub enum Misfit {
     WithoutSettle,
     /// The option is for a run that goes on, and the line asks for one that ends once its pods are over.
     WithSettle,
+    /// The option is for a folder of pods, which the line does not name.
+    WithoutPods,
     /// The option says how something is printed, and nothing is.
     NothingToTell,
     /// The line requires such a word.
@@ -28,6 +30,7 @@ impl fmt::Display for Misfit {
             Misfit::WithoutRuntime => f.write_str("WithoutRuntime"),
             Misfit::WithoutSettle => f.write_str("WithoutSettle"),
             Misfit::WithSettle => f.write_str("WithSettle"),
+            Misfit::WithoutPods => f.write_str("WithoutPods"),
             Misfit::NothingToTell => f.write_str("NothingToTell"),
             Misfit::Missing => f.write_str("Missing"),
         }

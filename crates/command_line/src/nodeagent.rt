@@ -7,7 +7,8 @@ ghost use Rattle.clap.specs.Walk.{rows_of};
 ghost use Rattle.command_line.specs.Faults.{TellsFault};
 ghost use Rattle.command_line.specs.Words.{told};
 ghost use Rattle.command_line.specs.Nodeagent.{choosing, coming, ending, misfit_in, misfit_of_end};
-ghost use Rattle.command_line.specs.Nodeagent.{misfit_of_pods, naming, nodeagent, nodeagent_in, nodeagent_of};
+ghost use Rattle.command_line.specs.Nodeagent.{misfit_of_folder, misfit_of_pods, misfit_of_rest, naming};
+ghost use Rattle.command_line.specs.Nodeagent.{nodeagent, nodeagent_in, nodeagent_of};
 ghost use Rattle.command_line.specs.Nodeagent.{nodeagent_with, numbers_in, reads_nothing, running, settling};
 ghost use Rattle.command_line.specs.Nodeagent.{speaking, telling, working};
 
@@ -54,10 +55,14 @@ pub struct NodeagentLine<'a> {
     pub pods: Option<&'a str>,
     /// The suffix of uids that no manifest gives.
     pub run: Option<&'a str>,
+    /// The file that keeps the uids of admitted pods, so that the next start can remove them.
+    pub state: Option<&'a str>,
     /// Whether the pods are removed from the runtime at the end.
     pub remove: bool,
     /// Whether the table shows why containers wait.
     pub reasons: bool,
+    /// Whether a pod of the table that is Failed makes the status 1.
+    pub fail: bool,
     /// Whether each change of a pod or a container is printed.
     pub watch: bool,
     /// Whether the table and the changes are printed as JSON.
@@ -203,12 +208,19 @@ fn coming<'a>(alloc: Global, command: Command<'a>) -> Result<Command<'a>, AllocE
         "DIR",
         "a folder whose manifests, *.json, come and go with their files",
     )?;
-    with_option(
+    let command = with_option(
         alloc,
         command,
         "run",
         "NAME",
         "what the uids end with that no manifest gives, behind a dot",
+    )?;
+    with_option(
+        alloc,
+        command,
+        "state",
+        "FILE",
+        "Keep the uids of admitted pods in FILE, and remove those of a former start first",
     )
 }
 
@@ -221,12 +233,13 @@ fn ending<'a>(alloc: Global, command: Command<'a>) -> Result<Command<'a>, AllocE
         "remove",
         "with --settle: takes the pods away from the runtime at the end",
     )?;
-    with_flag(
+    let command = with_flag(
         alloc,
         command,
         "reasons",
         "with --settle: tells beside each container that is not over why it waits",
-    )
+    )?;
+    with_flag(alloc, command, "fail", "Exit with 1 if a pod is Failed")
 }
 
 fn telling<'a>(alloc: Global, command: Command<'a>) -> Result<Command<'a>, AllocError>
@@ -255,10 +268,19 @@ fn misfit(matches: &ArgMatches) -> Option<(&'static str, Misfit)>
     } else if reads_nothing(matches, "profiles") {
         Some(("--profiles", Misfit::WithoutRuntime))
     } else {
-        match misfit_of_end(matches) {
+        match misfit_of_folder(matches) {
             Some(misfit) => Some(misfit),
-            None => misfit_of_pods(matches),
+            None => misfit_of_rest(matches),
         }
+    }
+}
+
+fn misfit_of_rest(matches: &ArgMatches) -> Option<(&'static str, Misfit)>
+    ensures { option_map (λ m. (m.0.now, m.1)) result ≡ misfit_of_rest (rows_of (found_of matches.now)) }
+{
+    match misfit_of_end(matches) {
+        Some(misfit) => Some(misfit),
+        None => misfit_of_pods(matches),
     }
 }
 
@@ -269,16 +291,31 @@ fn reads_nothing(matches: &ArgMatches, folder: &str) -> bool
     !is_set(matches, "with-runtime") && is_there(matches, folder)
 }
 
-fn misfit_of_end(matches: &ArgMatches) -> Option<(&'static str, Misfit)>
-    ensures { option_map (λ m. (m.0.now, m.1)) result ≡ misfit_of_end (rows_of (found_of matches.now)) }
+fn misfit_of_folder(matches: &ArgMatches) -> Option<(&'static str, Misfit)>
+    ensures { option_map (λ m. (m.0.now, m.1)) result ≡ misfit_of_folder (rows_of (found_of matches.now)) }
 {
     let settles = is_set(matches, "settle");
     if settles && is_there(matches, "pods") {
         Some(("--pods", Misfit::WithSettle))
-    } else if !settles && is_set(matches, "remove") {
+    } else if settles && is_there(matches, "state") {
+        Some(("--state", Misfit::WithSettle))
+    } else if !is_there(matches, "pods") && is_there(matches, "state") {
+        Some(("--state", Misfit::WithoutPods))
+    } else {
+        None
+    }
+}
+
+fn misfit_of_end(matches: &ArgMatches) -> Option<(&'static str, Misfit)>
+    ensures { option_map (λ m. (m.0.now, m.1)) result ≡ misfit_of_end (rows_of (found_of matches.now)) }
+{
+    let settles = is_set(matches, "settle");
+    if !settles && is_set(matches, "remove") {
         Some(("--remove", Misfit::WithoutSettle))
     } else if !settles && is_set(matches, "reasons") {
         Some(("--reasons", Misfit::WithoutSettle))
+    } else if !settles && is_set(matches, "fail") {
+        Some(("--fail", Misfit::WithoutSettle))
     } else if settles && is_set(matches, "watch") {
         Some(("--watch", Misfit::WithSettle))
     } else if !settles && !is_set(matches, "watch") && is_set(matches, "json") {
@@ -332,8 +369,10 @@ fn said<'a>(
         settle: is_set(matches, "settle"),
         pods: word_at(matches, "pods"),
         run: word_at(matches, "run"),
+        state: word_at(matches, "state"),
         remove: is_set(matches, "remove"),
         reasons: is_set(matches, "reasons"),
+        fail: is_set(matches, "fail"),
         watch: is_set(matches, "watch"),
         json: is_set(matches, "json"),
         verbose: is_set(matches, "verbose"),

@@ -3,13 +3,16 @@ use Rattle.std.proofs.Common.{◌≡◌, ℕ, zero, suc, ◌+◌, ◌-◌, ◌<�
 use Rattle.std.proofs.Common.{slice_get, refl, sym, ap, ◌∙◌, arith, inl, inr, subst, Result, Ok, Err, IfOk}
 use Rattle.std.proofs.Common.{OnOk, Bool, true, false, cond}
 use Rattle.std.proofs.lemmas.Option.{same_Some}
+use Rattle.std.proofs.lemmas.List.{take-append-le, length-take}
+use Rattle.std.proofs.Math.Nat.{min-le_right}
 use Rattle.bpf_code.specs.declared.insn.Insn.{Insn}
-use Rattle.bpf_code.specs.declared.operation.Operation.TheVariants.{LoadData, ReturnK}
+use Rattle.bpf_code.specs.declared.operation.Operation.TheVariants.{AndK, LoadData, ReturnK}
 use Rattle.bpf_code.specs.declared.operation.Operation.{Operation}
 use Rattle.std.specs.declared.alloc.AllocError.{AllocError}
 use Rattle.call_data.specs.declared.sys_call.SysCall.{SysCall}
-use Rattle.compile.specs.Backward.{LeadsTo, Gives, Keeps, Puts, IsBackward, PointsInside, Returns, BranchesTo}
+use Rattle.compile.specs.Backward.{LeadsTo, Extends, Gives, Keeps, Puts, IsBackward, PointsInside, Returns, BranchesTo}
 use Rattle.compile.specs.Backward.{data_word}
+use Rattle.std.specs.Prelude.{bit_and}
 use Rattle.compile.specs.Tests.{operation_of, holds_of}
 use Rattle.compile.specs.declared.code.Test.{Test}
 use Rattle.compile.specs.declared.code.Test.TheVariants.{Equal, Greater, GreaterOrEqual, AnyBit}
@@ -47,6 +50,11 @@ puts_pushed old insn = record {
   keeps = gives_still old (old ++ insn ∷ [])
       (record { still = λ at other stands. slice_get_front old insn at other stands });
 }
+
+pub extends_pushed : (old : List Insn) (insn : Insn) → Extends old (old ++ insn ∷ [])
+extends_pushed old insn begin is =
+    let inside : length begin ≤ length old = omega (arith, ap length is, length-take (length begin) old, min-le_right (length begin) (length old)) in
+    take-append-le (length begin) old (insn ∷ []) inside ∙ is
 
 -- what stands in code with one instruction in front
 stands_pushed : (old : List Insn) (insn : Insn) (at : ℕ) (other : Insn)
@@ -169,6 +177,63 @@ jump_gives test insn old new call a hit miss value most puts op hit_in miss_in j
     (cond (holds_of test insn.k a) hit miss) a in
     front_gives insn old new call a (cond (holds_of test insn.k a) hit miss) a value most puts
     (subst P (sym op) (branch_leads test call insn (length old) a hit miss hit_in miss_in jt jf)) on
+
+-- where a branch stands already
+pub branch_gives : (test : Test) (insn : Insn) (code : List Insn) (call : SysCall) (at a hit miss value most : ℕ)
+    → slice_get code at ≡ Some insn → insn.op ≡ operation_of test → hit < at → miss < at
+    → insn.jt ≡ at - 1 - hit → insn.jf ≡ at - 1 - miss
+    → Gives code call (cond (holds_of test insn.k a) hit miss) a value most
+    → Gives code call at a value (most + 1)
+branch_gives test insn code call at a hit miss value most stands op hit_in miss_in jt jf on =
+    let P : Operation → Type 0 = λ o. LeadsTo o call insn at a (cond (holds_of test insn.k a) hit miss) a in
+    leads insn stands (cond (holds_of test insn.k a) hit miss) a most
+    (subst P (sym op) (branch_leads test call insn at a hit miss hit_in miss_in jt jf)) (omega arith) on
+
+-- where a load does
+pub load_gives : (insn : Insn) (code : List Insn) (call : SysCall) (at a value most : ℕ)
+    → slice_get code at ≡ Some insn → insn.op ≡ LoadData → PointsInside insn.op insn at
+    → Gives code call (at - 1) (data_word call insn.k) value most → Gives code call at a value (most + 1)
+load_gives insn code call at a value most stands op inside on =
+    let P : Operation → Type 0 = λ o. PointsInside o insn at in
+    let Q : Operation → Type 0 = λ o. LeadsTo o call insn at a (at - 1) (data_word call insn.k) in
+    let some : 0 < at = (subst P op inside).2 in
+    leads insn stands (at - 1) (data_word call insn.k) most (subst Q (sym op) (omega arith, refl)) (omega arith)
+    on
+
+pub mask_gives : (insn : Insn) (code : List Insn) (call : SysCall) (at a value most : ℕ)
+    → slice_get code at ≡ Some insn → insn.op ≡ AndK → PointsInside insn.op insn at
+    → Gives code call (at - 1) (bit_and a insn.k) value most → Gives code call at a value (most + 1)
+mask_gives insn code call at a value most stands op inside on =
+    let P : Operation → Type 0 = λ o. PointsInside o insn at in
+    let Q : Operation → Type 0 = λ o. LeadsTo o call insn at a (at - 1) (bit_and a insn.k) in
+    let some : 0 < at = subst P op inside in
+    leads insn stands (at - 1) (bit_and a insn.k) most (subst Q (sym op) (omega arith, refl)) (omega arith)
+    on
+
+-- what is in A does not matter at a return
+pub steady_return : (code : List Insn) (call : SysCall) (at a b value most : ℕ) (insn : Insn)
+    → slice_get code at ≡ Some insn → insn.op ≡ ReturnK → Gives code call at a value most
+    → Gives code call at b value most
+steady_return code call at a b value most insn stands op (ends other other_stands other_op is some) =
+    ends other other_stands other_op is some
+steady_return code call at a b value most insn stands op (leads other other_stands to x left to_is less on) =
+    let returns : other.op ≡ ReturnK = ap (λ (i : Insn). i.op)
+    (same_Some other insn (sym other_stands ∙ stands)) ∙ op in
+    let P : Operation → Type 0 = λ o. LeadsTo o call other at a to x in
+    absurd (subst P returns to_is)
+
+-- nor at a load
+pub steady_load : (code : List Insn) (call : SysCall) (at a b value most : ℕ) (insn : Insn)
+    → slice_get code at ≡ Some insn → insn.op ≡ LoadData → Gives code call at a value most
+    → Gives code call at b value most
+steady_load code call at a b value most insn stands op (ends other other_stands other_op is some) =
+    ends other other_stands other_op is some
+steady_load code call at a b value most insn stands op (leads other other_stands to x left to_is less on) =
+    let loads : other.op ≡ LoadData = ap (λ (i : Insn). i.op)
+    (same_Some other insn (sym other_stands ∙ stands)) ∙ op in
+    let P : Operation → Type 0 = λ o. LeadsTo o call other at a to x in
+    let Q : Operation → Type 0 = λ o. LeadsTo o call other at b to x in
+    leads other other_stands to x left (subst Q (sym loads) (subst P loads to_is)) less on
 
 -- the same of the place in front
 pub front_is : (P : ℕ → Type 0) (new : List Insn) (r : Result ℕ AllocError)

@@ -1,6 +1,4 @@
 pub mod Building
-pub mod Branching
-pub mod Marking
 pub mod Turning
 pub mod Words
 pub mod Links
@@ -13,17 +11,16 @@ pub mod Trees
 pub mod Weights
 pub mod Assembled
 pub mod Asking
-pub mod Chaining
-pub mod Running
-pub mod Arranging
-pub mod Choices
-pub mod Holding
 pub mod Finding
-pub mod Alike
 pub mod Lowest
 pub mod Highest
 pub mod Gathering
-pub mod Lowering
-pub mod Planning
 mod Settling
-mod Certain
+mod Bits
+mod Restricting
+pub mod Testing
+mod Reaching
+mod Saying
+pub mod Naming
+mod Diagrams
+mod Exchanging

@@ -213,12 +213,6 @@ two_times d =
     let twice : 2 ^ suc d ≡ 2 * 2 ^ d = omega (arith, pow-suc 2 d) in
     ap (λ n. 2 ^ n) more ∙ twice
 
-pub four_times : (d : ℕ) → 2 ^ (d + 2) ≡ 4 * 2 ^ d
-four_times d =
-    let more : d + 2 ≡ suc (suc d) = omega arith in
-    let again : 2 ^ suc (suc d) ≡ 4 * 2 ^ d = omega (arith, pow-suc 2 (suc d), pow-suc 2 d) in
-    ap (λ n. 2 ^ n) more ∙ again
-
 pub eight_times : (d : ℕ) → 2 ^ (d + 3) ≡ 8 * 2 ^ d
 eight_times d =
     let more : d + 3 ≡ suc (suc (suc d)) = omega arith in
@@ -230,7 +224,7 @@ eight_times d =
     ) in
     ap (λ n. 2 ^ n) more ∙ thrice
 
-pow_grows : (d more : ℕ) → 2 ^ d ≤ 2 ^ (more + d)
+pub pow_grows : (d more : ℕ) → 2 ^ d ≤ 2 ^ (more + d)
 pow_grows d zero =
     let same : 0 + d ≡ d = omega arith in
     omega (arith, ap (λ n. 2 ^ n) same)

@@ -1,7 +1,7 @@
 -- This project's own: code that is built from its end. A place counts the instructions behind it, so what
 -- is put in front moves no place. Only private functions cite this.
-use Rattle.std.specs.Prelude.{◌≡◌, ◌≢◌, ℕ, ◌+◌, ◌-◌, ◌%◌, ◌^◌, ◌<◌, ◌==◌, nat_lt, nat_le, Bool}
-use Rattle.std.specs.Prelude.{if◌then◌else◌, List, Some, slice_get, length, bit_and, not}
+use Rattle.std.specs.Prelude.{◌≡◌, ℕ, ◌+◌, ◌%◌, ◌<◌, ◌==◌, nat_lt, nat_le, Bool}
+use Rattle.std.specs.Prelude.{if◌then◌else◌, List, Some, slice_get, take, length, bit_and, not}
 use Rattle.bpf_code.specs.declared.insn.Insn.{Insn}
 use Rattle.bpf_code.specs.declared.operation.Operation.{Operation}
 use Rattle.bpf_code.specs.declared.operation.Operation.TheVariants.{LoadData, AndK, JumpEqualK, JumpGreaterK}
@@ -63,6 +63,10 @@ abbrev pub Keeps : List Insn → List Insn → Type 0
 Keeps old new = (call : SysCall) (at a value most : ℕ) → Gives old call at a value most
     → Gives new call at a value most
 
+-- what the old code begins with the new one does
+abbrev pub Extends : List Insn → List Insn → Type 0
+Extends old new = (begin : List Insn) → take (length begin) old ≡ begin → take (length begin) new ≡ begin
+
 -- one instruction was put in front
 pub record Puts (insn : Insn) (old new : List Insn) : Type 0 where
   pub stands : slice_get new (length old) ≡ Some insn
@@ -75,35 +79,3 @@ pub record Returns (code : List Insn) (at value : ℕ) : Type 0 where
   pub stands : slice_get code at ≡ Some insn
   pub returns : insn.op ≡ ReturnK
   pub value_is : value ≡ insn.k
-
--- no place returns the value
-abbrev pub NoneReturns : List Insn → ℕ → Type 0
-NoneReturns code value = (at : ℕ) → Returns code at value → ⊥
-
--- the code gives the value from no place behind this one
-abbrev pub NeverGives : List Insn → ℕ → ℕ → Type 0
-NeverGives code from value = (call : SysCall) (at a most : ℕ) → at < from → Gives code call at a value most
-    → ⊥
-
--- A return of the value stands in the place of the instruction that was put last. All places behind it give
--- what they gave, and that is never the value, whatever is put in front.
-pub record Marks (old new : List Insn) (value : ℕ) (insn : Insn) : Type 0 where
-  pub stands : slice_get old (length old - 1) ≡ Some insn
-  pub inside : PointsInside insn.op insn (length old - 1)
-  pub long : length new ≡ length old
-  pub marked : (call : SysCall) (a : ℕ) → Gives new call (length old - 1) a value 1
-  pub differs : (call : SysCall) (at a other most : ℕ) → Gives old call at a other most → other ≢ value
-  pub behind : (call : SysCall) (at a other most : ℕ) → at + 1 < length old → Gives old call at a other most
-      → Gives new call at a other most
-  pub never : (more : List Insn) → Keeps new more → NeverGives more (length old - 1) value
-
--- The instruction stands at this place, and what gave the value gives what this place does, if no jump is too
--- far; other values are given as before.
-pub record Unmarks (old new : List Insn) (at : ℕ) (insn : Insn) (value : ℕ) : Type 0 where
-  pub stands : slice_get new at ≡ Some insn
-  pub long : length new ≡ length old
-  pub others : (call : SysCall) (place a other most : ℕ) → other ≢ value
-      → Gives old call place a other most → Gives new call place a other most
-  pub there : length old < 2 ^ 32 → (call : SysCall) (place a other most more : ℕ)
-      → GivesAlways new call at other more → Gives old call place a value most
-      → Gives new call place a other (most + more)

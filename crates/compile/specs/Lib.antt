@@ -1,9 +1,11 @@
 pub mod Bounds
 pub mod Backward
 pub mod Tests
-pub mod Chains
 pub mod Sizes
 pub mod Ranges
 pub mod Arms
+pub mod Residuals
+pub mod Ways
+pub mod Rooms
 pub mod Points
 pub mod FaultText

@@ -1,5 +1,5 @@
 ghost use Rattle.std.specs.Bool.{OnFalse};
-ghost use Rattle.std.specs.Prelude.{◌≡◌, ◌≢◌, ◌≤◌, ◌<◌, ◌+◌, ◌*◌, ℕ, length, IfOk, IfSome, IsTrue};
+ghost use Rattle.std.specs.Prelude.{◌≡◌, ◌≢◌, ◌≤◌, ◌<◌, ◌*◌, ℕ, length, IfOk, IfSome, IsTrue};
 ghost use Rattle.std.specs.Prelude.{slice_index, IsSome, true};
 ghost use Rattle.call_data.specs.declared.sys_call.SysCall.{SysCall};
 ghost use Rattle.oci_profile.specs.declared.decision.Decision.{Decision};
@@ -9,7 +9,6 @@ ghost use Rattle.compile.specs.Arms.{AreEqual, arm_holds, arms_value};
 ghost use Rattle.compile.specs.Bounds.{IsBare, IsEquality, conditions_at};
 ghost use Rattle.compile.specs.Sizes.{AreAsked, added_of};
 
-use crate::condition::compares;
 use oci_profile::{Entry, Op};
 use std::alloc::{AllocError, Global};
 
@@ -21,74 +20,6 @@ pub(crate) struct Arm {
     pub(crate) with: u64,
     /// What is returned if the comparison holds.
     pub(crate) value: u32,
-}
-
-impl Arm {
-    fn holds(&self, arg: u64) -> bool
-        ensures { result ≡ arm_holds self.now arg }
-    {
-        compares(self.op, self.with, 0, arg)
-    }
-
-    /// A number up to which the arm gives the same answer as at this one.
-    fn reach(&self, from: u64) -> u64
-        ensures from_in { from ≤ result }
-        ensures alike { (arg : ℕ) → from ≤ arg → arg ≤ result
-            → arm_holds self.now arg ≡ arm_holds self.now from }
-    {
-        match self.op {
-            Op::Equal | Op::NotEqual => {
-                if from == self.with {
-                    from
-                } else {
-                    below(from, self.with)
-                }
-            }
-            Op::Less | Op::GreaterOrEqual => below(from, self.with),
-            Op::LessOrEqual | Op::Greater => {
-                if from <= self.with {
-                    self.with
-                } else {
-                    u64::MAX
-                }
-            }
-            Op::MaskedEqual => from,
-        }
-    }
-}
-
-/// The last number below an edge, or the last of all if `from` is not below it.
-fn below(from: u64, edge: u64) -> u64
-    ensures from_in { from ≤ result }
-    ensures before { from < edge → result + 1 ≡ edge }
-{
-    if from < edge { edge - 1 } else { u64::MAX }
-}
-
-/// What is returned for this argument.
-pub(crate) fn value_at(arms: &[Arm], arg: u64, other: u32) -> u32
-    ensures { result ≡ arms_value arms.now arg other }
-{
-    for arm in arms {
-        if arm.holds(arg) {
-            return arm.value;
-        }
-    }
-    other
-}
-
-/// The last argument, at most `last`, such that the same is returned for all arguments from `from` to it.
-pub(crate) fn alike_to(arms: &[Arm], from: u64, last: u64) -> u64
-    requires { from ≤ last }
-    ensures inside { (from ≤ result) × (result ≤ last) }
-    ensures alike { (arg other : ℕ) → from ≤ arg → arg ≤ result
-        → arms_value arms.now arg other ≡ arms_value arms.now from other }
-{
-    let mut end = last;
-    for arm in arms {
-        end = end.min(arm.reach(from));
-    }
-    end
 }
 
 /// The entry as an arm, if its only condition compares this argument without a mask.

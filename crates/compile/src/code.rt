@@ -1,15 +1,16 @@
-ghost use Rattle.std.specs.Prelude.{◌≡◌, ◌≤◌, ◌<◌, ◌+◌, ◌-◌, ◌*◌, ◌%◌, ◌^◌, ℕ, List, [], reverse, Some};
-ghost use Rattle.std.specs.Prelude.{slice_get, length, IfOk, IfSome, OnOk, IsTrue, bit_and, if◌then◌else◌};
-ghost use Rattle.std.specs.Prelude.{◌==◌, ◌≢◌, nat_lt, nat_le};
+ghost use Rattle.std.specs.Prelude.{◌≡◌, ◌≤◌, ◌<◌, ◌+◌, ◌-◌, ◌%◌, ◌^◌, ℕ, List, [], reverse, Some};
+ghost use Rattle.std.specs.Prelude.{slice_get, take, length, IfOk, IfSome, OnOk, IsTrue, bit_and};
+ghost use Rattle.std.specs.Prelude.{if◌then◌else◌};
+ghost use Rattle.std.specs.Prelude.{◌==◌, ◌≢◌};
 ghost use Rattle.std.specs.Bool.{OnFalse};
 ghost use Rattle.bpf_code.specs.declared.insn.Insn.{Insn};
 ghost use Rattle.bpf_code.specs.declared.limits.TheConstants.{DATA_LEN, MAX_INSNS};
-ghost use Rattle.bpf_code.specs.declared.operation.Operation.TheVariants.{LoadData, ReturnK};
+ghost use Rattle.bpf_code.specs.declared.operation.Operation.TheVariants.{AndK, LoadData, ReturnK};
 ghost use Rattle.call_data.specs.declared.sys_call.SysCall.{SysCall};
 ghost use Rattle.bpf_verify.specs.Sound.{IsSound};
 ghost use Rattle.bpf_machine.specs.Runs.{Runs};
-ghost use Rattle.compile.specs.Backward.{Gives, GivesAlways, IsBackward, Keeps, Marks, NeverGives};
-ghost use Rattle.compile.specs.Backward.{NoneReturns, PointsInside, Puts, Returns, Unmarks, data_word};
+ghost use Rattle.compile.specs.Backward.{Extends, Gives, GivesAlways, IsBackward, Keeps};
+ghost use Rattle.compile.specs.Backward.{PointsInside, Puts, Returns, data_word};
 ghost use Rattle.compile.specs.Tests.{holds_of, operation_of};
 ghost use Rattle.compile.specs.declared.code.TheConstants.{REACH, RECENT};
 
@@ -96,6 +97,7 @@ impl Code {
         ensures at { IfOk result (λ at. at ≡ length self.old) }
         ensures longer { length self.new ≤ length self.old + 1 }
         ensures keeps { Keeps self.old self.new }
+        ensures extends { Extends self.old self.new }
         ensures grows { length self.old ≤ length self.new }
     {
         let at = self.insns.len();
@@ -110,6 +112,7 @@ impl Code {
         ensures inside { IfOk result (λ at. at < length self.new) }
         ensures longer { length self.new ≤ length self.old + 1 }
         ensures keeps { Keeps self.old self.new }
+        ensures extends { Extends self.old self.new }
         ensures grows { length self.old ≤ length self.new }
     {
         match self.recent_return(value) {
@@ -151,6 +154,7 @@ impl Code {
         ensures at { IfOk result (λ at. at + 1 ≡ length self.new) }
         ensures longer { OnOk result (length self.new ≡ length self.old + 1) }
         ensures keeps { Keeps self.old self.new }
+        ensures extends { Extends self.old self.new }
         ensures grows { length self.old ≤ length self.new }
     {
         self.put(Insn {
@@ -187,6 +191,7 @@ impl Code {
         ensures at { IfOk result (λ at. at + 1 ≡ length self.new) }
         ensures longer { OnOk result (length self.new ≡ length self.old + 1) }
         ensures keeps { Keeps self.old self.new }
+        ensures extends { Extends self.old self.new }
         ensures grows { length self.old ≤ length self.new }
     {
         self.put(Insn {
@@ -215,6 +220,7 @@ impl Code {
         ensures at { IfOk result (λ at. at + 1 ≡ length self.new) }
         ensures longer { OnOk result (length self.new ≡ length self.old + 1) }
         ensures keeps { Keeps self.old self.new }
+        ensures extends { Extends self.old self.new }
         ensures grows { length self.old ≤ length self.new }
     {
         let at = self.len();
@@ -241,6 +247,7 @@ impl Code {
             → Gives self.new call at a value (most + 1)) }
         ensures longer { length self.new ≤ length self.old + 1 }
         ensures keeps { Keeps self.old self.new }
+        ensures extends { Extends self.old self.new }
         ensures grows { length self.old ≤ length self.new }
     {
         let len = self.len();
@@ -259,58 +266,73 @@ impl Code {
         })
     }
 
-    /// Whether no place returns this value.
-    pub(crate) fn is_unused(&self, value: u32) -> bool
-        ensures { IsTrue result → NoneReturns self.now value }
+    /// Whether a branch at this place makes this test, and leads to these places.
+    pub(crate) fn branches(&self, place: usize, test: Test, k: u32, hit: usize, miss: usize) -> bool
+        requires inside { place < length self.now }
+        ensures { IsTrue result → (call : SysCall) (a value most : ℕ)
+            → Gives self.now call (if holds_of test k a then hit else miss) a value most
+            → Gives self.now call place a value (most + 1) }
     {
-        for at in 0..self.insns.len() {
-            if returns(&self.insns[at], value) {
-                return false;
-            }
+        let insn = self.at(place);
+        if !makes(insn.op, test) || insn.k != k || hit >= place || miss >= place {
+            return false;
         }
-        true
+        if place - 1 - hit != insn.jt as usize {
+            return false;
+        }
+        place - 1 - miss == insn.jf as usize
     }
 
-    /// Puts a return of a value, the mark, in the place of the instruction that was put last, and answers
-    /// what stood there.
-    pub(crate) fn mark(&mut self, value: u32) -> Insn
-        requires some { 0 < length self.old }
-        requires unused { NoneReturns self.old value }
-        ensures { Marks self.old self.new value result }
+    /// Whether what is in A does not matter at this place.
+    pub(crate) fn is_steady(&self, place: usize) -> bool
+        requires inside { place < length self.now }
+        ensures { IsTrue result → (call : SysCall) (a value most : ℕ) → Gives self.now call place a value most
+            → GivesAlways self.now call place value most }
     {
-        let at = self.insns.len() - 1;
-        let insn = self.insns[at];
-        self.insns[at] = Insn {
-            op: Operation::ReturnK,
-            jt: 0,
-            jf: 0,
-            k: value,
-        };
-        insn
+        let insn = self.at(place);
+        if is_return(insn.op) {
+            return true;
+        }
+        is_load(insn.op)
     }
 
-    /// Puts an instruction back in the place of its mark, and makes each other return of the mark's value a
-    /// jump to it.
-    pub(crate) fn unmark(&mut self, at: usize, insn: Insn, value: u32)
-        requires at_in { at < length self.old }
-        requires inside { PointsInside insn.op insn at }
-        requires given { (call : SysCall) (a : ℕ) → Gives self.old call at a value 1 }
-        requires never { NeverGives self.old at value }
-        ensures { Unmarks self.old self.new at insn value }
+    /// Whether the word at this offset is loaded at this place.
+    pub(crate) fn loads(&self, place: usize, offset: u32) -> bool
+        ensures { IsTrue result → (place < length self.now) × ((call : SysCall) (a value most : ℕ)
+            → Gives self.now call (place - 1) (data_word call offset) value most
+            → Gives self.now call place a value (most + 1)) }
     {
-        self.insns[at] = insn;
-        // A jump has 32 bits for its distance, which is enough for any filter.
-        let end = self.insns.len().min(u32::MAX as usize);
-        for place in at + 1..end {
-            if returns(&self.insns[place], value) {
-                self.insns[place] = Insn {
-                    op: Operation::Jump,
-                    jt: 0,
-                    jf: 0,
-                    k: (place - 1 - at) as u32,
-                };
-            }
+        if place >= self.len() {
+            return false;
         }
+        let insn = self.at(place);
+        if !is_load(insn.op) {
+            return false;
+        }
+        insn.k == offset
+    }
+
+    /// Whether A is put under this mask at this place.
+    pub(crate) fn masks(&self, place: usize, bits: u32) -> bool
+        ensures { IsTrue result → (place < length self.now) × ((call : SysCall) (a value most : ℕ)
+            → Gives self.now call (place - 1) (bit_and a bits) value most
+            → Gives self.now call place a value (most + 1)) }
+    {
+        if place >= self.len() {
+            return false;
+        }
+        let insn = self.at(place);
+        if !is_mask(insn.op) {
+            return false;
+        }
+        insn.k == bits
+    }
+
+    /// Takes the instructions away that were put last, so that so many are left.
+    pub(crate) fn cut(&mut self, len: usize)
+        ensures { self.new ≡ take len self.old }
+    {
+        self.insns.truncate(len);
     }
 
     /// The finished filter, which starts at the instruction that was put last.
@@ -337,10 +359,28 @@ fn turned(mut insns: Vec<Insn>) -> Vec<Insn>
     insns
 }
 
+/// Whether the operation is the branch that makes this test.
+fn makes(op: Operation, test: Test) -> bool
+    ensures { IsTrue result → op ≡ operation_of test }
+{
+    match test {
+        Test::Equal => matches!(op, Operation::JumpEqualK),
+        Test::Greater => matches!(op, Operation::JumpGreaterK),
+        Test::GreaterOrEqual => matches!(op, Operation::JumpGreaterOrEqualK),
+        Test::AnyBit => matches!(op, Operation::JumpAnyBitK),
+    }
+}
+
 pub(crate) fn is_load(op: Operation) -> bool
     ensures { IsTrue result → op ≡ LoadData }
 {
     matches!(op, Operation::LoadData)
+}
+
+fn is_mask(op: Operation) -> bool
+    ensures { IsTrue result → op ≡ AndK }
+{
+    matches!(op, Operation::AndK)
 }
 
 fn is_return(op: Operation) -> bool

@@ -1,38 +1,43 @@
 //! Compiles seccomp profiles to classic BPF filters: OCI runtime-spec 1.1, config-linux, seccomp.
 //!
 //! A filter's value is what its profile says, `specs/Meaning.antt` of `oci_profile`, at every call. Code is
-//! built from its end, so that places do not change while more is put in front (`code.rt`): first a number's
-//! entries (`leaf.rt`) as far as they are needed (`ending.rt`, `hiding.rt`) and in the order that suits them
-//! (`arranged.rt`), in tests of 32-bit halves, one after another but for those that are settled (`chain.rt`,
-//! `settled.rt`), or runs of them (`run.rt`) as a choice by one argument (`by_argument.rt`, `fan.rt`,
-//! `equals.rt`, `same_half.rt`), then a tree over ranges of numbers that are treated alike (`tree.rt`), then
-//! the test of the architecture (`compiler.rt`).
+//! built from its end, so that places do not change while more is put in front (`code.rt`): first what a
+//! number's entries decide (`leaf.rt`), then a tree over ranges of numbers that are treated alike
+//! (`tree.rt`), then the test of the architecture (`compiler.rt`).
+//!
+//! Entries are rules of clauses over words of a call's data (`rules.rt`). A question about a word is asked,
+//! and what is left of the rules for either answer is built in the same way (`build.rt`, `residual.rt`,
+//! `atom.rt`). Any question is right; `choose.rt` looks for one that leads to few steps. What is longer or
+//! slower than promised is cut back (`diagram.rt`), and a chain of tests takes its place, or a choice among
+//! many equalities (`chain.rt`, `equals.rt`).
 #![tactic(auto)]
 
+mod apart;
 mod arms;
-mod arranged;
-mod by_argument;
+mod atom;
+mod build;
 mod chain;
-mod choice;
+mod choose;
+mod clause;
 mod code;
 mod compiler;
 mod condition;
+mod diagram;
 mod ending;
 mod equals;
-mod fan;
 mod fault;
 mod halves;
-mod hiding;
+mod hidden;
 mod leaf;
-mod lows;
+mod needed;
+mod odds;
 mod order;
-mod plan;
+mod ordered;
 mod points;
 mod ranges;
 mod remaining;
-mod run;
-mod same_half;
-mod settled;
+mod residual;
+mod rules;
 mod shares;
 mod tree;
 mod weight;

@@ -1,9 +1,9 @@
-ghost use Rattle.std.specs.Prelude.{◌≤◌, ◌<◌, length};
+ghost use Rattle.std.specs.Prelude.{◌<◌, length};
 
-use crate::condition::is_equal;
-use crate::ending::needed_end;
-use crate::hiding::is_hidden;
-use oci_profile::{Entry, Profile};
+use crate::ending::bare_end;
+use crate::needed::needed;
+use oci_profile::Profile;
+use std::alloc::{AllocError, Global};
 
 /// What precedence numbers with conditions have where tests are put in order. Since Linux 5.11 no filter runs
 /// for a call that is always allowed, so mostly calls with conditions pay for steps.
@@ -46,9 +46,6 @@ const ENTRY: u64 = 8;
 
 const ENTRIES: u64 = 20;
 
-/// As how many of these another entry counts: more calls pass it.
-const OTHER: u64 = 10;
-
 /// The weight of a number with conditions where they come first, and what each entry that names it adds, as
 /// if as many calls were made for each. All other ranges together weigh some 2,000.
 const FIRST: u64 = 600;
@@ -69,10 +66,18 @@ const PLAIN_NUMBERS: u64 = 72;
 
 /// The weight of a number with conditions where tests are put in order: the heavier a range is, the fewer
 /// lead to it.
-pub(crate) fn asked_share(profile: &Profile, nr: u32, precedence: Precedence) -> u64 {
+pub(crate) fn asked_share(
+    alloc: Global,
+    profile: &Profile,
+    nr: u32,
+    precedence: Precedence,
+) -> Result<u64, AllocError> {
     match precedence {
-        Precedence::First => FIRST + FIRST_ENTRY * naming(profile, nr).min(ENTRIES),
-        _ => CONDITIONAL + ENTRY * asked(profile, nr).min(ENTRIES),
+        Precedence::First => Ok(FIRST + FIRST_ENTRY * naming(profile, nr).min(ENTRIES)),
+        _ => {
+            let asked = asked(alloc, profile, nr)?;
+            Ok(CONDITIONAL + ENTRY * asked.min(ENTRIES))
+        }
     }
 }
 
@@ -104,22 +109,8 @@ fn naming(profile: &Profile, nr: u32) -> u64 {
 }
 
 /// How many equalities the entries that are needed for the number count as.
-fn asked(profile: &Profile, nr: u32) -> u64 {
+fn asked(alloc: Global, profile: &Profile, nr: u32) -> Result<u64, AllocError> {
     let entries = profile.entries.as_slice();
-    let (end, _) = needed_end(entries, profile.default, nr);
-    let mut count = 0u64;
-    for at in 0..end {
-        if !is_hidden(&entries[..at], &entries[at], nr) {
-            count = count.saturating_add(if are_equalities(&entries[at]) {
-                1
-            } else {
-                OTHER
-            });
-        }
-    }
-    count
-}
-
-fn are_equalities(entry: &Entry) -> bool {
-    entry.conds.as_slice().iter().all(|cond| is_equal(cond.op))
+    let (end, _) = bare_end(entries, profile.default, nr);
+    needed(alloc, &entries[..end], nr)
 }

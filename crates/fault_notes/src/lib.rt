@@ -1,11 +1,13 @@
 //! The note on a text that is refused, for a person, after the name of its file: where in the text the fault
 //! is, the fault's name, the value there, and what was wanted.
 //!
-//! Texts are profiles, manifests and scripts. All programs print the same lines, which `specs/` defines.
+//! Texts are profiles, manifests and scripts. All programs print the same lines, which `specs/` defines, and
+//! show the names of files alike.
 #![tactic(auto)]
 
 mod named;
 mod notes;
+mod paths;
 mod places;
 mod starts;
 mod texts;
@@ -13,4 +15,5 @@ mod wanted;
 
 pub use named::Named;
 pub use notes::{left_out_note, manifest_note, profile_note, script_note, template_note};
+pub use paths::ShownPath;
 pub use starts::begins_object;

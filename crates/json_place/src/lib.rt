@@ -15,5 +15,5 @@ pub use fields::{
 };
 pub use lists::{optional_text_list, required_text_list, required_wholes};
 pub use place::{MAX_STEPS, Place, Step};
-pub use quoted::{MAX_SHOWN, Quoted};
+pub use quoted::{Escaped, MAX_SHOWN, Quoted};
 pub use shown::{Shown, stands_at};

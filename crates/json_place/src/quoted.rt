@@ -29,9 +29,9 @@ impl fmt::Display for Quoted<'_> {
     }
 }
 
-/// One character between quotes.
+/// One character between quotes, as JSON escapes it.
 #[derive(Clone, Copy)]
-struct Escaped(char);
+pub struct Escaped(pub char);
 
 impl fmt::Display for Escaped {
     ghost use Rattle.std.specs.Prelude.{Some};

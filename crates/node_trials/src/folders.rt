@@ -2,10 +2,13 @@
 use crate::nodes::pod;
 use manifest::{Pod, Uid};
 use node_io::CausedFault;
-use pod_folder::{Folder, Found, Naming, PodReader, gives_uid, uid_for};
+use pod_folder::{
+    Due, Entries, Entry, Folder, FolderFiles, Look, Looking, Manifest, ManifestReader, Naming,
+    Reading, Stamp, gives_uid, names_in, uid_for,
+};
 use std::alloc::{AllocError, Global};
 use trials::{Came, Told, Trial, tried};
-use worker_core::{AgentEvent, NodeRefusal};
+use worker_core::AgentEvent;
 
 /// Tries the call of this name, if it is one of this module's.
 pub(crate) fn told(rt: &HostRuntime, name: &str) -> Option<Told> {
@@ -13,8 +16,10 @@ pub(crate) fn told(rt: &HostRuntime, name: &str) -> Option<Told> {
     match name {
         "uid_for" => Some(tried(rt, Names::new(alloc))),
         "gives_uid" => Some(tried(rt, Some(Gives { alloc }))),
-        "Naming::count" => Some(tried(rt, Counts::new(alloc))),
-        "Folder::look" => Some(tried(rt, Looks::new(alloc))),
+        "Naming::reserve" => Some(tried(rt, Counts::new(alloc))),
+        "names_in" => Some(tried(rt, Lists::new(alloc))),
+        "Looking::begin" => Some(tried(rt, Begins::new(alloc))),
+        "Looking::step" => Some(tried(rt, Steps::new(alloc))),
         "Folder::next" => Some(tried(rt, Asks::new(alloc, 0, "default.web"))),
         "Folder::next of two pods of a name" => Some(tried(
             rt,
@@ -82,7 +87,7 @@ fn is_uid(answer: Result<Option<Uid>, AllocError>, wanted: &str) -> bool {
     }
 }
 
-/// `Naming::count`, of the first pod of its name.
+/// `Naming::reserve`, of the first pod of its name.
 #[derive(Drop)]
 struct Counts {
     naming: Naming<'static>,
@@ -101,119 +106,238 @@ impl Trial for Counts {
     type Answer = Result<(), AllocError>;
 
     fn call(&mut self) -> Result<(), AllocError> {
-        self.naming.count(&self.pod)
+        self.naming.reserve(&self.pod)
     }
 
     fn came(&mut self, answer: &Result<(), AllocError>) -> Came {
         match answer {
-            Ok(()) => Came::right_if(is_uid(self.naming.uid(&self.pod), "default.web-2")),
+            Ok(()) => {
+                self.naming.count(&self.pod);
+                Came::right_if(is_uid(self.naming.uid(&self.pod), "default.web-2"))
+            }
             Err(AllocError) => Came::Memory,
         }
     }
 
     fn is_unchanged(&mut self) -> bool {
+        self.naming.count(&self.pod);
         is_uid(self.naming.uid(&self.pod), "default.web")
     }
 }
 
-/// A node that has no pod, and admits each that is read.
+/// A listing of these many manifests, and of a file that is none.
 #[derive(Drop)]
-struct Empty {
+struct Listed {
+    alloc: Global,
+    left: u32,
+    ended: bool,
+    failed: bool,
+}
+
+impl Entries for Listed {
+    ghost ended = { λ l. l.ended };
+
+    ghost failed = { λ l. l.failed };
+
+    fn next(&mut self) -> Result<Option<Entry>, CausedFault> {
+        if self.left == 0 {
+            self.ended = true;
+            return Ok(None);
+        }
+        self.left -= 1;
+        match name_of(self.alloc, self.left) {
+            Ok(name) => Ok(Some(Entry::Named(name))),
+            Err(error) => {
+                self.failed = true;
+                Err(CausedFault::from(error))
+            }
+        }
+    }
+}
+
+// The third name is not a manifest's.
+fn name_of(alloc: Global, number: u32) -> Result<String, AllocError> {
+    if number == 2 {
+        String::from_str(alloc, "notes.txt")
+    } else {
+        format!(in alloc; "{number}.json")
+    }
+}
+
+/// `names_in`, of three manifests and another file.
+#[derive(Drop)]
+struct Lists {
     alloc: Global,
 }
 
-impl PodReader for Empty {
-    fn pod(&self, _: &str, bytes: &[u8]) -> Result<Option<Pod>, AllocError> {
-        match manifest::read(self.alloc, bytes) {
-            Ok(pod) => Ok(Some(pod)),
-            Err(manifest::PodFault::Memory) => Err(AllocError),
-            Err(_) => Ok(None),
-        }
+impl Lists {
+    fn new(alloc: Global) -> Option<Lists> {
+        Some(Lists { alloc })
+    }
+}
+
+impl Trial for Lists {
+    type Answer = Result<Vec<String>, CausedFault>;
+
+    fn call(&mut self) -> Result<Vec<String>, CausedFault> {
+        let mut listed = Listed {
+            alloc: self.alloc,
+            left: 4,
+            ended: false,
+            failed: false,
+        };
+        names_in(self.alloc, &mut listed)
     }
 
-    fn unread(&self, _: &str, _: CausedFault) {}
-
-    fn refused(&self, _: &str, _: NodeRefusal) {}
-
-    fn unnamed(&self, _: &str) {}
-
-    fn is_on_node(&self, _: &Uid) -> bool {
-        false
+    fn came(&mut self, answer: &Result<Vec<String>, CausedFault>) -> Came {
+        match answer {
+            Ok(names) => Came::right_if(names.len() == 3),
+            Err(fault) if *fault == CausedFault::from(AllocError) => Came::Memory,
+            Err(_) => Came::Wrong,
+        }
     }
 }
 
 const WEB: &[u8] = br#"{"apiVersion":"v1","kind":"Pod","metadata":{"name":"web"},
 "spec":{"restartPolicy":"Never","containers":[{"name":"main","image":"a"}]}}"#;
 
-/// What a look finds in a folder with this many files that ask for a pod of this name.
-fn found(alloc: Global, files: usize) -> Option<Vec<Found>> {
-    let mut found = Vec::new(alloc);
-    for file in 0..files {
-        let mut bytes = Vec::new(alloc);
-        bytes.extend_from_slice(WEB).ok()?;
-        let path = format!(in alloc; "d/{file}.json").ok()?;
-        found
-            .push(Found {
-                path,
-                bytes: Ok(bytes),
-            })
-            .ok()?;
-    }
-    Some(found)
-}
-
-fn is_admission(event: &Result<Option<AgentEvent>, AllocError>, uid: &str) -> bool {
-    match event {
-        Ok(Some(AgentEvent::Admit(pod))) => pod.uid.as_str() == uid,
-        _ => false,
-    }
-}
-
-fn is_nothing(event: &Result<Option<AgentEvent>, AllocError>) -> bool {
-    matches!(event, Ok(None))
-}
-
-/// The first `Folder::look`. What is found is there twice, once for each call.
+/// Files each of which asks for a pod of one name.
 #[derive(Drop)]
-struct Looks {
-    folder: Folder<'static>,
-    found: Vec<Vec<Found>>,
-    reader: Empty,
+struct Same {
+    alloc: Global,
 }
 
-impl Looks {
-    fn new(alloc: Global) -> Option<Looks> {
+impl FolderFiles for Same {
+    fn stamp(&mut self, _: &str) -> Result<Stamp, CausedFault> {
+        Ok(Stamp {
+            device: 1,
+            inode: 2,
+            size: 3,
+            modified: (4, 5),
+            changed: (6, 7),
+        })
+    }
+
+    fn read(&mut self, _: &str) -> Result<Vec<u8>, CausedFault> {
+        Ok(Vec::from_slice(self.alloc, WEB)?)
+    }
+}
+
+impl ManifestReader for Same {
+    ghost use Rattle.manifest.specs.Pod.{ReadsPod};
+
+    ghost reads = { λ bytes manifest. ReadsPod bytes manifest.pod };
+
+    fn read(&self, _: &str, bytes: &[u8]) -> Result<Reading, AllocError> {
+        match manifest::read(self.alloc, bytes) {
+            Ok(pod) => Ok(Reading::Pod(Manifest {
+                pod,
+                gives_uid: false,
+            })),
+            Err(manifest::PodFault::Memory) => Err(AllocError),
+            Err(_) => Ok(Reading::Refused(String::from_str(self.alloc, "refused")?)),
+        }
+    }
+
+    fn is_on_node(&self, _: &Uid) -> bool {
+        false
+    }
+}
+
+fn numbered_names(alloc: Global, files: u32) -> Option<Vec<String>> {
+    let mut names = Vec::new(alloc);
+    for number in 0..files {
+        let name = format!(in alloc; "{number}.json").ok()?;
+        names.push(name).ok()?;
+    }
+    Some(names)
+}
+
+/// A whole look at this many files.
+fn look(alloc: Global, folder: &Folder<'_>, files: u32) -> Option<Look> {
+    let mut looking = Looking::begin(alloc, numbered_names(alloc, files)?).ok()?;
+    let reader = Same { alloc };
+    for _ in 0..=files {
+        looking.step(folder, &mut Same { alloc }, &reader).ok()?;
+    }
+    looking.finish().ok()
+}
+
+/// `Looking::begin`, of two files. Their names are there twice, once for each call.
+#[derive(Drop)]
+struct Begins {
+    alloc: Global,
+    names: Vec<Vec<String>>,
+}
+
+impl Begins {
+    fn new(alloc: Global) -> Option<Begins> {
         let mut twice = Vec::new(alloc);
         for _ in 0..2 {
-            twice.push(found(alloc, 1)?).ok()?;
+            twice.push(numbered_names(alloc, 2)?).ok()?;
         }
-        Some(Looks {
-            folder: Folder::new(alloc, Naming::new(alloc, None)),
-            found: twice,
-            reader: Empty { alloc },
+        Some(Begins {
+            alloc,
+            names: twice,
         })
     }
 }
 
-impl Trial for Looks {
-    type Answer = Option<Result<(), AllocError>>;
+impl Trial for Begins {
+    type Answer = Option<Result<Looking, AllocError>>;
 
-    fn call(&mut self) -> Option<Result<(), AllocError>> {
-        Some(self.folder.look(self.found.pop()?, &self.reader))
+    fn call(&mut self) -> Option<Result<Looking, AllocError>> {
+        Some(Looking::begin(self.alloc, self.names.pop()?))
     }
 
-    fn came(&mut self, answer: &Option<Result<(), AllocError>>) -> Came {
+    fn came(&mut self, answer: &Option<Result<Looking, AllocError>>) -> Came {
         match answer {
-            Some(Ok(())) => {
-                Came::right_if(is_admission(&self.folder.next(&self.reader), "default.web"))
-            }
+            Some(Ok(_)) => Came::Right,
             Some(Err(AllocError)) => Came::Memory,
             None => Came::Wrong,
         }
     }
+}
 
-    fn is_unchanged(&mut self) -> bool {
-        is_nothing(&self.folder.next(&self.reader))
+/// The first `Looking::step`, which reads a manifest.
+#[derive(Drop)]
+struct Steps {
+    alloc: Global,
+    folder: Folder<'static>,
+    looking: Looking,
+}
+
+impl Steps {
+    fn new(alloc: Global) -> Option<Steps> {
+        Some(Steps {
+            alloc,
+            folder: Folder::new(alloc, Naming::new(alloc, None)),
+            looking: Looking::begin(alloc, numbered_names(alloc, 1)?).ok()?,
+        })
+    }
+}
+
+impl Trial for Steps {
+    type Answer = Result<bool, AllocError>;
+
+    fn call(&mut self) -> Result<bool, AllocError> {
+        let alloc = self.alloc;
+        self.looking
+            .step(&self.folder, &mut Same { alloc }, &Same { alloc })
+    }
+
+    fn came(&mut self, answer: &Result<bool, AllocError>) -> Came {
+        match answer {
+            Ok(more) => Came::right_if(*more),
+            Err(AllocError) => Came::Memory,
+        }
+    }
+}
+
+fn is_admission(due: &Result<Due, AllocError>, uid: &str) -> bool {
+    match due {
+        Ok(Due::Event(AgentEvent::Admit(pod))) => pod.uid.as_str() == uid,
+        _ => false,
     }
 }
 
@@ -221,40 +345,33 @@ impl Trial for Looks {
 #[derive(Drop)]
 struct Asks {
     folder: Folder<'static>,
-    reader: Empty,
     wanted: &'static str,
 }
 
 impl Asks {
-    fn new(alloc: Global, before: usize, wanted: &'static str) -> Option<Asks> {
+    fn new(alloc: Global, before: u32, wanted: &'static str) -> Option<Asks> {
         let mut folder = Folder::new(alloc, Naming::new(alloc, None));
-        let reader = Empty { alloc };
-        folder
-            .look(found(alloc, before.saturating_add(1))?, &reader)
-            .ok()?;
+        let look = look(alloc, &folder, before.saturating_add(1))?;
+        folder.take(look.files);
         for _ in 0..before {
-            drop(folder.next(&reader).ok()?);
-            folder.recorded(None, &reader).ok()?;
+            drop(folder.next().ok()?);
+            folder.recorded(None);
         }
-        Some(Asks {
-            folder,
-            reader,
-            wanted,
-        })
+        Some(Asks { folder, wanted })
     }
 }
 
 impl Trial for Asks {
-    type Answer = Result<Option<AgentEvent>, AllocError>;
+    type Answer = Result<Due, AllocError>;
 
-    fn call(&mut self) -> Result<Option<AgentEvent>, AllocError> {
-        self.folder.next(&self.reader)
+    fn call(&mut self) -> Result<Due, AllocError> {
+        self.folder.next()
     }
 
-    fn came(&mut self, answer: &Result<Option<AgentEvent>, AllocError>) -> Came {
+    fn came(&mut self, answer: &Result<Due, AllocError>) -> Came {
         match answer {
             Err(AllocError) => Came::Memory,
-            event => Came::right_if(is_admission(event, self.wanted)),
+            due => Came::right_if(is_admission(due, self.wanted)),
         }
     }
 }

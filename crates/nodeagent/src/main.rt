@@ -2,11 +2,15 @@
 #![tactic(auto)]
 
 use agent::nodeagent_run;
+use host_io::open_closed;
 use std::env;
 use std::io::{self, ErrorKind};
 use std::process::ExitCode;
 
 fn main(rt: HostRuntime) -> ExitCode {
+    if open_closed(&rt).is_err() {
+        return ExitCode::from(3);
+    }
     let status = match words(&rt) {
         Ok(words) => nodeagent_run(&rt, &rt, &words, &mut io::writer(&rt), &mut rt.stderr()),
         // A process always has its arguments: either there is no memory to copy them, or one is not UTF-8.

@@ -1,1 +1,10 @@
 pub mod Uids
+pub mod Names
+pub mod Naming
+pub mod Looks
+pub mod Placing
+pub mod Folders
+pub mod Looking
+pub mod Given
+pub mod Inside
+pub mod Runs

@@ -1,41 +1,31 @@
 //! Which pods of a folder's manifests are admitted to a node, and which are deleted.
-ghost use Rattle.std.specs.Prelude.{◌≡◌, IfOk, IfSome};
-ghost use Rattle.node_lock.specs.Books.{worker_of};
+ghost use Rattle.std.specs.Prelude.{◌≡◌, ◌<◌, ◌++◌, ◌∷◌, [], IfOk, IsSome, IsSomeAnd, None, OnErr, Some};
+ghost use Rattle.std.specs.Prelude.{is_some, true};
+ghost use Rattle.std.specs.Prelude.{if◌then◌else◌, option_copied, option_map, slice_get, vec_len};
+ghost use Rattle.std.specs.Prelude.{vec_capacity};
+ghost use Rattle.manifest.specs.Texts.{is_uid};
+ghost use Rattle.pod_folder.specs.Folders.{Asks, HasLeft, IsAdmission, after_loss, changed, first_to_come};
+ghost use Rattle.pod_folder.specs.Folders.{found_refused};
+ghost use Rattle.pod_folder.specs.Folders.{fresh, is_leaving, leaving, looked, lost, may_move, moves};
+ghost use Rattle.pod_folder.specs.Folders.{names_refused};
+ghost use Rattle.pod_folder.specs.Folders.{place_of_file, placed_at, recorded, told_of, tried, uid_in};
+ghost use Rattle.pod_folder.specs.Folders.{with_count};
+ghost use Rattle.pod_folder.specs.Placing.{NoneLeaves};
 
-use crate::files::{Admitted, ManifestFile, Wanted, digest_of};
-use crate::listing::Found;
-use crate::naming::{Naming, gives_uid};
+use crate::asking::{Asked, Due};
+use crate::looks::{FoundFile, Manifest};
+use crate::naming::Naming;
+use crate::placed::{PlacedPod, coming, leaving, place_of_pod};
 use manifest::{Pod, Uid};
-use node_io::CausedFault;
 use std::alloc::{AllocError, Global};
+use std::marker::Model;
+use std::mem;
 use worker_core::{AgentEvent, NodeRefusal};
 
-/// Reads manifests, reports what is wrong with them, and knows which pods are on the node.
-pub trait PodReader {
-    /// The pod of a manifest. Reports what is wrong with a refused one, except for lack of memory.
-    fn pod(&self, path: &str, bytes: &[u8]) -> Result<Option<Pod>, AllocError>;
-
-    /// Reports that the file can't be read.
-    fn unread(&self, path: &str, fault: CausedFault);
-
-    /// Reports that the node does not admit the pod of the file.
-    fn refused(&self, path: &str, refusal: NodeRefusal);
-
-    /// Reports that no uid can be made for the pod of the file: it would be too long.
-    fn unnamed(&self, path: &str);
-
+/// The pods of a node.
+pub trait OnNode {
     /// Whether a pod of this uid is on the node.
-    fn is_on_node(&self, uid: &Uid) -> bool;
-}
-
-// What was asked for last.
-#[derive(Clone, Copy)]
-enum Asked {
-    Nothing,
-    // The pod of the file at this place is to be deleted.
-    Delete(usize),
-    // It is to be admitted.
-    Admit(usize),
+    fn has(&self, uid: &Uid) -> bool;
 }
 
 /// The manifests of a folder, and the state of their pods.
@@ -43,265 +33,372 @@ enum Asked {
 pub struct Folder<'a> {
     alloc: Global,
     naming: Naming<'a>,
-    files: Vec<ManifestFile>,
+    found: Vec<FoundFile>,
+    placed: Vec<PlacedPod>,
+    // Whether the node was full, and no pod has left since.
+    full: bool,
     asked: Asked,
-    // The uid of the pod that is to be admitted.
-    uid: Option<Uid>,
+}
+
+impl<'a> Model for Folder<'a> {
+    ghost use Rattle.std.specs.Prelude.{vec_len, vec_capacity};
+    ghost use Rattle.pod_folder.specs.Folders.{Folders, HasRoom};
+
+    ghost Value = { Folders };
+
+    ghost view = { λ f. record {
+      found = f.found.items;
+      placed = f.placed.items;
+      names = f.naming;
+      full = f.full;
+      asked = f.asked;
+    } };
+
+    // A pod whose admission is asked for has its room, so its entry takes no memory.
+    ghost invariant = { λ f. HasRoom f.asked (vec_len f.placed) (vec_capacity f.placed) };
+}
+
+// The place of the file of this name.
+fn place_of_file(name: &str, found: &[FoundFile]) -> Option<usize>
+    ensures { result ≡ place_of_file name.now found.now }
+{
+    found.iter().position(|file| file.name.as_str() == name)
+}
+
+// The file at this place is not asked for again.
+fn try_no_more(found: &mut [FoundFile], place: Option<usize>)
+    ensures { found.new ≡ changed tried found.old place }
+{
+    if let Some(place) = place {
+        if place < found.len() {
+            let file = &mut found[place];
+            file.tried = true;
+        }
+    }
+}
+
+// The deletion of the pod at this place was recorded.
+fn let_go(placed: &mut Vec<PlacedPod>, place: Option<usize>)
+    ensures items { placed.new.items ≡ changed leaving placed.old.items place }
+    ensures len { vec_len placed.new ≡ vec_len placed.old }
+    ensures room { vec_capacity placed.new ≡ vec_capacity placed.old }
+{
+    if let Some(place) = place {
+        if place < placed.len() {
+            let pod = &mut placed[place];
+            pod.leaving = true;
+        }
+    }
+}
+
+// The runtime has lost the pod at this place.
+fn give_up(placed: &mut Vec<PlacedPod>, place: Option<usize>)
+    ensures items { placed.new.items ≡ changed lost placed.old.items place }
+    ensures len { vec_len placed.new ≡ vec_len placed.old }
+    ensures room { vec_capacity placed.new ≡ vec_capacity placed.old }
+{
+    if let Some(place) = place {
+        if place < placed.len() {
+            let pod = &mut placed[place];
+            pod.lost = true;
+        }
+    }
+}
+
+// Adds a pod, for which there is room.
+fn add(placed: &mut Vec<PlacedPod>, pod: PlacedPod)
+    requires { vec_len placed.old < vec_capacity placed.old }
+    ensures { placed.new.items ≡ placed.old.items ++ pod ∷ [] }
+{
+    let pushed = placed.push(pod);
+    let added = pushed.is_ok();
+    prove!(added);
+    drop(pushed);
+}
+
+// The node admitted the pod, for which there is room.
+fn admit(naming: &mut Naming<'_>, placed: &mut Vec<PlacedPod>, pod: PlacedPod)
+    requires { vec_len placed.old < vec_capacity placed.old }
+    ensures names { naming.new ≡ with_count naming.old pod.manifest }
+    ensures placed { placed.new.items ≡ placed.old.items ++ pod ∷ [] }
+{
+    if !pod.manifest.gives_uid {
+        naming.count(&pod.manifest.pod);
+    }
+    add(placed, pod);
+}
+
+// The node refused the pod for this reason.
+fn refuse(
+    naming: &mut Naming<'_>,
+    found: &mut Vec<FoundFile>,
+    pod: &PlacedPod,
+    refusal: NodeRefusal,
+)
+    ensures names { naming.new ≡ names_refused naming.old pod.now refusal }
+    ensures found { found.new.items ≡ found_refused found.old.items pod.now refusal }
+{
+    match refusal {
+        NodeRefusal::Full => {}
+        NodeRefusal::KnownUid if !pod.manifest.gives_uid => naming.count(&pod.manifest.pod),
+        _ => {
+            let place = place_of_file(pod.name.as_str(), found);
+            try_no_more(found, place);
+        }
+    }
+}
+
+// The place of a pod that is to leave, and is not on the node any more.
+fn gone_place<T: OnNode>(placed: &[PlacedPod], node: &T) -> Option<usize> {
+    placed
+        .iter()
+        .position(|pod| pod.leaving && !node.has(&pod.uid))
+}
+
+fn is_leaving(placed: &[PlacedPod], place: usize) -> bool
+    ensures { result ≡ is_leaving (slice_get placed.now place) }
+{
+    match placed.get(place) {
+        Some(pod) => pod.leaving,
+        None => false,
+    }
+}
+
+// Whether the pod goes on under another uid if the runtime has lost it.
+fn may_move(placed: Option<&PlacedPod>) -> bool
+    ensures { result ≡ may_move (option_copied placed.entry) }
+{
+    match placed {
+        Some(pod) => !pod.manifest.gives_uid,
+        None => false,
+    }
+}
+
+fn placed_at(placed: &[PlacedPod], place: Option<usize>) -> Option<&PlacedPod>
+    ensures { option_copied result ≡ placed_at placed.now place }
+{
+    match place {
+        Some(place) => placed.get(place),
+        None => None,
+    }
 }
 
 impl<'a> Folder<'a> {
     /// A folder that was not looked into yet, and how its pods are named.
-    pub fn new(alloc: Global, naming: Naming<'a>) -> Folder<'a> {
+    pub fn new(alloc: Global, naming: Naming<'a>) -> Folder<'a>
+        ensures { result ≡ fresh naming.entry }
+    {
         Folder {
             alloc,
             naming,
-            files: Vec::new(alloc),
+            found: Vec::new(alloc),
+            placed: Vec::new(alloc),
+            full: false,
             asked: Asked::Nothing,
-            uid: None,
         }
     }
 
-    fn place_of(&self, path: &str) -> Option<usize> {
-        self.files
-            .iter()
-            .position(|file| file.path.as_str() == path)
-    }
-
-    fn place_for(&mut self, path: &str) -> Result<usize, AllocError> {
-        match self.place_of(path) {
-            Some(place) => Ok(place),
-            None => {
-                self.files.push(ManifestFile::new(self.alloc, path)?)?;
-                Ok(self.files.len() - 1)
-            }
-        }
-    }
-
-    /// Compares what a look into the folder found with what is known.
-    pub fn look<T: PodReader>(&mut self, found: Vec<Found>, reader: &T) -> Result<(), AllocError> {
-        for file in self.files.as_mut_slice() {
-            file.is_there = false;
-            if let Some(wanted) = &mut file.wanted {
-                wanted.waits = false;
-            }
-        }
-        for Found { path, bytes } in found {
-            let place = self.place_for(path.as_str())?;
-            if place < self.files.len() {
-                judge(self.alloc, &mut self.files[place], bytes, reader)?;
-            }
-        }
-        for file in self.files.as_mut_slice() {
-            if !file.is_there {
-                file.wanted = None;
-                file.judged = None;
-            }
-        }
-        Ok(())
-    }
-
-    // Forgets pods that have left, and files of which nothing is left.
-    fn settle<T: PodReader>(&mut self, reader: &T) {
-        for file in self.files.as_mut_slice() {
-            let has_left = match &file.admitted {
-                Some(admitted) => admitted.deleted && !reader.is_on_node(&admitted.uid),
-                None => false,
-            };
-            if has_left {
-                file.admitted = None;
-            }
-        }
-        self.files.retain(|file| !file.is_over());
-    }
-
-    fn deletion(&mut self) -> Result<Option<AgentEvent>, AllocError>
-        ensures { IfOk result (λ event. IfSome event (λ event. worker_of event ≡ 0)) }
+    /// What the last whole look found.
+    pub fn found(&self) -> &[FoundFile]
+        ensures { result.now ≡ self.now.found }
     {
-        let Some(place) = self.files.iter().position(|file| file.is_to_leave()) else {
-            return Ok(None);
-        };
-        let Some(admitted) = &self.files[place].admitted else {
-            return Ok(None);
-        };
-        let uid = admitted.uid.try_clone(self.alloc)?;
-        self.asked = Asked::Delete(place);
-        Ok(Some(AgentEvent::Delete(uid)))
+        self.found.as_slice()
     }
 
-    fn admission<T: PodReader>(&mut self, reader: &T) -> Result<Option<AgentEvent>, AllocError>
-        ensures { IfOk result (λ event. IfSome event (λ event. worker_of event ≡ 0)) }
+    /// The pods of files that are on the node.
+    pub fn placed(&self) -> &[PlacedPod]
+        ensures { result.now ≡ self.now.placed }
     {
-        for place in 0..self.files.len() {
-            if self.files.get(place).is_some_and(|file| file.is_to_come()) {
-                if let Some(pod) = self.named(place, reader)? {
-                    self.asked = Asked::Admit(place);
-                    return Ok(Some(AgentEvent::Admit(pod)));
+        self.placed.as_slice()
+    }
+
+    /// The name of the file whose pod was asked for last, if the operator should learn of this refusal: not
+    /// if the next uid of the pod's name is tried.
+    pub fn told_of(&self, refusal: NodeRefusal) -> Option<&str>
+        ensures { option_map (λ name. name.now) result ≡ told_of self.now.asked refusal }
+    {
+        match &self.asked {
+            Asked::Admit(pod) => {
+                if refusal == NodeRefusal::KnownUid && !pod.manifest.gives_uid {
+                    None
+                } else {
+                    Some(pod.name.as_str())
                 }
             }
+            Asked::Nothing | Asked::Delete(_) => None,
         }
-        Ok(None)
     }
 
-    // The pod that the file at this place asks for, with its uid. A pod that can't have one is reported, and
-    // no longer wanted.
-    fn named<T: PodReader>(&mut self, place: usize, reader: &T) -> Result<Option<Pod>, AllocError> {
-        let Some(file) = self.files.get_mut(place) else {
-            return Ok(None);
-        };
-        let Some(wanted) = &file.wanted else {
-            return Ok(None);
-        };
-        let mut pod = wanted.manifest.try_clone(self.alloc)?;
-        if !wanted.gives_uid {
-            match self.naming.uid(&wanted.manifest)? {
-                Some(uid) => pod.uid = uid,
-                None => {
-                    reader.unnamed(file.path.as_str());
-                    file.wanted = None;
-                    return Ok(None);
-                }
-            }
-        }
-        self.uid = Some(pod.uid.try_clone(self.alloc)?);
-        Ok(Some(pod))
+    /// Whether this pod of the file of this name is on the node, and stays there.
+    pub fn has_placed(&self, name: &str, pod: &Pod) -> bool {
+        self.placed.iter().any(|placed| {
+            placed.name.as_str() == name && !placed.leaving && placed.manifest.pod.same(pod)
+        })
     }
 
-    /// The next event that the folder asks of the node, if there is one. The same event is returned until it
-    /// was recorded.
-    pub fn next<T: PodReader>(&mut self, reader: &T) -> Result<Option<AgentEvent>, AllocError>
-        ensures { IfOk result (λ event. IfSome event (λ event. worker_of event ≡ 0)) }
+    /// Whether the node was full, and no pod has left since.
+    pub fn is_full(&self) -> bool
+        ensures { result ≡ self.now.full }
     {
-        self.settle(reader);
-        match self.deletion()? {
-            Some(event) => Ok(Some(event)),
-            None => self.admission(reader),
+        self.full
+    }
+
+    /// From now on, what is known of the files is what this whole look found. Takes no memory.
+    pub fn take(&mut self, found: Vec<FoundFile>)
+        ensures { self.new ≡ looked self.old found.items }
+    {
+        self.found = found;
+    }
+
+    // The place of the first file whose pod is due for admission.
+    fn first_to_come(&self) -> Option<usize>
+        ensures { result ≡ first_to_come self.now }
+    {
+        if self.full {
+            None
+        } else {
+            coming(&self.found, &self.placed)
         }
     }
 
-    /// The event that was asked for last was recorded, and refused by the node for this reason, if it was.
-    pub fn recorded<T: PodReader>(
-        &mut self,
-        refusal: Option<NodeRefusal>,
-        reader: &T,
-    ) -> Result<(), AllocError> {
-        match self.asked {
+    /// What is due: the same event is returned until it was recorded. If memory runs out, nothing changes.
+    #[tactic(auto, using(crate::proofs::Coming::comes_there))]
+    pub fn next(&mut self) -> Result<Due, AllocError>
+        ensures due { IfOk result (λ due. Asks self.old due self.new) }
+        ensures err { OnErr result (self.new ≡ self.old) }
+    {
+        if let Some(pod) = leaving(&self.found, &self.placed) {
+            let uid = pod.uid.try_clone(self.alloc)?;
+            let asked = Asked::Delete(pod.uid.try_clone(self.alloc)?);
+            self.asked = asked;
+            return Ok(Due::Event(AgentEvent::Delete(uid)));
+        }
+        match self.first_to_come() {
+            Some(place) => self.admission(place),
+            None => Ok(Due::Idle),
+        }
+    }
+
+    /// The event that was asked for last became an entry, and the node refused it for this reason, if it did.
+    /// Takes no memory.
+    pub fn recorded(&mut self, refusal: Option<NodeRefusal>)
+        ensures { self.new ≡ recorded self.old refusal }
+    {
+        match mem::replace(&mut self.asked, Asked::Nothing) {
             Asked::Nothing => {}
-            Asked::Delete(place) => self.deleted(place),
-            Asked::Admit(place) => self.came(place, refusal, reader)?,
+            Asked::Delete(uid) => {
+                let place = place_of_pod(&uid, &self.placed);
+                let_go(&mut self.placed, place);
+            }
+            Asked::Admit(pod) => match refusal {
+                None => admit(&mut self.naming, &mut self.placed, pod),
+                Some(refusal) => {
+                    refuse(&mut self.naming, &mut self.found, &pod, refusal);
+                    self.full = self.full || refusal == NodeRefusal::Full;
+                }
+            },
         }
-        self.asked = Asked::Nothing;
-        Ok(())
+    }
+    // Asks for the pod of the file at this place.
+    fn admission(&mut self, place: usize) -> Result<Due, AllocError>
+        requires first { first_to_come self.old ≡ Some place }
+        requires there { IsSomeAnd (slice_get self.old.found place) (λ file. is_some file.asks ≡ true) }
+        requires none { NoneLeaves self.old.found self.old.placed }
+        ensures due { IfOk result (λ due. Asks self.old due self.new) }
+        ensures err { OnErr result (self.new ≡ self.old) }
+    {
+        let file = file_at(&self.found, place);
+        match admission_of(self.alloc, &self.naming, file)? {
+            Some((pod, asked)) => {
+                self.placed.reserve(1)?;
+                self.naming.reserve(&asked.manifest.pod)?;
+                self.asked = Asked::Admit(asked);
+                Ok(Due::Event(AgentEvent::Admit(pod)))
+            }
+            None => {
+                try_no_more(&mut self.found, Some(place));
+                self.asked = Asked::Nothing;
+                Ok(Due::Unnamed(place))
+            }
+        }
     }
 
-    fn deleted(&mut self, place: usize) {
-        if let Some(file) = self.files.get_mut(place) {
-            if let Some(admitted) = &mut file.admitted {
-                admitted.deleted = true;
-            }
+    /// Forgets one pod that has left the node after its deletion was recorded; then there is room for
+    /// another. Returns whether there was one.
+    pub fn left<T: OnNode>(&mut self, node: &T) -> bool
+        ensures { HasLeft self.old self.new result }
+    {
+        let Some(place) = gone_place(&self.placed, node) else {
+            return false;
+        };
+        if !is_leaving(&self.placed, place) {
+            return false;
         }
+        drop(self.placed.remove(place));
+        self.full = false;
+        true
     }
 
-    fn came<T: PodReader>(
-        &mut self,
-        place: usize,
-        refusal: Option<NodeRefusal>,
-        reader: &T,
-    ) -> Result<(), AllocError> {
-        let uid = self.uid.take();
-        let Some(file) = self.files.get_mut(place) else {
-            return Ok(());
-        };
-        let Some(mut wanted) = file.wanted.take() else {
-            return Ok(());
-        };
-        match (refusal, uid) {
-            (None, Some(uid)) => {
-                if !wanted.gives_uid {
-                    self.naming.count(&wanted.manifest)?;
-                }
-                file.admitted = Some(Admitted {
-                    uid,
-                    manifest: wanted.manifest,
-                    deleted: false,
-                });
-            }
-            // Another manifest gave this uid: the next uid for the name is tried.
-            (Some(NodeRefusal::KnownUid), _) if !wanted.gives_uid => {
-                self.naming.count(&wanted.manifest)?;
-                file.wanted = Some(wanted);
-            }
-            // There may be room later.
-            (Some(NodeRefusal::Full), _) => {
-                if !wanted.told {
-                    reader.refused(file.path.as_str(), NodeRefusal::Full);
-                }
-                wanted.told = true;
-                wanted.waits = true;
-                file.wanted = Some(wanted);
-            }
-            (Some(refusal), _) => reader.refused(file.path.as_str(), refusal),
-            (None, None) => {}
+    /// The runtime has lost the pod of this uid: its deletion is due, and then its admission under the next
+    /// uid of its name. A pod whose manifest gives its uid can't be admitted again, so nothing changes then.
+    /// Returns whether the pod goes on under another uid.
+    pub fn lost(&mut self, uid: &Uid) -> bool
+        ensures moves { result ≡ moves self.old uid.now }
+        ensures lost { self.new ≡ after_loss self.old uid.now }
+    {
+        let place = place_of_pod(uid, &self.placed);
+        let moves = may_move(placed_at(&self.placed, place));
+        if moves {
+            give_up(&mut self.placed, place);
         }
-        Ok(())
+        moves
     }
 }
 
-// Reads what was found of a file, if it differs from before. What is refused is reported, and changes
-// nothing: the file's current pod stays.
-fn judge<T: PodReader>(
-    alloc: Global,
-    file: &mut ManifestFile,
-    found: Result<Vec<u8>, CausedFault>,
-    reader: &T,
-) -> Result<(), AllocError> {
-    file.is_there = true;
-    match found {
-        Ok(bytes) => {
-            let digest = digest_of(bytes.as_slice());
-            if file.judged == Some(digest) {
-                return Ok(());
-            }
-            let pod = reader.pod(file.path.as_str(), bytes.as_slice())?;
-            file.wanted = wanted_of(alloc, file, pod, bytes.as_slice(), reader)?;
-            file.judged = Some(digest);
-        }
-        Err(fault) => {
-            let text = format!(in alloc; "{fault}")?;
-            let digest = digest_of(text.as_bytes());
-            if file.judged == Some(digest) {
-                return Ok(());
-            }
-            file.judged = Some(digest);
-            file.wanted = None;
-            reader.unread(file.path.as_str(), fault);
-        }
-    }
-    Ok(())
+// The file at this place.
+fn file_at(found: &[FoundFile], place: usize) -> &FoundFile
+    requires { IsSome (slice_get found.now place) }
+    ensures { slice_get found.now place ≡ Some result.now }
+{
+    &found[place]
 }
 
-// What a file asks for by this pod: nothing if it is on the node already, or gives the uid of one that is.
-fn wanted_of<T: PodReader>(
+// The pod that a file asks for, under its uid, and how it is remembered. `None` if no uid can be made for it.
+fn admission_of(
     alloc: Global,
-    file: &ManifestFile,
-    pod: Option<Pod>,
-    bytes: &[u8],
-    reader: &T,
-) -> Result<Option<Wanted>, AllocError> {
-    let Some(pod) = pod else {
+    naming: &Naming<'_>,
+    file: &FoundFile,
+) -> Result<Option<(Pod, PlacedPod)>, AllocError>
+    requires { is_some file.now.asks ≡ true }
+    ensures { IfOk result (IsAdmission naming.now file.now.name file.now.asks) }
+{
+    let Some(manifest) = file.content.shared()? else {
         return Ok(None);
     };
-    if file.is_admitted_as(&pod) {
+    let Some(uid) = uid_of(naming, &manifest)? else {
         return Ok(None);
+    };
+    let mut pod = manifest.pod.try_clone(alloc)?;
+    pod.uid = uid.try_clone(alloc)?;
+    let name = String::from_str(alloc, file.name.as_str())?;
+    let asked = PlacedPod {
+        name,
+        uid,
+        manifest,
+        leaving: false,
+        lost: false,
+    };
+    Ok(Some((pod, asked)))
+}
+
+// The uid of a manifest's pod. `None` if none can be made.
+fn uid_of(naming: &Naming<'_>, manifest: &Manifest) -> Result<Option<Uid>, AllocError>
+    ensures { IfOk result (λ uid. uid ≡ (if is_uid (uid_in naming.now manifest.now)
+        then Some (uid_in naming.now manifest.now) else None)) }
+{
+    if manifest.gives_uid {
+        Ok(Some(manifest.pod.uid.try_clone(naming.alloc())?))
+    } else {
+        naming.uid(&manifest.pod)
     }
-    let gives_uid = gives_uid(alloc, bytes)?;
-    if gives_uid && reader.is_on_node(&pod.uid) {
-        reader.refused(file.path.as_str(), NodeRefusal::KnownUid);
-        return Ok(None);
-    }
-    Ok(Some(Wanted {
-        manifest: pod,
-        gives_uid,
-        waits: false,
-        told: false,
-    }))
 }

@@ -7,3 +7,4 @@ pub mod Shares
 pub mod Talks
 pub mod Unwoken
 pub mod Visits
+pub mod Readings

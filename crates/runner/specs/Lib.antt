@@ -1,4 +1,5 @@
 pub mod Gathered
+pub mod Readings
 pub mod Connection
 pub mod Steps
 pub mod Shared

@@ -37,26 +37,8 @@ pub(crate) fn answer<W: Wire, S: Files, P: Files, H: Host>(
     ensures counted { W.failed wire.old ≤ W.failed wire.new }
     ensures input { Keeps (W.input wire.old) (W.input wire.new) }
 {
-    let reply = reply_in_turn(alloc, service, version, text)?;
+    let reply = reply_to(alloc, service, version, text)?;
     send(alloc, wire, version, &reply)
-}
-
-// The reply to a text, once the host lets it be read.
-fn reply_in_turn<S: Files, P: Files, H: Host>(
-    alloc: Global,
-    service: &mut Service<S, P, H>,
-    version: Version,
-    text: &[u8],
-) -> Result<Reply, AllocError>
-    ensures reply { IfOk result (λ reply. Answers (Gave S.held S.failed)
-        (Gave P.held P.failed) H.may service.old
-        (record { frame = (version, text.now); reply = reply }) service.new) }
-    ensures err { OnErr result (service.new ≡ service.old) }
-{
-    service.host.begin_reading(text.len());
-    let reply = reply_to(alloc, service, version, text);
-    service.host.end_reading(text.len());
-    reply
 }
 
 // The reply to a text in a frame of this version. If memory runs out, the host was not asked.
@@ -71,7 +53,7 @@ fn reply_to<S: Files, P: Files, H: Host>(
         (record { frame = (version, text.now); reply = reply }) service.new) }
     ensures err { OnErr result (service.new ≡ service.old) }
 {
-    match Request::read(alloc, version, text) {
+    match service.host.read(alloc, version, text) {
         Ok(request) => Ok(serve(service, request)),
         Err(MessageFault::NoMessage(id)) => Ok(Reply {
             id,

@@ -1,9 +1,8 @@
 ghost use Rattle.std.specs.Prelude.{◌≡◌};
-ghost use Rattle.runner.specs.declared.readings.TheConstants.{LARGE_TEXT, MAX_LARGE};
+ghost use Rattle.runner.specs.declared.reader.TheConstants.{LARGE_TEXT};
 
 /// The values of this crate's constants.
 pub fn constants_are_as_stated()
-    // bytes, and texts
-    ensures large_text { LARGE_TEXT ≡ 65536 }
-    ensures max_large { MAX_LARGE ≡ 2 }
+    // bytes
+    ensures large_text { LARGE_TEXT ≡ 16384 }
 {}

@@ -1,10 +1,12 @@
 //! What serves a connection.
 ghost use Rattle.cri_msgs.specs.declared.calls.Request.{Request};
 ghost use Rattle.cri_msgs.specs.declared.replies.Reply.{Reply};
+ghost use Rattle.runner.specs.Readings.{IsReading};
 ghost use Rattle.creation.specs.declared.files.FileAnswers.{FileAnswers};
 
-use cri_msgs::{Reply, Request};
+use cri_msgs::{MessageFault, Reply, Request, Version};
 use runtime_core::{FileAnswers, Runtime};
+use std::alloc::Global;
 
 /// Answers requests. Another caller may be answered between two calls.
 pub trait Host {
@@ -15,12 +17,13 @@ pub trait Host {
     fn serve(&mut self, request: Request, files: FileAnswers) -> Reply
         ensures { may self.old request files result self.new };
 
-    /// A text of this length is about to be read and answered. Its tree may take many times the memory of the
-    /// text, so a host may make it wait until others are answered.
-    fn begin_reading(&self, _length: usize) {}
-
-    /// A text of this length was read and answered.
-    fn end_reading(&self, _length: usize) {}
+    /// Reads the request in the text of a frame of this version, as [`Request::read`] does. Its tree may take
+    /// many times the memory of the text, so a host may make it wait until others are read.
+    fn read(&self, alloc: Global, version: Version, text: &[u8]) -> Result<Request, MessageFault>
+        ensures { IsReading version text.now result }
+    {
+        Request::read(alloc, version, text)
+    }
 }
 
 /// What serves a connection: the folders of its requests' files, and the host that answers.

@@ -9,7 +9,7 @@ mod life_tests;
 #[cfg(test)]
 mod notifier_tests;
 #[cfg(test)]
-mod reading_tests;
+mod reader_tests;
 #[cfg(test)]
 mod round_tests;
 #[cfg(test)]

@@ -1,3 +1,4 @@
+pub mod Accepting
 pub mod Stops
 pub mod StopText
 pub mod Telling

@@ -9,6 +9,7 @@ use Rattle.bpf_verify.specs.declared.fault.Fault.TheVariants as fault
 use Rattle.bpf_verify.specs.declared.refusal.Refusal.{Refusal}
 use Rattle.bpf_verify.specs.declared.refusal.Refusal.TheVariants as refused
 use Rattle.command_line.specs.Faults.{misfit_text}
+use Rattle.fault_notes.specs.Paths.{shown_path}
 use Rattle.node_io.specs.Causes.{cause_text}
 use Rattle.node_io.specs.FaultText.{caused_text}
 use Rattle.runtime_server.specs.declared.socket_fault.SocketFault.{SocketFault}
@@ -46,7 +47,10 @@ abbrev pub socket_text : SocketFault → List ℕ
 socket_text socket.Listens = codes "a runtime listens there"
 socket_text socket.Taken = codes "something else stands there"
 socket_text socket.NoFolder = codes "no such folder"
+socket_text socket.Empty = codes "empty path"
 socket_text socket.TooLong = codes "path too long, at most " ++ (decimal MAX_NAME ++ codes " bytes")
+socket_text socket.LockLink = codes "its lock file is a symbolic link"
+socket_text socket.LockTaken = codes "its lock file is not a regular file"
 socket_text socket.Folders = codes "its folders .new0 to .new99 are taken"
 socket_text (socket.System cause) = cause_text cause
 socket_text socket.Memory = codes "Memory"
@@ -54,15 +58,17 @@ socket_text socket.Memory = codes "Memory"
 -- of the program with this name
 abbrev pub stop_text : List ℕ → ServerStop → Option (List ℕ)
 stop_text program (CommandLine error) = None
-stop_text program (BadNumber word) = Some (program ++ codes ": " ++ word.now ++ codes ": BadNumber\n")
+stop_text program (BadNumber word) = Some (program ++ codes ": " ++ shown_path word.now
+    ++ codes ": BadNumber\n")
 stop_text program (Misfit word why) = Some (program ++ codes ": " ++ word.now ++ codes ": " ++ misfit_text why
     ++ codes "\n")
 stop_text program (Baseline path refusal) =
-    Some (program ++ codes ": " ++ path.now ++ codes ": " ++ refusal_name refusal ++ codes "\n")
+    Some (program ++ codes ": " ++ shown_path path.now ++ codes ": " ++ refusal_name refusal ++ codes "\n")
 stop_text program (File path caused) = Some
-    (program ++ codes ": " ++ path.now ++ codes ": " ++ caused_text caused ++ codes "\n")
+    (program ++ codes ": " ++ shown_path path.now ++ codes ": " ++ caused_text caused ++ codes "\n")
 stop_text program (Socket path fault) =
-    Some (program ++ codes ": " ++ path.now ++ codes ": Failed (" ++ socket_text fault ++ codes ")\n")
+    Some (program ++ codes ": " ++ shown_path path.now ++ codes ": Failed (" ++ socket_text fault
+    ++ codes ")\n")
 stop_text program (Unwritten cause) = Some (program ++ codes ": standard output: Failed (" ++ cause_text cause
     ++ codes ")\n")
 stop_text program Memory = Some (program ++ codes ": Memory\n")

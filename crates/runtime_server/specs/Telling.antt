@@ -6,6 +6,7 @@ use Rattle.cri_msgs.specs.declared.refusals.Refusal.TheVariants.{ResourceExhaust
 use Rattle.cri_msgs.specs.declared.refusals.Refusal.TheVariants.{Internal, Memory}
 use Rattle.cri_msgs.specs.declared.replies.Answer.{Answer}
 use Rattle.cri_msgs.specs.declared.replies.Answer.TheVariants.{Refused}
+use Rattle.fault_notes.specs.Paths.{shown_path}
 use Rattle.runtime_server.specs.declared.site.Address.{Address}
 use Rattle.runtime_server.specs.declared.site.Tells.{Tells}
 use Rattle.runtime_server.specs.declared.site.Tells.TheVariants.{Nothing, WrongFiles, Each}
@@ -39,6 +40,6 @@ name_behind _ = []
 -- the first line of a runtime
 abbrev pub listening_text : Address → List ℕ
 listening_text address =
-    codes "listens at " ++ (address.socket.now
-    ++ (codes ", scripts in " ++ (address.scripts.now
-    ++ (codes ", profiles in " ++ address.profiles.now))))
+    codes "listens at " ++ (shown_path address.socket.now
+    ++ (codes ", scripts in " ++ (shown_path address.scripts.now
+    ++ (codes ", profiles in " ++ shown_path address.profiles.now))))

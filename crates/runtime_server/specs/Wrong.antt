@@ -8,6 +8,7 @@ use Rattle.oci_profile.specs.declared.profile.Profile.{Profile}
 use Rattle.script.specs.Reading.{IsFirstFaultAt}
 use Rattle.script.specs.declared.placed.ScriptFaultAt.{ScriptFaultAt}
 use Rattle.fault_notes.specs.Notes.{IsNote}
+use Rattle.fault_notes.specs.Paths.{shown_path}
 use Rattle.fault_notes.specs.declared.named.Named.TheVariants as named
 
 -- the first fault of this text, its place and what stands there, behind the file's name
@@ -16,13 +17,14 @@ TellsScript path bytes None = ⊤
 TellsScript path bytes (Some text) =
     (found : ScriptFaultAt) × IsFirstFaultAt bytes found
     × ((note : List ℕ) × IsNote bytes (named.Script found.fault) found.place note
-    × (string_bytes text ≡ path ++ note))
+    × (string_bytes text ≡ shown_path path ++ note))
 
 -- the same of a profile, or that it is too heavy
 abbrev pub TellsProfile : {Y : Type 0} → List ℕ → List ℕ → Option (String Y) → Type 0
 TellsProfile path bytes None = ⊤
 TellsProfile path bytes (Some text) =
-    ((profile : Profile) × ReadsProfile bytes profile × (string_bytes text ≡ path ++ codes ": TooLong"))
+    ((profile : Profile) × ReadsProfile bytes profile × (string_bytes text ≡ shown_path path
+    ++ codes ": TooLong"))
     ⊎ ((found : ProfileFaultAt) × (first_fault_at bytes ≡ Some found)
     × ((note : List ℕ) × IsNote bytes (named.Profile found.fault) found.place note
-    × (string_bytes text ≡ path ++ note)))
+    × (string_bytes text ≡ shown_path path ++ note)))

@@ -1,5 +1,6 @@
 //! The connections that are open at once.
 
+use node_io::Cause;
 use std::alloc::{AllocError, Global};
 use std::net::Shutdown;
 use std::os::unix::net::UnixStream;
@@ -13,6 +14,17 @@ pub const MAX_CONNECTIONS: usize = 128;
 struct Open {
     places: Vec<Option<UnixStream>>,
     closed: bool,
+}
+
+/// Why a connection gets no place.
+#[derive(Clone, Copy, Debug, PartialEq, Eq)]
+pub enum NoPlace {
+    /// As many are open as may be.
+    Full,
+    /// No more are served.
+    Closed,
+    /// The system refused a copy of the connection, by which it could be cut off.
+    System(Cause),
 }
 
 /// The connections that are open, so that they can be cut off.
@@ -36,15 +48,21 @@ impl Connections {
         })
     }
 
-    /// Takes a place for a connection. `None` if all are taken, or no more are served.
-    pub fn enter<R: Wait>(&self, rt: &R, stream: &UnixStream) -> Option<usize> {
+    /// Takes a place for a connection.
+    pub fn enter<R: Wait>(&self, rt: &R, stream: &UnixStream) -> Result<usize, NoPlace> {
+        if self.is_closed(rt) {
+            return Err(NoPlace::Closed);
+        }
         // A copy that finds no place is dropped after the lock is released.
-        let mut copy = Some(stream.try_clone().ok()?);
+        let mut copy = match stream.try_clone() {
+            Ok(copy) => Some(copy),
+            Err(error) => return Err(NoPlace::System(Cause::of(&error))),
+        };
         let mut open = self.open.lock(rt);
         let place = if open.closed {
-            None
+            Err(NoPlace::Closed)
         } else {
-            put_in(&mut open.places, &mut copy)
+            put_in(&mut open.places, &mut copy).ok_or(NoPlace::Full)
         };
         drop(open);
         drop(copy);

@@ -1,11 +1,12 @@
 //! What is wrong with the files of a request, in the order in which a runtime judges them: the script, then
 //! the profile. A request that is refused for another reason is reported without it.
 ghost use Rattle.std.specs.Prelude.{◌≡◌, ◌++◌, IfOk, string_bytes};
+ghost use Rattle.fault_notes.specs.Paths.{shown_path};
 ghost use Rattle.runtime_server.specs.Wrong.{TellsProfile, TellsScript};
 
 use compile::{CompileFault, compile};
 use cri_msgs::{Answer, Call, Refusal, Request};
-use fault_notes::{profile_note, script_note};
+use fault_notes::{ShownPath, profile_note, script_note};
 use manifest::SeccompProfile;
 use node_io::{CausedFault, FileFault, MAX_FILE_BYTES, SystemFiles};
 use oci_profile::ProfileFault;
@@ -72,9 +73,9 @@ fn script_fault(alloc: Global, path: &str, bytes: &[u8]) -> Result<Option<String
 
 // The note on a file.
 fn behind(alloc: Global, path: &str, told: &str) -> Result<String, AllocError>
-    ensures { IfOk result (λ text. string_bytes text ≡ path.now ++ told.now) }
+    ensures { IfOk result (λ text. string_bytes text ≡ shown_path path.now ++ told.now) }
 {
-    format!(in alloc; "{path}{told}")
+    format!(in alloc; "{}{told}", ShownPath(path))
 }
 
 fn wrong_profile(
@@ -117,5 +118,5 @@ fn unread(
         FileFault::Failed => files.cause(path, MAX_FILE_BYTES),
         FileFault::NotFound | FileFault::TooLarge | FileFault::Memory => None,
     };
-    format!(in alloc; "{path}: {}", CausedFault { fault, cause })
+    format!(in alloc; "{}: {}", ShownPath(path), CausedFault { fault, cause })
 }

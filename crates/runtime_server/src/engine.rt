@@ -2,20 +2,21 @@
 ghost use Rattle.std.specs.Prelude.{◌≡◌, ◌<◌};
 
 use bpf_verify::Filter;
-use cri_msgs::{Call, Reply, Request};
-use runner::{Baseline, Host, Notifier, Open, Readings, SharedHost, SharedRuntime};
+use cri_msgs::{Call, MessageFault, Reply, Request, Version};
+use runner::{Baseline, Host, Notifier, Open, Reader, SharedHost, SharedRuntime};
 use runtime_core::FileAnswers;
 use std::alloc::{AllocError, Global};
 use std::sync::Wait;
 use std::thread::{Scope, Threads};
 
-/// A runtime on a node with this baseline filter, with the notifier of its runners and the limit on large
-/// texts that are read at a time.
+/// A runtime on a node with this baseline filter, with the notifier of its runners and the reader of large
+/// texts.
 #[derive(Drop)]
 pub struct Engine<B: Baseline> {
     runtime: SharedRuntime<B>,
     notifier: Notifier,
-    readings: Readings,
+    reader: Reader,
+    alloc: Global,
 }
 
 impl<B: Baseline> Engine<B> {
@@ -26,7 +27,8 @@ impl<B: Baseline> Engine<B> {
         Engine {
             runtime: SharedRuntime::new(alloc, baseline),
             notifier: Notifier::new(),
-            readings: Readings::new(),
+            reader: Reader::new(),
+            alloc,
         }
     }
 
@@ -36,7 +38,7 @@ impl<B: Baseline> Engine<B> {
             rt,
             host: SharedHost::new(rt, &self.runtime),
             notifier: &self.notifier,
-            readings: &self.readings,
+            reader: &self.reader,
         }
     }
 
@@ -45,9 +47,10 @@ impl<B: Baseline> Engine<B> {
         self.notifier.wait_idle(rt, u64::from(runners));
     }
 
-    /// Ends its runners.
+    /// Ends its runners, and its reader.
     pub fn close<R: Wait>(&self, rt: &R) {
         self.notifier.close(rt);
+        self.reader.close(rt);
     }
 
     pub(crate) fn is_closed<R: Wait>(&self, rt: &R) -> bool {
@@ -68,13 +71,14 @@ impl<B: Baseline> Engine<B> {
     }
 }
 
-/// Starts the runners of an engine, each in a thread of its own.
+/// Starts the runners of an engine and its reader, each in a thread of its own.
 pub fn start_runners<'s, 'e, B: Baseline + Send + Sync, R: Threads + Wait + Sync>(
     scope: &'s Scope<'s, &'e ()>,
     rt: &'e R,
     engine: &'e Engine<B>,
     runners: u32,
 ) -> Result<(), AllocError> {
+    scope.spawn(move || engine.reader.work(rt, engine.alloc))?;
     let runners = u64::from(runners);
     for runner in 0..runners {
         scope.spawn(move || engine.run_cells(rt, runner, runners))?;
@@ -88,7 +92,7 @@ pub struct EngineHost<'a, B: Baseline, R: Wait> {
     rt: &'a R,
     host: SharedHost<'a, B, R>,
     notifier: &'a Notifier,
-    readings: &'a Readings,
+    reader: &'a Reader,
 }
 
 impl<B: Baseline, R: Wait> Host for EngineHost<'_, B, R> {
@@ -105,11 +109,7 @@ impl<B: Baseline, R: Wait> Host for EngineHost<'_, B, R> {
         reply
     }
 
-    fn begin_reading(&self, length: usize) {
-        self.readings.begin(self.rt, length);
-    }
-
-    fn end_reading(&self, length: usize) {
-        self.readings.end(self.rt, length);
+    fn read(&self, alloc: Global, version: Version, text: &[u8]) -> Result<Request, MessageFault> {
+        self.reader.read(self.rt, alloc, version, text)
     }
 }

@@ -5,11 +5,13 @@
 //! ends before its work is done, `telling` has the log line of each call, and a [`Teller`] writes it.
 #![tactic(auto)]
 
+mod accepting;
 mod connections;
 mod diagnosis;
 mod engine;
 mod inputs;
 mod laws;
+mod path_lock;
 mod scriptd;
 mod site;
 mod socket_fault;
@@ -18,13 +20,14 @@ mod stops;
 mod teller;
 mod telling;
 
-pub use connections::{Connections, MAX_CONNECTIONS};
+pub use connections::{Connections, MAX_CONNECTIONS, NoPlace};
 pub use engine::{Engine, EngineHost, start_runners};
 pub use inputs::{baseline_at, bytes_at, look_at_folders};
 pub use laws::constants_are_as_stated;
 pub use scriptd::scriptd_run;
 pub use site::{Address, Site, Tells, accept_all};
 pub use socket_fault::SocketFault;
+pub use sockets::look_at_path;
 pub use stops::{ServerStop, Told, file_stop, socket_stop};
 pub use teller::{MAX_WAITING, READER_PATIENCE, Stream, Teller};
 pub use telling::{answered, asked, refusal_name};

@@ -1,7 +1,8 @@
 //! A runtime behind its socket: what accepts connections, and what serves them.
 ghost use Rattle.std.specs.Prelude.{◌≡◌, IfOk, Some};
 
-use crate::connections::Connections;
+use crate::accepting::{Accepting, Report};
+use crate::connections::{Connections, NoPlace};
 use crate::diagnosis::{is_of_files, wrong_in};
 use crate::engine::{Engine, EngineHost};
 use crate::socket_fault::SocketFault;
@@ -9,8 +10,8 @@ use crate::sockets::Socket;
 use crate::teller::Teller;
 use crate::telling::{asked, listening_line, reply_line};
 use bpf_verify::Filter;
-use cri_msgs::{Reply, Request};
-use node_io::{StreamWire, SystemFiles};
+use cri_msgs::{MessageFault, Reply, Request, Version};
+use node_io::{Cause, StreamWire, SystemFiles};
 use runner::{Baseline, Host, Service, serve_wire};
 use runtime_core::FileAnswers;
 use std::alloc::Global;
@@ -102,6 +103,13 @@ impl<'a, B: Baseline> Site<'a, B> {
         })
     }
 
+    // Reports a change in accepting connections, if anything is reported.
+    fn tell_report<R: Wait>(&self, rt: &R, report: Report) {
+        if let Some(teller) = &self.teller {
+            teller.tell(rt, format!(in self.alloc; "{report}"));
+        }
+    }
+
     /// Ends all serving and stepping, and removes the socket's file.
     pub fn close<R: Wait>(&self, rt: &R, system: &HostRuntime) {
         self.engine.close(rt);
@@ -159,12 +167,8 @@ impl<B: Baseline, R: Wait> Host for ToldHost<'_, B, R> {
         reply
     }
 
-    fn begin_reading(&self, length: usize) {
-        self.host.begin_reading(length);
-    }
-
-    fn end_reading(&self, length: usize) {
-        self.host.end_reading(length);
+    fn read(&self, alloc: Global, version: Version, text: &[u8]) -> Result<Request, MessageFault> {
+        self.host.read(alloc, version, text)
     }
 }
 
@@ -212,22 +216,30 @@ pub fn accept_all<'s, 'e, B: Baseline + Send + Sync, R: Threads + Wait + Clock +
     site: &'e Site<'e, B>,
 ) {
     let mut connection: u64 = 0;
+    let mut accepting = Accepting::new();
     for _ in rt.forever() {
         let accepted = site.socket.listener.accept();
         if site.engine.is_closed(rt) {
             break;
         }
-        match accepted {
+        let fault = match accepted {
             Ok((stream, _)) => {
                 connection = connection.wrapping_add(1);
-                admit(scope, rt, system, site, stream, connection);
+                admit(scope, rt, system, site, stream, connection)
             }
-            Err(_) => thread::sleep(rt, Duration::from_millis(REST)),
+            Err(error) => {
+                thread::sleep(rt, Duration::from_millis(REST));
+                Some(Cause::of(&error))
+            }
+        };
+        if let Some(report) = accepting.note(fault) {
+            site.tell_report(rt, report);
         }
     }
 }
 
-// Serves a connection in a thread of its own, if there is a place for it.
+// Serves a connection in a thread of its own, if there is a place for it, and returns the fault of the system
+// if that is why there is none.
 fn admit<'s, 'e, B: Baseline + Send + Sync, R: Threads + Wait + Sync>(
     scope: &'s Scope<'s, &'e ()>,
     rt: &'e R,
@@ -235,9 +247,11 @@ fn admit<'s, 'e, B: Baseline + Send + Sync, R: Threads + Wait + Sync>(
     site: &'e Site<'e, B>,
     stream: UnixStream,
     connection: u64,
-) {
-    let Some(place) = site.connections.enter(rt, &stream) else {
-        return;
+) -> Option<Cause> {
+    let place = match site.connections.enter(rt, &stream) {
+        Ok(place) => place,
+        Err(NoPlace::System(cause)) => return Some(cause),
+        Err(NoPlace::Full | NoPlace::Closed) => return None,
     };
     let started = scope.spawn(move || {
         serve_stream(rt, system, site, stream, connection);
@@ -246,4 +260,5 @@ fn admit<'s, 'e, B: Baseline + Send + Sync, R: Threads + Wait + Sync>(
     if started.is_err() {
         site.connections.leave(rt, place);
     }
+    None
 }

@@ -13,8 +13,14 @@ pub enum SocketFault {
     Taken,
     /// The folder of the path is not there.
     NoFolder,
+    /// The path is empty.
+    Empty,
     /// The path is longer than the name of a socket may be.
     TooLong,
+    /// The file of the path's lock is a symbolic link.
+    LockLink,
+    /// The file of the path's lock is not a regular file.
+    LockTaken,
     /// The folders in which the socket could be made are all taken.
     Folders,
     /// The system refused a call.
@@ -62,7 +68,10 @@ impl fmt::Display for SocketFault {
             SocketFault::Listens => f.write_str("a runtime listens there"),
             SocketFault::Taken => f.write_str("something else stands there"),
             SocketFault::NoFolder => f.write_str("no such folder"),
+            SocketFault::Empty => f.write_str("empty path"),
             SocketFault::TooLong => write!(f, "path too long, at most {MAX_NAME} bytes"),
+            SocketFault::LockLink => f.write_str("its lock file is a symbolic link"),
+            SocketFault::LockTaken => f.write_str("its lock file is not a regular file"),
             SocketFault::Folders => f.write_str("its folders .new0 to .new99 are taken"),
             SocketFault::System(cause) => write!(f, "{cause}"),
             SocketFault::Memory => f.write_str("Memory"),

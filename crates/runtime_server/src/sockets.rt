@@ -4,29 +4,44 @@
 //! never connect. The program that owns the path holds a lock beside it, from before it looks at what is
 //! there until after it has removed its own socket: so no program mistakes another's socket for one that was
 //! left over.
+ghost use Rattle.std.specs.Prelude.{◌≡◌, ◌<◌, ◌≤◌, Err, IsOk, length};
 
+use crate::path_lock::PathLock;
 use crate::socket_fault::SocketFault;
-use std::fs::{DirBuilder, File, Metadata, OpenOptions, Permissions, TryLockError};
+use std::fs::{DirBuilder, File, Metadata, Permissions};
 use std::io::{self, ErrorKind};
 use std::net::{Net, Shutdown};
 use std::os::fd::{AsRawFd, OwnedFd};
-use std::os::unix::fs::{DirBuilderExt, FileTypeExt, MetadataExt, OpenOptionsExt, PermissionsExt};
+use std::os::unix::fs::{DirBuilderExt, FileTypeExt, MetadataExt, PermissionsExt};
 use std::os::unix::net::{UnixListener, UnixStream};
 use std::{fs, rt};
 
 // How many folders are tried, of which other runs may have left some.
 pub(crate) const FOLDERS: u32 = 100;
 
-// How often a lock is tried again whose file is removed meanwhile.
-pub(crate) const LOCKS: u32 = 100;
-
 // The most bytes of a socket's name, by unix(7): there is room for 108, the last of which is 0.
 pub(crate) const MAX_NAME: usize = 107;
+
+/// Checks that a path may be a socket's: it has a byte, and no more than a socket's name may have.
+pub fn look_at_path(path: &str) -> Result<(), SocketFault>
+    ensures empty { length path.now ≡ 0 → result ≡ Err SocketFault.Empty }
+    ensures long { MAX_NAME < length path.now → result ≡ Err SocketFault.TooLong }
+    ensures fine { 0 < length path.now → length path.now ≤ MAX_NAME → IsOk result }
+{
+    if path.is_empty() {
+        Err(SocketFault::Empty)
+    } else if path.len() > MAX_NAME {
+        Err(SocketFault::TooLong)
+    } else {
+        Ok(())
+    }
+}
 
 /// A socket that listens, and what identifies its file.
 #[derive(Drop)]
 pub(crate) struct Socket {
     pub(crate) listener: UnixListener,
+    waker: UnixStream,
     device: u64,
     inode: u64,
     lock: PathLock,
@@ -36,13 +51,12 @@ impl Socket {
     /// Listens at this path. A left-over socket there, to which nobody listens, is replaced; one that is
     /// live, and anything else, is left alone, and refused.
     pub(crate) fn at(rt: &HostRuntime, path: &str) -> Result<Socket, SocketFault> {
-        if path.len() > MAX_NAME {
-            return Err(SocketFault::TooLong);
-        }
+        look_at_path(path)?;
         let lock = PathLock::of(rt, path)?;
         match listener_at(rt, path) {
-            Ok((listener, about)) => Ok(Socket {
-                listener,
+            Ok((made, about)) => Ok(Socket {
+                listener: made.listener,
+                waker: made.waker,
                 device: about.dev(),
                 inode: about.ino(),
                 lock,
@@ -54,12 +68,9 @@ impl Socket {
         }
     }
 
-    /// From now on, waiting for a connection fails. Shutting down the listener as if it were a stream has
-    /// that effect.
+    /// From now on, waiting for a connection fails.
     pub(crate) fn wake(&self) {
-        if let Ok(listener) = self.listener.try_clone() {
-            let _ = UnixStream::from(OwnedFd::from(listener)).shutdown(Shutdown::Both);
-        }
+        let _ = self.waker.shutdown(Shutdown::Both);
     }
 
     /// Removes the file, if it is still this socket's, and releases the path.
@@ -73,61 +84,23 @@ impl Socket {
     }
 }
 
-/// A lock that keeps other programs from the path. The system releases it when the process ends, for whatever
-/// reason.
+/// A listener, and a copy of it that ends waiting for connections when it is shut down as if it were a
+/// stream. The copy is made with the listener, since at the end there may be no descriptor for it.
 #[derive(Drop)]
-struct PathLock {
-    _file: File,
-    name: String,
-}
-
-impl PathLock {
-    // Takes the lock beside this path, without waiting if another program has it.
-    fn of(rt: &HostRuntime, path: &str) -> Result<PathLock, SocketFault> {
-        let name = format!(in rt.alloc(); "{path}.lock")?;
-        for _ in 0..LOCKS {
-            let file = OpenOptions::new()
-                .write(true)
-                .create(true)
-                .mode(0o600)
-                .open(rt, name.as_str())?;
-            match file.try_lock() {
-                Ok(()) => {}
-                Err(TryLockError::WouldBlock) => return Err(SocketFault::Listens),
-                Err(TryLockError::Error(error)) => return Err(error.into()),
-            }
-            if is_named(rt, &file, name.as_str())? {
-                return Ok(PathLock { _file: file, name });
-            }
-        }
-        Err(SocketFault::Listens)
-    }
-
-    // Removes its file. Only the holder of the lock may do that.
-    fn remove<R: rt::Files>(&self, rt: &R) {
-        let _ = fs::remove_file(rt, self.name.as_str());
-    }
-}
-
-// Whether the name still belongs to this file. A file that was removed before it was locked locks nobody out.
-fn is_named(rt: &HostRuntime, file: &File, name: &str) -> io::Result<bool> {
-    let own = file.metadata()?;
-    match fs::symlink_metadata(rt, name) {
-        Ok(about) => Ok(about.dev() == own.dev() && about.ino() == own.ino()),
-        Err(error) if error.kind() == ErrorKind::NotFound => Ok(false),
-        Err(error) => Err(error),
-    }
+struct Made {
+    listener: UnixListener,
+    waker: UnixStream,
 }
 
 // A new socket that listens at this path, and what identifies its file.
-fn listener_at(rt: &HostRuntime, path: &str) -> Result<(UnixListener, Metadata), SocketFault> {
+fn listener_at(rt: &HostRuntime, path: &str) -> Result<(Made, Metadata), SocketFault> {
     make_way(rt, path)?;
     let folder = own_folder(rt, path)?;
     let made = made_in(rt, folder.as_str(), path);
     let removed = fs::remove_dir(rt, folder.as_str());
-    let listener = made?;
+    let made = made?;
     removed?;
-    Ok((listener, fs::symlink_metadata(rt, path)?))
+    Ok((made, fs::symlink_metadata(rt, path)?))
 }
 
 // Makes sure that nothing is at the path, or fails if the path can't be had.
@@ -166,14 +139,14 @@ fn own_folder<R: rt::Files + AllocGlobal>(rt: &R, path: &str) -> Result<String, 
 
 // A socket that is made in this folder, and gets the path as its name unless something has appeared there
 // meanwhile.
-fn made_in(rt: &HostRuntime, folder: &str, path: &str) -> Result<UnixListener, SocketFault> {
+fn made_in(rt: &HostRuntime, folder: &str, path: &str) -> Result<Made, SocketFault> {
     let own = format!(in rt.alloc(); "{folder}/s")?;
     let listener = listener_in(rt, folder, own.as_str())?;
-    let named = named_by(rt, own.as_str(), path);
+    let named = named_by(rt, listener, own.as_str(), path);
     let removed = fs::remove_file(rt, own.as_str());
-    named?;
+    let made = named?;
     removed?;
-    Ok(listener)
+    Ok(made)
 }
 
 // A name that is too long for a socket is reached through the folder's file descriptor.
@@ -186,10 +159,17 @@ fn listener_in(rt: &HostRuntime, folder: &str, own: &str) -> io::Result<UnixList
     UnixListener::bind(rt, short.as_str())
 }
 
-fn named_by<R: rt::Files>(rt: &R, own: &str, path: &str) -> Result<(), SocketFault> {
+// A listener with its copy, once its socket has its mode and its name.
+fn named_by<R: rt::Files>(
+    rt: &R,
+    listener: UnixListener,
+    own: &str,
+    path: &str,
+) -> Result<Made, SocketFault> {
+    let waker = UnixStream::from(OwnedFd::from(listener.try_clone()?));
     fs::set_permissions(rt, own, Permissions::from_mode(0o600))?;
     match fs::hard_link(rt, own, path) {
-        Ok(()) => Ok(()),
+        Ok(()) => Ok(Made { listener, waker }),
         Err(error) if error.kind() == ErrorKind::AlreadyExists => Err(SocketFault::Taken),
         Err(error) => Err(error.into()),
     }

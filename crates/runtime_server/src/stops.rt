@@ -6,6 +6,7 @@ use crate::socket_fault::SocketFault;
 use bpf_code::CodeFault;
 use bpf_verify::{Fault, Refusal};
 use command_line::{LineFault, Misfit};
+use fault_notes::ShownPath;
 use node_io::{Cause, CausedFault, FileFault};
 use std::alloc::{AllocError, AllocFailed};
 use std::fmt;
@@ -92,15 +93,20 @@ impl fmt::Display for Told<'_, '_> {
         let program = self.program;
         match self.stop {
             ServerStop::CommandLine(error) => write!(f, "{error}"),
-            ServerStop::BadNumber(word) => writeln!(f, "{program}: {word}: BadNumber"),
+            ServerStop::BadNumber(word) => writeln!(f, "{program}: {}: BadNumber", ShownPath(word)),
             ServerStop::Misfit(word, why) => writeln!(f, "{program}: {word}: {why}"),
             ServerStop::Baseline(path, refusal) => writeln!(
                 f,
-                "{program}: {path}: {}",
+                "{program}: {}: {}",
+                ShownPath(path),
                 name_of(*refusal)
             ),
-            ServerStop::File(path, fault) => writeln!(f, "{program}: {path}: {fault}"),
-            ServerStop::Socket(path, fault) => writeln!(f, "{program}: {path}: Failed ({fault})"),
+            ServerStop::File(path, fault) => writeln!(f, "{program}: {}: {fault}", ShownPath(path)),
+            ServerStop::Socket(path, fault) => writeln!(
+                f,
+                "{program}: {}: Failed ({fault})",
+                ShownPath(path)
+            ),
             ServerStop::Unwritten(cause) => writeln!(
                 f,
                 "{program}: standard output: Failed ({cause})"

@@ -5,6 +5,7 @@ ghost use Rattle.runtime_server.specs.Telling.{listening_text, name_behind, refu
 
 use crate::site::Address;
 use cri_msgs::{Answer, Refusal, Reply, Request, Version};
+use fault_notes::ShownPath;
 use runtime_core::uid_of;
 use std::alloc::{AllocError, Global};
 use std::str;
@@ -13,7 +14,9 @@ use std::str;
 pub(crate) fn listening_line(alloc: Global, address: Address<'_>) -> Result<String, AllocError>
     ensures { IfOk result (λ line. string_bytes line ≡ listening_text address.entry) }
 {
-    let (socket, scripts, profiles) = (address.socket, address.scripts, address.profiles);
+    let socket = ShownPath(address.socket);
+    let scripts = ShownPath(address.scripts);
+    let profiles = ShownPath(address.profiles);
     format!(in alloc; "listens at {socket}, scripts in {scripts}, profiles in {profiles}")
 }
 

@@ -1,12 +1,16 @@
 //! Runs containers behind a socket that takes CRI calls: `scriptd --help` says how.
 #![tactic(auto)]
 
+use host_io::open_closed;
 use runtime_server::scriptd_run;
 use std::env;
 use std::io::{self, ErrorKind};
 use std::process::ExitCode;
 
 fn main(rt: HostRuntime) -> ExitCode {
+    if open_closed(&rt).is_err() {
+        return ExitCode::from(3);
+    }
     let status = match words(&rt) {
         Ok(words) => scriptd_run(&rt, &rt, &words, &mut io::writer(&rt), &mut rt.stderr()),
         // A process always has its arguments: either there is no memory to copy them, or one is not UTF-8.

@@ -11,3 +11,7 @@ pub mod Askers
 pub mod Runs
 pub mod Leaves
 pub mod Every
+pub mod Orders
+pub mod Rooms
+pub mod Closings
+pub mod Firsts

@@ -123,9 +123,9 @@ best_stays now at best (s ∷ ss) place worked less f =
         }
     by_test false t = f
 
-stands_before : (now at : ℕ) (best : Option Turn) (s : Slot) → ((b : Turn) → best ≡ Some b → b.place < at)
+pub placed_before : (now at : ℕ) (best : Option Turn) (s : Slot) → ((b : Turn) → best ≡ Some b → b.place < at)
     → (b : Turn) → better now best at s ≡ Some b → b.place < at + 1
-stands_before now at best s before b e =
+placed_before now at best s before b e =
     elim (better_is now at s best b e) [
       | inl same ↦ omega (arith, before b same)
       | inr new ↦ omega (arith, new.place)
@@ -181,7 +181,7 @@ found_from now at best (s ∷ ss) before zero slot here is =
     }
 found_from now at best (s ∷ ss) before (suc off) slot here is =
     let f : Found (longest_from now (at + 1) (better now best at s) ss) (at + 1 + off) slot.state.worked =
-    found_from now (at + 1) (better now best at s) ss (stands_before now at best s before) off slot here is in
+    found_from now (at + 1) (better now best at s) ss (placed_before now at best s before) off slot here is in
     record { turn = f.turn; is = f.is; no_later = f.no_later; before = λ l. f.before (omega (arith, l)) }
 
 -- each pod that is due waited no longer than the one that is found

@@ -12,6 +12,8 @@ mod known;
 pub mod laws;
 mod limits;
 mod node;
+mod order;
+mod pods;
 mod slots;
 mod turns;
 

@@ -16,11 +16,9 @@ use crate::claims::{Grant, granted};
 use crate::events::{AgentEvent, Reported};
 use crate::known::KnownUids;
 use crate::limits::{LAST_NUMBER, MAX_PODS, MAX_UIDS};
-use crate::slots::{
-    Held, Slot, admitted, claim_of, claimed_at, deleted_at, ended_at, fresh_slot, held_in,
-    holder_of, place_of,
-};
-use crate::turns::{Turn, longest, soonest};
+use crate::pods::Pods;
+use crate::slots::{Held, claim_of, fresh_slot, held_in, holder_of, place_of};
+use crate::turns::Turn;
 use cri_msgs::Request;
 use manifest::{Pod, Uid};
 use std::alloc::{AllocError, Global};
@@ -35,7 +33,7 @@ pub struct Node {
     moment: u64,
     number: u64,
     known: KnownUids,
-    slots: Vec<Slot>,
+    pods: Pods,
 }
 
 impl Model for Node {
@@ -51,13 +49,13 @@ impl Model for Node {
       moment = n.moment;
       number = n.number;
       known = n.known;
-      slots = n.slots.items;
+      slots = n.pods;
     } };
 
     // No claim ended later than now, and the pods are few enough to be counted.
     ghost invariant = { λ n. record {
-      ended : AllEndedBy n.moment n.slots.items;
-      few : length n.slots.items ≤ MAX_PODS;
+      ended : AllEndedBy n.moment n.pods;
+      few : length n.pods ≤ MAX_PODS;
     } };
 }
 
@@ -100,14 +98,14 @@ impl Node {
             moment: 0,
             number: 0,
             known: KnownUids::new(alloc),
-            slots: Vec::new(alloc),
+            pods: Pods::new(alloc),
         }
     }
 
     fn is_full(&self) -> bool
         ensures value { result ≡ is_full self.now }
     {
-        self.slots.len() >= MAX_PODS || self.known.count() >= MAX_UIDS
+        self.pods.len() >= MAX_PODS || self.known.count() >= MAX_UIDS
     }
 
     // Why a pod is not admitted.
@@ -146,7 +144,7 @@ impl Node {
     {
         let text = String::from_str(self.alloc, pod.uid.as_str())?;
         let slot = fresh_slot(self.alloc, pod, self.settings)?;
-        admitted(&mut self.slots, &mut self.known, text, slot)?;
+        self.pods.admit(&mut self.known, text, slot)?;
         Ok(())
     }
 
@@ -154,9 +152,9 @@ impl Node {
         ensures answer { result ≡ delete_answer (place_of uid.now self.old.slots) }
         ensures node { self.new ≡ after_delete self.old (place_of uid.now self.old.slots) }
     {
-        let place = place_of(uid, self.slots.as_slice());
+        let place = place_of(uid, self.pods.as_slice());
         if let Some(place) = place {
-            deleted_at(self.slots.as_mut_slice(), place);
+            self.pods.delete(place);
         }
         delete_answer(place)
     }
@@ -188,7 +186,7 @@ impl Node {
         ensures only { OnErr result (is_some (grant_of self.now) ≡ true) }
     {
         if self.number < LAST_NUMBER {
-            self.grant_of_turn(longest(self.moment, self.slots.as_slice()))
+            self.grant_of_turn(self.pods.longest(self.moment))
         } else {
             Ok(None)
         }
@@ -202,7 +200,7 @@ impl Node {
         let Some(turn) = turn else {
             return Ok(None);
         };
-        let Some(slot) = self.slots.as_slice().get(turn.place) else {
+        let Some(slot) = self.pods.as_slice().get(turn.place) else {
             return Ok(None);
         };
         let request = slot.state.next(self.moment, self.number + 1)?;
@@ -214,14 +212,14 @@ impl Node {
     {
         let Grant { place, request, .. } = grant;
         self.number = request.id;
-        claimed_at(&mut self.slots, place, Held { worker, request });
+        self.pods.claim(place, Held { worker, request });
     }
 
     /// Whether this worker holds a pod.
     pub fn is_busy(&self, worker: u32) -> bool
         ensures { result ≡ is_some (holder_of worker self.now.slots) }
     {
-        holder_of(worker, self.slots.as_slice()).is_some()
+        holder_of(worker, self.pods.as_slice()).is_some()
     }
 
     fn claim_answer(&self, worker: u32) -> Result<Answer, AllocError>
@@ -269,9 +267,9 @@ impl Node {
         ensures records { OnErr result (records self.old outcome (holder_of worker self.old.slots) ≡ true) }
         ensures abandoned { outcome ≡ Outcome.Abandoned → IsOk result }
     {
-        let place = holder_of(worker, self.slots.as_slice());
+        let place = holder_of(worker, self.pods.as_slice());
         match place {
-            Some(place) => ended_at(&mut self.slots, place, self.moment, outcome)?,
+            Some(place) => self.pods.end(place, self.moment, outcome)?,
             None => drop(outcome),
         }
         Ok(end_answer(place))
@@ -334,13 +332,13 @@ impl Node {
     {
         match event {
             AgentEvent::Admit(pod) => admit_answer(self.refusal_of(pod)),
-            AgentEvent::Delete(uid) => delete_answer(place_of(uid, self.slots.as_slice())),
+            AgentEvent::Delete(uid) => delete_answer(place_of(uid, self.pods.as_slice())),
             AgentEvent::Claim(worker) => match self.claim_answer(*worker) {
                 Ok(answer) => answer,
                 Err(_) => Answer::Refused(NodeRefusal::Memory),
             },
             AgentEvent::Report(worker, _) | AgentEvent::Abandon(worker) => {
-                end_answer(holder_of(*worker, self.slots.as_slice()))
+                end_answer(holder_of(*worker, self.pods.as_slice()))
             }
             AgentEvent::Tick(now) => self.tick_answer(*now),
         }
@@ -367,7 +365,7 @@ impl Node {
         ensures phase { IfSome result (λ view. slice_get (map (λ slot. phase_in slot.state) self.now.slots) i
             ≡ Some view.phase) }
     {
-        match self.slots.as_slice().get(i) {
+        match self.pods.as_slice().get(i) {
             Some(slot) => Some(slot.state.view()),
             None => None,
         }
@@ -380,14 +378,14 @@ impl Node {
         ensures least { (node : NodeState) → StandsFor self.now node → IsNextDue node result }
     {
         due_is_when_next_is();
-        soonest(self.moment, self.slots.as_slice())
+        self.pods.soonest(self.moment)
     }
 
     /// How many pods are held.
     pub fn held(&self) -> u32
         ensures { result ≡ held_in self.now.slots }
     {
-        held_in(self.slots.as_slice()) as u32
+        held_in(self.pods.as_slice()) as u32
     }
 
     /// The request that this worker was given, if it holds a pod.
@@ -398,6 +396,6 @@ impl Node {
         ensures claim { (node : NodeState) → StandsFor self.now node
             → IsClaimOf node worker (option_copied result) }
     {
-        claim_of(worker, self.slots.as_slice())
+        claim_of(worker, self.pods.as_slice())
     }
 }

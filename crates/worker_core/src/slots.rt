@@ -2,10 +2,10 @@ ghost use Rattle.std.specs.Prelude.{◌≡◌, ℕ, ◌+◌, ◌<◌, ◌≤◌,
 ghost use Rattle.std.specs.Prelude.{slice_get, vec_len, vec_capacity, IfOk, OnOk, OnErr, option_copied, IsOk};
 ghost use Rattle.std.specs.String.{string_bytes};
 ghost use Rattle.worker_core.specs.Known.{with_uid};
-ghost use Rattle.worker_core.specs.Slots.{AllEndedBy, changed, claimed_by, deleted, ended, ended_at};
-ghost use Rattle.worker_core.specs.Slots.{free_due, fresh_slot, held_in, holder_of, is_free, is_gone_slot};
-ghost use Rattle.worker_core.specs.Slots.{is_held_by, left, place_of, claim_of, request_at, request_of};
-ghost use Rattle.worker_core.specs.Slots.{records_at, records_held};
+ghost use Rattle.worker_core.specs.Slots.{AllEndedBy, changed, claimed_by, deleted, ended, free_due};
+ghost use Rattle.worker_core.specs.Slots.{fresh_slot, held_in, holder_of, is_free, is_gone_slot, is_held_by};
+ghost use Rattle.worker_core.specs.Slots.{place_of, claim_of, request_at, request_of, records_at};
+ghost use Rattle.worker_core.specs.Slots.{records_held};
 
 use crate::known::KnownUids;
 use cri_msgs::Request;
@@ -185,9 +185,10 @@ pub(crate) fn place_of(uid: &Uid, slots: &[Slot]) -> Option<usize>
     slots.iter().position(|s| s.state.view().pod.uid == *uid)
 }
 
-pub(crate) fn deleted_at(slots: &mut [Slot], place: usize)
-    ensures slots { slots.new ≡ changed deleted slots.old place }
-    ensures by { (now : ℕ) → AllEndedBy now slots.old → AllEndedBy now slots.new }
+pub(crate) fn deleted_at(slots: &mut Vec<Slot>, place: usize)
+    ensures slots { slots.new.items ≡ changed deleted slots.old.items place }
+    ensures by { (now : ℕ) → AllEndedBy now slots.old.items → AllEndedBy now slots.new.items }
+    ensures same { length slots.new.items ≡ length slots.old.items }
 {
     if place < slots.len() {
         slots[place].state.delete();
@@ -220,7 +221,7 @@ fn ended(slot: &mut Slot, now: u64, outcome: Outcome) -> Result<(), AllocError>
     Ok(())
 }
 
-fn is_gone_at(slots: &[Slot], place: usize) -> bool
+pub(crate) fn is_gone_at(slots: &[Slot], place: usize) -> bool
     ensures value { result ≡ is_gone_slot (slice_get slots.now place) }
     ensures within { result ≡ true → place < length slots.now }
 {
@@ -230,38 +231,8 @@ fn is_gone_at(slots: &[Slot], place: usize) -> bool
     }
 }
 
-// Removes a pod whose removal was answered.
-fn left(slots: &mut Vec<Slot>, place: usize)
-    ensures slots { slots.new.items ≡ left slots.old.items place }
-    ensures by { (now : ℕ) → AllEndedBy now slots.old.items → AllEndedBy now slots.new.items }
-    ensures fewer { length slots.new.items ≤ length slots.old.items }
-{
-    if is_gone_at(slots.as_slice(), place) {
-        drop(slots.remove(place));
-    }
-}
-
-// Ends the claim of the pod at this place, and removes the pod if its removal was answered.
-pub(crate) fn ended_at(
-    slots: &mut Vec<Slot>,
-    place: usize,
-    now: u64,
-    outcome: Outcome,
-) -> Result<(), AllocError>
-    requires { AllEndedBy now slots.old.items }
-    ensures ok { OnOk result (slots.new.items ≡ ended_at now outcome slots.old.items place) }
-    ensures err { OnErr result (slots.new.items ≡ slots.old.items) }
-    ensures by { OnOk result (AllEndedBy now slots.new.items) }
-    ensures fewer { length slots.new.items ≤ length slots.old.items }
-    ensures records { OnErr result (records_at now outcome slots.old.items place ≡ true) }
-    ensures abandoned { outcome ≡ Outcome.Abandoned → IsOk result }
-{
-    claim_ended(slots, place, now, outcome)?;
-    left(slots, place);
-    Ok(())
-}
-
-fn claim_ended(
+// Ends the claim of the pod at this place.
+pub(crate) fn claim_ended(
     slots: &mut Vec<Slot>,
     place: usize,
     now: u64,

@@ -1,8 +1,7 @@
-ghost use Rattle.std.specs.Prelude.{◌≡◌};
-ghost use Rattle.worker_pod.specs.Next.{has_come};
-ghost use Rattle.worker_core.specs.Turns.{better, is_longer, longest, sooner, soonest};
+ghost use Rattle.std.specs.Prelude.{◌≡◌, None};
+ghost use Rattle.worker_core.specs.Order.{first_moment, first_turn, is_ahead, prefer, turn_of};
 
-use crate::slots::Slot;
+use crate::order::Due;
 
 // The pod that a worker is given, by its place, and the number of its last claim that ended.
 #[derive(Clone, Copy)]
@@ -11,64 +10,54 @@ pub(crate) struct Turn {
     pub(crate) worked: u64,
 }
 
-fn has_come(due: Option<u64>, now: u64) -> bool
-    ensures { result ≡ has_come due now }
+fn turn_of(due: Due) -> Turn
+    ensures { result ≡ turn_of due }
 {
-    match due {
-        None => false,
-        Some(moment) => moment <= now,
+    Turn {
+        place: due.place,
+        worked: due.worked,
     }
 }
 
-fn is_longer(best: Option<Turn>, worked: u64) -> bool
-    ensures { result ≡ is_longer best worked }
+fn is_ahead(due: Due, best: Turn) -> bool
+    ensures { result ≡ is_ahead due best }
+{
+    due.worked < best.worked || due.worked == best.worked && due.place < best.place
+}
+
+// Of pods that were worked on equally long ago the first on the node.
+fn prefer(best: Option<Turn>, due: Due) -> Turn
+    ensures { result ≡ prefer best due }
 {
     match best {
-        None => true,
-        Some(best) => worked < best.worked,
+        None => turn_of(due),
+        Some(best) if is_ahead(due, best) => turn_of(due),
+        Some(best) => best,
     }
 }
 
-// Of pods that were worked on equally long ago the first is kept.
-fn better(now: u64, best: Option<Turn>, place: usize, slot: &Slot) -> Option<Turn>
-    ensures { result ≡ better now best place slot.now }
-{
-    let worked = slot.state.worked();
-    if has_come(slot.free_due(), now) && is_longer(best, worked) {
-        Some(Turn { place, worked })
-    } else {
-        best
-    }
-}
-
-// The pod that a worker is given at this moment, if a request is due for one.
-pub(crate) fn longest(now: u64, slots: &[Slot]) -> Option<Turn>
-    ensures { result ≡ longest now slots.now }
+// The pod that a worker is given at this moment, if a request is due for one. Looks at those alone for which
+// one is.
+pub(crate) fn first_turn(now: u64, order: &[Due]) -> Option<Turn>
+    ensures { result ≡ first_turn now None order.now }
 {
     let mut best = None;
-    for (place, slot) in slots.iter().enumerate() {
-        best = better(now, best, place, slot);
+    for due in order {
+        if due.from <= now {
+            best = Some(prefer(best, *due));
+        } else {
+            break;
+        }
     }
     best
-}
-
-fn sooner(now: u64, best: Option<u64>, due: Option<u64>) -> Option<u64>
-    ensures { result ≡ sooner now best due }
-{
-    match (best, due) {
-        (best, None) => best,
-        (None, Some(due)) => Some(due.max(now)),
-        (Some(best), Some(due)) => Some(best.min(due.max(now))),
-    }
 }
 
 // The moment, not before this one, from which on a worker can be given a request.
-pub(crate) fn soonest(now: u64, slots: &[Slot]) -> Option<u64>
-    ensures { result ≡ soonest now slots.now }
+pub(crate) fn first_moment(now: u64, order: &[Due]) -> Option<u64>
+    ensures { result ≡ first_moment now order.now }
 {
-    let mut best = None;
-    for slot in slots {
-        best = sooner(now, best, slot.free_due());
+    match order.first() {
+        None => None,
+        Some(due) => Some(due.from.max(now)),
     }
-    best
 }

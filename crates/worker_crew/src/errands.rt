@@ -7,10 +7,13 @@ use worker_core::{AgentEvent, NodeRefusal};
 
 /// What worker 0 does besides advancing the time: it records pods that come and go, and reports what changed.
 pub trait Errands {
-    /// The next event that is to be recorded, if there is one now. The same one is returned until it was
+    /// The next event to record, if there is one now. The same one is returned until it was
     /// recorded.
     fn next(&mut self) -> Option<AgentEvent>
         ensures { IfSome result (λ event. worker_of event ≡ 0) };
+
+    /// It is this moment from now on.
+    fn ticks(&mut self, moment: u64);
 
     /// Says that the event became an entry, and why the node refused it, if it did.
     fn recorded(&mut self, refusal: Option<NodeRefusal>);
@@ -40,6 +43,8 @@ impl Errands for NoErrands {
     fn next(&mut self) -> Option<AgentEvent> {
         None
     }
+
+    fn ticks(&mut self, _moment: u64) {}
 
     fn recorded(&mut self, refusal: Option<NodeRefusal>) {
         drop(refusal);

@@ -142,7 +142,7 @@ impl TimeKeeper {
                 // Nothing is due, so no entry is used to advance the time.
                 Some(Standstill::Over | Standstill::Never | Standstill::At(_)) => {}
                 Some(Standstill::Endless) | None => {
-                    if now > shared.moment() && !ticked(rt, shared, coordinator, now) {
+                    if now > shared.moment() && !ticked(rt, shared, coordinator, errands, now) {
                         return fault_of(rt, shared);
                     }
                 }
@@ -191,7 +191,7 @@ fn ran_errands<L: Ledger, E: Errands, R: Wait>(
         let Some(event) = errands.next() else {
             break;
         };
-        if now > shared.moment() && !ticked(rt, shared, coordinator, now) {
+        if now > shared.moment() && !ticked(rt, shared, coordinator, errands, now) {
             return false;
         }
         match coordinator.record(rt, shared, event) {
@@ -214,15 +214,17 @@ fn fault_of<L: Ledger, R: Wait>(rt: &R, shared: &Shared<L>) -> Ended {
 
 // Advances the time to this moment. Workers that the tick wakes are to find it. False if the book took no
 // entry.
-fn ticked<L: Ledger, R: Wait>(
+fn ticked<L: Ledger, E: Errands, R: Wait>(
     rt: &R,
     shared: &Shared<L>,
     coordinator: &mut Coordinator<L>,
+    errands: &mut E,
     now: u64,
 ) -> bool
     ensures { coordinator.new.parts ≡ coordinator.old.parts }
 {
     shared.tell(now);
+    errands.ticks(now);
     coordinator
         .record(rt, shared, AgentEvent::Tick(now))
         .is_ok()
@@ -280,7 +282,7 @@ fn count<L: Ledger, C: Counterpart, E: Errands, R: Wait>(
             Next::To(due) => {
                 // So what is asked at the next moment does not depend on how far a runner has come.
                 counterpart.wait_idle();
-                if !ticked(rt, shared, coordinator, due) {
+                if !ticked(rt, shared, coordinator, errands, due) {
                     return fault_of(rt, shared);
                 }
             }

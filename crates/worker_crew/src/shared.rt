@@ -75,10 +75,13 @@ fn has_nothing<L: Ledger>(book: &Book<L>, worker: u32) -> bool {
     !book.is_closed() && matches!(book.node().answer(&claim), Answer::Nothing)
 }
 
-/// Describes a node as text.
+/// Describes a node.
 pub trait NodeTeller {
-    /// The text about the node, and about why its containers wait. Uses no file and no socket.
-    fn text(&self, node: &Node, reasons: &Reasons) -> Result<String, AllocError>;
+    /// What is told of a node.
+    type Told;
+
+    /// What is told of the node, and of why its containers wait. Uses no file and no socket.
+    fn tell(&self, node: &Node, reasons: &Reasons) -> Result<Self::Told, AllocError>;
 }
 
 fn has_pod(node: &Node, uid: &Uid) -> bool {
@@ -130,7 +133,7 @@ fn observe_end<L: Ledger>(
 }
 
 impl<L: Ledger> Shared<L> {
-    /// Shares a book, and keeps beside it what is to be observed of its entries.
+    /// Shares a book, and keeps what is observed of its entries.
     pub fn new(alloc: Global, book: Book<L>, observed: Observed) -> Shared<L> {
         Shared {
             guarded: Mutex::new(Guarded {
@@ -366,14 +369,14 @@ impl<L: Ledger> Shared<L> {
         }
     }
 
-    /// A teller's text about the node and about why its containers wait, made under the lock.
+    /// What a teller tells of the node and of why its containers wait, made under the lock.
     pub fn told_by<R: Wait, T: NodeTeller>(
         &self,
         rt: &R,
         teller: &T,
-    ) -> Result<String, AllocError> {
+    ) -> Result<T::Told, AllocError> {
         let guarded = self.guarded.lock(rt);
-        teller.text(guarded.book.node(), guarded.observer.reasons())
+        teller.tell(guarded.book.node(), guarded.observer.reasons())
     }
 
     /// Whether the book still has room for a claim.

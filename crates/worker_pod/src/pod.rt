@@ -42,9 +42,13 @@ pub struct PodState {
     latest: u64,
     worked: u64,
     tracks: Vec<Track>,
+    // As of the last claim that ended.
+    phase: Phase,
 }
 
 impl Model for PodState {
+    ghost use Rattle.std.specs.Prelude.{◌≡◌};
+    ghost use Rattle.lifecycle.specs.Phases.{phase_of};
     ghost use Rattle.worker_pod.specs.Past.{Kept};
     ghost use Rattle.worker_pod.specs.Tracks.{AllStartedBy};
 
@@ -63,7 +67,10 @@ impl Model for PodState {
     } };
 
     // What runs was not started later than the last claim ended.
-    ghost invariant = { λ s. AllStartedBy s.latest s.tracks.items };
+    ghost invariant = { λ s. record {
+      started : AllStartedBy s.latest s.tracks.items;
+      phase : s.phase ≡ phase_of s.pod.policy s.lost s.tracks.items;
+    } };
 }
 
 impl PodState {
@@ -74,6 +81,7 @@ impl PodState {
         ensures past { IfOk result (λ state. StandsFor state (admitted pod)) }
     {
         let tracks = fresh_tracks(alloc, &pod.containers)?;
+        let begun = phase(tracks.as_slice(), pod.policy, false);
         Ok(PodState {
             alloc,
             pod,
@@ -85,6 +93,7 @@ impl PodState {
             latest: 0,
             worked: 0,
             tracks,
+            phase: begun,
         })
     }
 
@@ -97,14 +106,8 @@ impl PodState {
         PodView {
             pod: &self.pod,
             tracks: self.tracks.as_slice(),
-            phase: self.phase(),
+            phase: self.phase,
         }
-    }
-
-    fn phase(&self) -> Phase
-        ensures { result ≡ phase_in self.now }
-    {
-        phase(self.tracks.as_slice(), self.pod.policy, self.lost)
     }
 
     /// The number of the last claim of the pod that ended, 0 for none.
@@ -160,7 +163,7 @@ impl PodState {
         if self.deleted {
             unmaking(self.sandbox)
         } else {
-            duty_in(self.phase(), self.sandbox)
+            duty_in(self.phase, self.sandbox)
         }
     }
 
@@ -249,6 +252,7 @@ impl PodState {
         self.rest = rest_at(now, news);
         self.latest = now;
         self.worked = request.id;
+        self.phase = phase(self.tracks.as_slice(), self.pod.policy, self.lost);
         Ok(())
     }
 }

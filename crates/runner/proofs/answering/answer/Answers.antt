@@ -10,13 +10,13 @@ returns-in_err-reply-clause-cut g c =
       left = _;
       unwritten = [];
       talk =
-          no_talk_since _ c.args.service.now c.reply_in_turn.new.service _ _ c.in_err-reply.ensures.err;
+          no_talk_since _ c.args.service.now c.reply_to.new.service _ _ c.in_err-reply.ensures.err;
     })
 
 pub returns-clause-ok : goal.returns-clause-ok
 returns-clause-ok g c =
     on_ok_too c.send.result
-    (λ sent. one_talk _ c.args.service.now c.reply_in_turn.new.service _ _
+    (λ sent. one_talk _ c.args.service.now c.reply_to.new.service _ _
     [] _ _ c.requires c.in_ok-reply.ensures.reply (sym (append-nil _)) sent)
     c.send.ensures.ok
 
@@ -26,7 +26,7 @@ returns-clause-cut g c =
     (λ part. record {
       left = [];
       unwritten = part.unwritten;
-      talk = one_talk _ c.args.service.now c.reply_in_turn.new.service _ part.written part.unwritten _ _
+      talk = one_talk _ c.args.service.now c.reply_to.new.service _ part.written part.unwritten _ _
           c.requires c.in_ok-reply.ensures.reply part.whole part.sent;
     })
     c.send.ensures.cut

@@ -39,21 +39,21 @@ with_both kept pod known text slots slot its_text its_known its_slot its_slots =
 
 pub invariant_of-self : goal.invariant_of-self
 invariant_of-self c = record {
-  ended = c.admitted.ensures.by c.self.inside.moment c.self.invariant.ended;
-  few = few_still (length c.self.inside.slots.items) _ MAX_PODS c.args.self.now
-      (ap (λ (k : KeptNode). length k.slots) (sym c.self.view_is)) c.requires c.admitted.ensures.more;
+  ended = c.admit.ensures.by c.self.inside.moment c.self.invariant.ended;
+  few = few_still (length c.self.inside.pods) _ MAX_PODS c.args.self.now
+      (ap (λ (k : KeptNode). length k.slots) (sym c.self.view_is)) c.requires c.admit.ensures.more;
 }
 
 pub invariant_of-self-2 : goal.invariant_of-self-2
 invariant_of-self-2 c = record {
-  ended = c.admitted.ensures.by c.self.inside.moment c.self.invariant.ended;
-  few = few_still (length c.self.inside.slots.items) _ MAX_PODS c.args.self.now
-      (ap (λ (k : KeptNode). length k.slots) (sym c.self.view_is)) c.requires c.admitted.ensures.more;
+  ended = c.admit.ensures.by c.self.inside.moment c.self.invariant.ended;
+  few = few_still (length c.self.inside.pods) _ MAX_PODS c.args.self.now
+      (ap (λ (k : KeptNode). length k.slots) (sym c.self.view_is)) c.requires c.admit.ensures.more;
 }
 
 pub returns-clause-ok : goal.returns-clause-ok
 returns-clause-ok c =
     with_both (the_view c.self.inside) c.args.pod _ _ _ _
-    (c.in_ok-text.ensures.ok ∙ c.as_str.ensures.value) c.in_ok-admitted.ensures.known c.in_ok-slot.ensures
-    c.in_ok-admitted.ensures.slots
+    (c.in_ok-text.ensures.ok ∙ c.as_str.ensures.value) c.in_ok-admit.ensures.known c.in_ok-slot.ensures
+    c.in_ok-admit.ensures.slots
     ∙ ap (λ (k : KeptNode). with_pod k c.args.pod) c.self.view_is

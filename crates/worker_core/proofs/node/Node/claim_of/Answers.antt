@@ -10,6 +10,6 @@ pub returns-clause-claim : goal.returns-clause-claim
 returns-clause-claim c = λ node s.
     subst (λ (claim : Option Request). IsClaimOf node c.args.worker claim)
     (sym (c.claim_of.ensures
-    ∙ ap (claim_of c.args.worker) c.as_slice.ensures.value
+    ∙ ap (claim_of c.args.worker) c.as_slice.ensures
     ∙ ap (λ (k : KeptNode). claim_of c.args.worker k.slots) c.self.view_is))
     (claim_is c.args.self.now node s c.args.worker)

@@ -3,6 +3,6 @@ use Rattle.worker_core.proofs.node.Node.give.Goals as goal
 
 pub invariant_of-self : goal.invariant_of-self
 invariant_of-self c = record {
-  ended = c.claimed_at.ensures.by c.self.inside.moment c.self.invariant.ended;
-  few = omega (arith, c.claimed_at.ensures.same, c.self.invariant.few);
+  ended = c.claim.ensures.by c.self.inside.moment c.self.invariant.ended;
+  few = omega (arith, c.claim.ensures.same, c.self.invariant.few);
 }

@@ -8,5 +8,4 @@ pub returns-clause-least : goal.returns-clause-least
 returns-clause-least c = λ node s.
     next_due c.due_is_when_next_is.ensures c.args.self.now node s c.soonest.result
     (c.soonest.ensures
-    ∙ ap (soonest c.self.inside.moment) c.as_slice.ensures.value
     ∙ ap (λ (k : KeptNode). soonest k.moment k.slots) c.self.view_is)

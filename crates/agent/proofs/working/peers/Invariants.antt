@@ -1,0 +1,11 @@
+-- So many peers as were asked for, at most 64, each of this socket and in this version.
+use Rattle.std.proofs.Common.{◌≡◌, ◌≤◌, min, vec_len}
+use Rattle.std.specs.List.{AllByRecursion}
+use Rattle.agent.specs.Lines.{version_for}
+use Rattle.agent.proofs.working.peers.Given as goal
+
+abbrev pub invariant-loop : goal.invariant-loop
+invariant-loop g l =
+    (vec_len l.peers ≡ l.counter) × (l.counter ≤ l.end) × (l.end ≡ min l.line.numbers.workers 64)
+    × AllByRecursion (λ peer. (peer.path.now ≡ l.line.socket.now) × (peer.version ≡ version_for l.line))
+    l.peers.items

@@ -1,0 +1,121 @@
+//! How the pods of a node stand at the end of a run, and the table that shows them.
+ghost use Rattle.std.specs.Prelude.{◌≡◌, IfOk};
+ghost use Rattle.std.specs.String.{string_bytes};
+ghost use Rattle.agent.specs.NodeEnds.{end_of, has_phase, is_kind, status_of_end};
+ghost use Rattle.agent.specs.Table.{told_table};
+
+use crate::tables::told_table;
+use lifecycle::Phase;
+use node_watch::{Form, Reasons};
+use std::alloc::{AllocError, Global};
+use worker_core::{MAX_PODS, Node};
+use worker_crew::NodeTeller;
+
+/// How the pods of a node stand.
+#[derive(Clone, Copy, Debug, PartialEq, Eq)]
+pub(crate) enum NodeEnd {
+    /// One is neither Succeeded nor Failed.
+    Open,
+    /// Each is Succeeded or Failed, and one is Failed.
+    Failed,
+    /// Each is Succeeded.
+    Succeeded,
+}
+
+// A kind of phases.
+#[derive(Clone, Copy)]
+enum Kind {
+    Open,
+    Failed,
+}
+
+// Whether a phase is of a kind.
+fn is_kind(kind: Kind, phase: Phase) -> bool
+    ensures { result ≡ is_kind kind phase }
+{
+    match (kind, phase) {
+        (Kind::Open, Phase::Pending | Phase::Running | Phase::Unknown) => true,
+        (Kind::Failed, Phase::Failed) => true,
+        _ => false,
+    }
+}
+
+// Whether a pod of the node is in a phase of this kind.
+fn has_phase(node: &Node, kind: Kind) -> bool
+    ensures { result ≡ has_phase kind node.now }
+{
+    for place in 0..MAX_PODS {
+        if let Some(view) = node.pod(place) {
+            if is_kind(kind, view.phase) {
+                return true;
+            }
+        }
+    }
+    false
+}
+
+/// How the pods of this node stand.
+fn end_of(node: &Node) -> NodeEnd
+    ensures { result ≡ end_of node.now }
+{
+    if has_phase(node, Kind::Open) {
+        NodeEnd::Open
+    } else if has_phase(node, Kind::Failed) {
+        NodeEnd::Failed
+    } else {
+        NodeEnd::Succeeded
+    }
+}
+
+impl NodeEnd {
+    /// The status of `--settle`: 0 if each pod is Succeeded or Failed, but 1 if one is Failed and that
+    /// counts; else 5.
+    pub(crate) fn status(self, failures_count: bool) -> u8
+        ensures { result ≡ status_of_end failures_count self }
+    {
+        match self {
+            NodeEnd::Open => 5,
+            NodeEnd::Failed if failures_count => 1,
+            NodeEnd::Failed | NodeEnd::Succeeded => 0,
+        }
+    }
+}
+
+/// The table of a node, and how the pods in it stand. Only `table_end` makes one.
+#[derive(Drop)]
+pub(crate) struct TableEnd {
+    pub(crate) text: String,
+    pub(crate) end: NodeEnd,
+}
+
+/// The table of this node, and how its pods stand.
+pub(crate) fn table_end(
+    alloc: Global,
+    node: &Node,
+    form: Form,
+    reasons: &Reasons,
+) -> Result<TableEnd, AllocError>
+    ensures text { IfOk result (λ table. string_bytes table.text ≡ told_table form reasons.now node.now) }
+    ensures end { IfOk result (λ table. table.end ≡ end_of node.now) }
+{
+    let text = told_table(alloc, node, form, reasons)?;
+    Ok(TableEnd {
+        text,
+        end: end_of(node),
+    })
+}
+
+/// Writes the table of a node.
+#[derive(Clone, Copy)]
+pub(crate) struct TableTeller {
+    pub(crate) alloc: Global,
+    pub(crate) form: Form,
+}
+
+impl NodeTeller for TableTeller {
+    type Told = TableEnd;
+
+    fn tell(&self, node: &Node, reasons: &Reasons) -> Result<TableEnd, AllocError> {
+        table_end(self.alloc, node, self.form, reasons)
+    }
+}

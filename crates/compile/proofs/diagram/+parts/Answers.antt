@@ -1,0 +1,35 @@
+use Rattle.std.proofs.Common.{ℕ, ◌-◌, ◌/◌, List, length, take, drop, subst}
+use Rattle.bpf_code.specs.declared.insn.Insn.{Insn}
+use Rattle.compile.specs.declared.atom.TheConstants.{NOWHERE}
+use Rattle.call_data.specs.declared.sys_call.SysCall.{SysCall}
+use Rattle.compile.specs.Residuals.{first_value}
+use Rattle.compile.specs.Ways.{WayGives}
+use Rattle.compile.specs.declared.build.Way.{Way}
+use Rattle.compile.specs.declared.residual.Rule.{Rule}
+use Rattle.compile.proofs.Restricting.{first_parted, left_some}
+use Rattle.compile.proofs.Reaching.{found_weaker, way_kept}
+use Rattle.compile.proofs.diagram.+parts.Goals as goal
+
+pub returns-clause-gives : goal.returns-clause-gives
+returns-clause-gives t c =
+    let old : List Insn = c.args.code.now in
+    let mid : List Insn = c.parts.new.code in
+    let new : List Insn = c.parts-2.new.code in
+    let rules : List Rule = c.args.rules.now in
+    let at : ℕ = length rules / 2 in
+    let Rest : Way → Type 0 = λ way. (call : SysCall) (other : ℕ)
+    → WayGives NOWHERE c.whole.new.code call c.args.last other
+    → WayGives NOWHERE mid call way (first_value (take (length rules - at) (drop at rules)) other call) in
+    let Front : Way → Type 0 = λ way. (call : SysCall) (value : ℕ)
+    → WayGives NOWHERE mid call c.in-Some-2.rest value
+    → WayGives NOWHERE new call way (first_value (take at rules) value call) in
+    let Wanted : Way → Type 0 = λ way. (call : SysCall) (other : ℕ)
+    → WayGives NOWHERE old call c.args.last other
+    → WayGives NOWHERE new call way (first_value rules other call) in
+    found_weaker c.parts-2.result Front Wanted (λ way gives call other last.
+    let P : ℕ → Type 0 = λ value. WayGives NOWHERE new call way value in
+    subst P (first_parted rules at other call)
+    (gives call (first_value (take (length rules - at) (drop at rules)) other call)
+    (left_some c.in_ok-rest.field-0 c.in-Some-2.rest Rest c.in-Some-2.is c.in_ok-rest.ensures.gives call other
+    (way_kept old c.whole.new.code NOWHERE call c.args.last other c.in_ok-way.ensures.keeps last))))
+    c.parts-2.ensures.gives

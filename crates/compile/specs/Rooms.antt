@@ -1,0 +1,64 @@
+-- This project's own: how much code rules take one after another. Only private functions cite this.
+use Rattle.std.specs.Prelude.{◌≡◌, ℕ, ◌+◌, ◌%◌, ◌≤◌, ◌<◌, ◌==◌, ◌&&◌, Bool, not, nat_le, nat_lt}
+use Rattle.std.specs.Prelude.{if◌then◌else◌, List, [], ◌∷◌, All}
+use Rattle.bpf_code.specs.declared.limits.TheConstants.{DATA_LEN}
+use Rattle.compile.specs.declared.clause.Literal.{Literal}
+use Rattle.compile.specs.declared.clause.Literal.TheVariants.{Known, Asked}
+use Rattle.compile.specs.declared.clause.Clause.{Clause}
+use Rattle.compile.specs.declared.residual.Rule.{Rule}
+use Rattle.call_data.specs.declared.sys_call.SysCall.{SysCall}
+use Rattle.call_data.specs.CallData.{IsCall}
+use Rattle.compile.specs.Residuals.{clauses_hold}
+use Rattle.compile.specs.declared.atom.TheConstants.{WHOLE}
+
+-- the instructions of a test behind anything, and the steps through it
+abbrev pub size_of_literal : Literal → ℕ
+size_of_literal (Known holds) = 0
+size_of_literal (Asked atom wanted) = if atom.view.mask == WHOLE then 2 else 3
+
+abbrev pub size_of_clause : Clause → ℕ
+size_of_clause clause = size_of_literal clause.one + size_of_literal clause.other
+
+abbrev pub size_of_clauses : List Clause → ℕ
+size_of_clauses [] = 0
+size_of_clauses (clause ∷ clauses) = size_of_clause clause + size_of_clauses clauses
+
+abbrev pub size_of_rules : List Rule → ℕ
+size_of_rules [] = 0
+size_of_rules (rule ∷ rules) = size_of_clauses rule.clauses.items + size_of_rules rules
+
+-- it asks a word that the data has
+abbrev pub IsWithinLiteral : Literal → Type 0
+IsWithinLiteral (Known holds) = 0 ≤ 0
+IsWithinLiteral (Asked atom wanted) = (atom.view.offset < DATA_LEN) × (atom.view.offset % 4 ≡ 0)
+
+abbrev pub IsWithin : Clause → Type 0
+IsWithin clause = IsWithinLiteral clause.one × IsWithinLiteral clause.other
+
+-- a rule that is near to what follows it, whatever it returns
+pub record IsFit (rule : Rule) : Type 0 where
+  pub within : All IsWithin rule.clauses.items
+  pub short : size_of_clauses rule.clauses.items ≤ 36
+
+-- the tests of a literal, of which there are so many at most
+pub record IsSmall (n : ℕ) (literal : Literal) : Type 0 where
+  pub within : IsWithinLiteral literal
+  pub short : size_of_literal literal ≤ n
+
+pub record IsSmallClause (n : ℕ) (clause : Clause) : Type 0 where
+  pub within : IsWithin clause
+  pub short : size_of_clause clause ≤ n
+
+-- clauses were added that say this of a call, in so many tests at most
+pub record Says (old new : List Clause) (holds : SysCall → Bool) (n : ℕ) : Type 0 where
+  pub same : (call : SysCall) → IsCall call → clauses_hold new call ≡ (clauses_hold old call && holds call)
+  pub longer : size_of_clauses new ≤ size_of_clauses old + n
+  pub within : All IsWithin old → All IsWithin new
+
+-- how an argument is compared: that it is large, a number itself being so or not, or that it is not
+abbrev pub is_large : Bool → ℕ → ℕ → Bool
+is_large includes value arg = if includes then nat_le value arg else nat_lt value arg
+
+abbrev pub ordered : Bool → Bool → ℕ → ℕ → Bool
+ordered includes large value arg = if large then is_large includes value arg
+    else not (is_large includes value arg)

@@ -1,0 +1,385 @@
+ghost use Rattle.std.specs.Prelude.{◌≡◌, ◌≤◌, ◌<◌, ◌+◌, ◌-◌, ◌%◌, ℕ, length, IfOk, IfSome, IsTrue};
+ghost use Rattle.std.specs.Prelude.{if◌then◌else◌};
+ghost use Rattle.bpf_code.specs.declared.limits.TheConstants.{DATA_LEN};
+ghost use Rattle.call_data.specs.declared.sys_call.SysCall.{SysCall};
+ghost use Rattle.compile.specs.Backward.{Extends, Gives, Keeps};
+ghost use Rattle.compile.specs.Residuals.{first_value, shown};
+ghost use Rattle.compile.specs.Tests.{holds_of};
+ghost use Rattle.compile.specs.Ways.{GivesWith, WayGives, taken, told};
+ghost use Rattle.compile.specs.declared.atom.TheConstants.{NOWHERE};
+ghost use Rattle.compile.specs.declared.atom.View.{View};
+ghost use Rattle.compile.specs.declared.code.TheConstants.{REACH};
+
+use crate::apart::{boundary, certain};
+use crate::atom::{Atom, NOWHERE, Probe, View, WHOLE};
+use crate::choose::choose;
+use crate::code::{Code, REACH, RECENT};
+use crate::residual::{Rule, rules_where};
+use bpf_code::{DATA_LEN, MAX_INSNS};
+use std::alloc::{AllocError, Global};
+
+/// A place, and how many steps from there are enough.
+#[derive(Clone, Copy)]
+pub(crate) struct Way {
+    pub(crate) at: usize,
+    pub(crate) most: usize,
+}
+
+/// How many steps a test takes where A holds a view.
+pub(crate) fn cost(atom: &Atom, view: View) -> usize {
+    let base = atom.probe(view).base;
+    if base.is(view) {
+        1
+    } else if base.mask == WHOLE || view.covers(base) {
+        2
+    } else {
+        3
+    }
+}
+
+/// A way to the same place that is near enough, unless the code is longer than any filter.
+fn nearer(code: &mut Code, way: Way, reach: usize) -> Result<Option<Way>, AllocError>
+    requires inside { way.at < length code.old }
+    requires within { reach ≤ REACH }
+    ensures gives { IfOk result (λ found. IfSome found (λ near. (call : SysCall) (view : View) (value : ℕ)
+        → WayGives view code.old call way value → WayGives view code.new call near value)) }
+    ensures near { IfOk result (λ found. IfSome found (λ near. length code.new ≤ near.at + 1 + reach)) }
+    ensures inside { IfOk result (λ found. IfSome found (λ near. near.at < length code.new)) }
+    ensures longer { length code.new ≤ length code.old + 1 }
+    ensures keeps { Keeps code.old code.new }
+    ensures extends { Extends code.old code.new }
+    ensures grows { length code.old ≤ length code.new }
+{
+    if code.len() > MAX_INSNS {
+        return Ok(None);
+    }
+    let at = code.near(way.at, reach)?;
+    if at == way.at {
+        return Ok(Some(way));
+    }
+    match way.most.checked_add(1) {
+        Some(most) => Ok(Some(Way { at, most })),
+        None => Ok(None),
+    }
+}
+
+/// The place from which a branch is made that stands just before this one, A holding a view: what comes to
+/// hold the branch's own view is at this place, if it is not held.
+fn brought_at(code: &Code, front: usize, base: View, view: View) -> Option<Way>
+    requires some { 0 < front }
+    requires inside { front ≤ length code.now }
+    requires known { base.offset < DATA_LEN }
+    ensures gives { IfSome result (λ way. (call : SysCall) (value most : ℕ)
+        → Gives code.now call (front - 1) (shown base call) value most
+        → GivesWith view code.now call way.at value (most + way.most)) }
+    ensures inside { IfSome result (λ way. way.at < length code.now) }
+{
+    if view.is(base) {
+        return Some(Way {
+            at: front - 1,
+            most: 0,
+        });
+    }
+    if base.mask == WHOLE {
+        return loaded_at(code, front, base, view);
+    }
+    if !code.masks(front, base.mask) {
+        return None;
+    }
+    if view.covers(base) {
+        return Some(Way { at: front, most: 1 });
+    }
+    if front >= code.len() || !code.loads(front + 1, base.offset) {
+        return None;
+    }
+    Some(Way {
+        at: front + 1,
+        most: 2,
+    })
+}
+
+/// The same where a whole word is to be held.
+fn loaded_at(code: &Code, front: usize, base: View, view: View) -> Option<Way>
+    requires { base.mask ≡ WHOLE }
+    ensures gives { IfSome result (λ way. (call : SysCall) (value most : ℕ)
+        → Gives code.now call (front - 1) (shown base call) value most
+        → GivesWith view code.now call way.at value (most + way.most)) }
+    ensures inside { IfSome result (λ way. way.at < length code.now) }
+{
+    if code.loads(front, base.offset) {
+        Some(Way { at: front, most: 1 })
+    } else {
+        None
+    }
+}
+
+/// A recent place that makes the test, A holding a view, and leads to these places.
+fn twin(code: &Code, probe: &Probe, hit: usize, miss: usize, view: View) -> Option<Way>
+    requires { probe.now.base.offset < DATA_LEN }
+    ensures gives { IfSome result (λ way. (call : SysCall) (value most : ℕ)
+        → Gives code.now call (taken probe.now call hit miss) (shown probe.now.base call) value most
+        → GivesWith view code.now call way.at value (most + 1 + way.most)) }
+    ensures inside { IfSome result (λ way. way.at < length code.now) }
+{
+    let len = code.len();
+    let room = len.saturating_sub(hit.max(miss)).saturating_sub(1);
+    for back in 0..RECENT.min(room) {
+        if code.branches(len - back - 1, probe.test, probe.k, hit, miss) {
+            if let Some(way) = brought_at(code, len - back, probe.base, view) {
+                return Some(way);
+            }
+        }
+    }
+    None
+}
+
+/// Puts in front what makes A hold one view after another, and counts the steps.
+fn bring(code: &mut Code, base: View, view: View) -> Result<usize, AllocError>
+    requires some { 0 < length code.old }
+    requires known { base.offset < DATA_LEN }
+    requires aligned { base.offset % 4 ≡ 0 }
+    ensures gives { IfOk result (λ steps. (call : SysCall) (value most : ℕ)
+        → Gives code.old call (length code.old - 1) (shown base call) value most
+        → GivesWith view code.new call (length code.new - 1) value (most + steps)) }
+    ensures keeps { Keeps code.old code.new }
+    ensures extends { Extends code.old code.new }
+    ensures grows { length code.old ≤ length code.new }
+{
+    if view.is(base) {
+        return Ok(0);
+    }
+    if base.mask == WHOLE {
+        code.load(base.offset)?;
+        return Ok(1);
+    }
+    code.mask(base.mask)?;
+    if view.covers(base) {
+        return Ok(1);
+    }
+    code.load(base.offset)?;
+    Ok(2)
+}
+
+/// Puts the test in front, A holding a view.
+fn test(
+    code: &mut Code,
+    probe: &Probe,
+    hit: usize,
+    miss: usize,
+    view: View,
+) -> Result<Way, AllocError>
+    requires known { probe.now.base.offset < DATA_LEN }
+    requires aligned { probe.now.base.offset % 4 ≡ 0 }
+    requires hit_inside { hit < length code.old }
+    requires miss_inside { miss < length code.old }
+    requires hit_near { length code.old ≤ hit + 1 + REACH }
+    requires miss_near { length code.old ≤ miss + 1 + REACH }
+    ensures gives { IfOk result (λ way. (call : SysCall) (value most : ℕ)
+        → Gives code.old call (taken probe.now call hit miss) (shown probe.now.base call) value most
+        → GivesWith view code.new call way.at value (most + 1 + way.most)) }
+    ensures inside { IfOk result (λ way. way.at < length code.new) }
+    ensures keeps { Keeps code.old code.new }
+    ensures extends { Extends code.old code.new }
+    ensures grows { length code.old ≤ length code.new }
+{
+    code.jump(probe.test, probe.k, hit, miss)?;
+    let steps = bring(code, probe.base, view)?;
+    Ok(Way {
+        at: code.len() - 1,
+        most: steps,
+    })
+}
+
+/// A place that makes the test, A holding a view: a recent one, or a new one.
+fn tested(
+    code: &mut Code,
+    probe: &Probe,
+    hit: usize,
+    miss: usize,
+    view: View,
+) -> Result<Way, AllocError>
+    requires known { probe.now.base.offset < DATA_LEN }
+    requires aligned { probe.now.base.offset % 4 ≡ 0 }
+    requires hit_inside { hit < length code.old }
+    requires miss_inside { miss < length code.old }
+    requires hit_near { length code.old ≤ hit + 1 + REACH }
+    requires miss_near { length code.old ≤ miss + 1 + REACH }
+    ensures gives { IfOk result (λ way. (call : SysCall) (value most : ℕ)
+        → Gives code.old call (taken probe.now call hit miss) (shown probe.now.base call) value most
+        → GivesWith view code.new call way.at value (most + 1 + way.most)) }
+    ensures inside { IfOk result (λ way. way.at < length code.new) }
+    ensures keeps { Keeps code.old code.new }
+    ensures extends { Extends code.old code.new }
+    ensures grows { length code.old ≤ length code.new }
+{
+    match twin(code, probe, hit, miss, view) {
+        Some(way) => Ok(way),
+        None => test(code, probe, hit, miss, view),
+    }
+}
+
+/// A way that makes the test, A holding a view, and leads one way or the other.
+fn branch(
+    code: &mut Code,
+    probe: &Probe,
+    hit: Way,
+    miss: Way,
+    view: View,
+) -> Result<Option<Way>, AllocError>
+    requires known { probe.now.base.offset < DATA_LEN }
+    requires aligned { probe.now.base.offset % 4 ≡ 0 }
+    requires hit_inside { hit.at < length code.old }
+    requires miss_inside { miss.at < length code.old }
+    ensures gives { IfOk result (λ found. IfSome found (λ way. (call : SysCall) (value : ℕ)
+        → WayGives probe.now.base code.old call
+        (if holds_of probe.now.test probe.now.k (shown probe.now.base call) then hit else miss) value
+        → WayGives view code.new call way value)) }
+    ensures inside { IfOk result (λ found. IfSome found (λ way. way.at < length code.new)) }
+    ensures keeps { Keeps code.old code.new }
+    ensures extends { Extends code.old code.new }
+    ensures grows { length code.old ≤ length code.new }
+{
+    let Some(miss) = nearer(code, miss, REACH - 1)? else {
+        return Ok(None);
+    };
+    let Some(hit) = nearer(code, hit, REACH)? else {
+        return Ok(None);
+    };
+    let Some(most) = hit.most.max(miss.most).checked_add(1) else {
+        return Ok(None);
+    };
+    let way = tested(code, probe, hit.at, miss.at, view)?;
+    match most.checked_add(way.most) {
+        Some(most) => Ok(Some(Way { at: way.at, most })),
+        None => Ok(None),
+    }
+}
+
+/// Whether a way can be taken with one view in A as with another.
+fn is_same(code: &Code, at: usize, view: View, other: View) -> bool
+    requires { at < length code.now }
+    ensures { IsTrue result → (call : SysCall) (value most : ℕ) → GivesWith view code.now call at value most
+        → GivesWith other code.now call at value most }
+{
+    view.is(other) || code.is_steady(at)
+}
+
+/// The place to begin at where no test is left, A holding a view.
+fn arrived(code: &Code, last: Way, view: View) -> Way
+    requires { last.at < length code.now }
+    ensures gives { (call : SysCall) (value : ℕ) → WayGives NOWHERE code.now call last value
+        → WayGives view code.now call result value }
+    ensures inside { result.at < length code.now }
+{
+    if view.offset >= DATA_LEN || view.mask != WHOLE {
+        return last;
+    }
+    Way {
+        at: code.past_load(last.at, view.offset),
+        most: last.most,
+    }
+}
+
+/// Emits the rules as tests of words, A holding a view: what the first rule that holds returns, else what is
+/// found further on. None if that takes too many tests. Rules that have no argument in common come one after
+/// another; else what is left is worked out for either answer to a question. Any question is right, so
+/// nothing is asked of the choice.
+pub(crate) fn build(
+    code: &mut Code,
+    alloc: Global,
+    rules: &[Rule],
+    last: Way,
+    view: View,
+    depth: usize,
+    fuel: &mut usize,
+) -> Result<Option<Way>, AllocError>
+    requires { last.at < length code.old }
+    ensures gives { IfOk result (λ found. IfSome found (λ way. (call : SysCall) (other : ℕ)
+        → WayGives NOWHERE code.old call last other
+        → WayGives view code.new call way (first_value rules.now other call))) }
+    ensures inside { IfOk result (λ found. IfSome found (λ way. way.at < length code.new)) }
+    ensures keeps { Keeps code.old code.new }
+    ensures extends { Extends code.old code.new }
+    ensures grows { length code.old ≤ length code.new }
+{
+    if rules.is_empty() {
+        return Ok(Some(arrived(code, last, view)));
+    }
+    if let Some(value) = certain(rules) {
+        let at = code.value(value)?;
+        return Ok(Some(Way { at, most: 1 }));
+    }
+    if depth == 0 || *fuel == 0 {
+        return Ok(None);
+    }
+    if let Some(at) = boundary(rules) {
+        let Some(rest) = build(code, alloc, &rules[at..], last, NOWHERE, depth - 1, fuel)? else {
+            return Ok(None);
+        };
+        return build(code, alloc, &rules[..at], rest, view, depth - 1, fuel);
+    }
+    *fuel = fuel.saturating_sub(rules.len());
+    let atom = choose(alloc, rules, view)?;
+    let probe = atom.probe(view);
+    let left = rules_where(alloc, rules, &atom, false)?;
+    let Some(no) = build(
+        code,
+        alloc,
+        left.as_slice(),
+        last,
+        probe.base,
+        depth - 1,
+        fuel,
+    )?
+    else {
+        return Ok(None);
+    };
+    let left = rules_where(alloc, rules, &atom, true)?;
+    let Some(yes) = build(
+        code,
+        alloc,
+        left.as_slice(),
+        last,
+        probe.base,
+        depth - 1,
+        fuel,
+    )?
+    else {
+        return Ok(None);
+    };
+    joined(code, &probe, yes, no, view)
+}
+
+/// A way that leads one way or the other by the answer to a question, or to the place that both lead to.
+fn joined(
+    code: &mut Code,
+    probe: &Probe,
+    yes: Way,
+    no: Way,
+    view: View,
+) -> Result<Option<Way>, AllocError>
+    requires yes_inside { yes.at < length code.old }
+    requires no_inside { no.at < length code.old }
+    ensures gives { IfOk result (λ found. IfSome found (λ way. (call : SysCall) (value : ℕ)
+        → WayGives probe.now.base code.old call (if told probe.now call then yes else no) value
+        → WayGives view code.new call way value)) }
+    ensures inside { IfOk result (λ found. IfSome found (λ way. way.at < length code.new)) }
+    ensures keeps { Keeps code.old code.new }
+    ensures extends { Extends code.old code.new }
+    ensures grows { length code.old ≤ length code.new }
+{
+    if yes.at == no.at && is_same(code, no.at, probe.base, view) {
+        return Ok(Some(Way {
+            at: no.at,
+            most: yes.most.max(no.most),
+        }));
+    }
+    if probe.base.offset >= DATA_LEN || !probe.base.offset.is_multiple_of(4) {
+        return Ok(None);
+    }
+    if probe.is_turned {
+        branch(code, probe, no, yes, view)
+    } else {
+        branch(code, probe, yes, no, view)
+    }
+}

@@ -1,0 +1,198 @@
+ghost use Rattle.std.specs.Prelude.{◌≡◌, ◌<◌, ◌+◌, ◌%◌, ◌^◌, ◌==◌, ◌||◌, ℕ, IsTrue, true, false, not};
+ghost use Rattle.std.specs.Prelude.{nat_le, nat_lt};
+ghost use Rattle.std.specs.Prelude.{bit_and};
+ghost use Rattle.call_data.specs.declared.sys_call.SysCall.{SysCall};
+ghost use Rattle.compile.specs.Backward.{data_word};
+ghost use Rattle.compile.specs.Residuals.{asks, atom_holds, clause_holds, literal_holds, seen};
+ghost use Rattle.compile.specs.Rooms.{IsSmall, IsSmallClause};
+ghost use Rattle.compile.specs.declared.atom.TheConstants.{WHOLE};
+ghost use Rattle.bpf_code.specs.declared.limits.TheConstants.{DATA_LEN};
+
+use crate::atom::{Ask, Atom, View, WHOLE};
+
+/// A question with the answer that is wanted, or what is known already.
+#[derive(Clone, Copy, PartialEq, Eq)]
+pub(crate) enum Literal {
+    Known(bool),
+    Asked(Atom, bool),
+}
+
+/// It holds if one of the two does.
+#[derive(Clone, Copy)]
+pub(crate) struct Clause {
+    pub(crate) one: Literal,
+    pub(crate) other: Literal,
+}
+
+/// Whether a number is a power of two.
+fn is_power(number: u32) -> bool
+    requires { 0 < number }
+    ensures { IsTrue result → (k : ℕ) × (number ≡ 2 ^ k) }
+{
+    2u32.pow(number.ilog2()) == number
+}
+
+/// The question that a word under a mask has this answer.
+fn asked(offset: u32, mask: u32, ask: Ask) -> Literal
+    ensures holds { (call : SysCall) → literal_holds result call
+        ≡ asks ask (seen mask (data_word call offset)) }
+    ensures small { offset < DATA_LEN → offset % 4 ≡ 0 → IsSmall 3 result }
+    ensures smaller { offset < DATA_LEN → offset % 4 ≡ 0 → mask ≡ WHOLE → IsSmall 2 result }
+{
+    let view = View { offset, mask };
+    Literal::Asked(Atom { view, ask }, true)
+}
+
+impl Literal {
+    /// The word is this number.
+    pub(crate) fn equal(word: u32, k: u32) -> Literal
+        ensures holds { (call : SysCall) → literal_holds result call ≡ (data_word call word == k) }
+        ensures small { word < DATA_LEN → word % 4 ≡ 0 → IsSmall 2 result }
+    {
+        asked(word, WHOLE, Ask::Equal(k))
+    }
+
+    /// The word is at least this number.
+    pub(crate) fn from(word: u32, k: u32) -> Literal
+        ensures holds { (call : SysCall) → data_word call word < 2 ^ 32
+            → literal_holds result call ≡ nat_le k (data_word call word) }
+        ensures small { word < DATA_LEN → word % 4 ≡ 0 → IsSmall 2 result }
+    {
+        match k {
+            0 => Literal::Known(true),
+            1 => Literal::equal(word, 0).opposite(),
+            u32::MAX => Literal::equal(word, k),
+            _ => asked(word, WHOLE, Ask::AtLeast(k)),
+        }
+    }
+
+    /// The word is above this number.
+    pub(crate) fn above(word: u32, k: u32) -> Literal
+        ensures holds { (call : SysCall) → data_word call word < 2 ^ 32
+            → literal_holds result call ≡ nat_lt k (data_word call word) }
+        ensures small { word < DATA_LEN → word % 4 ≡ 0 → IsSmall 2 result }
+    {
+        if k == u32::MAX {
+            Literal::Known(false)
+        } else {
+            Literal::from(word, k + 1)
+        }
+    }
+
+    /// The word under a mask is this number. What has no bit above some is asked in order, and whether one
+    /// bit is set by whether it is clear.
+    pub(crate) fn masked(word: u32, mask: u32, with: u32) -> Literal
+        ensures holds { (call : SysCall) → data_word call word < 2 ^ 32
+            → literal_holds result call ≡ (bit_and (data_word call word) mask == with) }
+        ensures small { word < DATA_LEN → word % 4 ≡ 0 → IsSmall 3 result }
+    {
+        if with & mask != with {
+            return Literal::Known(false);
+        }
+        if mask == 0 {
+            return Literal::Known(true);
+        }
+        let size = u32::MAX - mask + 1;
+        if with == 0 && is_power(size) {
+            return Literal::from(word, size).opposite();
+        }
+        if with == mask && mask != WHOLE && is_power(mask) {
+            return asked(word, mask, Ask::Equal(0)).opposite();
+        }
+        asked(word, mask, Ask::Equal(with))
+    }
+
+    /// What holds where this does not.
+    pub(crate) fn opposite(self) -> Literal
+        ensures holds { (call : SysCall) → literal_holds result call ≡ not (literal_holds self call) }
+        ensures small { (n : ℕ) → IsSmall n self → IsSmall n result }
+    {
+        match self {
+            Literal::Known(holds) => Literal::Known(!holds),
+            Literal::Asked(atom, wanted) => Literal::Asked(atom, !wanted),
+        }
+    }
+
+    /// The same on each call of which the atom has this answer, as far as it is not settled.
+    fn where_known(self, given: &Atom, answer: bool) -> Literal
+        ensures { (call : SysCall) → atom_holds given.now call ≡ answer
+            → literal_holds result call ≡ literal_holds self call }
+    {
+        match self {
+            Literal::Known(holds) => Literal::Known(holds),
+            Literal::Asked(atom, wanted) => match atom.where_known(given, answer) {
+                Some(holds) => Literal::Known(holds == wanted),
+                None => self,
+            },
+        }
+    }
+
+    /// Whether it is known to be this.
+    pub(crate) fn is_known(self, answer: bool) -> bool
+        ensures { IsTrue result → (call : SysCall) → literal_holds self call ≡ answer }
+    {
+        match self {
+            Literal::Known(holds) => holds == answer,
+            Literal::Asked(_, _) => false,
+        }
+    }
+}
+
+impl Clause {
+    /// It holds if this does.
+    pub(crate) fn of(one: Literal) -> Clause
+        ensures holds { (call : SysCall) → clause_holds result call ≡ literal_holds one call }
+        ensures small { (n : ℕ) → IsSmall n one → IsSmallClause n result }
+    {
+        Clause {
+            one,
+            other: Literal::Known(false),
+        }
+    }
+
+    /// It holds if one of these does.
+    pub(crate) fn either(one: Literal, other: Literal) -> Clause
+        ensures holds { (call : SysCall) → clause_holds result call
+            ≡ (literal_holds one call || literal_holds other call) }
+        ensures small { (m n : ℕ) → IsSmall m one → IsSmall n other → IsSmallClause (m + n) result }
+    {
+        if one.is_known(false) {
+            Clause {
+                one: other,
+                other: one,
+            }
+        } else {
+            Clause { one, other }
+        }
+    }
+
+    /// The same on each call of which the atom has this answer.
+    pub(crate) fn where_known(&self, given: &Atom, answer: bool) -> Clause
+        ensures { (call : SysCall) → atom_holds given.now call ≡ answer
+            → clause_holds result call ≡ clause_holds self.now call }
+    {
+        Clause::either(
+            self.one.where_known(given, answer),
+            self.other.where_known(given, answer),
+        )
+    }
+
+    /// Whether it is known to hold.
+    pub(crate) fn is_true(&self) -> bool
+        ensures { IsTrue result → (call : SysCall) → clause_holds self.now call ≡ true }
+    {
+        self.one.is_known(true) || self.other.is_known(true)
+    }
+
+    /// Whether it is known not to hold.
+    pub(crate) fn is_false(&self) -> bool
+        ensures { IsTrue result → (call : SysCall) → clause_holds self.now call ≡ false }
+    {
+        self.one.is_known(false) && self.other.is_known(false)
+    }
+
+    /// Whether only the first of the two is asked.
+    pub(crate) fn is_alone(&self) -> bool {
+        self.other.is_known(false)
+    }
+}

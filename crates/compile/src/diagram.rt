@@ -1,0 +1,228 @@
+ghost use Rattle.std.specs.Prelude.{◌≡◌, ◌≤◌, ◌<◌, ◌+◌, ◌*◌, ◌^◌, ℕ, None, IfOk, IfSome, IsTrue};
+ghost use Rattle.std.specs.Prelude.{length, true};
+ghost use Rattle.std.specs.Bool.{OnFalse};
+ghost use Rattle.call_data.specs.declared.sys_call.SysCall.{SysCall};
+ghost use Rattle.call_data.specs.CallData.{IsCall};
+ghost use Rattle.oci_profile.specs.Decision.{value_of};
+ghost use Rattle.oci_profile.specs.Meaning.{decision_of};
+ghost use Rattle.compile.specs.Backward.{Extends, GivesAlways, Keeps};
+ghost use Rattle.compile.specs.Bounds.{IsEquality, conditions_at};
+ghost use Rattle.compile.specs.Residuals.{first_value};
+ghost use Rattle.compile.specs.Sizes.{AreAsked, added_of, steps_at};
+ghost use Rattle.compile.specs.Ways.{WayGives};
+ghost use Rattle.compile.specs.declared.atom.TheConstants.{NOWHERE};
+ghost use Rattle.compile.specs.declared.code.TheConstants.{RECENT};
+
+use crate::atom::NOWHERE;
+use crate::build::{Way, build, cost};
+use crate::clause::Literal;
+use crate::code::{Code, RECENT};
+use crate::condition::is_equal;
+use crate::ordered::ordered;
+use crate::residual::Rule;
+use crate::rules::rules_of;
+use oci_profile::{Decision, Entry};
+use std::alloc::{AllocError, Global};
+
+/// How many questions a path may ask.
+const DEEP: usize = 64;
+
+/// How many rules may be looked at to ask questions: so many for each rule, and so many more. Filters of drawn
+/// lists need no more, and of profiles of the greatest weight it takes too long to try more.
+const LOOKS: usize = 24;
+
+const MORE: usize = 100;
+
+/// How many instructions a literal takes, A holding another word.
+fn literal_room(literal: &Literal) -> usize {
+    match *literal {
+        Literal::Known(_) => 0,
+        Literal::Asked(atom, _) => cost(&atom, NOWHERE),
+    }
+}
+
+/// How many instructions the tests of these rules take one after another.
+fn room(rules: &[Rule]) -> usize {
+    let mut room: usize = 0;
+    for rule in rules {
+        room = room.saturating_add(1);
+        for clause in rule.clauses.as_slice() {
+            room = room.saturating_add(literal_room(&clause.one));
+            room = room.saturating_add(literal_room(&clause.other));
+        }
+    }
+    room
+}
+
+/// Emits rules as one diagram, if that is no longer than one after another, and does not ask too often: with
+/// many arguments there are too many answers. A rule by itself is taken as it is.
+fn whole(
+    code: &mut Code,
+    alloc: Global,
+    rules: &[Rule],
+    last: Way,
+) -> Result<Option<Way>, AllocError>
+    requires { last.at < length code.old }
+    ensures gives { IfOk result (λ found. IfSome found (λ way. (call : SysCall) (other : ℕ)
+        → WayGives NOWHERE code.old call last other
+        → WayGives NOWHERE code.new call way (first_value rules.now other call))) }
+    ensures inside { IfOk result (λ found. IfSome found (λ way. way.at < length code.new)) }
+    ensures keeps { Keeps code.old code.new }
+    ensures extends { Extends code.old code.new }
+    ensures grows { length code.old ≤ length code.new }
+    ensures none { IfOk result (λ found. found ≡ None → code.new ≡ code.old) }
+{
+    let start = code.len();
+    let room = room(rules);
+    let mut fuel = rules.len().saturating_mul(LOOKS).saturating_add(MORE);
+    if let Some(way) = build(code, alloc, rules, last, NOWHERE, DEEP, &mut fuel)? {
+        if rules.len() < 2 || code.len().saturating_sub(start) <= room {
+            return Ok(Some(way));
+        }
+    }
+    code.cut(start);
+    Ok(None)
+}
+
+/// Emits rules as one diagram, else in two halves, the first in front of the second.
+fn parts(
+    code: &mut Code,
+    alloc: Global,
+    rules: &[Rule],
+    last: Way,
+) -> Result<Option<Way>, AllocError>
+    requires { last.at < length code.old }
+    ensures gives { IfOk result (λ found. IfSome found (λ way. (call : SysCall) (other : ℕ)
+        → WayGives NOWHERE code.old call last other
+        → WayGives NOWHERE code.new call way (first_value rules.now other call))) }
+    ensures inside { IfOk result (λ found. IfSome found (λ way. way.at < length code.new)) }
+    ensures keeps { Keeps code.old code.new }
+    ensures extends { Extends code.old code.new }
+    ensures grows { length code.old ≤ length code.new }
+{
+    if let Some(way) = whole(code, alloc, rules, last)? {
+        return Ok(Some(way));
+    }
+    if rules.len() < 2 {
+        return Ok(None);
+    }
+    let middle = rules.len() / 2;
+    let Some(rest) = parts(code, alloc, &rules[middle..], last)? else {
+        return Ok(None);
+    };
+    parts(code, alloc, &rules[..middle], rest)
+}
+
+/// How many conditions and how many entries there are that name a number.
+fn counts(entries: &[Entry], nr: u32) -> (usize, usize)
+    ensures conditions { result.0 ≤ conditions_at entries.now nr }
+    ensures added { 6 * result.0 + result.1 ≤ added_of entries.now nr }
+    ensures few { (result.0 < 2 ^ 32) × (result.1 < 2 ^ 32) }
+{
+    let mut conditions: usize = 0;
+    let mut many: usize = 0;
+    for entry in entries {
+        if entry.names(nr) && conditions < MANY && many < MANY {
+            conditions += entry.conds.as_slice().len();
+            many += 1;
+        }
+    }
+    (conditions, many)
+}
+
+/// How much is counted: entries of one number have no more conditions in a profile that is light enough.
+const MANY: usize = 0x10000;
+
+/// Whether the entry has just one condition, which asks for equality.
+fn is_equality(entry: &Entry) -> bool
+    ensures { OnFalse result ((index : ℕ) → IsEquality index entry.now → ⊥) }
+{
+    let conds = entry.conds.as_slice();
+    conds.len() == 1 && is_equal(conds[0].op)
+}
+
+/// Whether each entry that names the number is one equality.
+fn may_be_asked(entries: &[Entry], nr: u32) -> bool
+    ensures { OnFalse result ((index : ℕ) → AreAsked index entries.now nr → ⊥) }
+{
+    for entry in entries {
+        if entry.names(nr) && !is_equality(entry) {
+            return false;
+        }
+    }
+    true
+}
+
+/// Whether so many steps are enough for so many conditions.
+fn is_quick(most: usize, conditions: usize, is_asked: bool) -> bool
+    requires { conditions < 2 ^ 32 }
+    ensures each { IsTrue result → most ≤ 1 + 6 * conditions }
+    ensures balanced { IsTrue result → is_asked ≡ true → (digits : ℕ) → conditions < 2 ^ digits
+        → most ≤ 1 + 12 * digits }
+{
+    if most > 1 + 6 * conditions {
+        return false;
+    }
+    if !is_asked || most <= 1 {
+        return true;
+    }
+    most <= 13 + 12 * conditions.max(1).ilog2() as usize
+}
+
+/// Emits what the entries decide of a number as a diagram, if that is neither longer nor slower than
+/// promised.
+pub(crate) fn diagram(
+    code: &mut Code,
+    alloc: Global,
+    entries: &[Entry],
+    last: &Decision,
+    nr: u32,
+) -> Result<Option<usize>, AllocError>
+    ensures gives { IfOk result (λ found. IfSome found (λ at. (call : SysCall) → IsCall call
+        → GivesAlways code.new call at (value_of (decision_of entries.now last.now nr call))
+        (steps_at entries.now nr))) }
+    ensures balanced { IfOk result (λ found. IfSome found (λ at. (call : SysCall) (index digits : ℕ)
+        → IsCall call → AreAsked index entries.now nr → conditions_at entries.now nr < 2 ^ digits
+        → GivesAlways code.new call at (value_of (decision_of entries.now last.now nr call))
+        (1 + 12 * digits))) }
+    ensures none { IfOk result (λ found. found ≡ None → code.new ≡ code.old) }
+    ensures inside { IfOk result (λ found. IfSome found (λ at. at < length code.new)) }
+    ensures recent { IfOk result (λ found. IfSome found (λ at. length code.new ≤ at + RECENT)) }
+    ensures longer { IfOk result (λ found. IfSome found (λ at. length code.new
+        ≤ length code.old + 1 + added_of entries.now nr)) }
+    ensures keeps { Keeps code.old code.new }
+    ensures grows { length code.old ≤ length code.new }
+{
+    let start = code.len();
+    let named = rules_of(alloc, entries, nr)?;
+    let rules = ordered(named);
+    let at = code.value(last.value())?;
+    let found = parts(code, alloc, rules.as_slice(), Way { at, most: 1 })?;
+    let counts = counts(entries, nr);
+    if let Some(way) = found {
+        if is_good(code, start, &way, counts, may_be_asked(entries, nr)) {
+            return Ok(Some(way.at));
+        }
+    }
+    code.cut(start);
+    Ok(None)
+}
+
+/// Whether the code from a length on, and the steps from its place, are as promised for so many conditions
+/// and entries.
+fn is_good(code: &Code, start: usize, way: &Way, counts: (usize, usize), is_asked: bool) -> bool
+    requires { (counts.0 < 2 ^ 32) × (counts.1 < 2 ^ 32) }
+    ensures length { IsTrue result → length code.now ≤ start + 1 + 6 * counts.0 + counts.1 }
+    ensures recent { IsTrue result → length code.now ≤ way.now.at + RECENT }
+    ensures each { IsTrue result → way.now.most ≤ 1 + 6 * counts.0 }
+    ensures balanced { IsTrue result → is_asked ≡ true → (digits : ℕ) → counts.0 < 2 ^ digits
+        → way.now.most ≤ 1 + 12 * digits }
+{
+    if code.len().saturating_sub(start) > 1 + 6 * counts.0 + counts.1 {
+        return false;
+    }
+    if code.len().saturating_sub(way.at) > RECENT {
+        return false;
+    }
+    is_quick(way.most, counts.0, is_asked)
+}

@@ -1,0 +1,4 @@
+mod Coming
+mod Listed
+mod RunsOfFolders
+mod ReadFiles

@@ -1,0 +1,25 @@
+use Rattle.std.proofs.Common.{List, length, ap, subst, sym, ◌∙◌, arith}
+use Rattle.worker_core.specs.declared.slots.Slot.{Slot}
+use Rattle.worker_core.specs.Order.{refreshed}
+use Rattle.worker_core.specs.Slots.{AllEndedBy, claimed_by}
+use Rattle.worker_core.proofs.Rooms.{order_refreshed, room_changed}
+use Rattle.worker_core.proofs.pods.Pods.claim.Goals as goal
+
+pub refresh-requires : goal.refresh-requires
+refresh-requires c = λ inside.
+    room_changed c.self.inside.slots.items c.self.inside.order.items c.args.place _ c.self.invariant.order
+    c.self.invariant.room
+    (omega (arith, inside, ap length c.as_slice.ensures.value, c.claimed_at.ensures.same))
+
+pub invariant_of-self : goal.invariant_of-self
+invariant_of-self c = record {
+  order = order_refreshed (claimed_by c.args.held) c.self.inside.slots.items
+      c.claimed_at.new.slots.items c.args.place
+      c.self.inside.order.items c.refresh.new.order.items c.self.invariant.order c.claimed_at.ensures.slots
+      (c.refresh.ensures.order ∙ ap (λ (slots : List Slot). refreshed c.args.place slots
+      c.self.inside.order.items) c.as_slice.ensures.value);
+  room = omega (arith, c.claimed_at.ensures.same, c.self.invariant.room, c.refresh.ensures.room);
+}
+
+pub returns-clause-by : goal.returns-clause-by
+returns-clause-by c = λ now by. c.claimed_at.ensures.by now (subst (AllEndedBy now) (sym c.self.view_is) by)

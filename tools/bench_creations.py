@@ -1,0 +1,142 @@
+#!/usr/bin/env python3
+"""bench_creations.py [CREATIONS]: times scriptd while containers are created. How long a list of another sandbox waits, alone
+and beside four clients that create containers with scripts of 4,000 steps; and the processor time of a creation
+with RuntimeDefault and of one without a profile. The program is crates/scriptd/out/scriptd, or that in the folder
+BIN names.
+"""
+import json
+import os
+import socket
+import struct
+import subprocess
+import sys
+import tempfile
+import threading
+import time
+
+ROOT = os.path.dirname(os.path.dirname(os.path.abspath(__file__)))
+CLIENTS, STEPS = 4, 4000
+SECONDS = 5.0
+CREATED = int(sys.argv[1]) if len(sys.argv) > 1 else 1000
+UNCONFINED, DEFAULT = {"type": "Unconfined"}, {"type": "RuntimeDefault"}
+
+
+class Client:
+    """A connection over which requests are made one after the other."""
+
+    def __init__(self, path):
+        self.stream = socket.socket(socket.AF_UNIX)
+        self.stream.connect(path)
+
+    def ask(self, **request):
+        text = json.dumps({"id": 1, "v": 1, **request}, separators=(",", ":"), sort_keys=True).encode()
+        self.stream.sendall(struct.pack(">I", len(text)) + text)
+        (length,) = struct.unpack(">I", self.read(4))
+        return json.loads(self.read(length))
+
+    def read(self, length):
+        found = b""
+        while len(found) < length:
+            piece = self.stream.recv(length - len(found))
+            if not piece:
+                sys.exit("bench_creations: the runtime closed the connection")
+            found += piece
+        return found
+
+    def create(self, uid, number, image, profile):
+        return self.ask(call="CreateContainer", uid=uid, name=f"c{number % 1000}", attempt=number // 1000,
+                        image=image, profile=profile)
+
+
+def program():
+    folder = os.environ.get("BIN")
+    return f"{folder}/scriptd" if folder else f"{ROOT}/crates/scriptd/out/scriptd"
+
+
+def served(folder):
+    ran = subprocess.Popen([program(), "--socket", f"{folder}/s", "--scripts", folder], stderr=subprocess.DEVNULL)
+    while not os.path.exists(f"{folder}/s"):
+        time.sleep(0.01)
+    time.sleep(0.1)
+    return ran
+
+
+def waits(path):
+    """How many milliseconds a list takes, of 100 the longest but one, and the longest of all."""
+    client, took = Client(path), []
+    end = time.monotonic() + SECONDS
+    while time.monotonic() < end:
+        start = time.monotonic()
+        client.ask(call="ListContainers", uid="quiet")
+        took.append((time.monotonic() - start) * 1000)
+        time.sleep(0.001)
+    took.sort()
+    return took[len(took) * 99 // 100], took[-1]
+
+
+def creates(path, uid, ends):
+    """Creates containers, and removes each sandbox before it is full."""
+    client, sandbox = Client(path), 0
+    while not ends.is_set():
+        name = f"{uid}-{sandbox}"
+        client.ask(call="RunPodSandbox", uid=name)
+        for number in range(16):
+            client.create(name, number, "long.s", UNCONFINED)
+        client.ask(call="RemovePodSandbox", uid=name)
+        sandbox += 1
+
+
+def lists_beside_creations(folder):
+    path, ran = f"{folder}/s", served(folder)
+    Client(path).ask(call="RunPodSandbox", uid="quiet")
+    alone, longest = waits(path)
+    print(f"a list takes {alone:.2f} ms alone, {longest:.2f} ms at most", flush=True)
+    ends = threading.Event()
+    others = [threading.Thread(target=creates, args=(path, f"u{at}", ends)) for at in range(CLIENTS)]
+    for other in others:
+        other.start()
+    beside, longest = waits(path)
+    ends.set()
+    for other in others:
+        other.join()
+    ran.kill()
+    ran.wait()
+    print(f"beside {CLIENTS} clients that create containers {beside:.2f} ms, {longest:.2f} ms at most, "
+          f"ratio {beside / alone:.1f}", flush=True)
+
+
+def processor_seconds(pid):
+    with open(f"/proc/{pid}/stat", encoding="ascii") as it:
+        words = it.read().rpartition(")")[2].split()
+    return (int(words[11]) + int(words[12])) / os.sysconf("SC_CLK_TCK")
+
+
+def cost(folder, profile):
+    """The microseconds of processor time of a creation."""
+    ran = served(folder)
+    client = Client(f"{folder}/s")
+    start = processor_seconds(ran.pid)
+    for number in range(CREATED):
+        uid = f"u{number // 16}"
+        if number % 16 == 0:
+            client.ask(call="RunPodSandbox", uid=uid)
+        client.create(uid, number, "short.s", profile)
+    took = processor_seconds(ran.pid) - start
+    ran.kill()
+    ran.wait()
+    os.remove(f"{folder}/s")
+    return took / CREATED * 1e6
+
+
+def main():
+    with tempfile.TemporaryDirectory() as folder:
+        for name, steps in (("long.s", STEPS), ("short.s", 1)):
+            with open(f"{folder}/{name}", "w", encoding="utf-8") as it:
+                json.dump({"steps": [{"call": "getpid"}] * (steps - 1) + [{"exit": 0}]}, it)
+        plain, confined = cost(folder, UNCONFINED), cost(folder, DEFAULT)
+        print(f"a creation takes {plain:.0f} us of processor time, with RuntimeDefault {confined:.0f} us, "
+              f"ratio {confined / plain:.1f}", flush=True)
+        lists_beside_creations(folder)
+
+
+main()
