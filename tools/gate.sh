@@ -1,12 +1,16 @@
 #!/bin/bash
 # What make test runs: the gate (rt ci), the examples in C over the library, and the cases of tests/ with
 # README and the manual pages over what would be installed. Each says what it counted; the last lines say once
-# more what failed, and the sum of all.
+# more what failed, with the end of what its check or its tests printed, and the sum of all.
 set -u
 cd "$(dirname "$0")/.."
 said=$(mktemp)
 trap 'rm -f "$said"' EXIT
 all_passed=0 all_failed=0 failures=
+
+# The last lines of what was printed on a crate that is not proved, or whose tests failed.
+reasons='/^== / { count = 0 } { lines[count++] = substr($0, 1, 300) }
+  / NOT PROVED$| FAILED$/ { for (at = count > 10 ? count - 10 : 0; at < count; at++) print lines[at]; count = 0 }'
 
 # Runs a command whose last line is `N passed, M failed`, and adds that line to the sums. A command that
 # fails, or that says nothing, has one failure at least.
@@ -19,7 +23,7 @@ part() { # NAME COMMAND..
   if [ "$status" != 0 ] || [ -z "${failed:-}" ]; then
     failed=$((${failed:-0} > 0 ? failed : 1))
     told=$(grep -aE '^(rt: FAILED|failed): ' "$said" | head -20)
-    failures+="$name: ${told:-ended with status $status}"$'\n'
+    failures+="$(awk "$reasons" "$said" | head -40)"$'\n'"$name: ${told:-ended with status $status}"$'\n'
   fi
   all_passed=$((all_passed + ${passed:-0}))
   all_failed=$((all_failed + failed))

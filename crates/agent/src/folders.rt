@@ -44,7 +44,8 @@ fn line_of(alloc: Global, stop: &AgentStop<'_>) -> Result<String, AllocError> {
 
 impl<L: Ledger, R: Wait> FileTeller<'_, '_, L, R> {
     fn path_of(&self, name: &str) -> Result<String, AllocError> {
-        format!(in self.alloc; "{}/{name}", self.folder)
+        let slash = if self.folder.ends_with("/") { "" } else { "/" };
+        format!(in self.alloc; "{}{slash}{name}", self.folder)
     }
 
     fn unread_line(&self, path: &str, fault: CausedFault) -> Result<String, AllocError> {

@@ -1,5 +1,3 @@
-ghost use Rattle.std.specs.Prelude.{◌<◌, length};
-
 use cri_msgs::{Call, MessageFault, Request, Version};
 use runner::{LARGE_TEXT, Reader};
 use std::alloc::{AllocError, Global};
@@ -28,10 +26,13 @@ fn is_list(given: &Result<Request, MessageFault>) -> bool {
 }
 
 // Reads these texts while a thread works for the reader, then closes it. Returns whether each was read as its
-// request, and the text that is none as such.
-fn read_beside<R: Threads + Wait + Sync>(rt: &R, alloc: Global, texts: &[Vec<u8>]) -> bool
-    requires { 0 < length texts.now }
-{
+// request, and `other`, which is in another version than the reader asks for, as no message.
+fn read_beside<R: Threads + Wait + Sync>(
+    rt: &R,
+    alloc: Global,
+    texts: &[Vec<u8>],
+    other: &[u8],
+) -> bool {
     let reader = Reader::new();
     let (_, found) = join(
         rt,
@@ -42,9 +43,9 @@ fn read_beside<R: Threads + Wait + Sync>(rt: &R, alloc: Global, texts: &[Vec<u8>
                 let given = reader.read(rt, alloc, Version::V1, text.as_slice());
                 found = found && is_list(&given);
             }
-            let other = reader.read(rt, alloc, Version::V2, texts[0].as_slice());
+            let refused = reader.read(rt, alloc, Version::V2, other);
             reader.close(rt);
-            found && matches!(other, Err(MessageFault::NoMessage(7)))
+            found && matches!(refused, Err(MessageFault::NoMessage(7)))
         },
     );
     found
@@ -58,7 +59,8 @@ fn large_and_small_texts_are_read(rt: HostRuntime) -> Result<(), Fail> {
         text_with(alloc, 1)?,
         text_with(alloc, 2 * LARGE_TEXT)?,
     ]?;
-    assert!(rt; read_beside(&rt, alloc, texts.as_slice()));
+    let other = text_with(alloc, LARGE_TEXT + 1)?;
+    assert!(rt; read_beside(&rt, alloc, texts.as_slice(), other.as_slice()));
     Ok(())
 }
 
