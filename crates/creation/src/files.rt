@@ -1,20 +1,37 @@
-ghost use Rattle.std.specs.Prelude.{◌≡◌};
+ghost use Rattle.std.specs.Prelude.{◌≡◌, ◌⊎◌, Ok, IfOk, IfErr, IfSome};
+ghost use Rattle.oci_profile.specs.Profile.{ReadsProfile};
+ghost use Rattle.script.specs.Script.{ReadsScript};
+ghost use Rattle.cri_msgs.specs.declared.refusals.Refusal.{Refusal};
+ghost use Rattle.runtime_cell.specs.Cell.{GivesMeaning};
+ghost use Rattle.creation.specs.Made.{IsOwnOf, IsScriptOf, LacksIn, LacksScript};
 
+use crate::texts::{Built, own_in, script_in};
+use cri_msgs::Refusal;
 use node_io::FileFault;
+use script::Script;
+use std::alloc::Global;
 use std::marker::Model;
 
-/// The bytes of a file that was read. Contracts see the list.
+/// The bytes of a file that was read. Contracts see the list. What the bytes are read as may be kept beside
+/// them.
 #[derive(Drop)]
 pub struct Contents {
     bytes: Vec<u8>,
+    script: Option<Result<Script, Refusal>>,
+    own: Option<Result<Built, Refusal>>,
 }
 
 impl Model for Contents {
-    ghost use Rattle.std.specs.Prelude.{ℕ, List};
+    ghost use Rattle.std.specs.Prelude.{ℕ, List, IfSome};
+    ghost use Rattle.creation.specs.Made.{IsOwnOf, IsScriptOf};
 
     ghost Value = { List ℕ };
 
     ghost view = { λ c. c.bytes.items };
+
+    // What is kept is what the bytes give.
+    ghost invariant = { λ c. IfSome c.script (IsScriptOf c.bytes.items)
+        × IfSome c.own (IsOwnOf c.bytes.items) };
 }
 
 impl Contents {
@@ -22,7 +39,11 @@ impl Contents {
     pub fn new(bytes: Vec<u8>) -> Contents
         ensures { result ≡ bytes.items }
     {
-        Contents { bytes }
+        Contents {
+            bytes,
+            script: None,
+            own: None,
+        }
     }
 
     /// The bytes.
@@ -30,6 +51,82 @@ impl Contents {
         ensures { result.now ≡ self.now }
     {
         self.bytes.as_slice()
+    }
+
+    /// The same contents, with the script that they are read as.
+    fn with_script(self, alloc: Global) -> Contents
+        ensures { result ≡ self }
+    {
+        let Contents { bytes, own, .. } = self;
+        let script = kept_script(alloc, bytes.as_slice());
+        Contents { bytes, script, own }
+    }
+
+    /// The same contents, with the profile that they are read as, and its filter.
+    fn with_own(self, alloc: Global) -> Contents
+        ensures { result ≡ self }
+    {
+        let Contents { bytes, script, .. } = self;
+        let own = kept_own(alloc, bytes.as_slice());
+        Contents { bytes, script, own }
+    }
+
+    /// The script of the bytes.
+    pub(crate) fn into_script(self, alloc: Global) -> Result<Script, Refusal>
+        ensures found { IfOk result (λ script. ReadsScript self script) }
+        ensures refused { IfErr result (λ refusal.
+            (refusal ≡ Refusal.Memory) ⊎ LacksScript (Ok self) refusal) }
+    {
+        let Contents { bytes, script, .. } = self;
+        match script {
+            Some(Ok(script)) => Ok(script),
+            Some(Err(refusal)) => Err(refusal),
+            None => script_in(alloc, bytes.as_slice()),
+        }
+    }
+
+    /// The profile of the bytes, with its filter.
+    pub(crate) fn into_own(self, alloc: Global) -> Result<Built, Refusal>
+        ensures found { IfOk result (λ b. ReadsProfile self b.profile) }
+        ensures means { IfOk result (λ b. GivesMeaning b.filter b.profile) }
+        ensures refused { IfErr result (λ refusal. (refusal ≡ Refusal.Memory) ⊎ LacksIn (Ok self) refusal) }
+    {
+        let Contents { bytes, own, .. } = self;
+        match own {
+            Some(Ok(built)) => Ok(built),
+            Some(Err(refusal)) => Err(refusal),
+            None => own_in(alloc, bytes.as_slice()),
+        }
+    }
+}
+
+/// The script of these bytes, or why they have none. `None` if memory runs out.
+fn kept_script(alloc: Global, bytes: &[u8]) -> Option<Result<Script, Refusal>>
+    ensures { IfSome result (IsScriptOf bytes.now) }
+{
+    match script_in(alloc, bytes) {
+        Ok(script) => Some(Ok(script)),
+        Err(refusal) => {
+            if refusal == Refusal::Memory {
+                return None;
+            }
+            Some(Err(refusal))
+        }
+    }
+}
+
+/// The profile of these bytes, or why it can't be compiled. `None` if memory runs out.
+fn kept_own(alloc: Global, bytes: &[u8]) -> Option<Result<Built, Refusal>>
+    ensures { IfSome result (IsOwnOf bytes.now) }
+{
+    match own_in(alloc, bytes) {
+        Ok(built) => Some(Ok(built)),
+        Err(refusal) => {
+            if refusal == Refusal::Memory {
+                return None;
+            }
+            Some(Err(refusal))
+        }
     }
 }
 
@@ -40,4 +137,44 @@ pub struct FileAnswers {
     pub script: Option<Result<Contents, FileFault>>,
     /// The file of the profile, if that is Localhost.
     pub profile: Option<Result<Contents, FileFault>>,
+}
+
+impl FileAnswers {
+    /// The same results, with script and profile already read and the profile compiled, so that a caller can
+    /// do this work before it takes a lock. What would need memory that is refused is left for later.
+    pub fn prepared(self, alloc: Global) -> FileAnswers
+        ensures { result ≡ self }
+    {
+        let FileAnswers { script, profile } = self;
+        FileAnswers {
+            script: script_prepared(alloc, script),
+            profile: profile_prepared(alloc, profile),
+        }
+    }
+}
+
+fn script_prepared(
+    alloc: Global,
+    answer: Option<Result<Contents, FileFault>>,
+) -> Option<Result<Contents, FileFault>>
+    ensures { result ≡ answer }
+{
+    match answer {
+        Some(Ok(contents)) => Some(Ok(contents.with_script(alloc))),
+        Some(Err(fault)) => Some(Err(fault)),
+        None => None,
+    }
+}
+
+fn profile_prepared(
+    alloc: Global,
+    answer: Option<Result<Contents, FileFault>>,
+) -> Option<Result<Contents, FileFault>>
+    ensures { result ≡ answer }
+{
+    match answer {
+        Some(Ok(contents)) => Some(Ok(contents.with_own(alloc))),
+        Some(Err(fault)) => Some(Err(fault)),
+        None => None,
+    }
 }

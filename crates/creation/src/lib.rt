@@ -4,6 +4,9 @@
 
 mod building;
 mod files;
+mod ready;
+mod texts;
 
 pub use building::built_cell;
 pub use files::{Contents, FileAnswers};
+pub use ready::ReadyDefault;

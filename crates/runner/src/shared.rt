@@ -49,8 +49,10 @@ impl<B: Baseline> Sandboxes<B> {
     fn new(alloc: Global, baseline: Option<Filter>) -> Sandboxes<B>
         requires { baseline ≡ B.filter }
     {
+        let mut registry = Registry::new(alloc, baseline);
+        registry.make_ready();
         Sandboxes {
-            registry: Registry::new(alloc, baseline),
+            registry,
             lists: CellLists::new(alloc),
             due: Due::new(alloc),
             alloc,
@@ -109,15 +111,16 @@ impl<B: Baseline> SharedRuntime<B> {
         }
     }
 
-    /// Serves a request, given the results of reading its files. The registry's lock, and then that of the
-    /// sandbox's cells, are held until the reply is made; cells are listed under the cells' lock alone. The
-    /// cells of a sandbox that is removed are dropped once neither lock is held.
+    /// Serves a request, given the results of reading its files. Script and profile are read, and the profile
+    /// is compiled, before any lock is taken. The registry's lock, and then that of the sandbox's cells, are
+    /// held until the reply is made; cells are listed under the cells' lock alone. The cells of a sandbox that
+    /// is removed are dropped once neither lock is held.
     pub fn serve<R: Wait>(&self, rt: &R, request: Request, files: FileAnswers) -> Reply
         ensures { MayServe B.filter request files result }
     {
         match self.list(rt, &request) {
             Some(reply) => reply,
-            None => self.serve_held(rt, request, files),
+            None => self.serve_held(rt, request, files.prepared(self.alloc)),
         }
     }
 

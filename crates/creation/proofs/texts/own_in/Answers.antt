@@ -1,7 +1,7 @@
 use Rattle.std.proofs.Common.{◌<◌, inl, inr, sym, subst}
 use Rattle.bpf_code.specs.declared.limits.TheConstants.{MAX_INSNS}
 use Rattle.oci_profile.specs.Meaning.{weight}
-use Rattle.creation.proofs.building.own_in.Goals as goal
+use Rattle.creation.proofs.texts.own_in.Goals as goal
 
 -- the bytes have one profile at most
 pub returns-in-Err-compiled-clause-refused : goal.returns-in-Err-compiled-clause-refused
