@@ -233,9 +233,10 @@ impl<'a> Files for Told<'a> {
 }
 
 // How many steps the long script has, about 160 bytes each.
-const LONG: usize = 4096;
+const LONG: usize = 2048;
 
-const LONG_STEP: &str = r#"{"call":"getpid","args":[18446744073709551615,18446744073709551615,18446744073709551615,18446744073709551615,18446744073709551615,18446744073709551615]}"#;
+const LONG_STEP: &str =
+    r#"{"call":"getpid","args":[18446744073709551615,18446744073709551615,18446744073709551615,18446744073709551615,18446744073709551615,18446744073709551615]}"#;
 
 // A script that takes many milliseconds to read.
 fn long_script(alloc: Global) -> Result<String, AllocError> {
@@ -262,7 +263,8 @@ fn creates_long<R: Wait>(
 ) -> Result<bool, AllocError> {
     let (was_read, answered) = flags;
     let text = format!(in alloc;
-        "{{\"attempt\":{attempt},\"call\":\"CreateContainer\",\"id\":8,\"image\":\"long.json\",\"name\":\"long\",\"profile\":{{\"type\":\"Unconfined\"}},\"uid\":\"u1\",\"v\":1}}")?;
+        "{{\"attempt\":{attempt},\"call\":\"CreateContainer\",\"id\":8,\"image\":\"long.json\",\"name\":\"long\",\"profile\":{{\"type\":\"Unconfined\"}},\"uid\":\"u1\",\"v\":1}}"
+    )?;
     let mut input = Vec::new(alloc);
     add(&mut input, alloc, text.as_str())?;
     let mut wire = wire(alloc, input.as_slice(), 1000, 0)?;
@@ -327,7 +329,7 @@ fn most_answered<R: Threads + Wait + Clock + Sync>(
     asks(rt, alloc, &runtime, PODS)?;
     let script = long_script(alloc)?;
     let mut most = 0;
-    for attempt in 0..20 {
+    for attempt in 0..6 {
         if most < ENOUGH {
             most = created_meanwhile(rt, alloc, &runtime, script.as_str(), attempt)?;
         }
