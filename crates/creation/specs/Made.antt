@@ -33,9 +33,13 @@ abbrev pub IsScriptOf : List ℕ → Result (List Step) Refusal → Type 0
 IsScriptOf bytes (Ok script) = ReadsScript bytes script
 IsScriptOf bytes (Err refusal) = LacksScript (Ok bytes) refusal
 
+-- the profile of these bytes, and its filter
+abbrev pub IsBuiltOf : List ℕ → Built → Type 0
+IsBuiltOf bytes built = ReadsProfile bytes built.profile × IsCompiled built
+
 -- what the bytes of a profile's file give
 abbrev pub IsOwnOf : List ℕ → Result Built Refusal → Type 0
-IsOwnOf bytes (Ok built) = ReadsProfile bytes built.profile × IsCompiled built
+IsOwnOf bytes (Ok built) = IsBuiltOf bytes built
 IsOwnOf bytes (Err refusal) = LacksIn (Ok bytes) refusal
 
 -- RuntimeDefault and its filter

@@ -3,8 +3,9 @@ ghost use Rattle.oci_profile.specs.Profile.{ReadsProfile};
 ghost use Rattle.script.specs.Script.{ReadsScript};
 ghost use Rattle.cri_msgs.specs.declared.refusals.Refusal.{Refusal};
 ghost use Rattle.runtime_cell.specs.Cell.{GivesMeaning};
-ghost use Rattle.creation.specs.Made.{IsOwnOf, IsScriptOf, LacksIn, LacksScript};
+ghost use Rattle.creation.specs.Made.{IsBuiltOf, IsOwnOf, IsScriptOf, LacksIn, LacksScript};
 
+use crate::kept::{KeptText, NewTexts};
 use crate::texts::{Built, own_in, script_in};
 use cri_msgs::Refusal;
 use node_io::FileFault;
@@ -19,6 +20,8 @@ pub struct Contents {
     bytes: Vec<u8>,
     script: Option<Result<Script, Refusal>>,
     own: Option<Result<Built, Refusal>>,
+    // Whether that was known before they were read.
+    is_known: bool,
 }
 
 impl Model for Contents {
@@ -43,6 +46,7 @@ impl Contents {
             bytes,
             script: None,
             own: None,
+            is_known: false,
         }
     }
 
@@ -57,18 +61,88 @@ impl Contents {
     fn with_script(self, alloc: Global) -> Contents
         ensures { result ≡ self }
     {
+        if self.script.is_some() {
+            return self;
+        }
         let Contents { bytes, own, .. } = self;
         let script = kept_script(alloc, bytes.as_slice());
-        Contents { bytes, script, own }
+        Contents {
+            bytes,
+            script,
+            own,
+            is_known: false,
+        }
     }
 
     /// The same contents, with the profile that they are read as, and its filter.
     fn with_own(self, alloc: Global) -> Contents
         ensures { result ≡ self }
     {
+        if self.own.is_some() {
+            return self;
+        }
         let Contents { bytes, script, .. } = self;
         let own = kept_own(alloc, bytes.as_slice());
-        Contents { bytes, script, own }
+        Contents {
+            bytes,
+            script,
+            own,
+            is_known: false,
+        }
+    }
+
+    /// The same contents, with their script, if that is known.
+    pub(crate) fn with_known_script(self, known: Option<Script>) -> Contents
+        requires { IfSome known (ReadsScript self) }
+        ensures { result ≡ self }
+    {
+        let Some(script) = known else {
+            return self;
+        };
+        let Contents { bytes, own, .. } = self;
+        Contents {
+            bytes,
+            script: Some(Ok(script)),
+            own,
+            is_known: true,
+        }
+    }
+
+    /// The same contents, with their profile and its filter, if these are known.
+    pub(crate) fn with_known_own(self, known: Option<Built>) -> Contents
+        requires { IfSome known (IsBuiltOf self) }
+        ensures { result ≡ self }
+    {
+        let Some(built) = known else {
+            return self;
+        };
+        let Contents { bytes, script, .. } = self;
+        Contents {
+            bytes,
+            script,
+            own: Some(Ok(built)),
+            is_known: true,
+        }
+    }
+
+    /// A copy of the bytes and their script, if they were read just now and memory is left.
+    fn new_script(&self, alloc: Global) -> Option<KeptText<Script>> {
+        match &self.script {
+            Some(Ok(script)) if !self.is_known => {
+                KeptText::new(alloc, self.bytes.as_slice(), script)
+            }
+            _ => None,
+        }
+    }
+
+    /// A copy of the bytes and their profile, if they were read just now and memory is left.
+    fn new_profile(&self, alloc: Global) -> Option<KeptText<Built>> {
+        match &self.own {
+            Some(Ok(built)) if !self.is_known => {
+                KeptText::new(alloc, self.bytes.as_slice(), built)
+            }
+            _ => None,
+        }
     }
 
     /// The script of the bytes.
@@ -149,6 +223,25 @@ impl FileAnswers {
         FileAnswers {
             script: script_prepared(alloc, script),
             profile: profile_prepared(alloc, profile),
+        }
+    }
+
+    /// Whether no file was read.
+    pub fn is_empty(&self) -> bool {
+        self.script.is_none() && self.profile.is_none()
+    }
+
+    /// Copies of the texts that were read just now, with what they were read as.
+    pub fn new_texts(&self, alloc: Global) -> NewTexts {
+        NewTexts {
+            script: match &self.script {
+                Some(Ok(contents)) => contents.new_script(alloc),
+                _ => None,
+            },
+            profile: match &self.profile {
+                Some(Ok(contents)) => contents.new_profile(alloc),
+                _ => None,
+            },
         }
     }
 }

@@ -60,18 +60,10 @@ fn copied(alloc: Global, built: &Built) -> Result<Built, Refusal>
     ensures same { IfOk result (λ copy. copy ≡ built.now) }
     ensures refused { IfErr result (λ refusal. refusal ≡ Refusal.Memory) }
 {
-    match copy(alloc, built) {
+    match built.try_clone(alloc) {
         Ok(copy) => Ok(copy),
         Err(AllocError) => Err(Refusal::Memory),
     }
-}
-
-fn copy(alloc: Global, built: &Built) -> Result<Built, AllocError>
-    ensures { IfOk result (λ copy. copy ≡ built.now) }
-{
-    let profile = built.profile.try_clone(alloc)?;
-    let filter = built.filter.try_clone(alloc)?;
-    Ok(Built { profile, filter })
 }
 
 fn default_built(alloc: Global) -> Result<Built, Refusal>

@@ -16,7 +16,7 @@ use compile::{CompileFault, compile};
 use cri_msgs::Refusal;
 use oci_profile::{Profile, ProfileFault};
 use script::{Script, ScriptFault};
-use std::alloc::Global;
+use std::alloc::{AllocError, Global};
 
 fn script_refusal(fault: ScriptFault) -> Refusal
     ensures { (result ≡ Refusal.Memory)
@@ -57,6 +57,17 @@ pub(crate) fn script_in(alloc: Global, bytes: &[u8]) -> Result<Script, Refusal>
 pub(crate) struct Built {
     pub(crate) profile: Profile,
     pub(crate) filter: Filter,
+}
+
+impl Built {
+    /// A copy.
+    pub(crate) fn try_clone(&self, alloc: Global) -> Result<Built, AllocError>
+        ensures { IfOk result (λ copy. copy ≡ self.now) }
+    {
+        let profile = self.profile.try_clone(alloc)?;
+        let filter = self.filter.try_clone(alloc)?;
+        Ok(Built { profile, filter })
+    }
 }
 
 /// A profile with its filter.

@@ -13,6 +13,7 @@ use crate::due::Due;
 use crate::lists::{CellLists, SandboxCells};
 use crate::service::Host;
 use bpf_verify::Filter;
+use creation::KeptTexts;
 use cri_msgs::{Answer, Call, Refusal, Reply, Request};
 use manifest::Uid;
 use registry::tell_cells;
@@ -97,6 +98,8 @@ impl<B: Baseline> Sandboxes<B> {
 #[derive(Drop)]
 pub struct SharedRuntime<B: Baseline> {
     pub(crate) sandboxes: Mutex<Sandboxes<B>>,
+    // What texts were read as lately. This lock is never held while another one is.
+    texts: Mutex<KeptTexts>,
     alloc: Global,
 }
 
@@ -107,6 +110,7 @@ impl<B: Baseline> SharedRuntime<B> {
     {
         SharedRuntime {
             sandboxes: Mutex::new(Sandboxes::new(alloc, baseline)),
+            texts: Mutex::new(KeptTexts::new(alloc)),
             alloc,
         }
     }
@@ -120,8 +124,27 @@ impl<B: Baseline> SharedRuntime<B> {
     {
         match self.list(rt, &request) {
             Some(reply) => reply,
-            None => self.serve_held(rt, request, files.prepared(self.alloc)),
+            None => self.serve_held(rt, request, self.prepared(rt, files)),
         }
+    }
+
+    // The same results, with script and profile read, and the profile compiled. What another container was
+    // made of lately is not read or compiled again.
+    fn prepared<R: Wait>(&self, rt: &R, files: FileAnswers) -> FileAnswers
+        ensures { result ≡ files }
+    {
+        if files.is_empty() {
+            return files;
+        }
+        let texts = self.texts.lock(rt);
+        let files = texts.lend(files);
+        drop(texts);
+        let files = files.prepared(self.alloc);
+        let new = files.new_texts(self.alloc);
+        let mut texts = self.texts.lock(rt);
+        texts.keep(new);
+        drop(texts);
+        files
     }
 
     // The reply to a request that lists the cells of an existing sandbox.
