@@ -92,7 +92,8 @@ fn file_own(
     ensures found { IfOk result (λ own. IfSome own (λ b. IsProfileIn (bytes_in answer) b.profile)) }
     ensures some { IfOk result (λ own. IsSome own) }
     ensures means { IfOk result (λ own. IfSome own (λ b. GivesMeaning b.filter b.profile)) }
-    ensures refused { IfErr result (λ refusal. (refusal ≡ Refusal.Memory) ⊎ LacksIn (bytes_in answer) refusal) }
+    ensures refused { IfErr result (λ refusal.
+        (refusal ≡ Refusal.Memory) ⊎ LacksIn (bytes_in answer) refusal) }
 {
     match contents_in(answer) {
         Ok(contents) => own_of(alloc, contents),
@@ -189,7 +190,8 @@ pub fn built_cell(
     choice: &SeccompProfile,
     files: FileAnswers,
 ) -> Result<Cell, Refusal>
-    ensures made { IfOk result (λ cell. IsMade baseline.now id container.now image.now choice.now files cell) }
+    ensures made { IfOk result (λ cell.
+        IsMade baseline.now id container.now image.now choice.now files cell) }
     ensures refused { IfErr result (λ refusal.
         Lacks choice.now files refusal ⊎ (WasRead files × (refusal ≡ Refusal.Memory))) }
 {

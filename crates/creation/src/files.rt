@@ -1,4 +1,4 @@
-ghost use Rattle.std.specs.Prelude.{◌≡◌, ◌⊎◌, Ok, IfOk, IfErr, IfSome};
+ghost use Rattle.std.specs.Prelude.{◌≡◌, ◌≢◌, ◌⊎◌, Ok, IfOk, IfErr, IfSome};
 ghost use Rattle.oci_profile.specs.Profile.{ReadsProfile};
 ghost use Rattle.script.specs.Script.{ReadsScript};
 ghost use Rattle.cri_msgs.specs.declared.refusals.Refusal.{Refusal};
@@ -152,11 +152,7 @@ impl Contents {
             (refusal ≡ Refusal.Memory) ⊎ LacksScript (Ok self) refusal) }
     {
         let Contents { bytes, script, .. } = self;
-        match script {
-            Some(Ok(script)) => Ok(script),
-            Some(Err(refusal)) => Err(refusal),
-            None => script_in(alloc, bytes.as_slice()),
-        }
+        script_by(alloc, bytes.as_slice(), script)
     }
 
     /// The profile of the bytes, with its filter.
@@ -166,12 +162,54 @@ impl Contents {
         ensures refused { IfErr result (λ refusal. (refusal ≡ Refusal.Memory) ⊎ LacksIn (Ok self) refusal) }
     {
         let Contents { bytes, own, .. } = self;
-        match own {
-            Some(Ok(built)) => Ok(built),
-            Some(Err(refusal)) => Err(refusal),
-            None => own_in(alloc, bytes.as_slice()),
-        }
+        own_by(alloc, bytes.as_slice(), own)
     }
+}
+
+/// The script of these bytes: what was kept of them, else what they are read as now.
+fn script_by(
+    alloc: Global,
+    bytes: &[u8],
+    kept: Option<Result<Script, Refusal>>,
+) -> Result<Script, Refusal>
+    requires { IfSome kept (IsScriptOf bytes.now) }
+    ensures found { IfOk result (λ script. ReadsScript bytes.now script) }
+    ensures refused { IfErr result (λ refusal.
+        (refusal ≡ Refusal.Memory) ⊎ LacksScript (Ok bytes.now) refusal) }
+{
+    match kept {
+        Some(Ok(script)) => Ok(script),
+        Some(Err(refusal)) => Err(refusal),
+        None => script_in(alloc, bytes),
+    }
+}
+
+/// The profile of these bytes, with its filter: what was kept of them, else what they are read as now.
+fn own_by(
+    alloc: Global,
+    bytes: &[u8],
+    kept: Option<Result<Built, Refusal>>,
+) -> Result<Built, Refusal>
+    requires { IfSome kept (IsOwnOf bytes.now) }
+    ensures found { IfOk result (λ b. ReadsProfile bytes.now b.profile) }
+    ensures means { IfOk result (λ b. GivesMeaning b.filter b.profile) }
+    ensures refused { IfErr result (λ refusal. (refusal ≡ Refusal.Memory) ⊎ LacksIn (Ok bytes.now) refusal) }
+{
+    match kept {
+        Some(Ok(built)) => Ok(built),
+        Some(Err(refusal)) => Err(refusal),
+        None => own_in(alloc, bytes),
+    }
+}
+
+/// The refusal, unless memory ran out.
+fn lasting(refusal: Refusal) -> Option<Refusal>
+    ensures { IfSome result (λ same. (same ≡ refusal) × (same ≢ Refusal.Memory)) }
+{
+    if refusal == Refusal::Memory {
+        return None;
+    }
+    Some(refusal)
 }
 
 /// The script of these bytes, or why they have none. `None` if memory runs out.
@@ -180,12 +218,7 @@ fn kept_script(alloc: Global, bytes: &[u8]) -> Option<Result<Script, Refusal>>
 {
     match script_in(alloc, bytes) {
         Ok(script) => Some(Ok(script)),
-        Err(refusal) => {
-            if refusal == Refusal::Memory {
-                return None;
-            }
-            Some(Err(refusal))
-        }
+        Err(refusal) => Some(Err(lasting(refusal)?)),
     }
 }
 
@@ -195,12 +228,7 @@ fn kept_own(alloc: Global, bytes: &[u8]) -> Option<Result<Built, Refusal>>
 {
     match own_in(alloc, bytes) {
         Ok(built) => Some(Ok(built)),
-        Err(refusal) => {
-            if refusal == Refusal::Memory {
-                return None;
-            }
-            Some(Err(refusal))
-        }
+        Err(refusal) => Some(Err(lasting(refusal)?)),
     }
 }
 

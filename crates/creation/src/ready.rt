@@ -19,7 +19,7 @@ pub struct ReadyDefault {
 }
 
 impl Model for ReadyDefault {
-    ghost use Rattle.std.specs.Prelude.{Unit, IfSome};
+    ghost use Rattle.std.specs.Prelude.{IfSome};
     ghost use Rattle.creation.specs.Made.{IsDefault};
 
     ghost Value = { Unit {0} };

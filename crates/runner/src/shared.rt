@@ -115,10 +115,10 @@ impl<B: Baseline> SharedRuntime<B> {
         }
     }
 
-    /// Serves a request, given the results of reading its files. Script and profile are read, and the profile
-    /// is compiled, before any lock is taken. The registry's lock, and then that of the sandbox's cells, are
-    /// held until the reply is made; cells are listed under the cells' lock alone. The cells of a sandbox that
-    /// is removed are dropped once neither lock is held.
+    /// Serves a request, given the results of reading its files. Its script and profile are read, and the
+    /// profile is compiled, before any lock is taken. The registry's lock, and then that of the sandbox's
+    /// cells, are held until the reply is made; cells are listed under the cells' lock alone. The cells of a
+    /// sandbox that is removed are dropped once neither lock is held.
     pub fn serve<R: Wait>(&self, rt: &R, request: Request, files: FileAnswers) -> Reply
         ensures { MayServe B.filter request files result }
     {
