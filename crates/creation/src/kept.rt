@@ -180,6 +180,13 @@ pub struct NewTexts {
     pub(crate) profile: Option<KeptText<Built>>,
 }
 
+impl NewTexts {
+    /// Whether nothing is to be kept.
+    pub fn is_empty(&self) -> bool {
+        self.script.is_none() && self.profile.is_none()
+    }
+}
+
 /// The scripts and compiled profiles that were read last, by their bytes. Contracts see nothing of them: they
 /// change no answer.
 #[derive(Drop)]
