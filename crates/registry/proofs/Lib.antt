@@ -10,4 +10,4 @@ pub mod Ids
 pub mod Agreeing
 pub mod Removing
 pub mod Placing
-pub mod Reads
+pub mod ScriptRead
