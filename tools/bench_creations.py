@@ -1,8 +1,8 @@
 #!/usr/bin/env python3
-"""bench_creations.py [CREATIONS]: times scriptd while containers are created. How long a list of another sandbox waits, alone
-and beside four clients that create containers with scripts of 4,000 steps; and the processor time of a creation
-with RuntimeDefault and of one without a profile. The program is crates/scriptd/out/scriptd, or that in the folder
-BIN names.
+"""bench_creations.py [CREATIONS]: times scriptd while containers are created. How long a list of another sandbox
+waits, alone and beside four clients that create containers with scripts of 4,000 steps; the processor time of a
+creation with RuntimeDefault, with a profile of its own and without one; and the memory of 1,024 containers of one
+such script, created and ended. The program is crates/scriptd/out/scriptd, or that in the folder BIN names.
 """
 import json
 import os
@@ -15,10 +15,11 @@ import threading
 import time
 
 ROOT = os.path.dirname(os.path.dirname(os.path.abspath(__file__)))
-CLIENTS, STEPS = 4, 4000
+CLIENTS, STEPS, CONTAINERS = 4, 4000, 1024
 SECONDS = 5.0
 CREATED = int(sys.argv[1]) if len(sys.argv) > 1 else 1000
 UNCONFINED, DEFAULT = {"type": "Unconfined"}, {"type": "RuntimeDefault"}
+OWN = {"type": "Localhost", "path": "own.json"}
 
 
 class Client:
@@ -54,7 +55,8 @@ def program():
 
 
 def served(folder):
-    ran = subprocess.Popen([program(), "--socket", f"{folder}/s", "--scripts", folder], stderr=subprocess.DEVNULL)
+    ran = subprocess.Popen([program(), "--socket", f"{folder}/s", "--scripts", folder, "--profiles", folder],
+                           stderr=subprocess.DEVNULL)
     while not os.path.exists(f"{folder}/s"):
         time.sleep(0.01)
     time.sleep(0.1)
@@ -128,14 +130,48 @@ def cost(folder, profile):
     return took / CREATED * 1e6
 
 
+def memory_kib(pid):
+    """The memory of a process that no other one has too."""
+    with open(f"/proc/{pid}/smaps_rollup", encoding="ascii") as it:
+        words = [line.split() for line in it]
+    return sum(int(line[1]) for line in words if line[0] in ("Private_Clean:", "Private_Dirty:"))
+
+
+def memory(folder, images):
+    """The KiB of each of 1,024 containers, created and ended, with these images in turn."""
+    ran = served(folder)
+    client = Client(f"{folder}/s")
+    client.ask(call="RunPodSandbox", uid="u")
+    begin = memory_kib(ran.pid)
+    for number in range(CONTAINERS):
+        client.create("u", number, images[number % len(images)], UNCONFINED)
+    created = memory_kib(ran.pid)
+    for number in range(CONTAINERS):
+        client.ask(call="StartContainer", uid="u", name=f"c{number % 1000}", attempt=number // 1000)
+    while client.ask(call="ListContainers", uid="u")["ok"]["containers"][-1]["state"] != "EXITED":
+        time.sleep(0.1)
+    ended = memory_kib(ran.pid)
+    ran.kill()
+    ran.wait()
+    os.remove(f"{folder}/s")
+    return (created - begin) / CONTAINERS, (ended - begin) / CONTAINERS
+
+
 def main():
     with tempfile.TemporaryDirectory() as folder:
         for name, steps in (("long.s", STEPS), ("short.s", 1)):
             with open(f"{folder}/{name}", "w", encoding="utf-8") as it:
                 json.dump({"steps": [{"call": "getpid"}] * (steps - 1) + [{"exit": 0}]}, it)
-        plain, confined = cost(folder, UNCONFINED), cost(folder, DEFAULT)
+        with open(f"{folder}/own.json", "w", encoding="utf-8") as it:
+            json.dump({"defaultAction": "SCMP_ACT_ERRNO", "syscalls": [
+                {"names": ["getpid", "read", "write", "exit_group"], "action": "SCMP_ACT_ALLOW"}]}, it)
+        plain, confined, own = (cost(folder, it) for it in (UNCONFINED, DEFAULT, OWN))
         print(f"a creation takes {plain:.0f} us of processor time, with RuntimeDefault {confined:.0f} us, "
-              f"ratio {confined / plain:.1f}", flush=True)
+              f"ratio {confined / plain:.1f}, with a profile of its own {own:.0f} us, ratio {own / plain:.1f}",
+              flush=True)
+        created, ended = memory(folder, ["long.s"])
+        print(f"a container of {STEPS} steps takes {created:.0f} KiB created and {ended:.0f} KiB ended, "
+              f"{CONTAINERS} of them {ended * CONTAINERS / 1024:.0f} MiB", flush=True)
         lists_beside_creations(folder)
 
 

@@ -1,26 +1,25 @@
 -- What a container is made from, this project's own: docs/SEMANTICS.md, "The runtime".
-use Rattle.std.specs.Prelude.{◌≡◌, ◌⊎◌, ℕ, ◌<◌, List, [], ◌∷◌, ◌++◌, option_to_list, Option, Some, None}
+use Rattle.std.specs.Prelude.{◌≡◌, ◌⊎◌, ℕ, List, [], ◌∷◌, ◌++◌, option_to_list, Option, Some, None}
 use Rattle.std.specs.Prelude.{Result, Ok, Err}
 use Rattle.bpf_code.specs.declared.insn.Insn.{Insn}
-use Rattle.bpf_code.specs.declared.limits.TheConstants.{MAX_INSNS}
 use Rattle.verdict.specs.Stack.{AllSound}
 use Rattle.node_io.specs.declared.faults.FileFault.{FileFault}
 use Rattle.node_io.specs.declared.faults.FileFault.TheVariants as fault
 use Rattle.manifest.specs.declared.profiles.SeccompProfile.{SeccompProfile}
 use Rattle.manifest.specs.declared.profiles.SeccompProfile.TheVariants.{RuntimeDefault, Localhost, Unconfined}
 use Rattle.oci_profile.specs.declared.profile.Profile.{Profile}
-use Rattle.oci_profile.specs.Meaning.{weight}
 use Rattle.oci_profile.specs.Profile.{ReadsProfile}
 use Rattle.oci_profile.specs.RuntimeDefault.{runtime_default}
 use Rattle.script.specs.declared.scripts.Step.{Step}
 use Rattle.script.specs.Script.{ReadsScript}
 use Rattle.cri_msgs.specs.declared.keys.ContainerMetadata.{ContainerMetadata}
 use Rattle.cri_msgs.specs.declared.refusals.Refusal.{Refusal}
-use Rattle.cri_msgs.specs.declared.refusals.Refusal.TheVariants.{InvalidArgument, Internal, Memory}
+use Rattle.cri_msgs.specs.declared.refusals.Refusal.TheVariants.{Internal, Memory}
 use Rattle.runtime_cell.specs.declared.label.Label.{Label}
 use Rattle.runtime_cell.specs.declared.cell.State.TheVariants.{Created}
 use Rattle.runtime_cell.specs.Cell.{Cell, FollowsScript, GivesMeaning, Making, fresh}
 use Rattle.creation.specs.declared.files.FileAnswers.{FileAnswers}
+use Rattle.creation.specs.Made.{LacksIn, LacksScript}
 
 abbrev pub refusal_of : FileFault → Refusal
 refusal_of fault.NotFound = Internal
@@ -38,12 +37,6 @@ abbrev pub IsScriptIn : Result (List ℕ) Refusal → List Step → Type 0
 IsScriptIn (Err refusal) script = ⊥
 IsScriptIn (Ok bytes) script = ReadsScript bytes script
 
--- why there is no script
-abbrev pub LacksScript : Result (List ℕ) Refusal → Refusal → Type 0
-LacksScript (Err why) refusal = refusal ≡ why
-LacksScript (Ok bytes) refusal = ((script : List Step) → ReadsScript bytes script → ⊥)
-    × (refusal ≡ InvalidArgument)
-
 abbrev pub IsProfileIn : Result (List ℕ) Refusal → Profile → Type 0
 IsProfileIn (Err refusal) profile = ⊥
 IsProfileIn (Ok bytes) profile = ReadsProfile bytes profile
@@ -54,12 +47,6 @@ IsProfileFor Unconfined file profile = profile ≡ None
 IsProfileFor RuntimeDefault file profile = profile ≡ Some runtime_default
 IsProfileFor (Localhost path) file None = ⊥
 IsProfileFor (Localhost path) file (Some profile) = IsProfileIn file profile
-
--- why there is no profile that can be compiled
-abbrev pub LacksIn : Result (List ℕ) Refusal → Refusal → Type 0
-LacksIn (Err why) refusal = refusal ≡ why
-LacksIn (Ok bytes) refusal = ((profile : Profile) → ReadsProfile bytes profile → MAX_INSNS < weight profile)
-    × (refusal ≡ InvalidArgument)
 
 abbrev pub LacksProfile : SeccompProfile → Result (List ℕ) Refusal → Refusal → Type 0
 LacksProfile Unconfined file refusal = ⊥

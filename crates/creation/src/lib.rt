@@ -4,6 +4,11 @@
 
 mod building;
 mod files;
+mod kept;
+mod ready;
+mod texts;
 
 pub use building::built_cell;
 pub use files::{Contents, FileAnswers};
+pub use kept::{KeptTexts, MAX_KEPT_BYTES, MAX_KEPT_PROFILES, MAX_KEPT_SCRIPTS, NewTexts};
+pub use ready::ReadyDefault;

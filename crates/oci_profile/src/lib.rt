@@ -8,6 +8,7 @@
 mod actions;
 mod args;
 mod conditions;
+mod copies;
 mod decision;
 mod default_profile;
 mod faults;

@@ -10,3 +10,4 @@ pub mod Ids
 pub mod Agreeing
 pub mod Removing
 pub mod Placing
+pub mod ScriptRead

@@ -25,7 +25,7 @@ use crate::stage::Stage;
 use crate::uids::Uids;
 use crate::used::Used;
 use bpf_verify::Filter;
-use creation::{FileAnswers, built_cell};
+use creation::{FileAnswers, ReadyDefault, built_cell};
 use cri_msgs::{Answer, Call, ContainerMetadata, Key, Listing, Refusal, Reply, Request, Statuses};
 use manifest::{DescendingPath, SeccompProfile, Uid};
 use runtime_cell::Cell;
@@ -37,6 +37,7 @@ use std::alloc::{AllocError, Global};
 pub struct Registry {
     pub(crate) alloc: Global,
     pub(crate) baseline: Option<Filter>,
+    pub(crate) ready: ReadyDefault,
     pub(crate) uids: Uids,
     pub(crate) homes: Homes,
     pub(crate) made: u64,
@@ -52,10 +53,19 @@ impl Registry {
         Registry {
             alloc,
             baseline,
+            ready: ReadyDefault::none(),
             uids: Uids::new(alloc),
             homes: Homes::new(alloc),
             made: 0,
         }
+    }
+
+    /// Compiles RuntimeDefault once, and later containers that ask for it get copies. If memory runs out, it is
+    /// compiled anew for each of them.
+    pub fn make_ready(&mut self)
+        ensures { self.new ≡ self.old }
+    {
+        self.ready = ReadyDefault::new(self.alloc);
     }
 
     /// The stage of a uid's sandbox.
@@ -143,7 +153,7 @@ impl Registry {
                 key,
                 image,
                 profile,
-            } => self.create(cells, key, &image, &profile, &files),
+            } => self.create(cells, key, &image, &profile, files),
             Call::StartContainer { key } => self.start(cells, &key),
             Call::StopContainer { key, grace } => self.stop(cells, &key, grace),
             Call::RemoveContainer { key } => self.remove(cells, &key),
@@ -335,10 +345,10 @@ impl Registry {
         key: Key,
         image: &DescendingPath,
         choice: &SeccompProfile,
-        files: &FileAnswers,
+        files: FileAnswers,
     ) -> Answer
         ensures row { Creates (stages_in self.old key.uid) self.old.baseline key.container image.now
-            choice.now files.now
+            choice.now files
             (part_in self.old key.uid cells.old) result (part_in self.new key.uid cells.new) }
         ensures spares { Spares self.old self.new key.uid cells.old }
         ensures keeps { Keeps self.old self.new key.uid cells.old cells.new }
@@ -380,11 +390,11 @@ impl Registry {
         key: Key,
         image: &DescendingPath,
         choice: &SeccompProfile,
-        files: &FileAnswers,
+        files: FileAnswers,
     ) -> Answer
         requires live { stages_in self.old key.uid ≡ Stage.Live true }
         requires place { length cells.old < MAX_CELLS }
-        ensures row { MakesFrom self.old.baseline key.container image.now choice.now files.now
+        ensures row { MakesFrom self.old.baseline key.container image.now choice.now files
             (part_in self.old key.uid cells.old) result (part_in self.new key.uid cells.new) }
         ensures spares { Spares self.old self.new key.uid cells.old }
         ensures keeps { Keeps self.old self.new key.uid cells.old cells.new }
@@ -393,6 +403,7 @@ impl Registry {
         let id = self.made.saturating_add(1);
         match built_cell(
             self.alloc,
+            &self.ready,
             &self.baseline,
             id,
             &key.container,

@@ -13,6 +13,7 @@ use crate::due::Due;
 use crate::lists::{CellLists, SandboxCells};
 use crate::service::Host;
 use bpf_verify::Filter;
+use creation::KeptTexts;
 use cri_msgs::{Answer, Call, Refusal, Reply, Request};
 use manifest::Uid;
 use registry::tell_cells;
@@ -49,8 +50,10 @@ impl<B: Baseline> Sandboxes<B> {
     fn new(alloc: Global, baseline: Option<Filter>) -> Sandboxes<B>
         requires { baseline ≡ B.filter }
     {
+        let mut registry = Registry::new(alloc, baseline);
+        registry.make_ready();
         Sandboxes {
-            registry: Registry::new(alloc, baseline),
+            registry,
             lists: CellLists::new(alloc),
             due: Due::new(alloc),
             alloc,
@@ -95,6 +98,8 @@ impl<B: Baseline> Sandboxes<B> {
 #[derive(Drop)]
 pub struct SharedRuntime<B: Baseline> {
     pub(crate) sandboxes: Mutex<Sandboxes<B>>,
+    // What texts were read as lately. This lock is never held while another one is.
+    texts: Mutex<KeptTexts>,
     alloc: Global,
 }
 
@@ -105,20 +110,41 @@ impl<B: Baseline> SharedRuntime<B> {
     {
         SharedRuntime {
             sandboxes: Mutex::new(Sandboxes::new(alloc, baseline)),
+            texts: Mutex::new(KeptTexts::new(alloc)),
             alloc,
         }
     }
 
-    /// Serves a request, given the results of reading its files. The registry's lock, and then that of the
-    /// sandbox's cells, are held until the reply is made; cells are listed under the cells' lock alone. The
-    /// cells of a sandbox that is removed are dropped once neither lock is held.
+    /// Serves a request, given the results of reading its files. Its script and profile are read, and the
+    /// profile is compiled, before any lock is taken. The registry's lock, and then that of the sandbox's
+    /// cells, are held until the reply is made; cells are listed under the cells' lock alone. The cells of a
+    /// sandbox that is removed are dropped once neither lock is held.
     pub fn serve<R: Wait>(&self, rt: &R, request: Request, files: FileAnswers) -> Reply
         ensures { MayServe B.filter request files result }
     {
         match self.list(rt, &request) {
             Some(reply) => reply,
-            None => self.serve_held(rt, request, files),
+            None => self.serve_held(rt, request, self.prepared(rt, files)),
         }
+    }
+
+    // The same results, with script and profile read, and the profile compiled. What another container was
+    // made of lately is not read or compiled again.
+    fn prepared<R: Wait>(&self, rt: &R, files: FileAnswers) -> FileAnswers
+        ensures { result ≡ files }
+    {
+        if files.is_empty() {
+            return files;
+        }
+        let texts = self.texts.lock(rt);
+        let files = texts.lend(files);
+        drop(texts);
+        let files = files.prepared(self.alloc);
+        let new = files.new_texts(self.alloc);
+        let mut texts = self.texts.lock(rt);
+        texts.keep(new);
+        drop(texts);
+        files
     }
 
     // The reply to a request that lists the cells of an existing sandbox.

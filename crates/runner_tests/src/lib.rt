@@ -5,6 +5,8 @@
 #[cfg(test)]
 mod gather_tests;
 #[cfg(test)]
+mod kept_tests;
+#[cfg(test)]
 mod life_tests;
 #[cfg(test)]
 mod notifier_tests;

@@ -208,3 +208,142 @@ fn a_slow_file_holds_up_its_own_connection_alone(rt: HostRuntime) -> Result<(), 
     assert!(rt; found == (true, true));
     Ok(())
 }
+
+// Files that say when they were read.
+#[derive(Drop)]
+struct Told<'a> {
+    files: MemoryFiles,
+    was_read: &'a AtomicBool,
+}
+
+impl<'a> Files for Told<'a> {
+    ghost use Rattle.std.specs.Prelude.{None};
+
+    ghost failed = { λ told. told.files.failures };
+
+    fn read(&mut self, path: &str, limit: u64) -> Result<Vec<u8>, FileFault> {
+        let found = self.files.read(path, limit);
+        self.was_read.store(true, Ordering::SeqCst);
+        found
+    }
+
+    fn failures(&self) -> u64 {
+        self.files.failures()
+    }
+}
+
+// How many steps the long script has, about 160 bytes each.
+const LONG: usize = 2048;
+
+const LONG_STEP: &str =
+    r#"{"call":"getpid","args":[18446744073709551615,18446744073709551615,18446744073709551615,18446744073709551615,18446744073709551615,18446744073709551615]}"#;
+
+// A script that takes many milliseconds to read.
+fn long_script(alloc: Global) -> Result<String, AllocError> {
+    let mut text = String::from_str(alloc, "{\"steps\":[")?;
+    for place in 0..LONG {
+        if place > 0 {
+            text.push_str(",")?;
+        }
+        text.push_str(LONG_STEP)?;
+    }
+    text.push_str("]}")?;
+    Ok(text)
+}
+
+// Creates a container with the long script at this attempt, and sets the flags once its file was read and
+// once it was answered.
+fn creates_long<R: Wait>(
+    rt: &R,
+    alloc: Global,
+    runtime: &SharedRuntime<Brand>,
+    script: &str,
+    attempt: u32,
+    flags: (&AtomicBool, &AtomicBool),
+) -> Result<bool, AllocError> {
+    let (was_read, answered) = flags;
+    let text = format!(in alloc;
+        "{{\"attempt\":{attempt},\"call\":\"CreateContainer\",\"id\":8,\"image\":\"long.json\",\"name\":\"long\",\"profile\":{{\"type\":\"Unconfined\"}},\"uid\":\"u1\",\"v\":1}}"
+    )?;
+    let mut input = Vec::new(alloc);
+    add(&mut input, alloc, text.as_str())?;
+    let mut wire = wire(alloc, input.as_slice(), 1000, 0)?;
+    let scripts = Told {
+        files: files(alloc, &[("long.json", script)])?,
+        was_read,
+    };
+    let profiles = files(alloc, &PROFILES)?;
+    let mut service = Service {
+        scripts,
+        profiles,
+        host: SharedHost::new(rt, runtime),
+    };
+    let ending = serve_wire(alloc, &mut wire, &mut service);
+    answered.store(true, Ordering::SeqCst);
+    Ok(ending == Ending::Ended)
+}
+
+// How many requests of another pod are answered between the read of the file and the answer.
+fn answers_meanwhile<R: Wait + Clock>(
+    rt: &R,
+    alloc: Global,
+    runtime: &SharedRuntime<Brand>,
+    flags: (&AtomicBool, &AtomicBool),
+) -> Result<u32, AllocError> {
+    let (was_read, answered) = flags;
+    waits(rt, was_read);
+    for count in 0..TURNS {
+        asks(rt, alloc, runtime, RUN_OTHER)?;
+        if answered.load(Ordering::SeqCst) {
+            return Ok(count);
+        }
+    }
+    Ok(TURNS)
+}
+
+// How many requests are answered while a container with the long script is created at this attempt.
+fn created_meanwhile<R: Threads + Wait + Clock + Sync>(
+    rt: &R,
+    alloc: Global,
+    runtime: &SharedRuntime<Brand>,
+    script: &str,
+    attempt: u32,
+) -> Result<u32, AllocError> {
+    let was_read = AtomicBool::new(false);
+    let answered = AtomicBool::new(false);
+    let flags = (&was_read, &answered);
+    let (created, count) = join(
+        rt,
+        || creates_long(rt, alloc, runtime, script, attempt, flags),
+        || answers_meanwhile(rt, alloc, runtime, flags),
+    );
+    if created? { count } else { Ok(0) }
+}
+
+// The most that are answered during one of a few creations, which begin until enough are.
+fn most_answered<R: Threads + Wait + Clock + Sync>(
+    rt: &R,
+    alloc: Global,
+) -> Result<u32, AllocError> {
+    let runtime = SharedRuntime::<Brand>::new(alloc, None);
+    asks(rt, alloc, &runtime, PODS)?;
+    let script = long_script(alloc)?;
+    let mut most = 0;
+    for attempt in 0..6 {
+        if most < ENOUGH {
+            most = created_meanwhile(rt, alloc, &runtime, script.as_str(), attempt)?;
+        }
+    }
+    Ok(most)
+}
+
+// More than are answered in the moment between the read of a file and a lock that is taken at once.
+const ENOUGH: u32 = 8;
+
+// No lock is held while a script is read.
+#[test]
+fn a_long_script_holds_up_its_own_connection_alone(rt: HostRuntime) -> Result<(), Fail> {
+    let most = most_answered(&rt, rt.alloc())?;
+    assert!(rt; most >= ENOUGH, "{most}");
+    Ok(())
+}

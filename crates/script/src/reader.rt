@@ -78,7 +78,7 @@ fn script(alloc: Global, tree: &Value) -> Result<Script, ScriptFaultAt>
 {
     let items = items(tree)?;
     let steps = steps(alloc, items)?;
-    Ok(Script::new(steps))
+    Ok(Script::new(steps)?)
 }
 
 /// The steps, not read yet.

@@ -1,9 +1,11 @@
-ghost use Rattle.std.specs.Prelude.{◌≡◌, ◌==◌, ◌<◌, ◌≤◌, length};
+ghost use Rattle.std.specs.Prelude.{◌≡◌, ◌==◌, ◌<◌, ◌≤◌, IfOk, length};
 ghost use Rattle.script.specs.Script.{HasSoundFilters};
 
 use bpf_verify::Filter;
 use call_data::SysCall;
+use std::alloc::AllocError;
 use std::marker::Model;
+use std::sync::ArcSlice;
 
 /// The most steps that a script has.
 pub const MAX_STEPS: usize = 4096;
@@ -62,10 +64,10 @@ pub enum Step {
     },
 }
 
-/// The steps of a container, in order.
+/// The steps of a container, in order. Its copies have one list of steps together.
 #[derive(Drop)]
 pub struct Script {
-    steps: Vec<Step>,
+    steps: ArcSlice<Step>,
 }
 
 impl Model for Script {
@@ -76,18 +78,29 @@ impl Model for Script {
 
     ghost Value = { List Step };
 
-    ghost view = { λ s. s.steps.items };
+    ghost view = { λ s. s.steps.items.value.items };
 
-    ghost invariant = { λ s. (length s.steps.items ≤ MAX_STEPS) × HasSoundFilters s.steps.items };
+    ghost invariant = { λ s. (length s.steps.items.value.items ≤ MAX_STEPS)
+        × HasSoundFilters s.steps.items.value.items };
 }
 
 impl Script {
-    pub(crate) fn new(steps: Vec<Step>) -> Script
+    pub(crate) fn new(steps: Vec<Step>) -> Result<Script, AllocError>
         requires few { length steps.items ≤ MAX_STEPS }
         requires sound { HasSoundFilters steps.items }
-        ensures { result ≡ steps.items }
+        ensures { IfOk result (λ script. script ≡ steps.items) }
     {
-        Script { steps }
+        let steps = ArcSlice::from_vec(steps)?;
+        Ok(Script { steps })
+    }
+
+    /// A script with the same steps, which takes no memory of its own: the steps stay where they are until
+    /// the last script that has them is gone.
+    pub fn share(&self) -> Result<Script, AllocError>
+        ensures { IfOk result (λ script. script ≡ self.now) }
+    {
+        let steps = self.steps.clone()?;
+        Ok(Script { steps })
     }
 
     /// The steps in order.

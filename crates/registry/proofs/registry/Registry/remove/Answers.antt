@@ -12,6 +12,7 @@ abbrev after : goal.After-remove-in-Some → Registry
 after c = record {
   alloc = c.args.self.now.alloc;
   baseline = c.args.self.now.baseline;
+  ready = c.args.self.now.ready;
   uids =
       c.args.self.now.uids;
   homes = c.remove-in-Some.new.self;

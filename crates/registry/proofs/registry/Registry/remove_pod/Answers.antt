@@ -14,6 +14,7 @@ abbrev after : goal.After-hand_over → Registry
 after c = record {
   alloc = c.args.self.now.alloc;
   baseline = c.args.self.now.baseline;
+  ready = c.args.self.now.ready;
   uids = c.end.new.self;
   homes = c.forget.new.self;
   made = c.args.self.now.made;

@@ -1,5 +1,5 @@
 use Rattle.std.proofs.Common.{inl, inr}
-use Rattle.creation.proofs.building.script_in.Goals as goal
+use Rattle.creation.proofs.texts.script_in.Goals as goal
 
 pub returns-in-Err-clause-refused : goal.returns-in-Err-clause-refused
 returns-in-Err-clause-refused c = elim c.script_refusal.ensures [

@@ -1,0 +1,7 @@
+-- A reason for a refusal that holds of another one's.
+use Rattle.std.proofs.Common.{Result, Ok, Err, IfErr}
+
+pub refused_so : {A E : Type 0} {P Q : E → Type 0} (result : Result A E) → ((e : E) → P e → Q e)
+    → IfErr result P → IfErr result Q
+refused_so (Ok value) so given = tt
+refused_so (Err e) so given = so e given
