@@ -15,7 +15,7 @@ use Rattle.compile.specs.Backward.{data_word}
 use Rattle.std.specs.Prelude.{bit_and}
 use Rattle.compile.specs.Tests.{operation_of, holds_of}
 use Rattle.compile.specs.declared.code.Test.{Test}
-use Rattle.compile.specs.declared.code.Test.TheVariants.{Equal, Greater, GreaterOrEqual, AnyBit}
+use Rattle.compile.specs.declared.code.Test.TheVariants.{Equal, GreaterOrEqual, AnyBit}
 use Rattle.compile.specs.Backward.Gives.{ends, leads}
 
 -- each instruction of the old code stands in the new one at the same place
@@ -159,8 +159,6 @@ branch_leads : (test : Test) (call : SysCall) (insn : Insn) (at a hit miss : ℕ
     → insn.jt ≡ at - 1 - hit → insn.jf ≡ at - 1 - miss
     → LeadsTo (operation_of test) call insn at a (cond (holds_of test insn.k a) hit miss) a
 branch_leads Equal call insn at a hit miss hit_in miss_in jt jf =
-    (branch_to _ insn at hit miss hit_in miss_in jt jf, refl)
-branch_leads Greater call insn at a hit miss hit_in miss_in jt jf =
     (branch_to _ insn at hit miss hit_in miss_in jt jf, refl)
 branch_leads GreaterOrEqual call insn at a hit miss hit_in miss_in jt jf =
     (branch_to _ insn at hit miss hit_in miss_in jt jf, refl)

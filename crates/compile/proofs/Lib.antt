@@ -10,11 +10,8 @@ pub mod Passing
 pub mod Trees
 pub mod Weights
 pub mod Assembled
-pub mod Asking
 pub mod Finding
-pub mod Lowest
-pub mod Highest
-pub mod Gathering
+mod Gathering
 mod Settling
 mod Bits
 mod Restricting

@@ -143,6 +143,16 @@ unfolding all_hold
 entry_says entry conds clauses n call same says is_call =
     says.same call is_call ∙ ap (λ cs. all_of cs call) same
 
+-- clauses that say something by themselves
+pub says_is : (clauses slice : List Clause) (holds : SysCall → Bool) (n : ℕ) (call : SysCall) → slice ≡ clauses
+    → Says [] clauses holds n → IsCall call → clauses_hold slice call ≡ holds call
+says_is clauses slice holds n call same says is_call =
+    ap (λ cs. clauses_hold cs call) same ∙ says.same call is_call
+
+pub says_size : (clauses slice : List Clause) (holds : SysCall → Bool) (n : ℕ) → slice ≡ clauses
+    → Says [] clauses holds n → size_of_clauses slice ≤ n
+says_size clauses slice holds n same says = omega (arith, ap size_of_clauses same, says.longer)
+
 pub size_of_pushed : (rules : List Rule) (rule : Rule)
     → size_of_rules (rules ++ rule ∷ []) ≡ size_of_rules rules + size_of_clauses rule.clauses.items
 size_of_pushed [] rule = omega arith

@@ -3,7 +3,6 @@ pub mod Backward
 pub mod Tests
 pub mod Sizes
 pub mod Ranges
-pub mod Arms
 pub mod Residuals
 pub mod Ways
 pub mod Rooms

@@ -1,5 +1,5 @@
 -- This project's own: how much code rules take one after another. Only private functions cite this.
-use Rattle.std.specs.Prelude.{◌≡◌, ℕ, ◌+◌, ◌%◌, ◌≤◌, ◌<◌, ◌==◌, ◌&&◌, Bool, not, nat_le, nat_lt}
+use Rattle.std.specs.Prelude.{◌≡◌, ℕ, ◌+◌, ◌%◌, ◌≤◌, ◌<◌, ◌==◌, ◌&&◌, Bool, false, not, nat_le, nat_lt}
 use Rattle.std.specs.Prelude.{if◌then◌else◌, List, [], ◌∷◌, All}
 use Rattle.bpf_code.specs.declared.limits.TheConstants.{DATA_LEN}
 use Rattle.compile.specs.declared.clause.Literal.{Literal}
@@ -35,8 +35,13 @@ IsWithinLiteral (Asked atom wanted) = (atom.view.offset < DATA_LEN) × (atom.vie
 abbrev pub IsWithin : Clause → Type 0
 IsWithin clause = IsWithinLiteral clause.one × IsWithinLiteral clause.other
 
+-- it is not known to fail
+abbrev pub IsPossible : Clause → Type 0
+IsPossible clause = clause.one ≡ Known false → clause.other ≡ Known false → ⊥
+
 -- a rule that is near to what follows it, whatever it returns
 pub record IsFit (rule : Rule) : Type 0 where
+  pub possible : All IsPossible rule.clauses.items
   pub within : All IsWithin rule.clauses.items
   pub short : size_of_clauses rule.clauses.items ≤ 36
 

@@ -66,7 +66,7 @@ impl Ask {
     }
 
     /// The branch that asks it.
-    fn test(self) -> (Test, u32)
+    pub(crate) fn test(self) -> (Test, u32)
         ensures { (number : ℕ) → holds_of result.0 result.1 number ≡ asks self number }
     {
         match self {

@@ -1,14 +1,17 @@
-ghost use Rattle.std.specs.Prelude.{◌≡◌, ◌<◌, ◌+◌, ◌%◌, ◌^◌, ◌==◌, ◌||◌, ℕ, IsTrue, true, false, not};
-ghost use Rattle.std.specs.Prelude.{nat_le, nat_lt};
-ghost use Rattle.std.specs.Prelude.{bit_and};
+ghost use Rattle.std.specs.Prelude.{◌≡◌, ◌<◌, ◌+◌, ◌*◌, ◌/◌, ◌%◌, ◌^◌, ◌==◌, ◌||◌, ℕ, IsTrue, true, false, not};
+ghost use Rattle.std.specs.Prelude.{◌≢◌, bit_and, nat_le, nat_lt, slice_index};
 ghost use Rattle.call_data.specs.declared.sys_call.SysCall.{SysCall};
+ghost use Rattle.call_data.specs.CallData.{IsCall};
 ghost use Rattle.compile.specs.Backward.{data_word};
 ghost use Rattle.compile.specs.Residuals.{asks, atom_holds, clause_holds, literal_holds, seen};
-ghost use Rattle.compile.specs.Rooms.{IsSmall, IsSmallClause};
+ghost use Rattle.compile.specs.Rooms.{IsPossible, IsSmall, IsSmallClause};
+ghost use Rattle.std.specs.Bool.{OnFalse};
 ghost use Rattle.compile.specs.declared.atom.TheConstants.{WHOLE};
+ghost use Rattle.compile.specs.declared.clause.Literal.{Literal};
 ghost use Rattle.bpf_code.specs.declared.limits.TheConstants.{DATA_LEN};
 
 use crate::atom::{Ask, Atom, View, WHOLE};
+use call_data::words_of_fields;
 
 /// A question with the answer that is wanted, or what is known already.
 #[derive(Clone, Copy, PartialEq, Eq)]
@@ -22,6 +25,33 @@ pub(crate) enum Literal {
 pub(crate) struct Clause {
     pub(crate) one: Literal,
     pub(crate) other: Literal,
+}
+
+/// The upper half of a number.
+pub(crate) fn high(number: u64) -> u32
+    ensures { result ≡ number / 2 ^ 32 }
+{
+    (number >> 32) as u32
+}
+
+/// The lower half of a number.
+pub(crate) fn low(number: u64) -> u32
+    ensures { result ≡ number % 2 ^ 32 }
+{
+    (number & 0xffff_ffff) as u32
+}
+
+/// Where a call's number, its architecture and the halves of its arguments are among its words.
+#[tactic(auto, unfolding(crate::specs::Backward::data_word))]
+pub(crate) fn words()
+    ensures nr { (call : SysCall) → IsCall call → data_word call 0 ≡ call.nr }
+    ensures arch { (call : SysCall) → IsCall call → data_word call 4 ≡ call.arch }
+    ensures low { (call : SysCall) (i : ℕ) → IsCall call → i < 6
+        → data_word call (16 + 8 * i) ≡ slice_index call.args i % 2 ^ 32 }
+    ensures high { (call : SysCall) (i : ℕ) → IsCall call → i < 6
+        → data_word call (20 + 8 * i) ≡ slice_index call.args i / 2 ^ 32 }
+{
+    words_of_fields();
 }
 
 /// Whether a number is a power of two.
@@ -129,7 +159,9 @@ impl Literal {
 
     /// Whether it is known to be this.
     pub(crate) fn is_known(self, answer: bool) -> bool
-        ensures { IsTrue result → (call : SysCall) → literal_holds self call ≡ answer }
+        ensures holds { IsTrue result → (call : SysCall) → literal_holds self call ≡ answer }
+        ensures yes { IsTrue result → self ≡ Literal.Known answer }
+        ensures no { OnFalse result (self ≢ Literal.Known answer) }
     {
         match self {
             Literal::Known(holds) => holds == answer,
@@ -186,7 +218,8 @@ impl Clause {
 
     /// Whether it is known not to hold.
     pub(crate) fn is_false(&self) -> bool
-        ensures { IsTrue result → (call : SysCall) → clause_holds self.now call ≡ false }
+        ensures yes { IsTrue result → (call : SysCall) → clause_holds self.now call ≡ false }
+        ensures no { OnFalse result (IsPossible self.now) }
     {
         self.one.is_known(false) && self.other.is_known(false)
     }

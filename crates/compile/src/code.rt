@@ -30,7 +30,6 @@ pub(crate) const RECENT: usize = 200;
 #[derive(Clone, Copy)]
 pub(crate) enum Test {
     Equal,
-    Greater,
     GreaterOrEqual,
     /// Whether it has any of these bits.
     AnyBit,
@@ -42,7 +41,6 @@ impl Test {
     {
         match self {
             Test::Equal => Operation::JumpEqualK,
-            Test::Greater => Operation::JumpGreaterK,
             Test::GreaterOrEqual => Operation::JumpGreaterOrEqualK,
             Test::AnyBit => Operation::JumpAnyBitK,
         }
@@ -365,7 +363,6 @@ fn makes(op: Operation, test: Test) -> bool
 {
     match test {
         Test::Equal => matches!(op, Operation::JumpEqualK),
-        Test::Greater => matches!(op, Operation::JumpGreaterK),
         Test::GreaterOrEqual => matches!(op, Operation::JumpGreaterOrEqualK),
         Test::AnyBit => matches!(op, Operation::JumpAnyBitK),
     }

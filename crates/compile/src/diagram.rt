@@ -17,10 +17,10 @@ use crate::atom::NOWHERE;
 use crate::build::{Way, build, cost};
 use crate::clause::Literal;
 use crate::code::{Code, RECENT};
-use crate::condition::is_equal;
 use crate::ordered::ordered;
 use crate::residual::Rule;
 use crate::rules::rules_of;
+use crate::search::is_equal;
 use oci_profile::{Decision, Entry};
 use std::alloc::{AllocError, Global};
 

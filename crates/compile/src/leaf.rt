@@ -1,50 +1,26 @@
-ghost use Rattle.std.specs.Prelude.{◌≡◌, ◌≤◌, ◌<◌, ◌+◌, ◌*◌, ◌^◌, ◌&&◌, ℕ, length, take, IfOk};
-ghost use Rattle.std.specs.Prelude.{IfSome, None, OnOk, if◌then◌else◌};
+ghost use Rattle.std.specs.Bool.{OnFalse};
+ghost use Rattle.std.specs.Prelude.{◌≡◌, ◌≤◌, ◌<◌, ◌+◌, ◌*◌, ◌^◌, ℕ, false, length, take, true, IfOk, IsTrue, OnOk};
 ghost use Rattle.call_data.specs.declared.sys_call.SysCall.{SysCall};
 ghost use Rattle.call_data.specs.CallData.{IsCall};
-ghost use Rattle.oci_profile.specs.declared.decision.Decision.{Decision};
 ghost use Rattle.oci_profile.specs.Decision.{value_of};
-ghost use Rattle.oci_profile.specs.Meaning.{all_hold, chosen, decision_of, names};
+ghost use Rattle.oci_profile.specs.Meaning.{chosen, decision_of, names};
 ghost use Rattle.compile.specs.Backward.{GivesAlways, Keeps};
-ghost use Rattle.compile.specs.Bounds.{AreBare, conditions_at};
-ghost use Rattle.compile.specs.Sizes.{AreAsked, Suffices, added_of, steps_at};
+ghost use Rattle.compile.specs.Bounds.{AreBare, IsBare, conditions_at};
+ghost use Rattle.compile.specs.Sizes.{AreAsked, NoneDecides, Suffices, added_of, settles, steps_at};
 ghost use Rattle.compile.specs.declared.code.TheConstants.{RECENT};
 
-use crate::chain::add_link;
 use crate::code::Code;
 use crate::diagram::diagram;
-use crate::ending::bare_end;
-use crate::equals::equals;
-use crate::points::points_for;
+use crate::plain::plain;
+use crate::rules::rules_of;
+use crate::search::{points_for, search};
 use oci_profile::{Decision, Entry, Profile, X32_BIT};
 use std::alloc::{AllocError, Global};
 
-/// Puts an entry in front of a place if it names the number.
-fn add_named(code: &mut Code, entry: &Entry, nr: u32, place: usize) -> Result<usize, AllocError>
-    requires inside { place < length code.old }
-    requires recent { length code.old ≤ place + RECENT }
-    ensures gives { IfOk result (λ at. (call : SysCall) (other most : ℕ) → IsCall call → 0 < most
-        → GivesAlways code.old call place other most
-        → GivesAlways code.new call at (if names entry.now nr && all_hold entry.now call
-        then value_of entry.now.decision else other)
-        (most + 6 * (if names entry.now nr then length entry.now.conds else 0))) }
-    ensures inside { IfOk result (λ at. at < length code.new) }
-    ensures recent { IfOk result (λ at. length code.new ≤ at + RECENT) }
-    ensures longer { OnOk result (length code.new ≤ length code.old
-        + (if names entry.now nr then 1 + 6 * length entry.now.conds else 0)) }
-    ensures keeps { Keeps code.old code.new }
-    ensures grows { length code.old ≤ length code.new }
-{
-    if entry.names(nr) {
-        add_link(code, entry, place)
-    } else {
-        Ok(place)
-    }
-}
-
-/// What the entries decide of a number, one after another, the last one put first.
-fn chain_leaf(
+/// Emits what the entries decide of a number, one after another, the last one put first.
+fn plain_leaf(
     code: &mut Code,
+    alloc: Global,
     entries: &[Entry],
     last: &Decision,
     nr: u32,
@@ -58,54 +34,13 @@ fn chain_leaf(
     ensures keeps { Keeps code.old code.new }
     ensures grows { length code.old ≤ length code.new }
 {
-    let mut place = code.value(last.value())?;
-    let mut end = entries.len();
-    while end > 0 {
-        end -= 1;
-        place = add_named(code, &entries[end], nr, place)?;
-    }
-    Ok(place)
+    let rules = rules_of(alloc, entries, nr)?;
+    let place = code.value(last.value())?;
+    plain(code, rules.as_slice(), 0, place)
 }
 
-/// Emits what the entries decide of a number as a choice by one argument, if that is no longer and no slower
-/// than a chain: among its ranges, or among numbers that it may equal. It may take `room` instructions more
-/// than the chain's links, of which two are never taken.
-fn by_argument(
-    code: &mut Code,
-    alloc: Global,
-    entries: &[Entry],
-    last: &Decision,
-    nr: u32,
-    room: usize,
-) -> Result<Option<usize>, AllocError>
-    requires room { (2 ≤ room) × (room ≤ 3) }
-    requires short { length code.old + added_of entries.now nr < 2 ^ 32 }
-    ensures gives { IfOk result (λ found. IfSome found (λ at. (call : SysCall) → IsCall call
-        → GivesAlways code.new call at (value_of (decision_of entries.now last.now nr call))
-        (6 * conditions_at entries.now nr))) }
-    ensures balanced { IfOk result (λ found. IfSome found (λ at. (call : SysCall) (index digits : ℕ)
-        → IsCall call → AreAsked index entries.now nr → conditions_at entries.now nr < 2 ^ digits
-        → GivesAlways code.new call at (value_of (decision_of entries.now last.now nr call))
-        (1 + 12 * digits))) }
-
-    // Equalities of one argument are left to a chain only if they are few.
-    ensures left { IfOk result (λ found. found ≡ None → (index : ℕ) → AreAsked index entries.now nr
-        → conditions_at entries.now nr ≤ 6) }
-    ensures none { IfOk result (λ found. found ≡ None → code.new ≡ code.old) }
-    ensures inside { IfOk result (λ found. IfSome found (λ at. at < length code.new)) }
-    ensures recent { IfOk result (λ found. IfSome found (λ at. length code.new ≤ at + RECENT)) }
-    ensures longer { OnOk result (length code.new + 2 ≤ length code.old + added_of entries.now nr + room) }
-    ensures keeps { Keeps code.old code.new }
-    ensures grows { length code.old ≤ length code.new }
-{
-    if let Some((index, points)) = points_for(alloc, entries, nr)? {
-        let place = equals(code, index, &points, last.value())?;
-        return Ok(Some(place));
-    }
-    Ok(None)
-}
-
-/// Emits what the entries decide of a number, as a choice by one argument if that is no longer.
+/// Emits what the entries decide of a number: many equalities of one argument by a search among their numbers,
+/// other entries one after another.
 fn other_leaf(
     code: &mut Code,
     alloc: Global,
@@ -127,10 +62,37 @@ fn other_leaf(
     ensures keeps { Keeps code.old code.new }
     ensures grows { length code.old ≤ length code.new }
 {
-    match by_argument(code, alloc, entries, last, nr, 3)? {
-        Some(place) => Ok(place),
-        None => chain_leaf(code, entries, last, nr),
+    match points_for(alloc, entries, nr)? {
+        Some((index, points)) => {
+            search(code, alloc, index, &points, 0, points.len(), last.value())
+        }
+        None => plain_leaf(code, alloc, entries, last, nr),
     }
+}
+
+/// Whether the entry decides the number without a condition.
+fn decides(entry: &Entry, nr: u32) -> bool
+    ensures yes { IsTrue result → (names entry.now nr ≡ true) × IsBare entry.now }
+    ensures no { OnFalse result (IsBare entry.now → names entry.now nr ≡ false) }
+{
+    entry.conds.as_slice().is_empty() && entry.names(nr)
+}
+
+/// How many entries come before the first that decides the number without a condition, and the decision after
+/// them. Later entries are never reached.
+pub(crate) fn bare_end(entries: &[Entry], default: Decision, nr: u32) -> (usize, Decision)
+    ensures same { (call : SysCall) → decision_of entries.now default nr call
+        ≡ decision_of (take result.0 entries.now) result.1 nr call }
+    ensures inside { result.0 ≤ length entries.now }
+    ensures settled { settles entries.now nr ≡ true → added_of (take result.0 entries.now) nr ≡ 0 }
+    ensures reached { NoneDecides (take result.0 entries.now) nr }
+{
+    for (at, entry) in entries.iter().enumerate() {
+        if decides(entry, nr) {
+            return (at, entry.decision);
+        }
+    }
+    (entries.len(), default)
 }
 
 /// Emits what the entries decide of a number, as a diagram if that is neither longer nor

@@ -8,36 +8,31 @@
 //! Entries are rules of clauses over words of a call's data (`rules.rt`). A question about a word is asked,
 //! and what is left of the rules for either answer is built in the same way (`build.rt`, `residual.rt`,
 //! `atom.rt`). Any question is right; `choose.rt` looks for one that leads to few steps. What is longer or
-//! slower than promised is cut back (`diagram.rt`), and a chain of tests takes its place, or a choice among
-//! many equalities (`chain.rt`, `equals.rt`).
+//! slower than promised is cut back (`diagram.rt`). In its place all rules are tested one after another
+//! (`plain.rt`), or the numbers that one argument may equal are searched by halves (`search.rt`).
 #![tactic(auto)]
 
 mod apart;
-mod arms;
 mod atom;
 mod build;
-mod chain;
 mod choose;
 mod clause;
 mod code;
 mod compiler;
-mod condition;
 mod diagram;
-mod ending;
-mod equals;
 mod fault;
-mod halves;
 mod hidden;
 mod leaf;
 mod needed;
 mod odds;
 mod order;
 mod ordered;
-mod points;
+mod plain;
 mod ranges;
 mod remaining;
 mod residual;
 mod rules;
+mod search;
 mod shares;
 mod tree;
 mod weight;

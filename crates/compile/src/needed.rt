@@ -3,9 +3,9 @@ ghost use Rattle.std.specs.Prelude.{◌<◌, length};
 use crate::apart::certain;
 use crate::atom::{Ask, WHOLE};
 use crate::clause::{Clause, Literal};
-use crate::condition::is_equal;
 use crate::residual::{Rule, rules_where};
 use crate::rules::rules_of;
+use crate::search::is_equal;
 use oci_profile::Entry;
 use std::alloc::{AllocError, Global};
 

@@ -5,14 +5,14 @@ ghost use Rattle.call_data.specs.declared.sys_call.SysCall.{SysCall};
 ghost use Rattle.call_data.specs.CallData.{IsCall};
 ghost use Rattle.oci_profile.specs.Meaning.{all_hold, all_of, decision_of, holds_on, names};
 ghost use Rattle.compile.specs.Residuals.{clause_holds, clauses_hold, first_value, literal_holds};
-ghost use Rattle.compile.specs.Rooms.{IsFit, IsSmall, IsSmallClause, Says, is_large, ordered, size_of_rules};
+ghost use Rattle.std.specs.Bool.{OnFalse};
+ghost use Rattle.compile.specs.Rooms.{IsFit, IsPossible, IsSmall, IsSmallClause, Says, is_large, ordered, size_of_rules};
 ghost use Rattle.compile.specs.Sizes.{added_of};
 ghost use Rattle.compile.specs.Bounds.{conditions_at};
 ghost use Rattle.oci_profile.specs.declared.decision.Decision.{Decision};
 ghost use Rattle.oci_profile.specs.Decision.{value_of};
 
-use crate::clause::{Clause, Literal};
-use crate::halves::{high, low, words};
+use crate::clause::{Clause, Literal, high, low, words};
 use crate::hidden::is_hidden;
 use crate::residual::Rule;
 use oci_profile::{Cond, Entry, Op};
@@ -99,7 +99,7 @@ fn lower_half(index: u32, value: u64, includes: bool) -> Literal
 }
 
 /// Adds what is asked of an argument in order.
-fn add_order(
+pub(crate) fn add_order(
     clauses: &mut Vec<Clause>,
     index: u32,
     value: u64,
@@ -139,10 +139,11 @@ fn add_cond(clauses: &mut Vec<Clause>, cond: &Cond) -> Result<(), AllocError>
     }
 }
 
-fn add_equal(clauses: &mut Vec<Clause>, index: u32, value: u64) -> Result<(), AllocError>
+/// Adds that an argument equals a number.
+pub(crate) fn add_equal(clauses: &mut Vec<Clause>, index: u32, value: u64) -> Result<(), AllocError>
     requires { index < 6 }
     ensures { OnOk result (Says clauses.old.items clauses.new.items
-        (λ call. slice_index call.args index == value) 6) }
+        (λ call. slice_index call.args index == value) 4) }
 {
     words();
     add_both(
@@ -215,8 +216,10 @@ fn add_entry(rules: &mut Vec<Rule>, alloc: Global, entry: &Entry) -> Result<(), 
     Ok(())
 }
 
-fn is_void(clauses: &[Clause]) -> bool
-    ensures { IsTrue result → (call : SysCall) → clauses_hold clauses.now call ≡ false }
+/// Whether one of the clauses is known to fail.
+pub(crate) fn is_void(clauses: &[Clause]) -> bool
+    ensures yes { IsTrue result → (call : SysCall) → clauses_hold clauses.now call ≡ false }
+    ensures no { OnFalse result (All IsPossible clauses.now) }
 {
     for clause in clauses {
         if clause.is_false() {

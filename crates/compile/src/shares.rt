@@ -1,6 +1,6 @@
 ghost use Rattle.std.specs.Prelude.{◌<◌, length};
 
-use crate::ending::bare_end;
+use crate::leaf::bare_end;
 use crate::needed::needed;
 use oci_profile::Profile;
 use std::alloc::{AllocError, Global};

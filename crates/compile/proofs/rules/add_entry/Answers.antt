@@ -13,7 +13,7 @@ returns-then-is_void-clause-holds c = λ call other is_call.
     let never : all_hold c.args.entry.now call ≡ false =
     sym (entry_says c.args.entry.now c.as_slice.result.now c.in_ok-clauses.clauses.items _ call
     c.as_slice.ensures.value c.in_ok-clauses.ensures is_call)
-    ∙ ap (λ cs. clauses_hold cs call) (sym c.as_slice-2.ensures.value) ∙ c.if-is_void.ensures refl call in
+    ∙ ap (λ cs. clauses_hold cs call) (sym c.as_slice-2.ensures.value) ∙ c.if-is_void.ensures.yes refl call in
     ap (λ b. first_value c.args.rules.now.items (cond b (value_of c.args.entry.now.decision) other) call)
     (sym never)
 

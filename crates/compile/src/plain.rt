@@ -1,0 +1,206 @@
+ghost use Rattle.std.specs.Prelude.{◌≡◌, ◌≢◌, ◌≤◌, ◌<◌, ◌+◌, ◌-◌, ◌*◌, ◌%◌, ◌==◌, ℕ, All, IfOk, OnOk, drop, false, true};
+ghost use Rattle.std.specs.Prelude.{if◌then◌else◌, length};
+ghost use Rattle.bpf_code.specs.declared.limits.TheConstants.{DATA_LEN};
+ghost use Rattle.call_data.specs.declared.sys_call.SysCall.{SysCall};
+ghost use Rattle.compile.specs.Backward.{GivesAlways, Keeps};
+ghost use Rattle.compile.specs.Residuals.{atom_holds, clause_holds, clauses_hold, first_value, literal_holds};
+ghost use Rattle.compile.specs.Rooms.{IsFit, IsPossible, IsWithin, IsWithinLiteral, size_of_clause};
+ghost use Rattle.compile.specs.Rooms.{size_of_clauses, size_of_literal, size_of_rules};
+ghost use Rattle.compile.specs.declared.atom.TheConstants.{WHOLE};
+ghost use Rattle.compile.specs.declared.clause.Literal.{Literal};
+ghost use Rattle.compile.specs.declared.code.TheConstants.{REACH, RECENT};
+
+use crate::atom::{Atom, WHOLE};
+use crate::clause::{Clause, Literal};
+use crate::code::{Code, REACH, RECENT};
+use crate::residual::Rule;
+use std::alloc::AllocError;
+
+/// Asks a question, whatever is in A.
+fn ask(code: &mut Code, atom: &Atom, hit: usize, miss: usize) -> Result<usize, AllocError>
+    requires known { atom.now.view.offset < DATA_LEN }
+    requires aligned { atom.now.view.offset % 4 ≡ 0 }
+    requires hit_inside { hit < length code.old }
+    requires miss_inside { miss < length code.old }
+    requires hit_near { length code.old ≤ hit + 1 + REACH }
+    requires miss_near { length code.old ≤ miss + 1 + REACH }
+    ensures gives { OnOk result ((call : SysCall) (value most : ℕ)
+        → GivesAlways code.old call (if atom_holds atom.now call then hit else miss) value most
+        → GivesAlways code.new call (length code.new - 1) value
+        (most + (if atom.now.view.mask == WHOLE then 2 else 3))) }
+    ensures at { IfOk result (λ at. at + 1 ≡ length code.new) }
+    ensures longer { OnOk result (length code.new
+        ≡ length code.old + (if atom.now.view.mask == WHOLE then 2 else 3)) }
+    ensures keeps { Keeps code.old code.new }
+    ensures grows { length code.old ≤ length code.new }
+{
+    let (test, k) = atom.ask.test();
+    code.jump(test, k, hit, miss)?;
+    if atom.view.mask == WHOLE {
+        return code.load(atom.view.offset);
+    }
+    code.mask(atom.view.mask)?;
+    code.load(atom.view.offset)
+}
+
+/// Tests a literal, whatever is in A.
+fn test_literal(
+    code: &mut Code,
+    literal: &Literal,
+    hit: usize,
+    miss: usize,
+) -> Result<usize, AllocError>
+    requires within { IsWithinLiteral literal.now }
+    requires hit_inside { hit < length code.old }
+    requires miss_inside { miss < length code.old }
+    requires hit_near { length code.old ≤ hit + 1 + REACH }
+    requires miss_near { length code.old ≤ miss + 1 + REACH }
+    ensures gives { IfOk result (λ at. (call : SysCall) (value most : ℕ)
+        → GivesAlways code.old call (if literal_holds literal.now call then hit else miss) value most
+        → GivesAlways code.new call at value (most + size_of_literal literal.now)) }
+    ensures inside { IfOk result (λ at. at < length code.new) }
+    ensures front { IfOk result (λ at. literal.now ≢ Literal.Known false → literal.now ≢ Literal.Known true
+        → at + 1 ≡ length code.new) }
+    ensures recent { IfOk result (λ at. literal.now ≢ Literal.Known false → length code.old ≤ hit + RECENT
+        → length code.new ≤ at + RECENT) }
+
+    // It is near enough for a branch in front of so much more.
+    ensures near { IfOk result (λ at. (more : ℕ)
+        → length code.old + size_of_literal literal.now + more ≤ hit + 1 + REACH
+        → length code.old + size_of_literal literal.now + more ≤ miss + 1 + REACH
+        → length code.new + more ≤ at + 1 + REACH) }
+    ensures longer { OnOk result (length code.new ≤ length code.old + size_of_literal literal.now) }
+    ensures keeps { Keeps code.old code.new }
+    ensures grows { length code.old ≤ length code.new }
+{
+    match *literal {
+        Literal::Known(holds) => {
+            if holds {
+                return Ok(hit);
+            }
+            Ok(miss)
+        }
+        Literal::Asked(atom, wanted) => {
+            if wanted {
+                return ask(code, &atom, hit, miss);
+            }
+            ask(code, &atom, miss, hit)
+        }
+    }
+}
+
+/// Tests a clause, whatever is in A.
+fn test_clause(
+    code: &mut Code,
+    clause: &Clause,
+    hit: usize,
+    miss: usize,
+) -> Result<usize, AllocError>
+    requires within { IsWithin clause.now }
+    requires possible { IsPossible clause.now }
+    requires hit_inside { hit < length code.old }
+    requires miss_inside { miss < length code.old }
+    requires hit_recent { length code.old ≤ hit + RECENT }
+    requires miss_near { length code.old + size_of_clause clause.now ≤ miss + 1 + REACH }
+    ensures gives { IfOk result (λ at. (call : SysCall) (value most : ℕ)
+        → GivesAlways code.old call (if clause_holds clause.now call then hit else miss) value most
+        → GivesAlways code.new call at value (most + size_of_clause clause.now)) }
+    ensures inside { IfOk result (λ at. at < length code.new) }
+    ensures recent { IfOk result (λ at. length code.new ≤ at + RECENT) }
+    ensures longer { OnOk result (length code.new ≤ length code.old + size_of_clause clause.now) }
+    ensures keeps { Keeps code.old code.new }
+    ensures grows { length code.old ≤ length code.new }
+{
+    if clause.one.is_known(true) {
+        return Ok(hit);
+    }
+    if clause.one.is_known(false) {
+        return test_literal(code, &clause.other, hit, miss);
+    }
+    let rest = test_literal(code, &clause.other, hit, miss)?;
+    test_literal(code, &clause.one, hit, rest)
+}
+
+/// Tests whether all clauses from this one on hold, the last one put first. None of them is known to fail, so
+/// what is returned is near the front.
+pub(crate) fn test_clauses(
+    code: &mut Code,
+    clauses: &[Clause],
+    from: usize,
+    hit: usize,
+    miss: usize,
+) -> Result<usize, AllocError>
+    requires within { All IsWithin clauses.now }
+    requires possible { All IsPossible clauses.now }
+    requires from_in { from ≤ length clauses.now }
+    requires hit_inside { hit < length code.old }
+    requires miss_inside { miss < length code.old }
+    requires hit_recent { length code.old ≤ hit + RECENT }
+    requires miss_near { length code.old + size_of_clauses clauses.now ≤ miss + 1 + REACH }
+    ensures gives { IfOk result (λ at. (call : SysCall) (value most : ℕ)
+        → GivesAlways code.old call (if clauses_hold (drop from clauses.now) call then hit else miss) value most
+        → GivesAlways code.new call at value (most + size_of_clauses (drop from clauses.now))) }
+    ensures inside { IfOk result (λ at. at < length code.new) }
+    ensures recent { IfOk result (λ at. length code.new ≤ at + RECENT) }
+    ensures longer { OnOk result (length code.new
+        ≤ length code.old + size_of_clauses (drop from clauses.now)) }
+    ensures keeps { Keeps code.old code.new }
+    ensures grows { length code.old ≤ length code.new }
+{
+    if from == clauses.len() {
+        return Ok(hit);
+    }
+    let rest = test_clauses(code, clauses, from + 1, hit, miss)?;
+    test_clause(code, &clauses[from], rest, miss)
+}
+
+/// Puts a rule in front of what follows it.
+fn add_rule(code: &mut Code, rule: &Rule, miss: usize) -> Result<usize, AllocError>
+    requires fit { IsFit rule.now }
+    requires inside { miss < length code.old }
+    requires recent { length code.old ≤ miss + RECENT }
+    ensures gives { IfOk result (λ at. (call : SysCall) (other most : ℕ) → 0 < most
+        → GivesAlways code.old call miss other most
+        → GivesAlways code.new call at
+        (if clauses_hold rule.now.clauses.items call then rule.now.value else other)
+        (most + size_of_clauses rule.now.clauses.items)) }
+    ensures inside { IfOk result (λ at. at < length code.new) }
+    ensures recent { IfOk result (λ at. length code.new ≤ at + RECENT) }
+    ensures longer { OnOk result (length code.new
+        ≤ length code.old + (1 + size_of_clauses rule.now.clauses.items)) }
+    ensures keeps { Keeps code.old code.new }
+    ensures grows { length code.old ≤ length code.new }
+{
+    let hit = code.value(rule.value)?;
+    let place = test_clauses(code, rule.clauses.as_slice(), 0, hit, miss)?;
+    Ok(place)
+}
+
+/// Puts the rules from this one on in front of what follows them, one after another, the last one put first.
+pub(crate) fn plain(
+    code: &mut Code,
+    rules: &[Rule],
+    from: usize,
+    last: usize,
+) -> Result<usize, AllocError>
+    requires fit { All IsFit rules.now }
+    requires from_in { from ≤ length rules.now }
+    requires inside { last < length code.old }
+    requires recent { length code.old ≤ last + RECENT }
+    ensures gives { IfOk result (λ at. (call : SysCall) (other most : ℕ) → 0 < most
+        → GivesAlways code.old call last other most
+        → GivesAlways code.new call at (first_value (drop from rules.now) other call)
+        (most + size_of_rules (drop from rules.now))) }
+    ensures inside { IfOk result (λ at. at < length code.new) }
+    ensures recent { IfOk result (λ at. length code.new ≤ at + RECENT) }
+    ensures longer { OnOk result (length code.new
+        ≤ length code.old + (size_of_rules (drop from rules.now) + (length rules.now - from))) }
+    ensures keeps { Keeps code.old code.new }
+    ensures grows { length code.old ≤ length code.new }
+{
+    if from == rules.len() {
+        return Ok(last);
+    }
+    let rest = plain(code, rules, from + 1, last)?;
+    add_rule(code, &rules[from], rest)
+}
