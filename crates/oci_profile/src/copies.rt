@@ -18,7 +18,7 @@ impl Profile {
 fn copies(alloc: Global, entries: &[Entry]) -> Result<Vec<Entry>, AllocError>
     ensures { IfOk result (λ copies. copies.items ≡ entries.now) }
 {
-    let mut copies = Vec::new(alloc);
+    let mut copies = Vec::with_capacity(alloc, entries.len())?;
     for entry in entries {
         copies.push(copied(alloc, entry)?)?;
     }

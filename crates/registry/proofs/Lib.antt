@@ -11,3 +11,4 @@ pub mod Agreeing
 pub mod Removing
 pub mod Placing
 pub mod ScriptRead
+pub mod PlacedParts
