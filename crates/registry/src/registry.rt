@@ -60,8 +60,8 @@ impl Registry {
         }
     }
 
-    /// Compiles RuntimeDefault once, and later containers that ask for it get copies. If memory runs out, it is
-    /// compiled anew for each of them.
+    /// Compiles RuntimeDefault once, and later containers that ask for it get copies. If memory runs out, it
+    /// is compiled anew for each of them.
     pub fn make_ready(&mut self)
         ensures { self.new ≡ self.old }
     {
