@@ -27,7 +27,8 @@ use std::alloc::{AllocError, Global};
 /// How many questions a path may ask.
 const DEEP: usize = 64;
 
-/// How many rules may be looked at to ask questions: so many for each rule, and so many more. Filters of drawn
+/// How many rules may be looked at to ask questions: so many for each rule, and so many more. Filters of
+/// drawn
 /// lists need no more, and of profiles of the greatest weight it takes too long to try more.
 const LOOKS: usize = 24;
 

@@ -6,15 +6,15 @@ ghost use Rattle.call_data.specs.CallData.{IsCall};
 ghost use Rattle.oci_profile.specs.Meaning.{all_hold, all_of, decision_of, holds_on, names};
 ghost use Rattle.compile.specs.Residuals.{clause_holds, clauses_hold, first_value, literal_holds};
 ghost use Rattle.std.specs.Bool.{OnFalse};
-ghost use Rattle.compile.specs.Rooms.{IsFit, IsPossible, IsSmall, IsSmallClause, Says, is_large, ordered, size_of_rules};
+ghost use Rattle.compile.specs.Rooms.{IsFit, IsPossible, IsSmall, IsSmallClause, Says, is_large, ordered};
+ghost use Rattle.compile.specs.Rooms.{size_of_rules};
 ghost use Rattle.compile.specs.Sizes.{added_of};
 ghost use Rattle.compile.specs.Bounds.{conditions_at};
 ghost use Rattle.oci_profile.specs.declared.decision.Decision.{Decision};
 ghost use Rattle.oci_profile.specs.Decision.{value_of};
 
 use crate::clause::{Clause, Literal, high, low, words};
-use crate::hidden::is_hidden;
-use crate::residual::Rule;
+use crate::residual::{Rule, is_hidden};
 use oci_profile::{Cond, Entry, Op};
 use std::alloc::{AllocError, Global};
 
