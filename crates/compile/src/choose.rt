@@ -212,7 +212,7 @@ fn from(k: u32) -> Ask {
     }
 }
 
-/// All calls, of which shares are told.
+/// The number that stands for all calls; shares are parts of it.
 pub(crate) const ALL: u64 = 1024;
 
 /// How many of 1,024 calls something is taken to hold of, and how many steps they all take to find that out.

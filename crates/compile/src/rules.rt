@@ -192,7 +192,7 @@ fn clauses_of(alloc: Global, conds: &[Cond]) -> Result<Vec<Clause>, AllocError>
     Ok(clauses)
 }
 
-/// Adds an entry that names the number, unless no call comes to it.
+/// Adds an entry that names the number, unless no call reaches it.
 fn add_entry(rules: &mut Vec<Rule>, alloc: Global, entry: &Entry) -> Result<(), AllocError>
     ensures holds { OnOk result ((call : SysCall) (other : ℕ) → IsCall call
         → first_value rules.new.items other call ≡ first_value rules.old.items

@@ -120,7 +120,7 @@ fn asked(alloc: Global, profile: &Profile, nr: u32) -> Result<u64, AllocError> {
     needed(alloc, &entries[..end], nr)
 }
 
-/// As how many equalities another entry counts: more calls pass it.
+/// How many equalities any other entry counts as: more calls pass it.
 const OTHER: u64 = 10;
 
 /// What is left of rules on calls on which a clause fails.
@@ -135,7 +135,7 @@ fn without(alloc: Global, rules: &[Rule], clause: &Clause) -> Result<Vec<Rule>, 
     }
 }
 
-/// Whether what the rules return that follow is certain on each call on which this one fails.
+/// Whether the rules that follow return one value on all calls on which this one fails.
 fn is_last(alloc: Global, rules: &[Rule], at: usize) -> Result<bool, AllocError>
     requires { at < length rules.now }
 {
@@ -156,7 +156,7 @@ fn is_equality(literal: &Literal) -> bool {
     }
 }
 
-/// As how many equalities a rule counts.
+/// How many equalities a rule counts as.
 fn weight(rule: &Rule) -> u64 {
     for clause in rule.clauses.as_slice() {
         if !clause.is_alone() || !is_equality(&clause.one) {
@@ -177,9 +177,8 @@ fn are_equalities(entries: &[Entry], nr: u32) -> bool {
     true
 }
 
-/// As how many equalities the entries count that are needed for a number: those up to the first behind which
-/// what
-/// is decided is certain.
+/// How many equalities the entries up to the last that is needed for a number count as; after that one the
+/// decision is certain.
 pub(crate) fn needed(alloc: Global, entries: &[Entry], nr: u32) -> Result<u64, AllocError> {
     if are_equalities(entries, nr) {
         return Ok(entries.iter().filter(|entry| entry.names(nr)).count() as u64);
