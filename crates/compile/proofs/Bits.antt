@@ -1,5 +1,6 @@
 -- What masks leave of a word.
-use Rattle.std.proofs.Common.{◌≡◌, ◌≢◌, ℕ, zero, suc, ◌⊎◌, inl, inr, ◌<◌, ◌≤◌, ◌==◌, ◌^◌, ◌*◌, ◌+◌, ◌-◌, ◌/◌, ◌%◌, Bool, not, true, false, cond, refl, sym, ap, subst, ◌∙◌, arith}
+use Rattle.std.proofs.Common.{◌≡◌, ◌≢◌, ℕ, zero, suc, ◌⊎◌, inl, inr, ◌<◌, ◌≤◌, ◌==◌, ◌^◌, ◌*◌, ◌+◌, ◌-◌, ◌/◌}
+use Rattle.std.proofs.Common.{◌%◌, Bool, not, true, false, cond, refl, sym, ap, subst, ◌∙◌, arith}
 use Rattle.std.specs.Prelude.{bit_and, nat_le}
 use Rattle.std.proofs.lemmas.Nat.{and_assoc, and_comm, and_le_l, div-add-mod', mod_below, pow_pos}
 use Rattle.std.specs.Int.{bit_at}
@@ -89,8 +90,10 @@ none_left zero rest power word is less =
     rw none (grind (arith, nat_tests))
 none_left (suc many) rest power word is less =
     let more : suc many * power ≡ power + many * power = omega arith in
-    let some : (suc many * power == 0) ≡ false = ne_eqb (suc many * power) 0 (λ none. omega (arith, none, more, less)) in
-    let above : nat_le power word ≡ true = (let large : power ≤ word = omega (arith, is, more) in grind (arith, nat_tests)) in
+    let some : (suc many * power == 0) ≡ false = ne_eqb (suc many * power) 0
+    (λ none. omega (arith, none, more, less)) in
+    let above : nat_le power word ≡ true = (let large : power ≤ word = omega (arith, is, more) in
+    grind (arith, nat_tests)) in
     some ∙ ap not (sym above)
 
 -- what has none of the bits from one on is below that one
@@ -100,4 +103,5 @@ none_above word k mask within below is =
     let P : ℕ → Type 0 = λ m. (bit_and word m == 0) ≡ not (nat_le (2 ^ k) word) in
     let Q : ℕ → Type 0 = λ n. (n == 0) ≡ not (nat_le (2 ^ k) word) in
     subst P (sym is) (subst Q (sym (and_high_mask 32 k within word below))
-    (none_left (word / 2 ^ k) (word % 2 ^ k) (2 ^ k) word (div-add-mod' word (2 ^ k)) (mod_below word (2 ^ k) (pow_pos k))))
+    (none_left (word / 2 ^ k) (word % 2 ^ k) (2 ^ k) word (div-add-mod' word (2 ^ k))
+    (mod_below word (2 ^ k) (pow_pos k))))

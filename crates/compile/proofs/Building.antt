@@ -10,7 +10,8 @@ use Rattle.bpf_code.specs.declared.operation.Operation.TheVariants.{AndK, LoadDa
 use Rattle.bpf_code.specs.declared.operation.Operation.{Operation}
 use Rattle.std.specs.declared.alloc.AllocError.{AllocError}
 use Rattle.call_data.specs.declared.sys_call.SysCall.{SysCall}
-use Rattle.compile.specs.Backward.{LeadsTo, Extends, Gives, Keeps, Puts, IsBackward, PointsInside, Returns, BranchesTo}
+use Rattle.compile.specs.Backward.{LeadsTo, Extends, Gives, Keeps, Puts, IsBackward, PointsInside, Returns}
+use Rattle.compile.specs.Backward.{BranchesTo}
 use Rattle.compile.specs.Backward.{data_word}
 use Rattle.std.specs.Prelude.{bit_and}
 use Rattle.compile.specs.Tests.{operation_of, holds_of}
@@ -53,7 +54,13 @@ puts_pushed old insn = record {
 
 pub extends_pushed : (old : List Insn) (insn : Insn) → Extends old (old ++ insn ∷ [])
 extends_pushed old insn begin is =
-    let inside : length begin ≤ length old = omega (arith, ap length is, length-take (length begin) old, min-le_right (length begin) (length old)) in
+    let inside : length begin ≤ length old = omega (
+      arith,
+      ap length is,
+      length-take
+          (length begin) old,
+      min-le_right (length begin) (length old),
+    ) in
     take-append-le (length begin) old (insn ∷ []) inside ∙ is
 
 -- what stands in code with one instruction in front
@@ -177,7 +184,8 @@ jump_gives test insn old new call a hit miss value most puts op hit_in miss_in j
     (subst P (sym op) (branch_leads test call insn (length old) a hit miss hit_in miss_in jt jf)) on
 
 -- where a branch stands already
-pub branch_gives : (test : Test) (insn : Insn) (code : List Insn) (call : SysCall) (at a hit miss value most : ℕ)
+pub branch_gives : (test : Test) (insn : Insn) (code : List Insn) (call : SysCall)
+    (at a hit miss value most : ℕ)
     → slice_get code at ≡ Some insn → insn.op ≡ operation_of test → hit < at → miss < at
     → insn.jt ≡ at - 1 - hit → insn.jf ≡ at - 1 - miss
     → Gives code call (cond (holds_of test insn.k a) hit miss) a value most
@@ -195,7 +203,8 @@ load_gives insn code call at a value most stands op inside on =
     let P : Operation → Type 0 = λ o. PointsInside o insn at in
     let Q : Operation → Type 0 = λ o. LeadsTo o call insn at a (at - 1) (data_word call insn.k) in
     let some : 0 < at = (subst P op inside).2 in
-    leads insn stands (at - 1) (data_word call insn.k) most (subst Q (sym op) (omega arith, refl)) (omega arith)
+    leads insn stands (at - 1) (data_word call insn.k) most (subst Q (sym op) (omega arith, refl))
+    (omega arith)
     on
 
 pub mask_gives : (insn : Insn) (code : List Insn) (call : SysCall) (at a value most : ℕ)

@@ -1,5 +1,6 @@
 -- Rules, and what is left of them.
-use Rattle.std.proofs.Common.{◌≡◌, ℕ, ◌+◌, ◌-◌, ◌<◌, arith, List, [], ◌∷◌, ◌++◌, cond, drop, get_or, length, take, refl, sym, ap, subst, ◌∙◌, Bool, true, false, Option, Some}
+use Rattle.std.proofs.Common.{◌≡◌, ℕ, ◌+◌, ◌-◌, ◌<◌, arith, List, [], ◌∷◌, ◌++◌, cond, drop, get_or, length}
+use Rattle.std.proofs.Common.{take, refl, sym, ap, subst, ◌∙◌, Bool, true, false, Option, Some}
 use Rattle.std.specs.Prelude.{IfSome}
 use Rattle.std.proofs.lemmas.List.{at_drop_more, length-drop, take_all, take-append-drop}
 use Rattle.call_data.specs.declared.sys_call.SysCall.{SysCall}
@@ -48,7 +49,8 @@ pub certain_from : (rules : List Rule) (at other value : ℕ) (call : SysCall) (
     → first_value (drop at rules) other call ≡ value
 certain_from rules at other value call rule inside is same behind =
     first_from rules at other call rule inside is
-    ∙ either_is (clauses_hold rule.clauses.items call) rule.value (first_value (drop (at + 1) rules) other call)
+    ∙ either_is (clauses_hold rule.clauses.items call) rule.value
+    (first_value (drop (at + 1) rules) other call)
     value same behind
 
 -- a rule that always holds returns its value

@@ -1,5 +1,6 @@
 -- Clauses that are added, and what they say.
-use Rattle.std.proofs.Common.{◌≡◌, ℕ, ◌+◌, ◌≤◌, ◌==◌, ◌&&◌, ◌/◌, ◌%◌, Bool, true, false, not, cond, List, [], ◌∷◌, ◌++◌}
+use Rattle.std.proofs.Common.{◌≡◌, ℕ, ◌+◌, ◌≤◌, ◌==◌, ◌&&◌, ◌/◌, ◌%◌, Bool, true, false, not, cond, List, []}
+use Rattle.std.proofs.Common.{◌∷◌, ◌++◌}
 use Rattle.std.proofs.Common.{refl, sym, ap, ◌∙◌, arith}
 use Rattle.std.specs.Prelude.{◌||◌, All, bit_and, nat_le, nat_lt}
 use Rattle.std.proofs.lemmas.Bool.Decides.{nat_tests}
@@ -13,7 +14,8 @@ use Rattle.oci_profile.specs.Meaning.{all_hold, all_of}
 use Rattle.compile.specs.declared.clause.Clause.{Clause}
 use Rattle.compile.specs.declared.residual.Rule.{Rule}
 use Rattle.compile.specs.Residuals.{clause_holds, clauses_hold}
-use Rattle.compile.specs.Rooms.{IsSmallClause, IsWithin, Says, is_large, size_of_clause, size_of_clauses, size_of_rules}
+use Rattle.compile.specs.Rooms.{IsSmallClause, IsWithin, Says, is_large, size_of_clause, size_of_clauses}
+use Rattle.compile.specs.Rooms.{size_of_rules}
 use Rattle.compile.proofs.Words.{eq_halves, masked_halves, from_halves, above_halves}
 
 and_true : (b : Bool) → (b && true) ≡ b
@@ -144,7 +146,8 @@ entry_says entry conds clauses n call same says is_call =
     says.same call is_call ∙ ap (λ cs. all_of cs call) same
 
 -- clauses that say something by themselves
-pub says_is : (clauses slice : List Clause) (holds : SysCall → Bool) (n : ℕ) (call : SysCall) → slice ≡ clauses
+pub says_is : (clauses slice : List Clause) (holds : SysCall → Bool) (n : ℕ) (call : SysCall)
+    → slice ≡ clauses
     → Says [] clauses holds n → IsCall call → clauses_hold slice call ≡ holds call
 says_is clauses slice holds n call same says is_call =
     ap (λ cs. clauses_hold cs call) same ∙ says.same call is_call

@@ -15,7 +15,8 @@ use Rattle.compile.proofs.Bits.{seen_masked, seen_whole}
 
 -- a view that is held is the one that is needed
 pub held : (base view : View) (code : List Insn) (call : SysCall) (at value most : ℕ) → base.offset < DATA_LEN
-    → view ≡ base → Gives code call at (shown base call) value most → GivesWith view code call at value (most + 0)
+    → view ≡ base → Gives code call at (shown base call) value most
+    → GivesWith view code call at value (most + 0)
 held base view code call at value most known same gives a has =
     let P : View → Type 0 = λ v. HasView v call a in
     let here : a ≡ shown base call = subst P same has known in
@@ -25,7 +26,8 @@ held base view code call at value most known same gives a has =
     subst Q (sym here) (subst R none gives)
 
 -- a whole word is what is loaded
-pub word_of : (base : View) (call : SysCall) → base.mask ≡ WHOLE → shown base call ≡ data_word call base.offset
+pub word_of : (base : View) (call : SysCall) → base.mask ≡ WHOLE
+    → shown base call ≡ data_word call base.offset
 word_of base call whole = seen_whole base.mask (data_word call base.offset) whole
 
 -- a masked word is what is loaded, under the mask

@@ -75,7 +75,7 @@ impl Ask {
         }
     }
 
-    /// The answer for all other numbers than this, if there is just one.
+    /// The answer for all numbers but this one, if it is the same for all.
     fn of_others(self, number: u32) -> Option<bool>
         ensures { IfSome result (λ holds. (other : ℕ) → asks (Ask.Equal number) other ≡ false
             → asks self other ≡ holds) }
@@ -86,7 +86,7 @@ impl Ask {
         }
     }
 
-    /// The answer for all numbers from this one on, if there is just one.
+    /// The answer for all numbers from this one on, if it is the same for all.
     fn from(self, start: u32) -> Option<bool>
         ensures { IfSome result (λ holds. (number : ℕ) → asks (Ask.AtLeast start) number ≡ true
             → asks self number ≡ holds) }
@@ -98,7 +98,7 @@ impl Ask {
         }
     }
 
-    /// The answer for all numbers below this one, if there is just one.
+    /// The answer for all numbers below this one, if it is the same for all.
     fn below(self, end: u32) -> Option<bool>
         ensures { IfSome result (λ holds. (number : ℕ) → asks (Ask.AtLeast end) number ≡ false
             → asks self number ≡ holds) }
@@ -110,7 +110,7 @@ impl Ask {
         }
     }
 
-    /// The answer for all numbers of which another question has this answer, if there is just one.
+    /// The answer for all numbers for which another question has a given answer, if it is the same for all.
     fn where_known(self, given: Ask, answer: bool) -> Option<bool>
         ensures { IfSome result (λ holds. (number : ℕ) → asks given number ≡ answer
             → asks self number ≡ holds) }
@@ -202,7 +202,7 @@ impl Atom {
         }
     }
 
-    /// Whether this holds of each call of which another one has this answer, if that settles it.
+    /// The answer on calls on which another question has a given answer, if that settles it.
     pub(crate) fn where_known(&self, given: &Atom, answer: bool) -> Option<bool>
         ensures { IfSome result (λ holds. (call : SysCall) → atom_holds given.now call ≡ answer
             → atom_holds self.now call ≡ holds) }
@@ -258,7 +258,7 @@ impl Atom {
         given.ask.of(seen(given.view.mask, number)) != answer
     }
 
-    /// Whether all words are below this number of which this does not hold.
+    /// Whether every word for which the answer is no is below this number.
     fn is_below(&self, number: u32) -> bool
         ensures { IsTrue result → (word : ℕ) → asks self.now.ask (seen self.now.view.mask word) ≡ false
             → word < number }

@@ -98,7 +98,7 @@ fn brought_at(code: &Code, front: usize, base: View, view: View) -> Option<Way>
     })
 }
 
-/// The same where a whole word is to be held.
+/// The same where the branch needs a whole word in A.
 fn loaded_at(code: &Code, front: usize, base: View, view: View) -> Option<Way>
     requires { base.mask ≡ WHOLE }
     ensures gives { IfSome result (λ way. (call : SysCall) (value most : ℕ)

@@ -1,4 +1,5 @@
-ghost use Rattle.std.specs.Prelude.{◌≡◌, ◌<◌, ◌+◌, ◌*◌, ◌/◌, ◌%◌, ◌^◌, ◌==◌, ◌||◌, ℕ, IsTrue, true, false, not};
+ghost use Rattle.std.specs.Prelude.{◌≡◌, ◌<◌, ◌+◌, ◌*◌, ◌/◌, ◌%◌, ◌^◌, ◌==◌, ◌||◌, ℕ, IsTrue, true, false};
+ghost use Rattle.std.specs.Prelude.{not};
 ghost use Rattle.std.specs.Prelude.{◌≢◌, bit_and, nat_le, nat_lt, slice_index};
 ghost use Rattle.call_data.specs.declared.sys_call.SysCall.{SysCall};
 ghost use Rattle.call_data.specs.CallData.{IsCall};
@@ -143,7 +144,7 @@ impl Literal {
         }
     }
 
-    /// The same on each call of which the atom has this answer, as far as it is not settled.
+    /// What is left of it on calls on which the atom has this answer.
     fn where_known(self, given: &Atom, answer: bool) -> Literal
         ensures { (call : SysCall) → atom_holds given.now call ≡ answer
             → literal_holds result call ≡ literal_holds self call }
@@ -198,7 +199,7 @@ impl Clause {
         }
     }
 
-    /// The same on each call of which the atom has this answer.
+    /// What is left of it on calls on which the atom has this answer.
     pub(crate) fn where_known(&self, given: &Atom, answer: bool) -> Clause
         ensures { (call : SysCall) → atom_holds given.now call ≡ answer
             → clause_holds result call ≡ clause_holds self.now call }

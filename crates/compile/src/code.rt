@@ -326,7 +326,7 @@ impl Code {
         insn.k == bits
     }
 
-    /// Takes the instructions away that were put last, so that so many are left.
+    /// Removes the instructions that were put in front last, down to this length.
     pub(crate) fn cut(&mut self, len: usize)
         ensures { self.new ≡ take len self.old }
     {

@@ -27,8 +27,8 @@ use std::alloc::{AllocError, Global};
 /// How many questions a path may ask.
 const DEEP: usize = 64;
 
-/// How many rules may be looked at to ask questions: so many for each rule, and so many more. Filters of drawn
-/// lists need no more, and of profiles of the greatest weight it takes too long to try more.
+/// How many rules may be looked at to ask questions, for each rule, and how many more. Drawn lists need no
+/// more, and profiles of the greatest weight would take too long.
 const LOOKS: usize = 24;
 
 const MORE: usize = 100;
@@ -153,7 +153,7 @@ fn may_be_asked(entries: &[Entry], nr: u32) -> bool
     true
 }
 
-/// Whether so many steps are enough for so many conditions.
+/// Whether this number of steps keeps the promise for this number of conditions.
 fn is_quick(most: usize, conditions: usize, is_asked: bool) -> bool
     requires { conditions < 2 ^ 32 }
     ensures each { IsTrue result → most ≤ 1 + 6 * conditions }

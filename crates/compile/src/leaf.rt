@@ -1,5 +1,6 @@
 ghost use Rattle.std.specs.Bool.{OnFalse};
-ghost use Rattle.std.specs.Prelude.{◌≡◌, ◌≤◌, ◌<◌, ◌+◌, ◌*◌, ◌^◌, ℕ, false, length, take, true, IfOk, IsTrue, OnOk};
+ghost use Rattle.std.specs.Prelude.{◌≡◌, ◌≤◌, ◌<◌, ◌+◌, ◌*◌, ◌^◌, ℕ, false, length, take, true, IfOk, IsTrue};
+ghost use Rattle.std.specs.Prelude.{OnOk};
 ghost use Rattle.call_data.specs.declared.sys_call.SysCall.{SysCall};
 ghost use Rattle.call_data.specs.CallData.{IsCall};
 ghost use Rattle.oci_profile.specs.Decision.{value_of};
@@ -39,7 +40,8 @@ fn plain_leaf(
     plain(code, rules.as_slice(), 0, place)
 }
 
-/// Emits what the entries decide of a number: many equalities of one argument by a search among their numbers,
+/// Emits what the entries decide of a number: many equalities of one argument by a search among their
+/// numbers,
 /// other entries one after another.
 fn other_leaf(
     code: &mut Code,

@@ -21,10 +21,7 @@ mod code;
 mod compiler;
 mod diagram;
 mod fault;
-mod hidden;
 mod leaf;
-mod needed;
-mod odds;
 mod order;
 mod ordered;
 mod plain;
@@ -35,7 +32,6 @@ mod rules;
 mod search;
 mod shares;
 mod tree;
-mod weight;
 
 pub use compiler::compile;
 pub use fault::CompileFault;

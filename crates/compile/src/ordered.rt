@@ -4,7 +4,7 @@ ghost use Rattle.compile.specs.Residuals.{first_value};
 
 use crate::apart::{arguments, first_argument};
 use crate::atom::NOWHERE;
-use crate::odds::{Odds, is_better, rule_odds};
+use crate::choose::{Odds, is_better, rule_odds};
 use crate::residual::Rule;
 
 /// Exchanges a rule and the next one if they return the same: which of them holds does not matter then.

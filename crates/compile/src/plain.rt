@@ -1,4 +1,5 @@
-ghost use Rattle.std.specs.Prelude.{◌≡◌, ◌≢◌, ◌≤◌, ◌<◌, ◌+◌, ◌-◌, ◌*◌, ◌%◌, ◌==◌, ℕ, All, IfOk, OnOk, drop, false, true};
+ghost use Rattle.std.specs.Prelude.{◌≡◌, ◌≢◌, ◌≤◌, ◌<◌, ◌+◌, ◌-◌, ◌*◌, ◌%◌, ◌==◌, ℕ, All, IfOk, OnOk, drop};
+ghost use Rattle.std.specs.Prelude.{false, true};
 ghost use Rattle.std.specs.Prelude.{if◌then◌else◌, length};
 ghost use Rattle.bpf_code.specs.declared.limits.TheConstants.{DATA_LEN};
 ghost use Rattle.call_data.specs.declared.sys_call.SysCall.{SysCall};
@@ -138,7 +139,8 @@ pub(crate) fn test_clauses(
     requires hit_recent { length code.old ≤ hit + RECENT }
     requires miss_near { length code.old + size_of_clauses clauses.now ≤ miss + 1 + REACH }
     ensures gives { IfOk result (λ at. (call : SysCall) (value most : ℕ)
-        → GivesAlways code.old call (if clauses_hold (drop from clauses.now) call then hit else miss) value most
+        → GivesAlways code.old call (if clauses_hold (drop from clauses.now) call then hit
+        else miss) value most
         → GivesAlways code.new call at value (most + size_of_clauses (drop from clauses.now))) }
     ensures inside { IfOk result (λ at. at < length code.new) }
     ensures recent { IfOk result (λ at. length code.new ≤ at + RECENT) }

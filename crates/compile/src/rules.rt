@@ -6,15 +6,15 @@ ghost use Rattle.call_data.specs.CallData.{IsCall};
 ghost use Rattle.oci_profile.specs.Meaning.{all_hold, all_of, decision_of, holds_on, names};
 ghost use Rattle.compile.specs.Residuals.{clause_holds, clauses_hold, first_value, literal_holds};
 ghost use Rattle.std.specs.Bool.{OnFalse};
-ghost use Rattle.compile.specs.Rooms.{IsFit, IsPossible, IsSmall, IsSmallClause, Says, is_large, ordered, size_of_rules};
+ghost use Rattle.compile.specs.Rooms.{IsFit, IsPossible, IsSmall, IsSmallClause, Says, is_large, ordered};
+ghost use Rattle.compile.specs.Rooms.{size_of_rules};
 ghost use Rattle.compile.specs.Sizes.{added_of};
 ghost use Rattle.compile.specs.Bounds.{conditions_at};
 ghost use Rattle.oci_profile.specs.declared.decision.Decision.{Decision};
 ghost use Rattle.oci_profile.specs.Decision.{value_of};
 
 use crate::clause::{Clause, Literal, high, low, words};
-use crate::hidden::is_hidden;
-use crate::residual::Rule;
+use crate::residual::{Rule, is_hidden};
 use oci_profile::{Cond, Entry, Op};
 use std::alloc::{AllocError, Global};
 
@@ -192,7 +192,7 @@ fn clauses_of(alloc: Global, conds: &[Cond]) -> Result<Vec<Clause>, AllocError>
     Ok(clauses)
 }
 
-/// Adds an entry that names the number, unless no call comes to it.
+/// Adds an entry that names the number, unless no call reaches it.
 fn add_entry(rules: &mut Vec<Rule>, alloc: Global, entry: &Entry) -> Result<(), AllocError>
     ensures holds { OnOk result ((call : SysCall) (other : ℕ) → IsCall call
         → first_value rules.new.items other call ≡ first_value rules.old.items

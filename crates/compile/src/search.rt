@@ -1,4 +1,5 @@
-ghost use Rattle.std.specs.Prelude.{◌≡◌, ◌≢◌, ◌≤◌, ◌<◌, ◌+◌, ◌-◌, ◌*◌, ◌^◌, ◌==◌, ℕ, IfOk, OnOk, length, slice_index};
+ghost use Rattle.std.specs.Prelude.{◌≡◌, ◌≢◌, ◌≤◌, ◌<◌, ◌+◌, ◌-◌, ◌*◌, ◌^◌, ◌==◌, ℕ, IfOk, OnOk, length};
+ghost use Rattle.std.specs.Prelude.{slice_index};
 ghost use Rattle.std.specs.Prelude.{if◌then◌else◌, [], All, IfSome, IsSome, IsTrue, None, nat_le, true};
 ghost use Rattle.std.specs.Bool.{OnFalse};
 ghost use Rattle.call_data.specs.declared.sys_call.SysCall.{SysCall};
@@ -202,7 +203,8 @@ pub(crate) fn points_for(
 /// The clauses of whether an argument equals a number.
 fn equal_to(alloc: Global, index: u32, number: u64) -> Result<Vec<Clause>, AllocError>
     requires { index < 6 }
-    ensures { IfOk result (λ clauses. Says [] clauses.items (λ call. slice_index call.args index == number) 4) }
+    ensures { IfOk result (λ clauses. Says [] clauses.items
+        (λ call. slice_index call.args index == number) 4) }
 {
     let mut clauses = Vec::new(alloc);
     add_equal(&mut clauses, index, number)?;

@@ -1,8 +1,13 @@
 ghost use Rattle.std.specs.Prelude.{◌<◌, length};
 
+use crate::apart::certain;
+use crate::atom::{Ask, WHOLE};
+use crate::clause::{Clause, Literal};
 use crate::leaf::bare_end;
-use crate::needed::needed;
-use oci_profile::Profile;
+use crate::residual::{Rule, rules_where};
+use crate::rules::rules_of;
+use crate::search::is_equal;
+use oci_profile::{Entry, Profile};
 use std::alloc::{AllocError, Global};
 
 /// What precedence numbers with conditions have where tests are put in order. Since Linux 5.11 no filter runs
@@ -114,3 +119,81 @@ fn asked(alloc: Global, profile: &Profile, nr: u32) -> Result<u64, AllocError> {
     let (end, _) = bare_end(entries, profile.default, nr);
     needed(alloc, &entries[..end], nr)
 }
+
+/// How many equalities any other entry counts as: more calls pass it.
+const OTHER: u64 = 10;
+
+/// What is left of rules on calls on which a clause fails.
+fn without(alloc: Global, rules: &[Rule], clause: &Clause) -> Result<Vec<Rule>, AllocError> {
+    match (clause.one, clause.other) {
+        (Literal::Asked(one, wanted), Literal::Asked(other, also)) => {
+            let left = rules_where(alloc, rules, &one, !wanted)?;
+            rules_where(alloc, left.as_slice(), &other, !also)
+        }
+        (Literal::Asked(one, wanted), _) => rules_where(alloc, rules, &one, !wanted),
+        _ => Ok(Vec::new(alloc)),
+    }
+}
+
+/// Whether the rules that follow return one value on all calls on which this one fails.
+fn is_last(alloc: Global, rules: &[Rule], at: usize) -> Result<bool, AllocError>
+    requires { at < length rules.now }
+{
+    for clause in rules[at].clauses.as_slice() {
+        let left = without(alloc, &rules[at + 1..], clause)?;
+        if certain(left.as_slice()).is_none() {
+            return Ok(false);
+        }
+    }
+    Ok(true)
+}
+
+/// Whether a literal asks for equality.
+fn is_equality(literal: &Literal) -> bool {
+    match *literal {
+        Literal::Asked(atom, true) => atom.view.mask == WHOLE && matches!(atom.ask, Ask::Equal(_)),
+        _ => false,
+    }
+}
+
+/// How many equalities a rule counts as.
+fn weight(rule: &Rule) -> u64 {
+    for clause in rule.clauses.as_slice() {
+        if !clause.is_alone() || !is_equality(&clause.one) {
+            return OTHER;
+        }
+    }
+    1
+}
+
+/// Whether each entry that names a number asks for equality alone.
+fn are_equalities(entries: &[Entry], nr: u32) -> bool {
+    for entry in entries {
+        let conds = entry.conds.as_slice();
+        if entry.names(nr) && !conds.iter().all(|cond| is_equal(cond.op)) {
+            return false;
+        }
+    }
+    true
+}
+
+/// How many equalities the entries up to the last that is needed for a number count as; after that one the
+/// decision is certain.
+pub(crate) fn needed(alloc: Global, entries: &[Entry], nr: u32) -> Result<u64, AllocError> {
+    if are_equalities(entries, nr) {
+        return Ok(entries.iter().filter(|entry| entry.names(nr)).count() as u64);
+    }
+    let all = rules_of(alloc, entries, nr)?;
+    let rules = all.as_slice();
+    let mut count: u64 = 0;
+    for at in 0..rules.len() {
+        count = count.saturating_add(weight(&rules[at]));
+        if count >= COUNTED || is_last(alloc, rules, at)? {
+            return Ok(count);
+        }
+    }
+    Ok(count)
+}
+
+/// How many are counted.
+const COUNTED: u64 = 20;

@@ -5,5 +5,6 @@ use Rattle.compile.specs.Residuals.{first_value}
 use Rattle.compile.proofs.apart.certain.Given as goal
 
 abbrev pub invariant-loop-rule : goal.invariant-loop-rule
-invariant-loop-rule l = (call : SysCall) (other : ℕ) → first_value (drop l.rule-index l.rules) other call ≡ l.value
+invariant-loop-rule l = (call : SysCall) (other : ℕ)
+    → first_value (drop l.rule-index l.rules) other call ≡ l.value
     → first_value l.rules other call ≡ l.value

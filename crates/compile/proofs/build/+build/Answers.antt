@@ -31,7 +31,8 @@ returns-in-Some-boundary-clause-gives t c =
     → WayGives c.args.view new call way (first_value rules other call) in
     found_weaker c.build-in-Some-boundary.result Front Wanted (λ way gives call other last.
     let P : ℕ → Type 0 = λ value. WayGives c.args.view new call way value in
-    subst P (first_parted rules at other call) (gives call (first_value (take (length rules - at) (drop at rules)) other call)
+    subst P (first_parted rules at other call) (gives call
+    (first_value (take (length rules - at) (drop at rules)) other call)
     (left_some c.in_ok-rest.field-0 c.in-Some-2.rest Rest c.in-Some-2.is c.in_ok-rest.ensures.gives call
     other last)))
     c.build-in-Some-boundary.ensures.gives

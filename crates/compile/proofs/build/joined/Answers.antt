@@ -25,7 +25,8 @@ returns-then-probe-clause-gives c =
     → WayGives probe.base c.args.code.now call (cond (told probe call) c.args.yes c.args.no) value
     → WayGives c.args.view c.branch-code.new.code call way value in
     found_weaker c.branch-code.result Branch Wanted (λ way gives call value leads. gives call value
-    (turned_way probe.is_turned (holds_of probe.test probe.k (shown probe.base call)) probe.base c.args.code.now
+    (turned_way probe.is_turned (holds_of probe.test probe.k (shown probe.base call)) probe.base
+    c.args.code.now
     call c.args.yes c.args.no value c.if-probe.true leads))
     c.branch-code.ensures.gives
 

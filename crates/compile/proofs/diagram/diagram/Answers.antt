@@ -18,7 +18,8 @@ returns-then-is_good-clause-gives c = λ call is_call.
     → WayGives NOWHERE c.parts.new.code at way (first_value c.as_slice.result.now other at) in
     told_way c.parts.new.code c.in-Some.way call c.as_slice.result.now c.ordered-rules.result.items
     c.value.result (value_of c.args.last.now)
-    (value_of (decision_of c.args.entries.now c.args.last.now c.args.nr call)) (steps_at c.args.entries.now c.args.nr)
+    (value_of (decision_of c.args.entries.now c.args.last.now c.args.nr call))
+    (steps_at c.args.entries.now c.args.nr)
     c.as_slice.ensures.value c.value.ensures (c.ordered-rules.ensures call (value_of c.args.last.now)
     ∙ c.in_ok-named.ensures.same call c.args.last.now is_call)
     (omega (arith, c.if-is_good.ensures.each refl, c.counts-counts.ensures.conditions))
@@ -37,6 +38,7 @@ returns-then-is_good-clause-balanced c = λ call index digits is_call asked belo
     ∙ c.in_ok-named.ensures.same call c.args.last.now is_call)
     (c.if-is_good.ensures.balanced refl
     (surely c.may_be_asked.result ((one : ℕ) → AreAsked one c.args.entries.now c.args.nr → ⊥)
-    c.may_be_asked.ensures (λ never. never index asked)) digits (omega (arith, below, c.counts-counts.ensures.conditions)))
+    c.may_be_asked.ensures (λ never. never index asked)) digits
+    (omega (arith, below, c.counts-counts.ensures.conditions)))
     (left_some c.in_ok-found.found c.in-Some.way Found c.in-Some.is c.in_ok-found.ensures.gives call
     c.value.result (λ a _. c.in_ok-at.ensures.gives call a))

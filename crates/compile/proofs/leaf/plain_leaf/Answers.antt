@@ -30,7 +30,8 @@ returns-clause-gives c =
     ∙ ap (λ v. first_value c.in_ok-rules.rules.items v call) c.value.ensures
     ∙ c.in_ok-rules.ensures.same call c.args.last.now is_call in
     let P : ℕ → Type 0 = λ value. GivesAlways new call at value (steps_at c.args.entries.now c.args.nr) in
-    subst P same (GivesAlways-more new call at (first_value slice c.value.result call) (1 + size_of_rules slice)
+    subst P same (GivesAlways-more new call at (first_value slice c.value.result call)
+    (1 + size_of_rules slice)
     (steps_at c.args.entries.now c.args.nr) (gives call c.value.result 1 (omega arith)
     (c.in_ok-place.ensures.gives call))
     (omega (arith, c.in_ok-rules.ensures.size, ap size_of_rules c.as_slice.ensures.value))))

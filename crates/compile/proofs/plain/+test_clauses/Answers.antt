@@ -16,7 +16,8 @@ returns-then-from-clauses-clause-gives t c = λ call value most gives.
     let left : List Clause = drop c.args.from c.args.clauses.now in
     GivesAlways-more c.args.code.now call c.args.hit value most (most + size_of_clauses left)
     (by_test c.args.code.now call (clauses_hold left call) true c.args.hit c.args.miss value most
-    (ap (λ cs. clauses_hold cs call) (drop_all c.args.from c.args.clauses.now (omega arith))) gives) (omega arith)
+    (ap (λ cs. clauses_hold cs call) (drop_all c.args.from c.args.clauses.now (omega arith))) gives)
+    (omega arith)
 
 pub test_clause-requires-clause-miss_near : goal.test_clause-requires-clause-miss_near
 test_clause-requires-clause-miss_near t c =

@@ -19,7 +19,8 @@ returns-then-is_known-clause-gives c = λ call value most gives.
     let clause : Clause = c.args.clause.now in
     GivesAlways-more c.args.code.now call c.args.hit value most (most + size_of_clause clause)
     (by_test c.args.code.now call (clause_holds clause call) true c.args.hit c.args.miss value most
-    (ap (λ b. b || literal_holds clause.other call) (c.if-is_known.ensures.holds refl call)) gives) (omega arith)
+    (ap (λ b. b || literal_holds clause.other call) (c.if-is_known.ensures.holds refl call)) gives)
+    (omega arith)
 
 pub returns-then-is_known-2-clause-gives : goal.returns-then-is_known-2-clause-gives
 returns-then-is_known-2-clause-gives c =

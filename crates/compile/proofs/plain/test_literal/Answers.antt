@@ -11,12 +11,14 @@ use Rattle.compile.proofs.plain.test_literal.Goals as goal
 
 pub returns-then-holds-clause-gives : goal.returns-then-holds-clause-gives
 returns-then-holds-clause-gives c = λ call value most gives.
-    known_gives c.args.code.now call c.args.literal.now c.in-Known.holds true c.args.hit c.args.miss value most
+    known_gives c.args.code.now call c.args.literal.now c.in-Known.holds true c.args.hit c.args.miss value
+    most
     c.in-Known.is c.if-holds.true gives
 
 pub returns-else-holds-clause-gives : goal.returns-else-holds-clause-gives
 returns-else-holds-clause-gives c = λ call value most gives.
-    known_gives c.args.code.now call c.args.literal.now c.in-Known.holds false c.args.hit c.args.miss value most
+    known_gives c.args.code.now call c.args.literal.now c.in-Known.holds false c.args.hit c.args.miss value
+    most
     c.in-Known.is c.if-holds.false gives
 
 pub returns-then-wanted-clause-gives : goal.returns-then-wanted-clause-gives

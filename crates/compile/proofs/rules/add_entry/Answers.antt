@@ -19,7 +19,8 @@ returns-then-is_void-clause-holds c = λ call other is_call.
 
 pub returns-then-is_hidden-clause-holds : goal.returns-then-is_hidden-clause-holds
 returns-then-is_hidden-clause-holds c = λ call other is_call.
-    hidden_value c.args.rules.now.items call (all_hold c.args.entry.now call) (value_of c.args.entry.now.decision)
+    hidden_value c.args.rules.now.items call (all_hold c.args.entry.now call)
+    (value_of c.args.entry.now.decision)
     other (λ holds one two.
     let here : clauses_hold c.as_slice-4.result.now call ≡ true =
     ap (λ cs. clauses_hold cs call) c.as_slice-4.ensures.value

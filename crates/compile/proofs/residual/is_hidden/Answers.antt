@@ -1,7 +1,7 @@
 use Rattle.std.proofs.Common.{refl, ap, ◌∙◌, sym}
 use Rattle.compile.specs.Residuals.{clauses_hold}
 use Rattle.compile.proofs.Restricting.{reached}
-use Rattle.compile.proofs.hidden.is_hidden.Goals as goal
+use Rattle.compile.proofs.residual.is_hidden.Goals as goal
 
 pub returns-then-follow : goal.returns-then-follow
 returns-then-follow c = λ _ call holds one other.
