@@ -1,6 +1,7 @@
 //! A runtime that serves requests.
 use crate::filters::filter;
 use crate::requests::request_of;
+use creation::KeptTexts;
 use cri_msgs::{Answer, Refusal, Reply, Request};
 use runtime_cell::{Did, State};
 use runtime_core::{Contents, FileAnswers, Runtime};
@@ -10,7 +11,8 @@ use trials::{Came, Told, Trial, files, tried};
 /// Tries to serve the request of this text.
 pub(crate) fn told(rt: &HostRuntime, name: &str, text: &str) -> Option<Told> {
     match name {
-        "serve" => Some(tried(rt, Serves::new(rt.alloc(), text))),
+        "serve" => Some(tried(rt, Serves::new(rt.alloc(), text, false))),
+        "prepare and serve" => Some(tried(rt, Serves::new(rt.alloc(), text, true))),
         "Runtime::step" => Some(tried(rt, Steps::new(rt.alloc()))),
         _ => None,
     }
@@ -61,10 +63,18 @@ fn begun(alloc: Global) -> Option<Runtime> {
     Some(runtime)
 }
 
-/// `Runtime::serve`: a runtime, another one like it, and the inputs of two calls.
+/// What a shared runtime does with the results of reading files before it takes a lock.
+fn prepared(alloc: Global, texts: &mut KeptTexts, files: FileAnswers) -> FileAnswers {
+    let files = texts.lend(files).prepared(alloc);
+    texts.keep(files.new_texts(alloc));
+    files
+}
+
+/// `Runtime::serve`: a runtime, another one like it, and the inputs of two calls, which may be prepared first.
 #[derive(Drop)]
 struct Serves {
     alloc: Global,
+    texts: Option<KeptTexts>,
     runtime: Runtime,
     twin: Runtime,
     given: Vec<(Request, FileAnswers)>,
@@ -72,7 +82,7 @@ struct Serves {
 }
 
 impl Serves {
-    fn new(alloc: Global, text: &str) -> Option<Serves> {
+    fn new(alloc: Global, text: &str, is_prepared: bool) -> Option<Serves> {
         let mut given = Vec::new(alloc);
         for _ in 0..2 {
             given.push((request_of(alloc, text)?, files(alloc)?)).ok()?;
@@ -81,6 +91,7 @@ impl Serves {
         let wanted = served(alloc, &mut first, text, files(alloc)?)?;
         Some(Serves {
             alloc,
+            texts: is_prepared.then(|| KeptTexts::new(alloc)),
             runtime: begun(alloc)?,
             twin: begun(alloc)?,
             given,
@@ -101,6 +112,10 @@ impl Trial for Serves {
 
     fn call(&mut self) -> Option<Reply> {
         let (request, files) = self.given.pop()?;
+        let files = match &mut self.texts {
+            Some(texts) => prepared(self.alloc, texts, files),
+            None => files,
+        };
         Some(self.runtime.serve(request, files))
     }
 
