@@ -7,7 +7,7 @@ ENGINES ?= /
 BENCH_FLAGS := -std=gnu11 -O2 -Wall -Wextra
 EXAMPLES := ../../examples
 
-.PHONY: help test quick cases times planted demo lib install copy bench kernel table clean
+.PHONY: help test quick cases times planted demo try lib install copy uninstall bench kernel table clean
 
 help:
 	@tools/help.sh
@@ -40,6 +40,10 @@ demo:
 	@echo "demo: nodeagent, 2 of 2 programs"
 	@tools/demo.py
 
+# Installs the programs to PREFIX, compiled with checks at run time in the place of proofs.
+try:
+	@tools/try.py $(DESTDIR)$(PREFIX)
+
 lib:
 	@cd crates/motchidu_c && rt lib
 	@tools/pack_library.sh crates/motchidu_c/out/libmotchidu_c.a out/c
@@ -61,6 +65,13 @@ copy:
 	ln -sf libmotchidu.so.0 $(DESTDIR)$(PREFIX)/lib/libmotchidu.so
 	install -D -m 644 out/install/motchidu.pc $(DESTDIR)$(PREFIX)/lib/pkgconfig/motchidu.pc
 	install -D -m 644 out/install/motchidu.h $(DESTDIR)$(PREFIX)/include/motchidu.h
+
+# Removes what make copy and make try install.
+uninstall:
+	@rm -f $(foreach program,$(PROGRAMS),$(DESTDIR)$(PREFIX)/bin/$(program) \
+	  $(DESTDIR)$(PREFIX)/share/man/man1/$(program).1) \
+	  $(addprefix $(DESTDIR)$(PREFIX)/,lib/libmotchidu.a lib/libmotchidu.so.0 lib/libmotchidu.so \
+	  lib/pkgconfig/motchidu.pc include/motchidu.h)
 
 # Says so and goes on where the machine has no libpcap, no libseccomp or no gVisor. The plain interpreter is assembled
 # so that its jumps keep within 32 bytes, or its speed would hang on where the link puts it.

@@ -49,6 +49,20 @@ def installed(folder, programs):
         print((ran.stdout + ran.stderr)[-2000:], flush=True)
 
 
+def check_uninstall(prefix):
+    """make uninstall removes what make copy installed, and no other file."""
+    if os.environ.get("BIN"):
+        return
+    other = f"{prefix}/bin/other"
+    with open(other, "w", encoding="utf-8"):
+        pass
+    words = ["make", "--no-print-directory", "-C", ROOT, "uninstall", f"PREFIX={prefix}"]
+    ran = subprocess.run(words, capture_output=True, text=True, errors="replace")
+    check("make uninstall", ran.returncode, 0)
+    left = [os.path.join(at, it) for at, _, names in os.walk(prefix) for it in names]
+    check("what make uninstall leaves", left, [other])
+
+
 def environment(prefix):
     """What a new shell has, and what README's lines of `export` set where make install's PREFIX is this
     one."""
@@ -297,4 +311,5 @@ def checked(programs):
         for program in STATUSES:
             check_page(prefix, program)
             check_examples(prefix, program, room)
+        check_uninstall(prefix)
     return COUNTS["passed"], COUNTS["failed"]

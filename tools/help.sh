@@ -14,8 +14,11 @@ make cases    the cases of tests/ by the programs that make test built, or those
               some of them. A minute or two
 make demo     a profile is compiled, a verified filter judges a call, scripts are played, pods are settled
               over a socket, and come and go with the files of a folder, before any proof. Three minutes
+make try      installs the programs and their manual pages to PREFIX (/usr/local), compiled with checks at run time
+              in the place of proofs; their --version says unproved. Two minutes on four cores
 make install  proves the programs and the library for C and installs them, with their manual pages, to PREFIX
-              (/usr/local). An hour of one core; make copy installs what is built already. At once
+              (/usr/local). An hour of one core; make copy installs what is built already, and
+              make uninstall removes it. At once
 make lib      the library for C and its header, proved, in out/c. Ten minutes of one core
 make bench    the machine and the compiler beside others, the runtime with few and many uids, calls over a
               socket, a full sandbox, an agent that stays; by what is built. ENGINES=FOLDER: profiles of
