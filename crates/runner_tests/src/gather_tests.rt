@@ -1,7 +1,7 @@
 use cri_msgs::{Request, Version};
 use node_io::{FileFault, Files, MAX_FILE_BYTES, MemoryFiles, StoredFile};
 use runner::gather;
-use runtime_core::Contents;
+use runtime_core::{Contents, FileAnswers};
 use std::alloc::{AllocError, Global};
 use std::test::Fail;
 
@@ -47,16 +47,32 @@ fn read_text(
     }
 }
 
-// The results for the script and the profile, and how many reads failed by request.
-fn gathered(alloc: Global, members: &str, fails: bool) -> Result<String, Fail> {
-    let request = request(alloc, members)?;
-    let mut scripts = folder(alloc, fails)?;
-    let mut profiles = folder(alloc, fails)?;
-    let answers = gather(&mut scripts, &mut profiles, &request);
+// The results for the script and the profile.
+fn both_texts(alloc: Global, answers: &FileAnswers) -> Result<String, AllocError> {
     let script = read_text(alloc, &answers.script)?;
     let profile = read_text(alloc, &answers.profile)?;
+    format!(in alloc; "{} {}", script.as_str(), profile.as_str())
+}
+
+// What a request for these members gets from these folders.
+fn answered(
+    alloc: Global,
+    members: &str,
+    scripts: &mut MemoryFiles,
+    profiles: &mut MemoryFiles,
+) -> Result<String, Fail> {
+    let request = request(alloc, members)?;
+    let answers = gather(scripts, profiles, &request);
+    Ok(both_texts(alloc, &answers)?)
+}
+
+// The results for the script and the profile, and how many reads failed by request.
+fn gathered(alloc: Global, members: &str, fails: bool) -> Result<String, Fail> {
+    let mut scripts = folder(alloc, fails)?;
+    let mut profiles = folder(alloc, fails)?;
+    let texts = answered(alloc, members, &mut scripts, &mut profiles)?;
     let (first, second) = (scripts.failures(), profiles.failures());
-    Ok(format!(in alloc; "{} {} {first} {second}", script.as_str(), profile.as_str())?)
+    Ok(format!(in alloc; "{} {first} {second}", texts.as_str())?)
 }
 
 // What a request asks for besides its key, the results of its files, and the results if each folder's first
