@@ -1,8 +1,9 @@
 #!/usr/bin/env python3
-"""bench_creations.py [CREATIONS]: times scriptd while containers are created. How long a list of another sandbox
+"""bench_creations.py [--limits] [CREATIONS]: times scriptd while containers are created. How long a list of another sandbox
 waits, alone and beside four clients that create containers with scripts of 4,000 steps; the processor time of a
 creation with RuntimeDefault, with a profile of its own and without one; and the memory of 1,024 containers of one
-such script, created and ended. The program is crates/scriptd/out/scriptd, or that in the folder BIN names.
+such script, created and ended. The program is crates/scriptd/out/scriptd, or that in the folder BIN names. With
+--limits it prints only what is above its limit, and times no lists.
 """
 import json
 import os
@@ -17,7 +18,10 @@ import time
 ROOT = os.path.dirname(os.path.dirname(os.path.abspath(__file__)))
 CLIENTS, STEPS, CONTAINERS = 4, 4000, 1024
 SECONDS = 5.0
-CREATED = int(sys.argv[1]) if len(sys.argv) > 1 else 1000
+WORDS = [it for it in sys.argv[1:] if it != "--limits"]
+CREATED = int(WORDS[0]) if WORDS else 1000
+# The most that a creation takes of the processor, relative to one without a profile, and an ended container in KiB.
+MOST_RATIO, MOST_ENDED = 2.0, 300
 UNCONFINED, DEFAULT = {"type": "Unconfined"}, {"type": "RuntimeDefault"}
 OWN = {"type": "Localhost", "path": "own.json"}
 
@@ -166,6 +170,14 @@ def main():
             json.dump({"defaultAction": "SCMP_ACT_ERRNO", "syscalls": [
                 {"names": ["getpid", "read", "write", "exit_group"], "action": "SCMP_ACT_ALLOW"}]}, it)
         plain, confined, own = (cost(folder, it) for it in (UNCONFINED, DEFAULT, OWN))
+        if "--limits" in sys.argv:
+            _, ended = memory(folder, ["long.s"])
+            for what, found, most in (("RuntimeDefault", confined / plain, MOST_RATIO),
+                                      ("a profile of its own", own / plain, MOST_RATIO),
+                                      ("KiB of an ended container", ended, MOST_ENDED)):
+                if found > most:
+                    print(f"{what}: {found:.1f}, at most {most}")
+            return
         print(f"a creation takes {plain:.0f} us of processor time, with RuntimeDefault {confined:.0f} us, "
               f"ratio {confined / plain:.1f}, with a profile of its own {own:.0f} us, ratio {own / plain:.1f}",
               flush=True)

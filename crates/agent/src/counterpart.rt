@@ -1,5 +1,5 @@
 use crate::limits::{LAST_CALLS, LOOKS};
-use runner::Baseline;
+use runner::Node;
 use runtime_server::{Connections, Engine};
 use std::sync::Wait;
 use std::thread;
@@ -9,7 +9,7 @@ use worker_crew::Counterpart;
 /// The runtime of a run of pods, with the open connections to it: in this process, with this number of
 /// runners, or an external one, of which nothing is known.
 #[derive(Clone, Copy)]
-pub(crate) enum RuntimeBehind<'r, 'o, 'e, B: Baseline, R: Wait> {
+pub(crate) enum RuntimeBehind<'r, 'o, 'e, B: Node, R: Wait> {
     Own(&'r R, &'o Connections, &'e Engine<B>, u32),
     Other(&'r R, &'o Connections),
 }
@@ -25,7 +25,7 @@ fn end_calls<R: Wait + Clock>(rt: &R, open: &Connections) {
     open.close(rt);
 }
 
-impl<B: Baseline, R: Wait + Clock> Counterpart for RuntimeBehind<'_, '_, '_, B, R> {
+impl<B: Node, R: Wait + Clock> Counterpart for RuntimeBehind<'_, '_, '_, B, R> {
     fn wait_idle(&self) {
         match self {
             RuntimeBehind::Own(rt, _, engine, runners) => engine.wait_idle(*rt, *runners),

@@ -1,14 +1,13 @@
 //! How the pods of a node stand at the end of a run, and the table that shows them.
 ghost use Rattle.std.specs.Prelude.{◌≡◌, IfOk};
 ghost use Rattle.std.specs.String.{string_bytes};
-ghost use Rattle.agent.specs.NodeEnds.{end_of, has_phase, is_kind, status_of_end};
+ghost use Rattle.agent.specs.NodeEnds.{end_of, status_of_end};
 ghost use Rattle.agent.specs.Table.{told_table};
 
 use crate::tables::told_table;
-use lifecycle::Phase;
 use node_watch::{Form, Reasons};
 use std::alloc::{AllocError, Global};
-use worker_core::{MAX_PODS, Node};
+use worker_core::Node;
 use worker_crew::NodeTeller;
 
 /// How the pods of a node stand.
@@ -22,45 +21,13 @@ pub(crate) enum NodeEnd {
     Succeeded,
 }
 
-// A kind of phases.
-#[derive(Clone, Copy)]
-enum Kind {
-    Open,
-    Failed,
-}
-
-// Whether a phase is of a kind.
-fn is_kind(kind: Kind, phase: Phase) -> bool
-    ensures { result ≡ is_kind kind phase }
-{
-    match (kind, phase) {
-        (Kind::Open, Phase::Pending | Phase::Running | Phase::Unknown) => true,
-        (Kind::Failed, Phase::Failed) => true,
-        _ => false,
-    }
-}
-
-// Whether a pod of the node is in a phase of this kind.
-fn has_phase(node: &Node, kind: Kind) -> bool
-    ensures { result ≡ has_phase kind node.now }
-{
-    for place in 0..MAX_PODS {
-        if let Some(view) = node.pod(place) {
-            if is_kind(kind, view.phase) {
-                return true;
-            }
-        }
-    }
-    false
-}
-
 /// How the pods of this node stand.
 fn end_of(node: &Node) -> NodeEnd
     ensures { result ≡ end_of node.now }
 {
-    if has_phase(node, Kind::Open) {
+    if !node.is_settled() {
         NodeEnd::Open
-    } else if has_phase(node, Kind::Failed) {
+    } else if node.has_failed() {
         NodeEnd::Failed
     } else {
         NodeEnd::Succeeded

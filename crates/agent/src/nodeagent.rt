@@ -14,7 +14,7 @@ use crate::settings::{form_of, limit_of, observed_of, run_name, settings_of};
 use crate::stops::AgentStop;
 use crate::tellers::Tellers;
 use crate::troubles::Troubles;
-use crate::working::{Left, run_beside, run_crew};
+use crate::working::{Left, run_crew, run_own};
 use command_line::{NodeagentLine, nodeagent_line};
 use manifest::is_uid;
 use node_io::Cause;
@@ -162,7 +162,7 @@ fn run_line<'a, L: Ledger + Send + Sync, R: Threads + Wait + Clock + Copy + Send
         rt, system, line, &shared, &tellers, &moment, &troubles, naming, state,
     );
     let left = if line.with_runtime {
-        run_beside::<L, Brand, R>(
+        run_own::<L, R>(
             rt,
             system,
             line,

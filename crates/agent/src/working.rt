@@ -16,9 +16,10 @@ use crate::telling::working_line;
 use bpf_verify::Filter;
 use command_line::NodeagentLine;
 use node_lock::PARTS;
-use runner::Baseline;
+use runner::{Begun, Node};
 use runtime_server::{Site, accept_all, socket_stop, start_runners};
 use std::alloc::AllocError;
+use std::marker::Brand;
 use std::sync::ledger::Ledger;
 use std::sync::{Arc, Wait};
 use std::thread::{Scope, Threads, scope, scope_env};
@@ -89,7 +90,7 @@ fn left_by<L: Ledger, R: Wait + Clock>(
 /// Works until there is nothing left to wait for.
 pub(crate) fn run_crew<
     L: Ledger + Send + Sync,
-    B: Baseline + Send + Sync,
+    B: Node + Send + Sync,
     R: Threads + Wait + Clock + Sync,
 >(
     rt: &R,
@@ -147,11 +148,10 @@ fn swept<L: Ledger, R: Wait + Clock>(
     state.sweep(rt, &mut peer, line.numbers.until)
 }
 
-/// Runs the crew with the runtime in threads beside the workers.
-pub(crate) fn run_beside<
+/// Runs the crew with a runtime of a node with this filter, in threads beside the workers.
+pub(crate) fn run_own<
     'a,
     L: Ledger + Send + Sync,
-    B: Baseline + Send + Sync,
     R: Threads + Wait + Clock + Copy + Send + Sync + 'static,
 >(
     rt: &R,
@@ -166,10 +166,44 @@ pub(crate) fn run_beside<
 ) -> Result<Left, AgentStop<'a>>
     requires parts { coordinator.parts ≡ PARTS }
     requires whole { L.parts ≡ PARTS }
-    requires own { baseline ≡ B.filter }
+{
+    let begun = Begun::new(system.alloc(), baseline)?;
+    run_beside::<L, Brand, R>(
+        rt,
+        system,
+        line,
+        begun,
+        tellers,
+        shared,
+        calls,
+        coordinator,
+        errands,
+    )
+}
+
+// Runs the crew with this runtime in threads beside the workers.
+fn run_beside<
+    'a,
+    L: Ledger + Send + Sync,
+    B: Node + Send + Sync,
+    R: Threads + Wait + Clock + Copy + Send + Sync + 'static,
+>(
+    rt: &R,
+    system: &HostRuntime,
+    line: &NodeagentLine<'a>,
+    begun: Begun,
+    tellers: &Tellers,
+    shared: &Shared<L>,
+    calls: &Calls<'_, R>,
+    coordinator: Coordinator<L>,
+    errands: AgentErrands<'_, '_, L, R>,
+) -> Result<Left, AgentStop<'a>>
+    requires parts { coordinator.parts ≡ PARTS }
+    requires whole { L.parts ≡ PARTS }
+    requires own { begun ≡ (B.filter, B.table) }
 {
     let teller = Some(Arc::try_clone(&tellers.lines)?);
-    let site = match Site::<B>::open(rt, system, address_of(line), baseline, teller) {
+    let site = match Site::<B>::open(rt, system, address_of(line), begun, teller) {
         Ok(site) => site,
         Err(fault) => return Err(AgentStop::Server(socket_stop(line.socket, fault))),
     };
@@ -177,7 +211,7 @@ pub(crate) fn run_beside<
     Ok(left?)
 }
 
-fn run_at<L: Ledger + Send + Sync, B: Baseline + Send + Sync, R: Threads + Wait + Clock + Sync>(
+fn run_at<L: Ledger + Send + Sync, B: Node + Send + Sync, R: Threads + Wait + Clock + Sync>(
     rt: &R,
     system: &HostRuntime,
     line: &NodeagentLine<'_>,
@@ -221,7 +255,7 @@ fn run_at<L: Ledger + Send + Sync, B: Baseline + Send + Sync, R: Threads + Wait 
 }
 
 // Starts the runners, and what accepts connections.
-fn start_site<'s, 'e, B: Baseline + Send + Sync, R: Threads + Wait + Clock + Sync>(
+fn start_site<'s, 'e, B: Node + Send + Sync, R: Threads + Wait + Clock + Sync>(
     scope: &'s Scope<'s, &'e ()>,
     rt: &'e R,
     system: &'e HostRuntime,

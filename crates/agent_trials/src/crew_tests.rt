@@ -3,6 +3,7 @@ use crate::test_crews::{
 };
 use cri_msgs::Version;
 use node_lock::{MAX_ENTRIES, PARTS};
+use runner::Begun;
 use std::alloc::Global;
 use std::marker::Brand;
 use std::sync::Wait;
@@ -29,7 +30,8 @@ fn tried<R: Threads + Wait + Clock + Sync>(
     alloc: Global,
     trial: Trial,
 ) -> Result<Left, Fail> {
-    settled::<Brand, R>(rt, alloc, trial, Blank::new(PARTS))
+    let node = Begun::new(alloc, None)?;
+    settled::<Brand, Brand, R>(rt, alloc, trial, Blank::new(PARTS), node)
 }
 
 // One pod and four workers. The first call is held up.
@@ -46,7 +48,8 @@ fn held_up<R: Threads + Wait + Clock + Sync>(
         turns,
         every,
     };
-    entries_at_call::<Brand, R>(rt, alloc, held_up, Blank::new(PARTS))
+    let node = Begun::new(alloc, None)?;
+    entries_at_call::<Brand, Brand, R>(rt, alloc, held_up, Blank::new(PARTS), node)
 }
 
 // The table at the end is the same for any number of workers, and each entry has its receipt.

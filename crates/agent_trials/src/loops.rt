@@ -6,10 +6,9 @@ ghost use Rattle.cri_frames.specs.Frames.{IsLength};
 use cri_frames::{Feed, FeedFault, Lost, call_over, frame_of};
 use cri_msgs::{Reply, Request, Version};
 use node_io::{FileFault, Files, MemoryFiles, MemoryWire, Wire, WireFault};
-use runner::{Service, serve_wire};
+use runner::{Begun, Node, Service, serve_wire};
 use runtime_server::{Engine, EngineHost};
 use std::alloc::{AllocError, Global};
-use std::marker::Brand;
 use std::sync::atomic::{AtomicU64, Ordering};
 use std::sync::{Mutex, Wait};
 use worker_crew::{Counterpart, Peer};
@@ -19,9 +18,9 @@ const PLACE: usize = 1 << 14;
 
 /// A runtime whose files are in memory, and the count of the reads and writes of all wires to it.
 #[derive(Drop)]
-pub(crate) struct Loop {
+pub(crate) struct Loop<B: Node> {
     alloc: Global,
-    pub(crate) engine: Engine<Brand>,
+    pub(crate) engine: Engine<B>,
     scripts: Mutex<MemoryFiles>,
     profiles: Mutex<MemoryFiles>,
     moves: AtomicU64,
@@ -30,12 +29,19 @@ pub(crate) struct Loop {
     every: AtomicU64,
 }
 
-impl Loop {
-    /// A runtime without containers, on a node without a filter of its own. No read or write fails.
-    pub(crate) fn new(alloc: Global, scripts: MemoryFiles, profiles: MemoryFiles) -> Loop {
+impl<B: Node> Loop<B> {
+    /// A runtime that has served nothing. No read or write fails.
+    pub(crate) fn new(
+        alloc: Global,
+        node: Begun,
+        scripts: MemoryFiles,
+        profiles: MemoryFiles,
+    ) -> Loop<B>
+        requires { node ≡ (B.filter, B.table) }
+    {
         Loop {
             alloc,
-            engine: Engine::new(alloc, None),
+            engine: Engine::new(alloc, node),
             scripts: Mutex::new(scripts),
             profiles: Mutex::new(profiles),
             moves: AtomicU64::new(0),
@@ -67,7 +73,7 @@ impl Loop {
     }
 
     /// A new wire to the runtime.
-    pub(crate) fn wire<'a, R: Wait>(&'a self, rt: &'a R) -> LoopWire<'a, R> {
+    pub(crate) fn wire<'a, R: Wait>(&'a self, rt: &'a R) -> LoopWire<'a, B, R> {
         LoopWire {
             rt,
             runtime: self,
@@ -81,13 +87,13 @@ impl Loop {
 
 /// What the clock waits for: that each of this many runners is idle.
 #[derive(Drop)]
-pub(crate) struct Idle<'a, R: Wait> {
+pub(crate) struct Idle<'a, B: Node, R: Wait> {
     pub(crate) rt: &'a R,
-    pub(crate) runtime: &'a Loop,
+    pub(crate) runtime: &'a Loop<B>,
     pub(crate) runners: u32,
 }
 
-impl<R: Wait> Counterpart for Idle<'_, R> {
+impl<B: Node, R: Wait> Counterpart for Idle<'_, B, R> {
     fn wait_idle(&self) {
         self.runtime.engine.wait_idle(self.rt, self.runners);
     }
@@ -122,16 +128,16 @@ impl<R: Wait> Files for SharedFiles<'_, R> {
 
 /// A wire to a runtime in this process. The first read after a whole frame serves it.
 #[derive(Drop)]
-pub(crate) struct LoopWire<'a, R: Wait> {
+pub(crate) struct LoopWire<'a, B: Node, R: Wait> {
     rt: &'a R,
-    runtime: &'a Loop,
+    runtime: &'a Loop<B>,
     feed: Feed,
     reply: Vec<u8>,
     taken: usize,
     failures: u64,
 }
 
-impl<'a, R: Wait> LoopWire<'a, R> {
+impl<'a, B: Node, R: Wait> LoopWire<'a, B, R> {
     fn fault(&mut self) -> WireFault
         ensures risen { HasRisen self.old.failures self.new.failures }
         ensures counted { self.old.failures ≤ self.new.failures }
@@ -153,7 +159,7 @@ impl<'a, R: Wait> LoopWire<'a, R> {
         Vec::from_slice(alloc, wire.written())
     }
 
-    fn service(&self) -> Service<SharedFiles<'a, R>, SharedFiles<'a, R>, EngineHost<'a, Brand, R>> {
+    fn service(&self) -> Service<SharedFiles<'a, R>, SharedFiles<'a, R>, EngineHost<'a, B, R>> {
         Service {
             scripts: self.shared_files(&self.runtime.scripts),
             profiles: self.shared_files(&self.runtime.profiles),
@@ -181,7 +187,7 @@ fn give(reply: &[u8], buf: &mut [u8]) -> usize
 }
 
 // The model of such a wire says nothing about its bytes.
-impl<R: Wait> Wire for LoopWire<'_, R> {
+impl<B: Node, R: Wait> Wire for LoopWire<'_, B, R> {
     ghost failed = { λ wire. wire.failures };
 
     fn read(&mut self, buf: &mut [u8]) -> Result<usize, WireFault> {
@@ -218,15 +224,15 @@ impl<R: Wait> Wire for LoopWire<'_, R> {
 
 /// The runtime of a loop. Each call has a wire of its own.
 #[derive(Drop)]
-pub(crate) struct LoopPeer<'a, R: Wait> {
+pub(crate) struct LoopPeer<'a, B: Node, R: Wait> {
     rt: &'a R,
-    runtime: &'a Loop,
+    runtime: &'a Loop<B>,
     version: Version,
 }
 
-impl<'a, R: Wait> LoopPeer<'a, R> {
+impl<'a, B: Node, R: Wait> LoopPeer<'a, B, R> {
     /// A peer that answers by this runtime, with messages of this version.
-    pub(crate) fn new(rt: &'a R, runtime: &'a Loop, version: Version) -> LoopPeer<'a, R> {
+    pub(crate) fn new(rt: &'a R, runtime: &'a Loop<B>, version: Version) -> LoopPeer<'a, B, R> {
         LoopPeer {
             rt,
             runtime,
@@ -235,7 +241,7 @@ impl<'a, R: Wait> LoopPeer<'a, R> {
     }
 }
 
-impl<R: Wait> Peer for LoopPeer<'_, R> {
+impl<B: Node, R: Wait> Peer for LoopPeer<'_, B, R> {
     ghost use Rattle.std.specs.Prelude.{◌≡◌, IfOk};
 
     // A reply has the number of its request.

@@ -7,6 +7,7 @@ use cri_frames::{Lost, call_over};
 use cri_msgs::{Reply, Request, Version};
 use node_io::{Wire, WireFault};
 use node_lock::{Entry, MAX_ENTRIES, PARTS};
+use runner::{Begun, Node};
 use std::alloc::{AllocError, Global};
 use std::marker::Brand;
 use std::sync::ledger::{Blank, Ledger};
@@ -19,12 +20,12 @@ use worker_crew::{Always, Peer};
 
 // A wire that keeps what was read from it.
 #[derive(Drop)]
-struct Kept<'a, R: Wait> {
-    wire: LoopWire<'a, R>,
+struct Kept<'a, B: Node, R: Wait> {
+    wire: LoopWire<'a, B, R>,
     read: Vec<u8>,
 }
 
-impl<R: Wait> Wire for Kept<'_, R> {
+impl<B: Node, R: Wait> Wire for Kept<'_, B, R> {
     ghost failed = { λ kept. kept.wire.failures };
 
     fn read(&mut self, buf: &mut [u8]) -> Result<usize, WireFault> {
@@ -53,14 +54,14 @@ struct Came {
 
 // Keeps the frames of all replies.
 #[derive(Drop)]
-struct Keeper<'a, R: Wait> {
+struct Keeper<'a, B: Node, R: Wait> {
     rt: &'a R,
     alloc: Global,
-    runtime: &'a Loop,
+    runtime: &'a Loop<B>,
     frames: &'a Mutex<Vec<Came>>,
 }
 
-impl<R: Wait> Peer for Keeper<'_, R> {
+impl<B: Node, R: Wait> Peer for Keeper<'_, B, R> {
     ghost use Rattle.std.specs.Prelude.{⊤};
 
     ghost may = { λ request outcome. ⊤ };
@@ -81,12 +82,12 @@ impl<R: Wait> Peer for Keeper<'_, R> {
     }
 }
 
-fn keepers<'a, R: Wait>(
+fn keepers<'a, B: Node, R: Wait>(
     rt: &'a R,
     alloc: Global,
-    runtime: &'a Loop,
+    runtime: &'a Loop<B>,
     frames: &'a Mutex<Vec<Came>>,
-) -> Result<Vec<Keeper<'a, R>>, AllocError>
+) -> Result<Vec<Keeper<'a, B, R>>, AllocError>
     ensures { IfOk result (λ peers. vec_len peers < PARTS) }
 {
     let mut peers = Vec::new(alloc);
@@ -146,17 +147,19 @@ fn reports(alloc: Global, history: &[Entry], frames: &[Came]) -> (u32, u32) {
     (all, right)
 }
 
-fn compared<L: Ledger + Send + Sync, R: Threads + Wait + Clock + Sync>(
+fn compared<L: Ledger + Send + Sync, B: Node + Send + Sync, R: Threads + Wait + Clock + Sync>(
     rt: &R,
     alloc: Global,
     failing: u64,
     blank: Blank,
+    node: Begun,
 ) -> Result<(u32, u32), Fail>
     requires name { blank.name ≡ L.name }
     requires parts { blank.parts ≡ L.parts }
     requires all { blank.parts ≡ PARTS }
+    requires node { node ≡ (B.filter, B.table) }
 {
-    let runtime = runtime(alloc, failing, 0, 0)?;
+    let runtime = runtime::<B>(alloc, node, failing, 0, 0)?;
     let frames = Mutex::new(Vec::new(alloc));
     let (shared, coordinator) = begun::<L, R>(rt, alloc, Version::V1, PODS, MAX_ENTRIES, blank)?;
     let peers = keepers(rt, alloc, &runtime, &frames)?;
@@ -181,7 +184,8 @@ fn compares<R: Threads + Wait + Clock + Sync>(
     alloc: Global,
     failing: u64,
 ) -> Result<(u32, u32), Fail> {
-    compared::<Brand, R>(rt, alloc, failing, Blank::new(PARTS))
+    let node = Begun::new(alloc, None)?;
+    compared::<Brand, Brand, R>(rt, alloc, failing, Blank::new(PARTS), node)
 }
 
 // Each report gives the reply that came in its call's frame, or says that none did. There are at least

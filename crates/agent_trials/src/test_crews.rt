@@ -8,6 +8,7 @@ use cri_msgs::Version;
 use manifest::{Pod, PodFault};
 use node_io::{MemoryFiles, StoredFile};
 use node_lock::{Book, Entry, MAX_ENTRIES, PARTS, Tally, audit};
+use runner::{Begun, Node as RuntimeNode};
 use runtime_server::start_runners;
 use std::alloc::{AllocError, Global};
 use std::sync::Wait;
@@ -105,15 +106,18 @@ fn files(alloc: Global, lines: &str, failing: u64) -> Result<MemoryFiles, AllocE
 
 /// A loop with the files above. The read or write of its wires with this number fails, and so do these reads
 /// of its files.
-pub(crate) fn runtime(
+pub(crate) fn runtime<B: RuntimeNode>(
     alloc: Global,
+    node: Begun,
     failing: u64,
     script: u64,
     profile: u64,
-) -> Result<Loop, AllocError> {
+) -> Result<Loop<B>, AllocError>
+    requires { node ≡ (B.filter, B.table) }
+{
     let scripts = files(alloc, SCRIPTS, script)?;
     let profiles = files(alloc, PROFILES, profile)?;
-    let runtime = Loop::new(alloc, scripts, profiles);
+    let runtime = Loop::new(alloc, node, scripts, profiles);
     runtime.fail_call(failing);
     Ok(runtime)
 }
@@ -160,13 +164,13 @@ pub(crate) fn begun<L: Ledger, R: Wait>(
 }
 
 /// Peers for this many workers, at most 64.
-fn peers<'a, R: Wait>(
+fn peers<'a, B: RuntimeNode, R: Wait>(
     rt: &'a R,
     alloc: Global,
-    runtime: &'a Loop,
+    runtime: &'a Loop<B>,
     version: Version,
     workers: u32,
-) -> Result<Vec<LoopPeer<'a, R>>, AllocError>
+) -> Result<Vec<LoopPeer<'a, B, R>>, AllocError>
     ensures { IfOk result (λ peers. vec_len peers < PARTS) }
 {
     let mut peers = Vec::new(alloc);
@@ -179,13 +183,14 @@ fn peers<'a, R: Wait>(
 /// Lets a crew work beside four runners.
 pub(crate) fn worked<
     L: Ledger + Send + Sync,
+    B: RuntimeNode + Send + Sync,
     P: Peer + Send + Drop,
     G: Gate + Sync,
     R: Threads + Wait + Clock + Sync,
 >(
     rt: &R,
     alloc: Global,
-    runtime: &Loop,
+    runtime: &Loop<B>,
     shared: &Shared<L>,
     coordinator: Coordinator<L>,
     peers: Vec<P>,
@@ -398,17 +403,17 @@ pub(crate) struct Entries {
 }
 
 /// How many entries there are while the first call of one pod is held up, and in the end.
-pub(crate) fn entries_at_call<L: Ledger + Send + Sync, R: Threads + Wait + Clock + Sync>(
-    rt: &R,
-    alloc: Global,
-    held_up: HeldUp,
-    blank: Blank,
-) -> Result<Entries, Fail>
+pub(crate) fn entries_at_call<
+    L: Ledger + Send + Sync,
+    B: RuntimeNode + Send + Sync,
+    R: Threads + Wait + Clock + Sync,
+>(rt: &R, alloc: Global, held_up: HeldUp, blank: Blank, node: Begun) -> Result<Entries, Fail>
     requires name { blank.name ≡ L.name }
     requires parts { blank.parts ≡ L.parts }
     requires all { blank.parts ≡ PARTS }
+    requires node { node ≡ (B.filter, B.table) }
 {
-    let runtime = runtime(alloc, 0, 0, 0)?;
+    let runtime = runtime::<B>(alloc, node, 0, 0, 0)?;
     runtime.fail_every(held_up.every);
     let version = Version::V2;
     let (shared, coordinator) = begun::<L, R>(rt, alloc, version, ONE_POD, MAX_ENTRIES, blank)?;
@@ -480,17 +485,17 @@ fn pods_of(alloc: Global, pods: Pods) -> Result<String, AllocError> {
 
 /// What is left of the pods once workers settled them over a loop. If the first call was to be held up and
 /// was not, the text begins with that.
-pub(crate) fn settled<L: Ledger + Send + Sync, R: Threads + Wait + Clock + Sync>(
-    rt: &R,
-    alloc: Global,
-    trial: Trial,
-    blank: Blank,
-) -> Result<Left, Fail>
+pub(crate) fn settled<
+    L: Ledger + Send + Sync,
+    B: RuntimeNode + Send + Sync,
+    R: Threads + Wait + Clock + Sync,
+>(rt: &R, alloc: Global, trial: Trial, blank: Blank, node: Begun) -> Result<Left, Fail>
     requires name { blank.name ≡ L.name }
     requires parts { blank.parts ≡ L.parts }
     requires all { blank.parts ≡ PARTS }
+    requires node { node ≡ (B.filter, B.table) }
 {
-    let runtime = runtime(alloc, trial.wires, trial.scripts, trial.profiles)?;
+    let runtime = runtime::<B>(alloc, node, trial.wires, trial.scripts, trial.profiles)?;
     runtime.fail_every(trial.every);
     let gate = Hold::new(rt, trial.holds);
     let limit = trial.limit.min(MAX_ENTRIES);

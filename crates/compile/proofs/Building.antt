@@ -10,8 +10,7 @@ use Rattle.bpf_code.specs.declared.operation.Operation.TheVariants.{AndK, LoadDa
 use Rattle.bpf_code.specs.declared.operation.Operation.{Operation}
 use Rattle.std.specs.declared.alloc.AllocError.{AllocError}
 use Rattle.call_data.specs.declared.sys_call.SysCall.{SysCall}
-use Rattle.compile.specs.Backward.{LeadsTo, Extends, Gives, Keeps, Puts, IsBackward, PointsInside, Returns}
-use Rattle.compile.specs.Backward.{BranchesTo}
+use Rattle.compile.specs.Backward.{LeadsTo, Extends, Gives, Keeps, Puts, IsBackward, PointsInside, BranchesTo}
 use Rattle.compile.specs.Backward.{data_word}
 use Rattle.std.specs.Prelude.{bit_and}
 use Rattle.compile.specs.Tests.{operation_of, holds_of}
@@ -100,10 +99,6 @@ front_gives insn old new call a to b value most puts to_is on =
 pub put_return : (insn : Insn) (old new : List Insn) (call : SysCall) (a value most : ℕ) → Puts insn old new
     → insn.op ≡ ReturnK → value ≡ insn.k → 0 < most → Gives new call (length old) a value most
 put_return insn old new call a value most puts op is some = ends insn puts.stands op is some
-
-pub return_gives : (code : List Insn) (call : SysCall) (at a value most : ℕ) → Returns code at value
-    → 0 < most → Gives code call at a value most
-return_gives code call at a value most is some = ends is.insn is.stands is.returns is.value_is some
 
 pub gives_more : (code : List Insn) (call : SysCall) (at a value most more : ℕ)
     → Gives code call at a value most → most ≤ more → Gives code call at a value more

@@ -1,7 +1,6 @@
 -- The entries that name a number, as rules.
 use Rattle.std.proofs.Common.{◌≡◌, ℕ, ◌+◌, ◌*◌, ◌≤◌, ◌<◌, ◌&&◌, Bool, true, false, cond, List, length, drop}
-use Rattle.std.proofs.Common.{get_or, refl}
-use Rattle.std.proofs.Common.{sym, ap, ◌∙◌, arith}
+use Rattle.std.proofs.Common.{get_or, refl, sym, ap, ◌∙◌, arith}
 use Rattle.std.proofs.lemmas.List.{at_drop_more}
 use Rattle.std.specs.Prelude.{All}
 use Rattle.call_data.specs.declared.sys_call.SysCall.{SysCall}

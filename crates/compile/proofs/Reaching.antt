@@ -1,7 +1,6 @@
 -- Ways through code that grows.
 use Rattle.std.proofs.Common.{◌≡◌, ℕ, ◌≤◌, Bool, true, false, cond, not, refl, List, Option, Some, None}
-use Rattle.std.proofs.Common.{Result, Ok, Err, IfOk}
-use Rattle.std.proofs.Common.{subst, ap, ◌∙◌}
+use Rattle.std.proofs.Common.{Result, Ok, Err, IfOk, subst, ap, ◌∙◌}
 use Rattle.std.specs.Prelude.{IfSome}
 use Rattle.std.specs.declared.alloc.AllocError.{AllocError}
 use Rattle.bpf_code.specs.declared.insn.Insn.{Insn}

@@ -60,24 +60,3 @@ pub certain_here : (rules : List Rule) (at other value : ℕ) (call : SysCall) (
 certain_here rules at other value call rule inside is same holds =
     first_from rules at other call rule inside is
     ∙ ap (λ b. cond b rule.value (first_value (drop (at + 1) rules) other call)) holds ∙ same
-
--- behind a rule that holds nothing counts
-pub reached : (rules : List Rule) (at one other : ℕ) (call : SysCall) (rule : Rule) → at < length rules
-    → rule ≡ get_or rules at rule → clauses_hold rule.clauses.items call ≡ true
-    → first_value rules one call ≡ first_value rules other call
-reached rules at one other call rule inside is holds =
-    let here : first_value (drop at rules) one call ≡ rule.value =
-    certain_here rules at one rule.value call rule inside is refl holds in
-    let there : first_value (drop at rules) other call ≡ rule.value =
-    certain_here rules at other rule.value call rule inside is refl holds in
-    ap (λ rs. first_value rs one call) (sym (take-append-drop at rules))
-    ∙ first_append (take at rules) (drop at rules) one call
-    ∙ ap (λ n. first_value (take at rules) n call) (here ∙ sym there)
-    ∙ sym (first_append (take at rules) (drop at rules) other call)
-    ∙ ap (λ rs. first_value rs other call) (take-append-drop at rules)
-
-pub hidden_value : (rules : List Rule) (call : SysCall) (holds : Bool) (value other : ℕ)
-    → (holds ≡ true → (one two : ℕ) → first_value rules one call ≡ first_value rules two call)
-    → first_value rules other call ≡ first_value rules (cond holds value other) call
-hidden_value rules call true value other same = same refl other value
-hidden_value rules call false value other same = refl

@@ -1,7 +1,6 @@
 -- A profile that is light enough has a filter that is short enough.
 use Rattle.std.proofs.Common.{◌≡◌, ℕ, zero, suc, ◌+◌, ◌-◌, ◌*◌, ◌^◌, ◌≤◌, ◌<◌, ◌==◌, inl, inr, Bool, true}
-use Rattle.std.proofs.Common.{false}
-use Rattle.std.proofs.Common.{List, [], ◌∷◌, length, refl, ap, ◌∙◌, arith, cond}
+use Rattle.std.proofs.Common.{false, List, [], ◌∷◌, length, refl, ap, ◌∙◌, arith, cond}
 use Rattle.std.specs.Prelude.{◌||◌, sum_by}
 use Rattle.std.specs.List.{list_any}
 use Rattle.std.proofs.Math.Nat.{pow-suc}

@@ -1,7 +1,7 @@
 -- This project's own: code that is built from its end. A place counts the instructions behind it, so what
 -- is put in front moves no place. Only private functions cite this.
-use Rattle.std.specs.Prelude.{◌≡◌, ℕ, ◌+◌, ◌%◌, ◌<◌, ◌==◌, nat_lt, nat_le, Bool}
-use Rattle.std.specs.Prelude.{if◌then◌else◌, List, Some, slice_get, take, length, bit_and, not}
+use Rattle.std.specs.Prelude.{◌≡◌, ℕ, ◌+◌, ◌%◌, ◌<◌, ◌==◌, nat_lt, nat_le, Bool, if◌then◌else◌, List, Some}
+use Rattle.std.specs.Prelude.{slice_get, take, length, bit_and, not}
 use Rattle.bpf_code.specs.declared.insn.Insn.{Insn}
 use Rattle.bpf_code.specs.declared.operation.Operation.{Operation}
 use Rattle.bpf_code.specs.declared.operation.Operation.TheVariants.{LoadData, AndK, JumpEqualK, JumpGreaterK}
@@ -72,10 +72,3 @@ pub record Puts (insn : Insn) (old new : List Insn) : Type 0 where
   pub stands : slice_get new (length old) ≡ Some insn
   pub longer : length new ≡ length old + 1
   pub keeps : Keeps old new
-
--- a return of this value stands at this place
-pub record Returns (code : List Insn) (at value : ℕ) : Type 0 where
-  pub insn : Insn
-  pub stands : slice_get code at ≡ Some insn
-  pub returns : insn.op ≡ ReturnK
-  pub value_is : value ≡ insn.k

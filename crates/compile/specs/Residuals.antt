@@ -1,7 +1,6 @@
 -- This project's own: what is left to decide of a number, as entries of clauses over words of a call's data.
 -- Only private functions cite this.
-use Rattle.std.specs.Prelude.{ℕ, ◌==◌, nat_le, bit_and, not, ◌||◌, Bool}
-use Rattle.std.specs.Prelude.{if◌then◌else◌, List, [], ◌∷◌}
+use Rattle.std.specs.Prelude.{ℕ, ◌==◌, nat_le, bit_and, not, ◌||◌, Bool, if◌then◌else◌, List, [], ◌∷◌}
 use Rattle.std.specs.List.{list_all}
 use Rattle.call_data.specs.declared.sys_call.SysCall.{SysCall}
 use Rattle.compile.specs.Backward.{data_word}

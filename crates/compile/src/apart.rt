@@ -5,7 +5,7 @@ ghost use Rattle.compile.specs.Residuals.{first_value};
 use crate::clause::Literal;
 use crate::residual::Rule;
 
-/// Which arguments a literal asks, as bits.
+/// The arguments that a literal asks about, one bit each.
 fn asked_by(literal: &Literal) -> u32 {
     match *literal {
         Literal::Asked(atom, _) if atom.view.offset < 64 => 1 << (atom.view.offset / 8),
@@ -13,7 +13,7 @@ fn asked_by(literal: &Literal) -> u32 {
     }
 }
 
-/// Which arguments a rule asks, as bits.
+/// The arguments that a rule asks about, one bit each.
 pub(crate) fn arguments(rule: &Rule) -> u32 {
     let mut found = 0;
     for clause in rule.clauses.as_slice() {
@@ -22,7 +22,7 @@ pub(crate) fn arguments(rule: &Rule) -> u32 {
     found
 }
 
-/// Which arguments rules ask, as bits.
+/// The arguments that any of the rules asks about, one bit each.
 fn all_arguments(rules: &[Rule]) -> u32 {
     let mut found = 0;
     for rule in rules {
@@ -31,10 +31,11 @@ fn all_arguments(rules: &[Rule]) -> u32 {
     found
 }
 
-/// How many rules are parted only where no argument of those before is asked by those after.
+/// Up to this many rules part only where the rules before and after have no argument in common. More rules
+/// part where the next one asks about none of the arguments that all rules before it share.
 const FEW: usize = 4;
 
-/// Whether rules part at a place up to which they all ask these arguments.
+/// Whether the rules part at a place, given the arguments that all rules since the last parting share.
 fn part_at(rules: &[Rule], at: usize, shared: u32) -> bool
     requires { at < length rules.now }
 {
@@ -44,7 +45,7 @@ fn part_at(rules: &[Rule], at: usize, shared: u32) -> bool
     all_arguments(&rules[..at]) & all_arguments(&rules[at..]) == 0
 }
 
-/// Where rules part that have no argument in common: near the middle.
+/// The place near the middle where the rules part by their arguments.
 pub(crate) fn boundary(rules: &[Rule]) -> Option<usize>
     ensures { IfSome result (λ at. (0 < at) × (at < length rules.now)) }
 {
@@ -65,7 +66,7 @@ pub(crate) fn boundary(rules: &[Rule]) -> Option<usize>
     found
 }
 
-/// What the rules return on every call, if the first of them all return the same and one of these always
+/// The value that the rules return on every call, if the first rules all return it and one of these always
 /// holds.
 pub(crate) fn certain(rules: &[Rule]) -> Option<u32>
     ensures { IfSome result (λ value. (call : SysCall) (other : ℕ)
@@ -83,7 +84,7 @@ pub(crate) fn certain(rules: &[Rule]) -> Option<u32>
     None
 }
 
-/// Which argument the first clause of a rule asks, as a bit.
+/// The arguments that the first clause of a rule asks about, one bit each.
 pub(crate) fn first_argument(rule: &Rule) -> u32 {
     match rule.clauses.as_slice().first() {
         Some(clause) => asked_by(&clause.one) | asked_by(&clause.other),

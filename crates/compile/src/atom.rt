@@ -8,23 +8,23 @@ ghost use Rattle.compile.specs.declared.atom.TheConstants.{WHOLE};
 use crate::code::Test;
 use bpf_code::DATA_LEN;
 
-/// The mask of a whole word.
+/// The mask that keeps a whole word.
 pub(crate) const WHOLE: u32 = 0xffff_ffff;
 
-/// The word of a call's data at an offset, under a mask.
+/// The word of a call's data at an offset in bytes, under a mask.
 #[derive(Clone, Copy, PartialEq, Eq)]
 pub(crate) struct View {
     pub(crate) offset: u32,
     pub(crate) mask: u32,
 }
 
-/// What A holds where nothing is known of it.
+/// Stands for unknown contents of A: its offset lies outside of the data.
 pub(crate) const NOWHERE: View = View {
     offset: DATA_LEN,
     mask: WHOLE,
 };
 
-/// What is asked of a number.
+/// A question about a number.
 #[derive(Clone, Copy, PartialEq, Eq)]
 pub(crate) enum Ask {
     Equal(u32),
@@ -38,7 +38,7 @@ pub(crate) struct Atom {
     pub(crate) ask: Ask,
 }
 
-/// The branch that asks a question: of what A has to hold, and whether it leads the other way.
+/// The branch that asks a question: what A must hold, the test, and whether a hit means no.
 #[derive(Clone, Copy)]
 pub(crate) struct Probe {
     pub(crate) base: View,
@@ -47,7 +47,7 @@ pub(crate) struct Probe {
     pub(crate) is_turned: bool,
 }
 
-/// What a mask leaves of a word.
+/// The word under the mask.
 fn seen(mask: u32, word: u32) -> u32
     ensures { result ≡ seen mask word }
 {
@@ -65,7 +65,7 @@ impl Ask {
         }
     }
 
-    /// The branch that asks it.
+    /// The test that asks it.
     pub(crate) fn test(self) -> (Test, u32)
         ensures { (number : ℕ) → holds_of result.0 result.1 number ≡ asks self number }
     {
@@ -123,7 +123,7 @@ impl Ask {
         }
     }
 
-    /// Whether it is asked if a number is 0.
+    /// Whether it asks for 0.
     fn is_zero(self) -> bool
         ensures { IsTrue result → self ≡ Ask.Equal 0 }
     {
@@ -134,7 +134,7 @@ impl Ask {
     }
 }
 
-/// Whether what one mask leaves of a word shows what another one does.
+/// Whether a word under a mask determines the word under a part of that mask.
 fn covers(mask: u32, part: u32) -> bool
     ensures { IsTrue result → (word : ℕ) → seen part (seen mask word) ≡ seen part word }
 {
@@ -148,14 +148,14 @@ fn covers(mask: u32, part: u32) -> bool
 }
 
 impl View {
-    /// Whether this shows what another view does.
+    /// Whether this view determines another one.
     pub(crate) fn covers(self, other: View) -> bool
         ensures { IsTrue result → Covers self other }
     {
         self.offset == other.offset && covers(self.mask, other.mask)
     }
 
-    /// Whether both are the same.
+    /// Whether both views are the same.
     pub(crate) fn is(self, other: View) -> bool
         ensures { IsTrue result → self ≡ other }
     {
@@ -164,7 +164,7 @@ impl View {
 }
 
 impl Atom {
-    /// Whether it is asked if all bits of a mask are clear.
+    /// Whether it asks if all bits of a mask are clear.
     fn is_clear(&self) -> bool
         ensures zero { IsTrue result → self.now.ask ≡ Ask.Equal 0 }
         ensures masked { IsTrue result → self.now.view.mask ≢ WHOLE }
@@ -172,8 +172,8 @@ impl Atom {
         self.view.mask != WHOLE && self.ask.is_zero()
     }
 
-    /// The branch that asks this where A held a view before. Whether bits are clear is asked of any view that
-    /// shows them, without a mask.
+    /// The branch that asks this, given what A holds. Whether bits are clear takes no mask: any view that
+    /// determines them will do.
     pub(crate) fn probe(&self, view: View) -> Probe
         ensures { IsProbe self.now result }
     {
@@ -202,7 +202,7 @@ impl Atom {
         }
     }
 
-    /// The answer on calls on which another question has a given answer, if that settles it.
+    /// The answer on calls where another question has the given answer, if that settles it.
     pub(crate) fn where_known(&self, given: &Atom, answer: bool) -> Option<bool>
         ensures { IfSome result (λ holds. (call : SysCall) → atom_holds given.now call ≡ answer
             → atom_holds self.now call ≡ holds) }
@@ -219,7 +219,7 @@ impl Atom {
         }
     }
 
-    /// Whether this holds where another mask leaves this number of the word, if that settles it.
+    /// The answer for words that are `k` under another mask, if that settles it.
     fn where_seen(&self, mask: u32, k: u32) -> Option<bool>
         ensures { IfSome result (λ holds. (word : ℕ) → seen mask word ≡ k
             → asks self.now.ask (seen self.now.view.mask word) ≡ holds) }
@@ -233,8 +233,8 @@ impl Atom {
         }
     }
 
-    /// Whether this fails where another question has this answer: its own number has the other one, or is too
-    /// large.
+    /// No, if the other question answers differently for the number that this one asks for, or shows that the
+    /// word is smaller than that number.
     fn where_asked(&self, given: &Atom, answer: bool) -> Option<bool>
         ensures { IfSome result (λ holds. (word : ℕ)
             → asks given.now.ask (seen given.now.view.mask word) ≡ answer
@@ -247,7 +247,7 @@ impl Atom {
         }
     }
 
-    /// Whether a number that this view shows has another answer to a question about a part of it.
+    /// Whether the other question, about a part of this view, answers differently for this number.
     fn is_told(&self, number: u32, given: &Atom, answer: bool) -> bool
         ensures { IsTrue result → (word : ℕ) → seen self.now.view.mask word ≡ number
             → asks given.now.ask (seen given.now.view.mask word) ≢ answer }
@@ -258,7 +258,7 @@ impl Atom {
         given.ask.of(seen(given.view.mask, number)) != answer
     }
 
-    /// Whether every word for which the answer is no is below this number.
+    /// Whether every word for which this answers no is below the number.
     fn is_below(&self, number: u32) -> bool
         ensures { IsTrue result → (word : ℕ) → asks self.now.ask (seen self.now.view.mask word) ≡ false
             → word < number }

@@ -1,5 +1,4 @@
-ghost use Rattle.std.specs.Prelude.{◌≡◌, ◌≤◌, ◌<◌, ◌+◌, ◌-◌, ◌%◌, ℕ, length, IfOk, IfSome, IsTrue};
-ghost use Rattle.std.specs.Prelude.{if◌then◌else◌};
+ghost use Rattle.std.specs.Prelude.{◌≡◌, ◌≤◌, ◌<◌, ◌+◌, ◌-◌, ◌%◌, ℕ, length, IfOk, IfSome, if◌then◌else◌};
 ghost use Rattle.bpf_code.specs.declared.limits.TheConstants.{DATA_LEN};
 ghost use Rattle.call_data.specs.declared.sys_call.SysCall.{SysCall};
 ghost use Rattle.compile.specs.Backward.{Extends, Gives, Keeps};
@@ -18,14 +17,14 @@ use crate::residual::{Rule, rules_where};
 use bpf_code::{DATA_LEN, MAX_INSNS};
 use std::alloc::{AllocError, Global};
 
-/// A place, and how many steps from there are enough.
+/// A place, and a bound of the steps from there.
 #[derive(Clone, Copy)]
 pub(crate) struct Way {
     pub(crate) at: usize,
     pub(crate) most: usize,
 }
 
-/// How many steps a test takes where A holds a view.
+/// The steps that a test takes, given what A holds.
 pub(crate) fn cost(atom: &Atom, view: View) -> usize {
     let base = atom.probe(view).base;
     if base.is(view) {
@@ -37,7 +36,7 @@ pub(crate) fn cost(atom: &Atom, view: View) -> usize {
     }
 }
 
-/// A way to the same place that is near enough, unless the code is longer than any filter.
+/// A way to the same place that a branch can reach. None if the code is longer than any filter.
 fn nearer(code: &mut Code, way: Way, reach: usize) -> Result<Option<Way>, AllocError>
     requires inside { way.at < length code.old }
     requires within { reach ≤ REACH }
@@ -63,8 +62,8 @@ fn nearer(code: &mut Code, way: Way, reach: usize) -> Result<Option<Way>, AllocE
     }
 }
 
-/// The place from which a branch is made that stands just before this one, A holding a view: what comes to
-/// hold the branch's own view is at this place, if it is not held.
+/// Where to enter the branch at `front - 1`, given what A holds. If A does not hold what the branch needs,
+/// the instructions from `front` on must bring it.
 fn brought_at(code: &Code, front: usize, base: View, view: View) -> Option<Way>
     requires some { 0 < front }
     requires inside { front ≤ length code.now }
@@ -81,7 +80,10 @@ fn brought_at(code: &Code, front: usize, base: View, view: View) -> Option<Way>
         });
     }
     if base.mask == WHOLE {
-        return loaded_at(code, front, base, view);
+        if code.loads(front, base.offset) {
+            return Some(Way { at: front, most: 1 });
+        }
+        return None;
     }
     if !code.masks(front, base.mask) {
         return None;
@@ -98,22 +100,7 @@ fn brought_at(code: &Code, front: usize, base: View, view: View) -> Option<Way>
     })
 }
 
-/// The same where the branch needs a whole word in A.
-fn loaded_at(code: &Code, front: usize, base: View, view: View) -> Option<Way>
-    requires { base.mask ≡ WHOLE }
-    ensures gives { IfSome result (λ way. (call : SysCall) (value most : ℕ)
-        → Gives code.now call (front - 1) (shown base call) value most
-        → GivesWith view code.now call way.at value (most + way.most)) }
-    ensures inside { IfSome result (λ way. way.at < length code.now) }
-{
-    if code.loads(front, base.offset) {
-        Some(Way { at: front, most: 1 })
-    } else {
-        None
-    }
-}
-
-/// A recent place that makes the test, A holding a view, and leads to these places.
+/// A recent branch with the same test and the same targets, and where to enter it, given what A holds.
 fn twin(code: &Code, probe: &Probe, hit: usize, miss: usize, view: View) -> Option<Way>
     requires { probe.now.base.offset < DATA_LEN }
     ensures gives { IfSome result (λ way. (call : SysCall) (value most : ℕ)
@@ -133,7 +120,7 @@ fn twin(code: &Code, probe: &Probe, hit: usize, miss: usize, view: View) -> Opti
     None
 }
 
-/// Puts in front what makes A hold one view after another, and counts the steps.
+/// Puts in front what brings a view into A, given what A holds, and returns how many steps that takes.
 fn bring(code: &mut Code, base: View, view: View) -> Result<usize, AllocError>
     requires some { 0 < length code.old }
     requires known { base.offset < DATA_LEN }
@@ -160,65 +147,7 @@ fn bring(code: &mut Code, base: View, view: View) -> Result<usize, AllocError>
     Ok(2)
 }
 
-/// Puts the test in front, A holding a view.
-fn test(
-    code: &mut Code,
-    probe: &Probe,
-    hit: usize,
-    miss: usize,
-    view: View,
-) -> Result<Way, AllocError>
-    requires known { probe.now.base.offset < DATA_LEN }
-    requires aligned { probe.now.base.offset % 4 ≡ 0 }
-    requires hit_inside { hit < length code.old }
-    requires miss_inside { miss < length code.old }
-    requires hit_near { length code.old ≤ hit + 1 + REACH }
-    requires miss_near { length code.old ≤ miss + 1 + REACH }
-    ensures gives { IfOk result (λ way. (call : SysCall) (value most : ℕ)
-        → Gives code.old call (taken probe.now call hit miss) (shown probe.now.base call) value most
-        → GivesWith view code.new call way.at value (most + 1 + way.most)) }
-    ensures inside { IfOk result (λ way. way.at < length code.new) }
-    ensures keeps { Keeps code.old code.new }
-    ensures extends { Extends code.old code.new }
-    ensures grows { length code.old ≤ length code.new }
-{
-    code.jump(probe.test, probe.k, hit, miss)?;
-    let steps = bring(code, probe.base, view)?;
-    Ok(Way {
-        at: code.len() - 1,
-        most: steps,
-    })
-}
-
-/// A place that makes the test, A holding a view: a recent one, or a new one.
-fn tested(
-    code: &mut Code,
-    probe: &Probe,
-    hit: usize,
-    miss: usize,
-    view: View,
-) -> Result<Way, AllocError>
-    requires known { probe.now.base.offset < DATA_LEN }
-    requires aligned { probe.now.base.offset % 4 ≡ 0 }
-    requires hit_inside { hit < length code.old }
-    requires miss_inside { miss < length code.old }
-    requires hit_near { length code.old ≤ hit + 1 + REACH }
-    requires miss_near { length code.old ≤ miss + 1 + REACH }
-    ensures gives { IfOk result (λ way. (call : SysCall) (value most : ℕ)
-        → Gives code.old call (taken probe.now call hit miss) (shown probe.now.base call) value most
-        → GivesWith view code.new call way.at value (most + 1 + way.most)) }
-    ensures inside { IfOk result (λ way. way.at < length code.new) }
-    ensures keeps { Keeps code.old code.new }
-    ensures extends { Extends code.old code.new }
-    ensures grows { length code.old ≤ length code.new }
-{
-    match twin(code, probe, hit, miss, view) {
-        Some(way) => Ok(way),
-        None => test(code, probe, hit, miss, view),
-    }
-}
-
-/// A way that makes the test, A holding a view, and leads one way or the other.
+/// A way that makes the test and goes on by its outcome, given what A holds.
 fn branch(
     code: &mut Code,
     probe: &Probe,
@@ -248,23 +177,24 @@ fn branch(
     let Some(most) = hit.most.max(miss.most).checked_add(1) else {
         return Ok(None);
     };
-    let way = tested(code, probe, hit.at, miss.at, view)?;
+    let way = match twin(code, probe, hit.at, miss.at, view) {
+        Some(way) => way,
+        None => {
+            code.jump(probe.test, probe.k, hit.at, miss.at)?;
+            let steps = bring(code, probe.base, view)?;
+            Way {
+                at: code.len() - 1,
+                most: steps,
+            }
+        }
+    };
     match most.checked_add(way.most) {
         Some(most) => Ok(Some(Way { at: way.at, most })),
         None => Ok(None),
     }
 }
 
-/// Whether a way can be taken with one view in A as with another.
-fn is_same(code: &Code, at: usize, view: View, other: View) -> bool
-    requires { at < length code.now }
-    ensures { IsTrue result → (call : SysCall) (value most : ℕ) → GivesWith view code.now call at value most
-        → GivesWith other code.now call at value most }
-{
-    view.is(other) || code.is_steady(at)
-}
-
-/// The place to begin at where no test is left, A holding a view.
+/// Where to go on when no test is left, given what A holds.
 fn arrived(code: &Code, last: Way, view: View) -> Way
     requires { last.at < length code.now }
     ensures gives { (call : SysCall) (value : ℕ) → WayGives NOWHERE code.now call last value
@@ -280,10 +210,10 @@ fn arrived(code: &Code, last: Way, view: View) -> Way
     }
 }
 
-/// Emits the rules as tests of words, A holding a view: what the first rule that holds returns, else what is
-/// found further on. None if that takes too many tests. Rules that have no argument in common come one after
-/// another; else what is left is worked out for either answer to a question. Any question is right, so
-/// nothing is asked of the choice.
+/// Emits the rules as tests of words, given what A holds: the value of the first rule that holds, else what
+/// `last` gives. None if that takes too many tests. Rules without a common argument come one after another.
+/// Otherwise a question is chosen, and the code for either answer is built from what it leaves of the rules.
+/// Any question is right, so nothing is required of the choice.
 pub(crate) fn build(
     code: &mut Code,
     alloc: Global,
@@ -350,7 +280,7 @@ pub(crate) fn build(
     joined(code, &probe, yes, no, view)
 }
 
-/// A way that leads one way or the other by the answer to a question, or to the place that both lead to.
+/// A way that goes on by the answer to a question. If both answers lead to one place, nothing is tested.
 fn joined(
     code: &mut Code,
     probe: &Probe,
@@ -368,7 +298,7 @@ fn joined(
     ensures extends { Extends code.old code.new }
     ensures grows { length code.old ≤ length code.new }
 {
-    if yes.at == no.at && is_same(code, no.at, probe.base, view) {
+    if yes.at == no.at && code.is_steady(no.at) {
         return Ok(Some(Way {
             at: no.at,
             most: yes.most.max(no.most),

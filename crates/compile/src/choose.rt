@@ -6,24 +6,25 @@ use crate::clause::{Clause, Literal};
 use crate::residual::Rule;
 use std::alloc::{AllocError, Global};
 
-/// From how many numbers on the middle one parts a word's numbers.
+/// If a word is compared with this many numbers, the middle one parts them.
 const MANY: usize = 4;
 
-/// Among how many rules those are counted that need a literal.
+/// How many rules are looked at to count those that need a literal.
 const SHARING: usize = 16;
 
-/// What is asked where rules ask nothing.
+/// The question for rules that ask nothing.
 const ANY: Atom = Atom {
     view: NOWHERE,
     ask: Ask::Equal(0),
 };
 
-/// What is worse than all else.
+/// Odds that are worse than any other.
 const WORST: Odds = Odds { share: 0, steps: 1 };
 
-/// How many rules from the first on return the same: which of them holds does not matter.
-fn alike(rules: &[Rule]) -> usize
-    ensures { result ≤ length rules.now }
+/// The number of rules at the front that return the same value. It does not matter which of them holds.
+pub(crate) fn alike(rules: &[Rule]) -> usize
+    ensures inside { result ≤ length rules.now }
+    ensures some { 0 < length rules.now → 0 < result }
 {
     let mut end = 0;
     while end < rules.len() && rules[end].value == rules[0].value {
@@ -32,21 +33,23 @@ fn alike(rules: &[Rule]) -> usize
     end
 }
 
-/// The rule that is best asked first of those that return the same.
-fn first_rule(rules: &[Rule], view: View) -> Option<&Rule> {
-    let mut best = rules.first();
+/// The place of the rule that is best tried first.
+pub(crate) fn best(rules: &[Rule], view: View) -> usize
+    ensures { 0 < length rules.now → result < length rules.now }
+{
+    let mut best = 0;
     let mut odds = WORST;
-    for rule in rules {
+    for (at, rule) in rules.iter().enumerate() {
         let it = rule_odds(rule, view);
         if is_better(&it, &odds) {
-            best = Some(rule);
+            best = at;
             odds = it;
         }
     }
     best
 }
 
-/// How many rules need this literal to hold.
+/// How many of the first rules need this literal to hold.
 fn needing(rules: &[Rule], literal: &Literal) -> u64 {
     let mut many: u64 = 0;
     for rule in &rules[..SHARING.min(rules.len())] {
@@ -59,25 +62,21 @@ fn needing(rules: &[Rule], literal: &Literal) -> u64 {
     many
 }
 
-/// How many calls fail a clause, counted for each rule that fails with it.
-fn failing(clause: &Clause, share: u64, rules: &[Rule], is_alike: bool) -> u64 {
-    let fails = ALL.saturating_sub(share);
-    if clause.is_alone() && (!is_alike || is_lower(&clause.one)) {
-        fails.saturating_mul(needing(rules, &clause.one))
-    } else {
-        fails
-    }
-}
-
-/// The clause of a rule that is best asked first: it mostly fails, and other rules with it.
+/// The clause of a rule that is best tried first: the one that fails most often. If the rules return
+/// different values, a failure counts once for each rule that needs the clause.
 fn first_clause(rule: &Rule, rules: &[Rule], is_alike: bool, view: View) -> Option<Clause> {
     let mut best = rule.clauses.as_slice().first().copied();
     let mut odds = WORST;
     for clause in rule.clauses.as_slice() {
-        let it = clause_odds(clause, view);
+        let Odds { share, steps } = clause_odds(clause, view);
+        let many = if clause.is_alone() && !is_alike {
+            needing(rules, &clause.one)
+        } else {
+            1
+        };
         let it = Odds {
-            share: failing(clause, it.share, rules, is_alike),
-            steps: it.steps,
+            share: rest(share).saturating_mul(many),
+            steps,
         };
         if is_better(&it, &odds) {
             best = Some(*clause);
@@ -87,15 +86,7 @@ fn first_clause(rule: &Rule, rules: &[Rule], is_alike: bool, view: View) -> Opti
     best
 }
 
-/// Whether a lower half is asked.
-fn is_lower(literal: &Literal) -> bool {
-    match *literal {
-        Literal::Known(_) => false,
-        Literal::Asked(atom, _) => atom.view.offset.is_multiple_of(8),
-    }
-}
-
-/// The literal of a clause that is best asked first.
+/// The literal of a clause that is best tried first.
 fn first_literal(clause: &Clause, view: View) -> Literal {
     let one = literal_odds(&clause.one, view);
     let other = literal_odds(&clause.other, view);
@@ -106,7 +97,7 @@ fn first_literal(clause: &Clause, view: View) -> Literal {
     }
 }
 
-/// The numbers that a word is compared with, for equality and for order.
+/// The numbers that a view is compared with, for equality and for order.
 #[derive(Drop)]
 struct Cuts {
     equal: Vec<u32>,
@@ -141,31 +132,33 @@ fn cuts_of(alloc: Global, rules: &[Rule], view: View) -> Result<Cuts, AllocError
     Ok(cuts)
 }
 
-/// The middle one of these numbers, each counted once.
-fn middle(mut numbers: Vec<u32>, least: usize) -> Result<Option<u32>, AllocError> {
+/// The middle one of the numbers, each counted once, if there are many.
+fn middle(cuts: Cuts) -> Result<Option<u32>, AllocError> {
+    let mut numbers = cuts.equal;
+    numbers.extend_from_slice(cuts.order.as_slice())?;
     numbers.sort()?;
     numbers.dedup();
-    if numbers.len() < least || numbers.len() == 0 {
+    if numbers.len() < MANY {
         return Ok(None);
     }
     Ok(Some(numbers[numbers.len() / 2]))
 }
 
-/// The literal that is best asked first.
+/// The literal that is best tried first.
 fn first_of(rules: &[Rule], view: View) -> Literal {
     let prefix = &rules[..alike(rules)];
+    if prefix.is_empty() {
+        return Literal::Known(true);
+    }
     let is_alike = prefix.len() == rules.len();
-    let clause = first_rule(prefix, view).and_then(|rule| first_clause(
-        rule, rules, is_alike, view,
-    ));
-    match clause {
+    match first_clause(&prefix[best(prefix, view)], rules, is_alike, view) {
         Some(clause) => first_literal(&clause, view),
         None => Literal::Known(true),
     }
 }
 
-/// The question that is asked next, with this word in A. Any question is right: this one is to lead to few
-/// steps and little code.
+/// The next question, given what A holds. Any question is right; this one should lead to few steps and little
+/// code.
 pub(crate) fn choose(alloc: Global, rules: &[Rule], view: View) -> Result<Atom, AllocError> {
     match first_of(rules, view) {
         Literal::Known(_) => Ok(ANY),
@@ -173,8 +166,8 @@ pub(crate) fn choose(alloc: Global, rules: &[Rule], view: View) -> Result<Atom, 
     }
 }
 
-/// A question about the same view that parts its numbers, if there are many; else about the smallest of those
-/// that it may equal.
+/// A question about the view of the best one: about its middle number if there are many, else about the
+/// smallest number that it may equal.
 fn parted(alloc: Global, rules: &[Rule], best: Atom, wanted: bool) -> Result<Atom, AllocError> {
     let ask = match best.ask {
         Ask::Equal(_) if !wanted => best.ask,
@@ -182,12 +175,12 @@ fn parted(alloc: Global, rules: &[Rule], best: Atom, wanted: bool) -> Result<Ato
             let mut cuts = cuts_of(alloc, rules, best.view)?;
             cuts.equal.sort()?;
             let first = cuts.equal.as_slice().first().copied();
-            match middle_of(cuts)? {
+            match middle(cuts)? {
                 Some(k) => from(k),
                 None => Ask::Equal(first.unwrap_or(k)),
             }
         }
-        Ask::AtLeast(k) => from(middle_of(cuts_of(alloc, rules, best.view)?)?.unwrap_or(k)),
+        Ask::AtLeast(k) => from(middle(cuts_of(alloc, rules, best.view)?)?.unwrap_or(k)),
     };
     Ok(Atom {
         view: best.view,
@@ -195,15 +188,7 @@ fn parted(alloc: Global, rules: &[Rule], best: Atom, wanted: bool) -> Result<Ato
     })
 }
 
-fn middle_of(cuts: Cuts) -> Result<Option<u32>, AllocError> {
-    let mut all = cuts.equal;
-    for k in cuts.order.as_slice() {
-        all.push(*k)?;
-    }
-    middle(all, MANY)
-}
-
-/// Whether a word is at least this number: whether it is 0, for 1, which is how clauses ask that.
+/// Whether a word is at least this number. For 1 that is asked as clauses do: whether it is 0.
 fn from(k: u32) -> Ask {
     if k > 1 {
         Ask::AtLeast(k)
@@ -212,45 +197,44 @@ fn from(k: u32) -> Ask {
     }
 }
 
-/// The number that stands for all calls; shares are parts of it.
-pub(crate) const ALL: u64 = 1024;
+/// Shares of the calls are counted in parts of this number.
+const ALL: u64 = 1024;
 
-/// How many of 1,024 calls something is taken to hold of, and how many steps they all take to find that out.
+/// A guess: on how many of 1,024 calls something holds, and the steps that all of them take to find out.
 #[derive(Clone, Copy)]
-pub(crate) struct Odds {
-    pub(crate) share: u64,
-    pub(crate) steps: u64,
+struct Odds {
+    share: u64,
+    steps: u64,
 }
 
-/// How many calls are left.
+/// The share of the other calls.
 fn rest(share: u64) -> u64 {
     ALL.saturating_sub(share)
 }
 
-/// So much for a share of the calls.
+/// The steps of a share of the calls.
 fn part(steps: u64, share: u64) -> u64 {
     steps.saturating_mul(share) / ALL
 }
 
-/// How many calls a question is taken to hold of: upper halves are mostly 0, and lower ones mostly another
-/// number.
+/// The share of calls that answer yes. Upper halves are mostly 0, and lower halves mostly another number.
 fn share_of(atom: &Atom) -> u64 {
     if atom.view.offset.is_multiple_of(8) {
         match atom.ask {
-            Ask::Equal(0) if atom.view.mask != WHOLE => 950,
-            Ask::Equal(_) => 200,
-            Ask::AtLeast(_) => 500,
+            Ask::Equal(0) if atom.view.mask != WHOLE => 910,
+            Ask::Equal(_) => 220,
+            Ask::AtLeast(_) => 550,
         }
     } else {
         match atom.ask {
             Ask::Equal(0) => 900,
-            _ => 100,
+            _ => 50,
         }
     }
 }
 
-/// What is expected of a literal, with this word in A.
-pub(crate) fn literal_odds(literal: &Literal, view: View) -> Odds {
+/// The odds of a literal, given what A holds.
+fn literal_odds(literal: &Literal, view: View) -> Odds {
     match *literal {
         Literal::Known(holds) => Odds {
             share: if holds { ALL } else { 0 },
@@ -266,8 +250,8 @@ pub(crate) fn literal_odds(literal: &Literal, view: View) -> Odds {
     }
 }
 
-/// What is expected of a clause.
-pub(crate) fn clause_odds(clause: &Clause, view: View) -> Odds {
+/// The odds of a clause.
+fn clause_odds(clause: &Clause, view: View) -> Odds {
     let one = literal_odds(&clause.one, view);
     let other = literal_odds(&clause.other, view);
     Odds {
@@ -276,8 +260,8 @@ pub(crate) fn clause_odds(clause: &Clause, view: View) -> Odds {
     }
 }
 
-/// What is expected of a rule.
-pub(crate) fn rule_odds(rule: &Rule, view: View) -> Odds {
+/// The odds of a rule.
+fn rule_odds(rule: &Rule, view: View) -> Odds {
     let mut share = ALL;
     let mut steps: u64 = 0;
     for clause in rule.clauses.as_slice() {
@@ -288,7 +272,7 @@ pub(crate) fn rule_odds(rule: &Rule, view: View) -> Odds {
     Odds { share, steps }
 }
 
-/// Whether something is the better one to try before another, either being enough.
-pub(crate) fn is_better(one: &Odds, other: &Odds) -> bool {
+/// Whether to try one thing before another if either is enough.
+fn is_better(one: &Odds, other: &Odds) -> bool {
     one.share.saturating_mul(other.steps) > other.share.saturating_mul(one.steps)
 }

@@ -1,6 +1,5 @@
 ghost use Rattle.std.specs.Prelude.{◌≡◌, ◌<◌, ◌+◌, ◌*◌, ◌/◌, ◌%◌, ◌^◌, ◌==◌, ◌||◌, ℕ, IsTrue, true, false};
-ghost use Rattle.std.specs.Prelude.{not};
-ghost use Rattle.std.specs.Prelude.{◌≢◌, bit_and, nat_le, nat_lt, slice_index};
+ghost use Rattle.std.specs.Prelude.{not, ◌≢◌, bit_and, nat_le, nat_lt, slice_index};
 ghost use Rattle.call_data.specs.declared.sys_call.SysCall.{SysCall};
 ghost use Rattle.call_data.specs.CallData.{IsCall};
 ghost use Rattle.compile.specs.Backward.{data_word};
@@ -14,14 +13,14 @@ ghost use Rattle.bpf_code.specs.declared.limits.TheConstants.{DATA_LEN};
 use crate::atom::{Ask, Atom, View, WHOLE};
 use call_data::words_of_fields;
 
-/// A question with the answer that is wanted, or what is known already.
+/// A question with the wanted answer, or an answer that is known already.
 #[derive(Clone, Copy, PartialEq, Eq)]
 pub(crate) enum Literal {
     Known(bool),
     Asked(Atom, bool),
 }
 
-/// It holds if one of the two does.
+/// Holds if one of the two literals does.
 #[derive(Clone, Copy)]
 pub(crate) struct Clause {
     pub(crate) one: Literal,
@@ -42,7 +41,7 @@ pub(crate) fn low(number: u64) -> u32
     (number & 0xffff_ffff) as u32
 }
 
-/// Where a call's number, its architecture and the halves of its arguments are among its words.
+/// Where a call's number, its architecture and the halves of its arguments are in its data.
 #[tactic(auto, unfolding(crate::specs::Backward::data_word))]
 pub(crate) fn words()
     ensures nr { (call : SysCall) → IsCall call → data_word call 0 ≡ call.nr }
@@ -63,7 +62,7 @@ fn is_power(number: u32) -> bool
     2u32.pow(number.ilog2()) == number
 }
 
-/// The question that a word under a mask has this answer.
+/// Asks this of a word under a mask.
 fn asked(offset: u32, mask: u32, ask: Ask) -> Literal
     ensures holds { (call : SysCall) → literal_holds result call
         ≡ asks ask (seen mask (data_word call offset)) }
@@ -110,8 +109,8 @@ impl Literal {
         }
     }
 
-    /// The word under a mask is this number. What has no bit above some is asked in order, and whether one
-    /// bit is set by whether it is clear.
+    /// The word under a mask is this number. That all high bits are clear is asked as an order, and that one
+    /// bit is set as the opposite of that it is clear.
     pub(crate) fn masked(word: u32, mask: u32, with: u32) -> Literal
         ensures holds { (call : SysCall) → data_word call word < 2 ^ 32
             → literal_holds result call ≡ (bit_and (data_word call word) mask == with) }
@@ -133,7 +132,7 @@ impl Literal {
         asked(word, mask, Ask::Equal(with))
     }
 
-    /// What holds where this does not.
+    /// Holds if this one does not.
     pub(crate) fn opposite(self) -> Literal
         ensures holds { (call : SysCall) → literal_holds result call ≡ not (literal_holds self call) }
         ensures small { (n : ℕ) → IsSmall n self → IsSmall n result }
@@ -144,7 +143,7 @@ impl Literal {
         }
     }
 
-    /// What is left of it on calls on which the atom has this answer.
+    /// What is left of it on calls where a question has this answer.
     fn where_known(self, given: &Atom, answer: bool) -> Literal
         ensures { (call : SysCall) → atom_holds given.now call ≡ answer
             → literal_holds result call ≡ literal_holds self call }
@@ -158,7 +157,7 @@ impl Literal {
         }
     }
 
-    /// Whether it is known to be this.
+    /// Whether this answer is known.
     pub(crate) fn is_known(self, answer: bool) -> bool
         ensures holds { IsTrue result → (call : SysCall) → literal_holds self call ≡ answer }
         ensures yes { IsTrue result → self ≡ Literal.Known answer }
@@ -172,7 +171,7 @@ impl Literal {
 }
 
 impl Clause {
-    /// It holds if this does.
+    /// Holds if the literal does.
     pub(crate) fn of(one: Literal) -> Clause
         ensures holds { (call : SysCall) → clause_holds result call ≡ literal_holds one call }
         ensures small { (n : ℕ) → IsSmall n one → IsSmallClause n result }
@@ -183,7 +182,7 @@ impl Clause {
         }
     }
 
-    /// It holds if one of these does.
+    /// Holds if one of the literals does.
     pub(crate) fn either(one: Literal, other: Literal) -> Clause
         ensures holds { (call : SysCall) → clause_holds result call
             ≡ (literal_holds one call || literal_holds other call) }
@@ -199,7 +198,7 @@ impl Clause {
         }
     }
 
-    /// What is left of it on calls on which the atom has this answer.
+    /// What is left of it on calls where a question has this answer.
     pub(crate) fn where_known(&self, given: &Atom, answer: bool) -> Clause
         ensures { (call : SysCall) → atom_holds given.now call ≡ answer
             → clause_holds result call ≡ clause_holds self.now call }
@@ -225,7 +224,7 @@ impl Clause {
         self.one.is_known(false) && self.other.is_known(false)
     }
 
-    /// Whether only the first of the two is asked.
+    /// Whether it has only one literal to ask.
     pub(crate) fn is_alone(&self) -> bool {
         self.other.is_known(false)
     }

@@ -1,16 +1,13 @@
-ghost use Rattle.std.specs.Prelude.{◌≡◌, ◌≤◌, ◌<◌, ◌+◌, ◌-◌, ◌%◌, ◌^◌, ℕ, List, [], reverse, Some};
-ghost use Rattle.std.specs.Prelude.{slice_get, take, length, IfOk, IfSome, OnOk, IsTrue, bit_and};
-ghost use Rattle.std.specs.Prelude.{if◌then◌else◌};
-ghost use Rattle.std.specs.Prelude.{◌==◌, ◌≢◌};
-ghost use Rattle.std.specs.Bool.{OnFalse};
+ghost use Rattle.std.specs.Prelude.{◌≡◌, ◌≤◌, ◌<◌, ◌+◌, ◌-◌, ◌%◌, ◌^◌, ℕ, List, [], reverse, Some, slice_get};
+ghost use Rattle.std.specs.Prelude.{take, length, IfOk, OnOk, IsTrue, bit_and, if◌then◌else◌, ◌==◌};
 ghost use Rattle.bpf_code.specs.declared.insn.Insn.{Insn};
 ghost use Rattle.bpf_code.specs.declared.limits.TheConstants.{DATA_LEN, MAX_INSNS};
 ghost use Rattle.bpf_code.specs.declared.operation.Operation.TheVariants.{AndK, LoadData, ReturnK};
 ghost use Rattle.call_data.specs.declared.sys_call.SysCall.{SysCall};
 ghost use Rattle.bpf_verify.specs.Sound.{IsSound};
 ghost use Rattle.bpf_machine.specs.Runs.{Runs};
-ghost use Rattle.compile.specs.Backward.{Extends, Gives, GivesAlways, IsBackward, Keeps};
-ghost use Rattle.compile.specs.Backward.{PointsInside, Puts, Returns, data_word};
+ghost use Rattle.compile.specs.Backward.{Extends, Gives, GivesAlways, IsBackward, Keeps, PointsInside, Puts};
+ghost use Rattle.compile.specs.Backward.{data_word};
 ghost use Rattle.compile.specs.Tests.{holds_of, operation_of};
 ghost use Rattle.compile.specs.declared.code.TheConstants.{REACH, RECENT};
 
@@ -22,8 +19,8 @@ use std::marker::Model;
 /// How many instructions a branch can skip.
 pub(crate) const REACH: usize = 255;
 
-/// How many of the latest instructions are searched for a return to share: few enough that the branches that
-/// are put in front next still reach it.
+/// How many of the latest instructions are searched for a return to share. Branches that are put in front
+/// next still reach it.
 pub(crate) const RECENT: usize = 200;
 
 /// What a branch tests of A.
@@ -31,7 +28,7 @@ pub(crate) const RECENT: usize = 200;
 pub(crate) enum Test {
     Equal,
     GreaterOrEqual,
-    /// Whether it has any of these bits.
+    /// Whether any of these bits is set.
     AnyBit,
 }
 
@@ -47,8 +44,8 @@ impl Test {
     }
 }
 
-/// Code that is built from its last instruction to its first. A place is the number of instructions after
-/// one, so it does not change while more are put in front.
+/// Code that is built from its last instruction to its first. A place counts the instructions after it, so it
+/// stays the same while more are put in front.
 #[derive(Drop)]
 pub(crate) struct Code {
     insns: Vec<Insn>,
@@ -103,7 +100,7 @@ impl Code {
         Ok(at)
     }
 
-    /// A return of this value: a recent one, or a new one.
+    /// The place of a return of this value: a recent one, or a new one.
     pub(crate) fn value(&mut self, value: u32) -> Result<usize, AllocError>
         ensures gives { IfOk result (λ at. (call : SysCall) (a : ℕ) → Gives self.new call at a value 1) }
         ensures recent { IfOk result (λ at. length self.new ≤ at + RECENT) }
@@ -113,32 +110,19 @@ impl Code {
         ensures extends { Extends self.old self.new }
         ensures grows { length self.old ≤ length self.new }
     {
-        match self.recent_return(value) {
-            Some(at) => Ok(at),
-            None => self.put(Insn {
-                op: Operation::ReturnK,
-                jt: 0,
-                jf: 0,
-                k: value,
-            }),
-        }
-    }
-
-    /// The latest return of this value, if it is recent.
-    fn recent_return(&self, value: u32) -> Option<usize>
-        ensures returns { IfSome result (λ at. Returns self.now at value) }
-        ensures recent { IfSome result (λ at. length self.now ≤ at + RECENT) }
-        ensures inside { IfSome result (λ at. at < length self.now) }
-    {
         let len = self.len();
         for back in 0..RECENT.min(len) {
             let at = len - 1 - back;
-            let insn = self.at(at);
-            if returns(&insn, value) {
-                return Some(at);
+            if returns(&self.at(at), value) {
+                return Ok(at);
             }
         }
-        None
+        self.put(Insn {
+            op: Operation::ReturnK,
+            jt: 0,
+            jf: 0,
+            k: value,
+        })
     }
 
     /// Loads the word of the call's data at this offset, and goes on with the code.
@@ -163,8 +147,7 @@ impl Code {
         })
     }
 
-    /// Where to go on in the place of this one if A has the word at this offset: if that is what is loaded
-    /// first, it need not be loaded again.
+    /// Where to enter a place if A already has the word at this offset: a load of that word is skipped.
     pub(crate) fn past_load(&self, place: usize, offset: u32) -> usize
         requires { place < length self.now }
         ensures gives { (call : SysCall) (value most : ℕ) → GivesAlways self.now call place value most
@@ -230,8 +213,8 @@ impl Code {
         })
     }
 
-    /// A place that does what this one does, with at most `reach` instructions between it and the next one
-    /// that is put in front.
+    /// A place that does the same, with at most `reach` instructions between it and the next one that is put
+    /// in front.
     pub(crate) fn near(&mut self, place: usize, reach: usize) -> Result<usize, AllocError>
         requires inside { place < length self.old }
         requires within { reach ≤ REACH }
@@ -264,7 +247,7 @@ impl Code {
         })
     }
 
-    /// Whether a branch at this place makes this test, and leads to these places.
+    /// Whether a branch with this test and these targets stands at a place.
     pub(crate) fn branches(&self, place: usize, test: Test, k: u32, hit: usize, miss: usize) -> bool
         requires inside { place < length self.now }
         ensures { IsTrue result → (call : SysCall) (a value most : ℕ)
@@ -281,7 +264,7 @@ impl Code {
         place - 1 - miss == insn.jf as usize
     }
 
-    /// Whether what is in A does not matter at this place.
+    /// Whether a place gives the same whatever A holds.
     pub(crate) fn is_steady(&self, place: usize) -> bool
         requires inside { place < length self.now }
         ensures { IsTrue result → (call : SysCall) (a value most : ℕ) → Gives self.now call place a value most
@@ -294,7 +277,7 @@ impl Code {
         is_load(insn.op)
     }
 
-    /// Whether the word at this offset is loaded at this place.
+    /// Whether a place loads the word at this offset.
     pub(crate) fn loads(&self, place: usize, offset: u32) -> bool
         ensures { IsTrue result → (place < length self.now) × ((call : SysCall) (a value most : ℕ)
             → Gives self.now call (place - 1) (data_word call offset) value most
@@ -310,7 +293,7 @@ impl Code {
         insn.k == offset
     }
 
-    /// Whether A is put under this mask at this place.
+    /// Whether a place masks A with these bits.
     pub(crate) fn masks(&self, place: usize, bits: u32) -> bool
         ensures { IsTrue result → (place < length self.now) × ((call : SysCall) (a value most : ℕ)
             → Gives self.now call (place - 1) (bit_and a bits) value most
@@ -326,7 +309,7 @@ impl Code {
         insn.k == bits
     }
 
-    /// Removes the instructions that were put in front last, down to this length.
+    /// Removes what was put in front last, down to this length.
     pub(crate) fn cut(&mut self, len: usize)
         ensures { self.new ≡ take len self.old }
     {
@@ -349,7 +332,7 @@ impl Code {
     }
 }
 
-/// The instructions in the order in which a filter has them.
+/// The instructions in a filter's order.
 fn turned(mut insns: Vec<Insn>) -> Vec<Insn>
     ensures { result.items ≡ reverse insns.items }
 {
@@ -357,7 +340,7 @@ fn turned(mut insns: Vec<Insn>) -> Vec<Insn>
     insns
 }
 
-/// Whether the operation is the branch that makes this test.
+/// Whether the operation is the branch for this test.
 fn makes(op: Operation, test: Test) -> bool
     ensures { IsTrue result → op ≡ operation_of test }
 {
@@ -381,15 +364,13 @@ fn is_mask(op: Operation) -> bool
 }
 
 fn is_return(op: Operation) -> bool
-    ensures yes { IsTrue result → op ≡ ReturnK }
-    ensures no { OnFalse result (op ≢ ReturnK) }
+    ensures { IsTrue result → op ≡ ReturnK }
 {
     matches!(op, Operation::ReturnK)
 }
 
 fn returns(insn: &Insn, value: u32) -> bool
-    ensures yes { IsTrue result → (insn.now.op ≡ ReturnK) × (insn.now.k ≡ value) }
-    ensures no { OnFalse result (insn.now.op ≡ ReturnK → insn.now.k ≢ value) }
+    ensures { IsTrue result → (insn.now.op ≡ ReturnK) × (insn.now.k ≡ value) }
 {
     is_return(insn.op) && insn.k == value
 }

@@ -1,5 +1,5 @@
-ghost use Rattle.std.specs.Prelude.{◌≡◌, ◌≤◌, ◌<◌, ◌+◌, ◌*◌, ◌^◌, ℕ, None, IfOk, IfSome, IsTrue};
-ghost use Rattle.std.specs.Prelude.{length, true};
+ghost use Rattle.std.specs.Prelude.{◌≡◌, ◌≤◌, ◌<◌, ◌+◌, ◌*◌, ◌^◌, ℕ, None, IfOk, IfSome, IsTrue, length};
+ghost use Rattle.std.specs.Prelude.{true};
 ghost use Rattle.std.specs.Bool.{OnFalse};
 ghost use Rattle.call_data.specs.declared.sys_call.SysCall.{SysCall};
 ghost use Rattle.call_data.specs.CallData.{IsCall};
@@ -14,8 +14,7 @@ ghost use Rattle.compile.specs.declared.atom.TheConstants.{NOWHERE};
 ghost use Rattle.compile.specs.declared.code.TheConstants.{RECENT};
 
 use crate::atom::NOWHERE;
-use crate::build::{Way, build, cost};
-use crate::clause::Literal;
+use crate::build::{Way, build};
 use crate::code::{Code, RECENT};
 use crate::ordered::ordered;
 use crate::residual::Rule;
@@ -24,67 +23,30 @@ use crate::search::is_equal;
 use oci_profile::{Decision, Entry};
 use std::alloc::{AllocError, Global};
 
-/// How many questions a path may ask.
+/// How many questions a path may ask at most.
 const DEEP: usize = 64;
 
-/// How many rules may be looked at to ask questions, for each rule, and how many more. Drawn lists need no
-/// more, and profiles of the greatest weight would take too long.
+/// How many rules may be looked at while questions are chosen, for each rule, and how many more. Drawn lists
+/// need no more, and profiles of the greatest weight would take too long.
 const LOOKS: usize = 24;
 
 const MORE: usize = 100;
 
-/// How many instructions a literal takes, A holding another word.
-fn literal_room(literal: &Literal) -> usize {
-    match *literal {
-        Literal::Known(_) => 0,
-        Literal::Asked(atom, _) => cost(&atom, NOWHERE),
-    }
-}
-
-/// How many instructions the tests of these rules take one after another.
+/// How many instructions the rules take one after another: two for each literal, and a return.
 fn room(rules: &[Rule]) -> usize {
     let mut room: usize = 0;
     for rule in rules {
         room = room.saturating_add(1);
         for clause in rule.clauses.as_slice() {
-            room = room.saturating_add(literal_room(&clause.one));
-            room = room.saturating_add(literal_room(&clause.other));
+            room = room.saturating_add(if clause.is_alone() { 2 } else { 4 });
         }
     }
     room
 }
 
-/// Emits rules as one diagram, if that is no longer than one after another, and does not ask too often: with
-/// many arguments there are too many answers. A rule by itself is taken as it is.
-fn whole(
-    code: &mut Code,
-    alloc: Global,
-    rules: &[Rule],
-    last: Way,
-) -> Result<Option<Way>, AllocError>
-    requires { last.at < length code.old }
-    ensures gives { IfOk result (λ found. IfSome found (λ way. (call : SysCall) (other : ℕ)
-        → WayGives NOWHERE code.old call last other
-        → WayGives NOWHERE code.new call way (first_value rules.now other call))) }
-    ensures inside { IfOk result (λ found. IfSome found (λ way. way.at < length code.new)) }
-    ensures keeps { Keeps code.old code.new }
-    ensures extends { Extends code.old code.new }
-    ensures grows { length code.old ≤ length code.new }
-    ensures none { IfOk result (λ found. found ≡ None → code.new ≡ code.old) }
-{
-    let start = code.len();
-    let room = room(rules);
-    let mut fuel = rules.len().saturating_mul(LOOKS).saturating_add(MORE);
-    if let Some(way) = build(code, alloc, rules, last, NOWHERE, DEEP, &mut fuel)? {
-        if rules.len() < 2 || code.len().saturating_sub(start) <= room {
-            return Ok(Some(way));
-        }
-    }
-    code.cut(start);
-    Ok(None)
-}
-
-/// Emits rules as one diagram, else in two halves, the first in front of the second.
+/// Emits the rules as one diagram. If that asks too often, as it may with many arguments, or is longer than
+/// the rules one after another, their first half is emitted in front of the second. A single rule may be
+/// longer.
 fn parts(
     code: &mut Code,
     alloc: Global,
@@ -100,9 +62,15 @@ fn parts(
     ensures extends { Extends code.old code.new }
     ensures grows { length code.old ≤ length code.new }
 {
-    if let Some(way) = whole(code, alloc, rules, last)? {
-        return Ok(Some(way));
+    let start = code.len();
+    let room = room(rules);
+    let mut fuel = rules.len().saturating_mul(LOOKS).saturating_add(MORE);
+    if let Some(way) = build(code, alloc, rules, last, NOWHERE, DEEP, &mut fuel)? {
+        if rules.len() < 2 || code.len().saturating_sub(start) <= room {
+            return Ok(Some(way));
+        }
     }
+    code.cut(start);
     if rules.len() < 2 {
         return Ok(None);
     }
@@ -113,7 +81,7 @@ fn parts(
     parts(code, alloc, &rules[..middle], rest)
 }
 
-/// How many conditions and how many entries there are that name a number.
+/// How many conditions the entries that name a number have, and how many entries these are.
 fn counts(entries: &[Entry], nr: u32) -> (usize, usize)
     ensures conditions { result.0 ≤ conditions_at entries.now nr }
     ensures added { 6 * result.0 + result.1 ≤ added_of entries.now nr }
@@ -130,10 +98,10 @@ fn counts(entries: &[Entry], nr: u32) -> (usize, usize)
     (conditions, many)
 }
 
-/// How much is counted: entries of one number have no more conditions in a profile that is light enough.
+/// Where the counting stops. In a profile that is light enough the entries of a number have fewer conditions.
 const MANY: usize = 0x10000;
 
-/// Whether the entry has just one condition, which asks for equality.
+/// Whether the entry has just one condition, an equality.
 fn is_equality(entry: &Entry) -> bool
     ensures { OnFalse result ((index : ℕ) → IsEquality index entry.now → ⊥) }
 {
@@ -153,23 +121,7 @@ fn may_be_asked(entries: &[Entry], nr: u32) -> bool
     true
 }
 
-/// Whether this number of steps keeps the promise for this number of conditions.
-fn is_quick(most: usize, conditions: usize, is_asked: bool) -> bool
-    requires { conditions < 2 ^ 32 }
-    ensures each { IsTrue result → most ≤ 1 + 6 * conditions }
-    ensures balanced { IsTrue result → is_asked ≡ true → (digits : ℕ) → conditions < 2 ^ digits
-        → most ≤ 1 + 12 * digits }
-{
-    if most > 1 + 6 * conditions {
-        return false;
-    }
-    if !is_asked || most <= 1 {
-        return true;
-    }
-    most <= 13 + 12 * conditions.max(1).ilog2() as usize
-}
-
-/// Emits what the entries decide of a number as a diagram, if that is neither longer nor slower than
+/// Emits what the entries decide on a number as a diagram, if that is neither longer nor slower than
 /// promised.
 pub(crate) fn diagram(
     code: &mut Code,
@@ -208,8 +160,8 @@ pub(crate) fn diagram(
     Ok(None)
 }
 
-/// Whether the code from a length on, and the steps from its place, are as promised for so many conditions
-/// and entries.
+/// Whether the code after the first `start` instructions is as short and as quick as promised for these
+/// counts of conditions and entries.
 fn is_good(code: &Code, start: usize, way: &Way, counts: (usize, usize), is_asked: bool) -> bool
     requires { (counts.0 < 2 ^ 32) × (counts.1 < 2 ^ 32) }
     ensures length { IsTrue result → length code.now ≤ start + 1 + 6 * counts.0 + counts.1 }
@@ -224,5 +176,11 @@ fn is_good(code: &Code, start: usize, way: &Way, counts: (usize, usize), is_aske
     if code.len().saturating_sub(way.at) > RECENT {
         return false;
     }
-    is_quick(way.most, counts.0, is_asked)
+    if way.most > 1 + 6 * counts.0 {
+        return false;
+    }
+    if !is_asked || way.most <= 1 {
+        return true;
+    }
+    way.most <= 13 + 12 * counts.0.max(1).ilog2() as usize
 }

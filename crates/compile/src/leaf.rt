@@ -18,61 +18,7 @@ use crate::search::{points_for, search};
 use oci_profile::{Decision, Entry, Profile, X32_BIT};
 use std::alloc::{AllocError, Global};
 
-/// Emits what the entries decide of a number, one after another, the last one put first.
-fn plain_leaf(
-    code: &mut Code,
-    alloc: Global,
-    entries: &[Entry],
-    last: &Decision,
-    nr: u32,
-) -> Result<usize, AllocError>
-    ensures gives { IfOk result (λ at. (call : SysCall) → IsCall call
-        → GivesAlways code.new call at (value_of (decision_of entries.now last.now nr call))
-        (steps_at entries.now nr)) }
-    ensures inside { IfOk result (λ at. at < length code.new) }
-    ensures recent { IfOk result (λ at. length code.new ≤ at + RECENT) }
-    ensures longer { OnOk result (length code.new ≤ length code.old + 1 + added_of entries.now nr) }
-    ensures keeps { Keeps code.old code.new }
-    ensures grows { length code.old ≤ length code.new }
-{
-    let rules = rules_of(alloc, entries, nr)?;
-    let place = code.value(last.value())?;
-    plain(code, rules.as_slice(), 0, place)
-}
-
-/// Emits what the entries decide of a number: many equalities of one argument by a search among their
-/// numbers,
-/// other entries one after another.
-fn other_leaf(
-    code: &mut Code,
-    alloc: Global,
-    entries: &[Entry],
-    last: &Decision,
-    nr: u32,
-) -> Result<usize, AllocError>
-    requires short { length code.old + added_of entries.now nr + 1 < 2 ^ 32 }
-    ensures gives { IfOk result (λ at. (call : SysCall) → IsCall call
-        → GivesAlways code.new call at (value_of (decision_of entries.now last.now nr call))
-        (steps_at entries.now nr)) }
-    ensures balanced { IfOk result (λ at. (call : SysCall) (index digits : ℕ) → IsCall call
-        → AreAsked index entries.now nr → conditions_at entries.now nr < 2 ^ digits
-        → GivesAlways code.new call at (value_of (decision_of entries.now last.now nr call))
-        (1 + 12 * digits)) }
-    ensures inside { IfOk result (λ at. at < length code.new) }
-    ensures recent { IfOk result (λ at. length code.new ≤ at + RECENT) }
-    ensures longer { OnOk result (length code.new ≤ length code.old + 1 + added_of entries.now nr) }
-    ensures keeps { Keeps code.old code.new }
-    ensures grows { length code.old ≤ length code.new }
-{
-    match points_for(alloc, entries, nr)? {
-        Some((index, points)) => {
-            search(code, alloc, index, &points, 0, points.len(), last.value())
-        }
-        None => plain_leaf(code, alloc, entries, last, nr),
-    }
-}
-
-/// Whether the entry decides the number without a condition.
+/// Whether the entry names the number and has no condition.
 fn decides(entry: &Entry, nr: u32) -> bool
     ensures yes { IsTrue result → (names entry.now nr ≡ true) × IsBare entry.now }
     ensures no { OnFalse result (IsBare entry.now → names entry.now nr ≡ false) }
@@ -80,7 +26,7 @@ fn decides(entry: &Entry, nr: u32) -> bool
     entry.conds.as_slice().is_empty() && entry.names(nr)
 }
 
-/// How many entries come before the first that decides the number without a condition, and the decision after
+/// How many entries come before the first that names the number without a condition, and the decision after
 /// them. Later entries are never reached.
 pub(crate) fn bare_end(entries: &[Entry], default: Decision, nr: u32) -> (usize, Decision)
     ensures same { (call : SysCall) → decision_of entries.now default nr call
@@ -97,8 +43,9 @@ pub(crate) fn bare_end(entries: &[Entry], default: Decision, nr: u32) -> (usize,
     (entries.len(), default)
 }
 
-/// Emits what the entries decide of a number, as a diagram if that is neither longer nor
-/// slower than promised.
+/// Emits what the entries decide on a number: as a diagram if that is neither longer nor slower than
+/// promised. Else many equalities of one argument become a search among their numbers, and other entries are
+/// tested one after another.
 fn entries_leaf(
     code: &mut Code,
     alloc: Global,
@@ -120,13 +67,22 @@ fn entries_leaf(
     ensures keeps { Keeps code.old code.new }
     ensures grows { length code.old ≤ length code.new }
 {
-    match diagram(code, alloc, entries, last, nr)? {
-        Some(place) => Ok(place),
-        None => other_leaf(code, alloc, entries, last, nr),
+    if let Some(place) = diagram(code, alloc, entries, last, nr)? {
+        return Ok(place);
+    }
+    match points_for(alloc, entries, nr)? {
+        Some((index, points)) => {
+            search(code, alloc, index, &points, 0, points.len(), last.value())
+        }
+        None => {
+            let rules = rules_of(alloc, entries, nr)?;
+            let place = code.value(last.value())?;
+            plain(code, rules.as_slice(), 0, place)
+        }
     }
 }
 
-/// What the profile decides of a number, whatever is in A.
+/// Emits what the profile decides on a number, whatever A holds.
 pub(crate) fn leaf(
     code: &mut Code,
     alloc: Global,

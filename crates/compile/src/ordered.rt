@@ -1,13 +1,14 @@
-ghost use Rattle.std.specs.Prelude.{◌≡◌, ◌≤◌, ◌<◌, ◌+◌, ℕ, length, IfSome};
+ghost use Rattle.std.specs.Prelude.{◌≡◌, ◌<◌, ◌+◌, ℕ, length};
 ghost use Rattle.call_data.specs.declared.sys_call.SysCall.{SysCall};
 ghost use Rattle.compile.specs.Residuals.{first_value};
 
 use crate::apart::{arguments, first_argument};
 use crate::atom::NOWHERE;
-use crate::choose::{Odds, is_better, rule_odds};
+use crate::choose::{alike, best};
 use crate::residual::Rule;
 
-/// Exchanges a rule and the next one if they return the same: which of them holds does not matter then.
+/// Exchanges a rule and the next one if they return the same value. Then it does not matter which of them
+/// holds.
 fn exchange(rules: &mut [Rule], at: usize)
     requires { at + 1 < length rules.old }
     ensures same { (call : SysCall) (other : ℕ) → first_value rules.new other call
@@ -19,7 +20,7 @@ fn exchange(rules: &mut [Rule], at: usize)
     }
 }
 
-/// Takes a rule to an earlier place, past rules that return the same.
+/// Takes a rule to an earlier place, past rules that return the same value.
 fn bring(rules: &mut [Rule], from: usize, to: usize)
     requires { from < length rules.old }
     ensures same { (call : SysCall) (other : ℕ) → first_value rules.new other call
@@ -33,51 +34,24 @@ fn bring(rules: &mut [Rule], from: usize, to: usize)
     }
 }
 
-/// How many rules from this one on return the same.
-fn alike_end(rules: &[Rule], start: usize) -> usize
-    requires { start < length rules.now }
-    ensures { (start < result) × (result ≤ length rules.now) }
-{
-    let mut end = start + 1;
-    while end < rules.len() && rules[end].value == rules[start].value {
-        end += 1;
-    }
-    end
-}
-
-/// The first of these rules that asks one of the arguments.
-fn asking(rules: &[Rule], asked: u32, start: usize, end: usize) -> Option<usize>
-    requires { end ≤ length rules.now }
-    ensures { IfSome result (λ at. at < length rules.now) }
-{
-    for at in start..end {
-        if arguments(&rules[at]) & asked != 0 {
-            return Some(at);
-        }
-    }
-    None
-}
-
-/// The rule among these that is best tried first.
-fn best(rules: &[Rule], start: usize, end: usize) -> usize
-    requires some { start < end }
-    requires inside { end ≤ length rules.now }
+/// The place of the rule to come next, among those from `at` on that return the same value: the first that
+/// asks about one of these arguments, else the one that is best tried first.
+fn next(rules: &[Rule], at: usize, asked: u32) -> usize
+    requires { at < length rules.now }
     ensures { result < length rules.now }
 {
-    let mut best = start;
-    let mut odds = Odds { share: 0, steps: 1 };
-    for at in start..end {
-        let it = rule_odds(&rules[at], NOWHERE);
-        if is_better(&it, &odds) {
-            best = at;
-            odds = it;
+    let rest = &rules[at..];
+    let many = alike(rest);
+    for place in 0..many {
+        if arguments(&rest[place]) & asked != 0 {
+            return at + place;
         }
     }
-    best
+    at + best(&rest[..many], NOWHERE)
 }
 
-/// Puts rules in an order that leads to fewer steps: those that ask one argument side by side, and first what
-/// mostly holds. Only neighbours that return the same are exchanged.
+/// Puts rules in an order that leads to fewer steps: rules about one argument side by side, and those that
+/// hold most often first. Only neighbours that return the same value are exchanged.
 fn order(rules: &mut [Rule])
     ensures same { (call : SysCall) (other : ℕ) → first_value rules.new other call
         ≡ first_value rules.old other call }
@@ -85,20 +59,15 @@ fn order(rules: &mut [Rule])
 {
     let mut asked = 0;
     for at in 0..rules.len() {
-        let end = alike_end(rules, at);
-        let next = match asking(rules, asked, at, end) {
-            Some(next) => next,
-            None => {
-                let next = best(rules, at, end);
-                asked = first_argument(&rules[next]);
-                next
-            }
-        };
+        let next = next(rules, at, asked);
+        if arguments(&rules[next]) & asked == 0 {
+            asked = first_argument(&rules[next]);
+        }
         bring(rules, next, at);
     }
 }
 
-/// The rules in that order.
+/// The rules in the order of [`order`].
 pub(crate) fn ordered(mut rules: Vec<Rule>) -> Vec<Rule>
     ensures { (call : SysCall) (other : ℕ) → first_value result.items other call
         ≡ first_value rules.items other call }

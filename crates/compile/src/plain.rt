@@ -1,6 +1,5 @@
 ghost use Rattle.std.specs.Prelude.{◌≡◌, ◌≢◌, ◌≤◌, ◌<◌, ◌+◌, ◌-◌, ◌*◌, ◌%◌, ◌==◌, ℕ, All, IfOk, OnOk, drop};
-ghost use Rattle.std.specs.Prelude.{false, true};
-ghost use Rattle.std.specs.Prelude.{if◌then◌else◌, length};
+ghost use Rattle.std.specs.Prelude.{false, true, if◌then◌else◌, length};
 ghost use Rattle.bpf_code.specs.declared.limits.TheConstants.{DATA_LEN};
 ghost use Rattle.call_data.specs.declared.sys_call.SysCall.{SysCall};
 ghost use Rattle.compile.specs.Backward.{GivesAlways, Keeps};
@@ -17,7 +16,7 @@ use crate::code::{Code, REACH, RECENT};
 use crate::residual::Rule;
 use std::alloc::AllocError;
 
-/// Asks a question, whatever is in A.
+/// Puts a question in front, whatever A holds.
 fn ask(code: &mut Code, atom: &Atom, hit: usize, miss: usize) -> Result<usize, AllocError>
     requires known { atom.now.view.offset < DATA_LEN }
     requires aligned { atom.now.view.offset % 4 ≡ 0 }
@@ -44,7 +43,7 @@ fn ask(code: &mut Code, atom: &Atom, hit: usize, miss: usize) -> Result<usize, A
     code.load(atom.view.offset)
 }
 
-/// Tests a literal, whatever is in A.
+/// Puts the test of a literal in front, whatever A holds.
 fn test_literal(
     code: &mut Code,
     literal: &Literal,
@@ -65,7 +64,7 @@ fn test_literal(
     ensures recent { IfOk result (λ at. literal.now ≢ Literal.Known false → length code.old ≤ hit + RECENT
         → length code.new ≤ at + RECENT) }
 
-    // It is near enough for a branch in front of so much more.
+    // A branch in front of `more` instructions still reaches it.
     ensures near { IfOk result (λ at. (more : ℕ)
         → length code.old + size_of_literal literal.now + more ≤ hit + 1 + REACH
         → length code.old + size_of_literal literal.now + more ≤ miss + 1 + REACH
@@ -90,7 +89,7 @@ fn test_literal(
     }
 }
 
-/// Tests a clause, whatever is in A.
+/// Puts the tests of a clause in front, whatever A holds.
 fn test_clause(
     code: &mut Code,
     clause: &Clause,
@@ -122,8 +121,8 @@ fn test_clause(
     test_literal(code, &clause.one, hit, rest)
 }
 
-/// Tests whether all clauses from this one on hold, the last one put first. None of them is known to fail, so
-/// what is returned is near the front.
+/// Puts the tests of the clauses from one on in front, the last one first. None of them is known to fail, so
+/// the place is recent.
 pub(crate) fn test_clauses(
     code: &mut Code,
     clauses: &[Clause],
@@ -156,29 +155,7 @@ pub(crate) fn test_clauses(
     test_clause(code, &clauses[from], rest, miss)
 }
 
-/// Puts a rule in front of what follows it.
-fn add_rule(code: &mut Code, rule: &Rule, miss: usize) -> Result<usize, AllocError>
-    requires fit { IsFit rule.now }
-    requires inside { miss < length code.old }
-    requires recent { length code.old ≤ miss + RECENT }
-    ensures gives { IfOk result (λ at. (call : SysCall) (other most : ℕ) → 0 < most
-        → GivesAlways code.old call miss other most
-        → GivesAlways code.new call at
-        (if clauses_hold rule.now.clauses.items call then rule.now.value else other)
-        (most + size_of_clauses rule.now.clauses.items)) }
-    ensures inside { IfOk result (λ at. at < length code.new) }
-    ensures recent { IfOk result (λ at. length code.new ≤ at + RECENT) }
-    ensures longer { OnOk result (length code.new
-        ≤ length code.old + (1 + size_of_clauses rule.now.clauses.items)) }
-    ensures keeps { Keeps code.old code.new }
-    ensures grows { length code.old ≤ length code.new }
-{
-    let hit = code.value(rule.value)?;
-    let place = test_clauses(code, rule.clauses.as_slice(), 0, hit, miss)?;
-    Ok(place)
-}
-
-/// Puts the rules from this one on in front of what follows them, one after another, the last one put first.
+/// Puts the rules from one on in front of what follows them, one after another, the last one first.
 pub(crate) fn plain(
     code: &mut Code,
     rules: &[Rule],
@@ -204,5 +181,7 @@ pub(crate) fn plain(
         return Ok(last);
     }
     let rest = plain(code, rules, from + 1, last)?;
-    add_rule(code, &rules[from], rest)
+    let rule = &rules[from];
+    let hit = code.value(rule.value)?;
+    test_clauses(code, rule.clauses.as_slice(), 0, hit, rest)
 }

@@ -1,6 +1,6 @@
-ghost use Rattle.std.specs.Prelude.{◌≡◌, ◌≤◌, ◌<◌, ◌+◌, ◌*◌, ◌&&◌, ◌||◌, ◌==◌, ◌%◌, ◌^◌, ℕ, All, IfOk};
-ghost use Rattle.std.specs.Prelude.{OnOk, IsTrue, length, not};
-ghost use Rattle.std.specs.Prelude.{true, false, bit_and, if◌then◌else◌, slice_index, []};
+ghost use Rattle.std.specs.Prelude.{◌≡◌, ◌≤◌, ◌<◌, ◌+◌, ◌*◌, ◌&&◌, ◌||◌, ◌==◌, ◌%◌, ◌^◌, ℕ, All, IfOk, OnOk};
+ghost use Rattle.std.specs.Prelude.{IsTrue, length, not, true, false, bit_and, if◌then◌else◌, slice_index};
+ghost use Rattle.std.specs.Prelude.{[]};
 ghost use Rattle.call_data.specs.declared.sys_call.SysCall.{SysCall};
 ghost use Rattle.call_data.specs.CallData.{IsCall};
 ghost use Rattle.oci_profile.specs.Meaning.{all_hold, all_of, decision_of, holds_on, names};
@@ -14,7 +14,7 @@ ghost use Rattle.oci_profile.specs.declared.decision.Decision.{Decision};
 ghost use Rattle.oci_profile.specs.Decision.{value_of};
 
 use crate::clause::{Clause, Literal, high, low, words};
-use crate::residual::{Rule, is_hidden};
+use crate::residual::Rule;
 use oci_profile::{Cond, Entry, Op};
 use std::alloc::{AllocError, Global};
 
@@ -29,7 +29,7 @@ fn add(clauses: &mut Vec<Clause>, clause: Clause) -> Result<(), AllocError>
     Ok(())
 }
 
-/// Adds that both of these hold.
+/// Adds that both literals hold.
 fn add_both(clauses: &mut Vec<Clause>, one: Literal, other: Literal) -> Result<(), AllocError>
     ensures { OnOk result ((n : ℕ) → IsSmall n one → IsSmall n other
         → Says clauses.old.items clauses.new.items
@@ -39,7 +39,7 @@ fn add_both(clauses: &mut Vec<Clause>, one: Literal, other: Literal) -> Result<(
     add(clauses, Clause::of(other))
 }
 
-/// Adds that one of these does.
+/// Adds that one of the literals holds.
 fn add_either(clauses: &mut Vec<Clause>, one: Literal, other: Literal) -> Result<(), AllocError>
     ensures { OnOk result ((n : ℕ) → IsSmall n one → IsSmall n other
         → Says clauses.old.items clauses.new.items
@@ -48,8 +48,8 @@ fn add_either(clauses: &mut Vec<Clause>, one: Literal, other: Literal) -> Result
     add(clauses, Clause::either(one, other))
 }
 
-/// Adds that a number is large in order: its upper half is `above`, or that is at least as large and its
-/// lower half is large too.
+/// Adds that an argument is large: its upper half is large enough (`from`), and either exceeds the bound
+/// (`above`) or its lower half is large too.
 fn add_large(
     clauses: &mut Vec<Clause>,
     from: Literal,
@@ -64,7 +64,7 @@ fn add_large(
     add_either(clauses, above, lower)
 }
 
-/// Adds that it is not.
+/// Adds that an argument is not large.
 fn add_small(
     clauses: &mut Vec<Clause>,
     from: Literal,
@@ -83,7 +83,7 @@ fn add_small(
     add_either(clauses, from.opposite(), lower.opposite())
 }
 
-/// The lower half of an argument is large.
+/// Asks whether the lower half of an argument is large.
 fn lower_half(index: u32, value: u64, includes: bool) -> Literal
     requires { index < 6 }
     ensures holds { (call : SysCall) → IsCall call → literal_holds result call
@@ -98,7 +98,8 @@ fn lower_half(index: u32, value: u64, includes: bool) -> Literal
     }
 }
 
-/// Adds what is asked of an argument in order.
+/// Adds a comparison of an argument: with `includes` the bound itself is large, and without `is_large` the
+/// argument must not be.
 pub(crate) fn add_order(
     clauses: &mut Vec<Clause>,
     index: u32,
@@ -192,30 +193,6 @@ fn clauses_of(alloc: Global, conds: &[Cond]) -> Result<Vec<Clause>, AllocError>
     Ok(clauses)
 }
 
-/// Adds an entry that names the number, unless no call reaches it.
-fn add_entry(rules: &mut Vec<Rule>, alloc: Global, entry: &Entry) -> Result<(), AllocError>
-    ensures holds { OnOk result ((call : SysCall) (other : ℕ) → IsCall call
-        → first_value rules.new.items other call ≡ first_value rules.old.items
-        (if all_hold entry.now call then value_of entry.now.decision else other) call) }
-    ensures size { OnOk result (size_of_rules rules.new.items
-        ≤ size_of_rules rules.old.items + 6 * length entry.now.conds) }
-    ensures many { OnOk result (length rules.new.items ≤ length rules.old.items + 1) }
-    ensures fit { All IsFit rules.old.items → OnOk result (All IsFit rules.new.items) }
-{
-    let clauses = clauses_of(alloc, entry.conds.as_slice())?;
-    if is_void(clauses.as_slice()) {
-        return Ok(());
-    }
-    if is_hidden(rules.as_slice(), clauses.as_slice()) {
-        return Ok(());
-    }
-    rules.push(Rule {
-        clauses,
-        value: entry.decision.value(),
-    })?;
-    Ok(())
-}
-
 /// Whether one of the clauses is known to fail.
 pub(crate) fn is_void(clauses: &[Clause]) -> bool
     ensures yes { IsTrue result → (call : SysCall) → clauses_hold clauses.now call ≡ false }
@@ -229,7 +206,7 @@ pub(crate) fn is_void(clauses: &[Clause]) -> bool
     false
 }
 
-/// Adds an entry if it names the number.
+/// Adds an entry as a rule if it names the number, unless its conditions never hold.
 fn add_named(rules: &mut Vec<Rule>, alloc: Global, entry: &Entry, nr: u32) -> Result<(), AllocError>
     ensures holds { OnOk result ((call : SysCall) (other : ℕ) → IsCall call
         → first_value rules.new.items other call ≡ first_value rules.old.items
@@ -243,7 +220,15 @@ fn add_named(rules: &mut Vec<Rule>, alloc: Global, entry: &Entry, nr: u32) -> Re
     if !entry.names(nr) {
         return Ok(());
     }
-    add_entry(rules, alloc, entry)
+    let clauses = clauses_of(alloc, entry.conds.as_slice())?;
+    if is_void(clauses.as_slice()) {
+        return Ok(());
+    }
+    rules.push(Rule {
+        clauses,
+        value: entry.decision.value(),
+    })?;
+    Ok(())
 }
 
 /// The entries that name a number, as rules.

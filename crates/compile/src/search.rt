@@ -1,6 +1,6 @@
 ghost use Rattle.std.specs.Prelude.{◌≡◌, ◌≢◌, ◌≤◌, ◌<◌, ◌+◌, ◌-◌, ◌*◌, ◌^◌, ◌==◌, ℕ, IfOk, OnOk, length};
-ghost use Rattle.std.specs.Prelude.{slice_index};
-ghost use Rattle.std.specs.Prelude.{if◌then◌else◌, [], All, IfSome, IsSome, IsTrue, None, nat_le, true};
+ghost use Rattle.std.specs.Prelude.{slice_index, if◌then◌else◌, [], IfSome, IsSome, IsTrue, None, nat_le};
+ghost use Rattle.std.specs.Prelude.{true};
 ghost use Rattle.std.specs.Bool.{OnFalse};
 ghost use Rattle.call_data.specs.declared.sys_call.SysCall.{SysCall};
 ghost use Rattle.call_data.specs.CallData.{IsCall};
@@ -11,7 +11,7 @@ ghost use Rattle.compile.specs.Backward.{GivesAlways, Keeps};
 ghost use Rattle.compile.specs.Bounds.{IsBare, IsEquality, conditions_at};
 ghost use Rattle.compile.specs.Points.{AreSorted, IsFound, IsSearched};
 ghost use Rattle.compile.specs.Rooms.{Says};
-ghost use Rattle.compile.specs.Sizes.{AreAsked, added_of, steps_at};
+ghost use Rattle.compile.specs.Sizes.{AreAsked, added_of};
 ghost use Rattle.compile.specs.declared.code.TheConstants.{RECENT};
 
 use crate::clause::Clause;
@@ -21,15 +21,14 @@ use crate::rules::{add_equal, add_order, is_void};
 use oci_profile::{Entry, Op};
 use std::alloc::{AllocError, Global};
 
-/// The numbers that entries ask an argument for, each larger than the one before it, and what is returned for
-/// each.
+/// The numbers that entries compare an argument with, in order, each once, and the value for each.
 #[derive(Drop)]
 pub(crate) struct Points {
     numbers: Vec<u64>,
     values: Vec<u32>,
 }
 
-/// The first place whose number is not below this one.
+/// The first place whose number is not smaller.
 fn place_of(numbers: &[u64], number: u64) -> usize
     ensures inside { result ≤ length numbers.now }
     ensures below { (at : ℕ) → at < result → slice_index numbers.now at < number }
@@ -42,7 +41,7 @@ fn place_of(numbers: &[u64], number: u64) -> usize
     at
 }
 
-/// Whether the number stands at this place.
+/// Whether this number stands at a place.
 fn has(numbers: &[u64], at: usize, number: u64) -> bool
     ensures yes { IsTrue result → (at < length numbers.now) × (slice_index numbers.now at ≡ number) }
     ensures no { OnFalse result (at < length numbers.now → slice_index numbers.now at ≢ number) }
@@ -74,7 +73,7 @@ impl Points {
         self.numbers[at]
     }
 
-    /// What is returned for the number at this place.
+    /// The value for the number at a place.
     fn value(&self, at: usize) -> u32
         requires { at < length self.now.values.items }
         ensures { result ≡ slice_index self.now.values.items at }
@@ -82,7 +81,7 @@ impl Points {
         self.values[at]
     }
 
-    /// Adds a number with what is returned for it, unless it is there: what came first counts.
+    /// Adds a number with its value, unless it is there already: the first value counts.
     fn add(&mut self, number: u64, value: u32) -> Result<(), AllocError>
         requires sorted { AreSorted self.old.numbers.items self.old.values.items }
         ensures sorted { IfOk result (λ _. AreSorted self.new.numbers.items self.new.values.items) }
@@ -113,7 +112,7 @@ fn asks(entry: &Entry, nr: u32) -> bool
     entry.names(nr) && !entry.conds.as_slice().is_empty()
 }
 
-/// The argument that is compared by the first of these entries that names the number and has conditions.
+/// The argument that the first condition compares, among the entries that name the number.
 fn asked(entries: &[Entry], nr: u32) -> u32
     ensures { (index : ℕ) → AreAsked index entries.now nr → 0 < conditions_at entries.now nr
         → result ≡ index }
@@ -126,7 +125,7 @@ fn asked(entries: &[Entry], nr: u32) -> u32
     0
 }
 
-/// The number that the entry asks for, if its only condition is that this argument equals it.
+/// The number that this argument has to equal, if that is the only condition of the entry.
 fn equality(entry: &Entry, index: u32) -> Option<u64>
     ensures index_in { IfSome result (λ _. index < 6) }
     ensures one { IfSome result (λ _. length entry.now.conds ≡ 1) }
@@ -155,11 +154,11 @@ pub(crate) fn is_equal(op: Op) -> bool
     matches!(op, Op::Equal)
 }
 
-/// How many equalities are left to be tested one after another.
+/// Up to this many equalities are tested one after another.
 const FEW: usize = 6;
 
-/// The argument that the entries which name a number ask for, and its numbers, if they are many, and each
-/// entry has just one condition, that this argument equals a number.
+/// The argument that the entries of a number compare, and the numbers that it may equal, if each entry has
+/// just one condition, an equality of this argument, and there are many entries.
 pub(crate) fn points_for(
     alloc: Global,
     entries: &[Entry],
@@ -178,7 +177,7 @@ pub(crate) fn points_for(
         (λ it. length it.1.numbers.items ≤ conditions_at entries.now nr)) }
     ensures more { IfOk result (λ found. IfSome found (λ _. 6 < conditions_at entries.now nr)) }
 
-    // Equalities of one argument are tested one after another only if they are few.
+    // Only few equalities of one argument are left to be tested one after another.
     ensures left { IfOk result (λ found. found ≡ None → (index : ℕ) → AreAsked index entries.now nr
         → conditions_at entries.now nr ≤ 6) }
 {
@@ -200,7 +199,7 @@ pub(crate) fn points_for(
     Ok(Some((index, points)))
 }
 
-/// The clauses of whether an argument equals a number.
+/// The clauses for an argument that equals a number.
 fn equal_to(alloc: Global, index: u32, number: u64) -> Result<Vec<Clause>, AllocError>
     requires { index < 6 }
     ensures { IfOk result (λ clauses. Says [] clauses.items
@@ -211,7 +210,7 @@ fn equal_to(alloc: Global, index: u32, number: u64) -> Result<Vec<Clause>, Alloc
     Ok(clauses)
 }
 
-/// The clauses of whether an argument is at least a number.
+/// The clauses for an argument that is at least a number.
 fn at_least(alloc: Global, index: u32, number: u64) -> Result<Vec<Clause>, AllocError>
     requires { index < 6 }
     ensures { IfOk result (λ clauses. Says [] clauses.items
@@ -222,7 +221,7 @@ fn at_least(alloc: Global, index: u32, number: u64) -> Result<Vec<Clause>, Alloc
     Ok(clauses)
 }
 
-/// Emits what is returned for the numbers from one to another, and for all others, one after another.
+/// Emits the values of the numbers from one to another, and the value of all others, one test after another.
 fn few(
     code: &mut Code,
     alloc: Global,
@@ -258,10 +257,11 @@ fn few(
     test_clauses(code, clauses.as_slice(), 0, hit, rest)
 }
 
-/// In how many numbers an argument is looked for by halves.
+/// This many numbers are searched by halves.
 const MANY: usize = 10;
 
-/// Emits what is returned for the numbers from one to another, and for all others: by halves, down to a few.
+/// Emits the values of the numbers from one to another, and the value of all others: by halves, down to a
+/// few.
 pub(crate) fn search(
     code: &mut Code,
     alloc: Global,

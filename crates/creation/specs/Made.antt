@@ -10,7 +10,7 @@ use Rattle.script.specs.Script.{ReadsScript}
 use Rattle.cri_msgs.specs.declared.refusals.Refusal.{Refusal}
 use Rattle.cri_msgs.specs.declared.refusals.Refusal.TheVariants.{InvalidArgument}
 use Rattle.runtime_cell.specs.Cell.{GivesMeaning}
-use Rattle.creation.specs.declared.texts.Built.{Built}
+use Rattle.creation.specs.declared.texts.CompiledProfile.{CompiledProfile}
 
 -- why there is no script
 abbrev pub LacksScript : Result (List ℕ) Refusal → Refusal → Type 0
@@ -25,23 +25,19 @@ LacksIn (Ok bytes) refusal = ((profile : Profile) → ReadsProfile bytes profile
     × (refusal ≡ InvalidArgument)
 
 -- the filter says of every call what the profile says
-abbrev pub IsCompiled : Built → Type 0
-IsCompiled built = GivesMeaning built.filter built.profile
-
--- what the bytes of a script's file give
-abbrev pub IsScriptOf : List ℕ → Result (List Step) Refusal → Type 0
-IsScriptOf bytes (Ok script) = ReadsScript bytes script
-IsScriptOf bytes (Err refusal) = LacksScript (Ok bytes) refusal
+abbrev pub IsCompiled : CompiledProfile → Type 0
+IsCompiled compiled = GivesMeaning compiled.filter compiled.profile
 
 -- the profile of these bytes, and its filter
-abbrev pub IsBuiltOf : List ℕ → Built → Type 0
-IsBuiltOf bytes built = ReadsProfile bytes built.profile × IsCompiled built
+abbrev pub IsCompiledOf : List ℕ → CompiledProfile → Type 0
+IsCompiledOf bytes compiled = ReadsProfile bytes compiled.profile × IsCompiled compiled
 
--- what the bytes of a profile's file give
-abbrev pub IsOwnOf : List ℕ → Result Built Refusal → Type 0
-IsOwnOf bytes (Ok built) = IsBuiltOf bytes built
-IsOwnOf bytes (Err refusal) = LacksIn (Ok bytes) refusal
+-- the result of reading a file's bytes
+abbrev pub IsReading : {T : Type 0} → (List ℕ → T → Type 0) → (Result (List ℕ) Refusal → Refusal → Type 0)
+    → List ℕ → Result T Refusal → Type 0
+IsReading is_of lacks bytes (Ok value) = is_of bytes value
+IsReading is_of lacks bytes (Err refusal) = lacks (Ok bytes) refusal
 
 -- RuntimeDefault and its filter
-abbrev pub IsDefault : Built → Type 0
-IsDefault built = (built.profile ≡ runtime_default) × IsCompiled built
+abbrev pub IsDefault : CompiledProfile → Type 0
+IsDefault compiled = (compiled.profile ≡ runtime_default) × IsCompiled compiled

@@ -10,9 +10,9 @@ ghost use Rattle.creation.specs.Files.{IsCellOf, IsMade, IsProfileFor, IsProfile
 ghost use Rattle.creation.specs.Files.{LacksProfile, WasRead, bytes_in, label_for, path_of, refusal_of};
 ghost use Rattle.creation.specs.Made.{LacksIn, LacksScript};
 
-use crate::files::{Contents, FileAnswers};
+use crate::files::{Contents, FileAnswer, FileAnswers};
 use crate::ready::ReadyDefault;
-use crate::texts::Built;
+use crate::texts::{CompiledProfile, ReadAs};
 use bpf_verify::Filter;
 use cri_msgs::{ContainerMetadata, Refusal};
 use manifest::{DescendingPath, SeccompProfile};
@@ -32,7 +32,7 @@ fn refusal_of(fault: FileFault) -> Refusal
 }
 
 /// The contents of a file that is needed.
-fn contents_in(answer: Option<Result<Contents, FileFault>>) -> Result<Contents, Refusal>
+fn contents_in<T: ReadAs + Drop>(answer: FileAnswer<T>) -> Result<Contents<T>, Refusal>
     ensures { result ≡ bytes_in answer }
 {
     match answer {
@@ -43,13 +43,13 @@ fn contents_in(answer: Option<Result<Contents, FileFault>>) -> Result<Contents, 
 }
 
 /// The script of a container.
-fn script_of(alloc: Global, answer: Option<Result<Contents, FileFault>>) -> Result<Script, Refusal>
+fn script_of(alloc: Global, answer: FileAnswer<Script>) -> Result<Script, Refusal>
     ensures found { IfOk result (λ script. IsScriptIn (bytes_in answer) script) }
     ensures refused { IfErr result (λ refusal. LacksScript (bytes_in answer) refusal
         ⊎ (((bytes : List ℕ) × (bytes_in answer ≡ Ok bytes)) × (refusal ≡ Refusal.Memory))) }
 {
     match contents_in(answer) {
-        Ok(contents) => contents.into_script(alloc),
+        Ok(contents) => contents.into_value(alloc),
         Err(refusal) => Err(refusal),
     }
 }
@@ -59,8 +59,8 @@ fn own(
     alloc: Global,
     ready: &ReadyDefault,
     choice: &SeccompProfile,
-    answer: Option<Result<Contents, FileFault>>,
-) -> Result<Option<Built>, Refusal>
+    answer: FileAnswer<CompiledProfile>,
+) -> Result<Option<CompiledProfile>, Refusal>
     ensures found { IfOk result (λ own. IsProfileFor choice.now (bytes_in answer)
         (option_map (λ b. b.profile) own)) }
     ensures means { IfOk result (λ own. IfSome own (λ b. GivesMeaning b.filter b.profile)) }
@@ -74,7 +74,7 @@ fn own(
     }
 }
 
-fn default_own(alloc: Global, ready: &ReadyDefault) -> Result<Option<Built>, Refusal>
+fn default_own(alloc: Global, ready: &ReadyDefault) -> Result<Option<CompiledProfile>, Refusal>
     ensures found { IfOk result (λ own. option_map (λ b. b.profile) own ≡ Some runtime_default) }
     ensures means { IfOk result (λ own. IfSome own (λ b. GivesMeaning b.filter b.profile)) }
     ensures refused { IfErr result (λ refusal. refusal ≡ Refusal.Memory) }
@@ -87,8 +87,8 @@ fn default_own(alloc: Global, ready: &ReadyDefault) -> Result<Option<Built>, Ref
 
 fn file_own(
     alloc: Global,
-    answer: Option<Result<Contents, FileFault>>,
-) -> Result<Option<Built>, Refusal>
+    answer: FileAnswer<CompiledProfile>,
+) -> Result<Option<CompiledProfile>, Refusal>
     ensures found { IfOk result (λ own. IfSome own (λ b. IsProfileIn (bytes_in answer) b.profile)) }
     ensures some { IfOk result (λ own. IsSome own) }
     ensures means { IfOk result (λ own. IfSome own (λ b. GivesMeaning b.filter b.profile)) }
@@ -101,13 +101,16 @@ fn file_own(
     }
 }
 
-fn own_of(alloc: Global, contents: Contents) -> Result<Option<Built>, Refusal>
+fn own_of(
+    alloc: Global,
+    contents: Contents<CompiledProfile>,
+) -> Result<Option<CompiledProfile>, Refusal>
     ensures found { IfOk result (λ own. IfSome own (λ b. ReadsProfile contents b.profile)) }
     ensures some { IfOk result (λ own. IsSome own) }
     ensures means { IfOk result (λ own. IfSome own (λ b. GivesMeaning b.filter b.profile)) }
     ensures refused { IfErr result (λ refusal. (refusal ≡ Refusal.Memory) ⊎ LacksIn (Ok contents) refusal) }
 {
-    match contents.into_own(alloc) {
+    match contents.into_value(alloc) {
         Ok(built) => Ok(Some(built)),
         Err(refusal) => Err(refusal),
     }
@@ -209,7 +212,7 @@ fn cell_of(
     alloc: Global,
     baseline: &Option<Filter>,
     script: Script,
-    own: Option<Built>,
+    own: Option<CompiledProfile>,
     id: u64,
     container: &ContainerMetadata,
     image: &DescendingPath,
@@ -225,7 +228,7 @@ fn cell_of(
             let stack = stack_of(alloc, baseline.as_ref(), None)?;
             Ok(kept(Cell::created(alloc, label, script, stack, None)?))
         }
-        Some(Built { profile, filter }) => {
+        Some(CompiledProfile { profile, filter }) => {
             let stack = stack_of(alloc, baseline.as_ref(), Some(filter))?;
             Ok(kept(Cell::created(alloc, label, script, stack, Some(profile))?))
         }

@@ -1,73 +1,22 @@
-//! What texts were read as lately, for the next container that is made of the same bytes.
-ghost use Rattle.std.specs.Prelude.{◌≡◌, ℕ, List, IfOk, IfSome, IsTrue};
+//! The scripts and profiles of recent containers, for the next container that is made of the same bytes.
+ghost use Rattle.std.specs.Prelude.{◌≡◌, IfSome, IsTrue};
 
-use crate::files::{Contents, FileAnswers};
-use crate::texts::Built;
-use node_io::FileFault;
+use crate::files::{FileAnswer, FileAnswers};
+use crate::texts::{CompiledProfile, ReadAs};
 use script::Script;
-use std::alloc::{AllocError, Global};
+use std::alloc::Global;
 use std::marker::Model;
 
-/// The most scripts that are kept.
+/// At most as many scripts are kept.
 pub const MAX_KEPT_SCRIPTS: usize = 64;
 
-/// The most profiles that are kept.
+/// At most as many profiles are kept.
 pub const MAX_KEPT_PROFILES: usize = 16;
 
-/// How many bytes of memory the scripts that are kept take at most, and the profiles as many.
+/// The limit of the memory of the scripts that are kept, and of that of the profiles, in bytes.
 pub const MAX_KEPT_BYTES: usize = 8 << 20;
 
-// How many bytes a step of a script takes at most, in a list that has grown.
-const STEP_BYTES: usize = 160;
-
-// How many bytes a filter takes at most.
-const FILTER_BYTES: usize = 64 << 10;
-
-// What a text can be read as.
-pub(crate) trait ReadAs {
-    // Whether it is what these bytes are read as.
-    ghost is_of: { List ℕ → Self → Type 0 };
-
-    // The same once more.
-    fn share(&self, alloc: Global) -> Result<Self, AllocError>
-        ensures { IfOk result (λ other. other ≡ self.now) };
-
-    // How many bytes of memory it takes at most, with a text of this length.
-    fn size(&self, length: usize) -> usize;
-}
-
-impl ReadAs for Script {
-    ghost use Rattle.script.specs.Script.{ReadsScript};
-
-    ghost is_of = { ReadsScript };
-
-    fn share(&self, _alloc: Global) -> Result<Script, AllocError> {
-        self.share()
-    }
-
-    // Filters that a script installs take less than twice what their numbers take in the text.
-    fn size(&self, length: usize) -> usize {
-        let steps = self.len().saturating_mul(STEP_BYTES);
-        length.saturating_mul(3).saturating_add(steps)
-    }
-}
-
-impl ReadAs for Built {
-    ghost use Rattle.creation.specs.Made.{IsBuiltOf};
-
-    ghost is_of = { IsBuiltOf };
-
-    fn share(&self, alloc: Global) -> Result<Built, AllocError> {
-        self.try_clone(alloc)
-    }
-
-    // Entries take less than three times what they take in the text.
-    fn size(&self, length: usize) -> usize {
-        length.saturating_mul(4).saturating_add(FILTER_BYTES)
-    }
-}
-
-// A text, and what it was read as.
+// A text and its value.
 #[derive(Drop)]
 pub(crate) struct KeptText<T: ReadAs + Drop> {
     bytes: Vec<u8>,
@@ -85,7 +34,7 @@ impl<T: ReadAs + Drop> Model for KeptText<T> {
 }
 
 impl<T: ReadAs + Drop> KeptText<T> {
-    // A copy of this text and of what it was read as. `None` if memory runs out.
+    // A copy of this text and its value. `None` if memory runs out.
     pub(crate) fn new(alloc: Global, bytes: &[u8], value: &T) -> Option<KeptText<T>>
         requires { T.is_of bytes.now value.now }
     {
@@ -100,7 +49,7 @@ impl<T: ReadAs + Drop> KeptText<T> {
         self.bytes.as_slice() == bytes
     }
 
-    // What these bytes are read as, if they are its text.
+    // The value, if these bytes are the text.
     fn value_of(&self, alloc: Global, bytes: &[u8]) -> Option<T>
         ensures { IfSome result (T.is_of bytes.now) }
     {
@@ -119,7 +68,7 @@ impl<T: ReadAs + Drop> KeptText<T> {
 // The newest texts of one kind.
 #[derive(Drop)]
 struct KeptList<T: ReadAs + Drop> {
-    // How many there are at most.
+    // The limit of their number.
     most: usize,
     texts: Vec<KeptText<T>>,
 }
@@ -132,7 +81,7 @@ impl<T: ReadAs + Drop> KeptList<T> {
         }
     }
 
-    // What these bytes are read as, if that is known.
+    // The value of these bytes, if it is known.
     fn find(&self, alloc: Global, bytes: &[u8]) -> Option<T>
         ensures { IfSome result (T.is_of bytes.now) }
     {
@@ -144,7 +93,21 @@ impl<T: ReadAs + Drop> KeptList<T> {
         None
     }
 
-    // How many bytes of memory the texts take at most.
+    // The same result, with the value of its bytes, if that is known.
+    fn lend(&self, alloc: Global, answer: FileAnswer<T>) -> FileAnswer<T>
+        ensures { result ≡ answer }
+    {
+        match answer {
+            Some(Ok(contents)) => {
+                let known = self.find(alloc, contents.as_slice());
+                Some(Ok(contents.with_known(known)))
+            }
+            Some(Err(fault)) => Some(Err(fault)),
+            None => None,
+        }
+    }
+
+    // An upper bound of the memory of all texts, in bytes.
     fn size(&self) -> usize {
         let mut size: usize = 0;
         for text in self.texts.as_slice() {
@@ -157,8 +120,8 @@ impl<T: ReadAs + Drop> KeptList<T> {
         self.texts.len() < self.most && self.size().saturating_add(size) <= MAX_KEPT_BYTES
     }
 
-    // Keeps one more, and drops the oldest ones that have no place beside it. One that is too large, or for
-    // whose place memory is refused, is not kept.
+    // Keeps this text, and drops the oldest ones until it fits. A text that is too large, or whose place in
+    // the list would need memory that is refused, is not kept.
     fn add(&mut self, text: KeptText<T>) {
         let size = text.size();
         if size > MAX_KEPT_BYTES || self.texts.iter().any(|it| it.is_of(text.bytes.as_slice())) {
@@ -173,27 +136,27 @@ impl<T: ReadAs + Drop> KeptList<T> {
     }
 }
 
-/// What is to be kept of one request.
+/// The texts of one request that were not known before.
 #[derive(Drop)]
 pub struct NewTexts {
     pub(crate) script: Option<KeptText<Script>>,
-    pub(crate) profile: Option<KeptText<Built>>,
+    pub(crate) profile: Option<KeptText<CompiledProfile>>,
 }
 
 impl NewTexts {
-    /// Whether nothing is to be kept.
+    /// Whether there is none.
     pub fn is_empty(&self) -> bool {
         self.script.is_none() && self.profile.is_none()
     }
 }
 
-/// The scripts and compiled profiles that were read last, by their bytes. Contracts see nothing of them: they
-/// change no answer.
+/// The scripts and compiled profiles that were read last, found by their bytes. Contracts do not see them,
+/// since they change no answer.
 #[derive(Drop)]
 pub struct KeptTexts {
     alloc: Global,
     scripts: KeptList<Script>,
-    profiles: KeptList<Built>,
+    profiles: KeptList<CompiledProfile>,
 }
 
 impl Model for KeptTexts {
@@ -203,7 +166,7 @@ impl Model for KeptTexts {
 }
 
 impl KeptTexts {
-    /// Nothing was read yet.
+    /// None.
     pub fn new(alloc: Global) -> KeptTexts {
         KeptTexts {
             alloc,
@@ -212,50 +175,18 @@ impl KeptTexts {
         }
     }
 
-    /// The same results, with what their bytes are read as, where that is known.
+    /// The same results, with those values of their bytes that are known.
     pub fn lend(&self, files: FileAnswers) -> FileAnswers
         ensures { result ≡ files }
     {
         let FileAnswers { script, profile } = files;
         FileAnswers {
-            script: self.lend_script(script),
-            profile: self.lend_profile(profile),
+            script: self.scripts.lend(self.alloc, script),
+            profile: self.profiles.lend(self.alloc, profile),
         }
     }
 
-    fn lend_script(
-        &self,
-        answer: Option<Result<Contents, FileFault>>,
-    ) -> Option<Result<Contents, FileFault>>
-        ensures { result ≡ answer }
-    {
-        match answer {
-            Some(Ok(contents)) => {
-                let known = self.scripts.find(self.alloc, contents.as_slice());
-                Some(Ok(contents.with_known_script(known)))
-            }
-            Some(Err(fault)) => Some(Err(fault)),
-            None => None,
-        }
-    }
-
-    fn lend_profile(
-        &self,
-        answer: Option<Result<Contents, FileFault>>,
-    ) -> Option<Result<Contents, FileFault>>
-        ensures { result ≡ answer }
-    {
-        match answer {
-            Some(Ok(contents)) => {
-                let known = self.profiles.find(self.alloc, contents.as_slice());
-                Some(Ok(contents.with_known_own(known)))
-            }
-            Some(Err(fault)) => Some(Err(fault)),
-            None => None,
-        }
-    }
-
-    /// Keeps what is new.
+    /// Keeps these texts.
     pub fn keep(&mut self, new: NewTexts) {
         let NewTexts { script, profile } = new;
         if let Some(script) = script {

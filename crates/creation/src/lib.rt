@@ -9,6 +9,7 @@ mod ready;
 mod texts;
 
 pub use building::built_cell;
-pub use files::{Contents, FileAnswers};
+pub use files::{Contents, FileAnswer, FileAnswers};
 pub use kept::{KeptTexts, MAX_KEPT_BYTES, MAX_KEPT_PROFILES, MAX_KEPT_SCRIPTS, NewTexts};
 pub use ready::ReadyDefault;
+pub use texts::{CompiledProfile, ReadAs};

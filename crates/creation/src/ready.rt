@@ -5,17 +5,16 @@ ghost use Rattle.cri_msgs.specs.declared.refusals.Refusal.{Refusal};
 ghost use Rattle.runtime_cell.specs.Cell.{GivesMeaning};
 ghost use Rattle.creation.specs.Made.{IsDefault};
 
-use crate::texts::{Built, compiled};
+use crate::texts::{CompiledProfile, compiled};
 use cri_msgs::Refusal;
 use oci_profile::{runtime_default, runtime_default_is_light};
 use std::alloc::{AllocError, Global};
 use std::marker::Model;
 
-/// RuntimeDefault and its filter, if they were made. Contracts see nothing of it: whether they were made
-/// changes no answer.
+/// RuntimeDefault and its filter, once they are made. Contracts do not see them, since they change no answer.
 #[derive(Drop)]
 pub struct ReadyDefault {
-    built: Option<Built>,
+    built: Option<CompiledProfile>,
 }
 
 impl Model for ReadyDefault {
@@ -26,7 +25,7 @@ impl Model for ReadyDefault {
 
     ghost view = { λ _. tt };
 
-    // What was made is RuntimeDefault, and its filter says the same of every call.
+    // The profile is RuntimeDefault, and its filter returns the value of the profile for every call.
     ghost invariant = { λ ready. IfSome ready.built IsDefault };
 }
 
@@ -44,7 +43,7 @@ impl ReadyDefault {
     }
 
     /// RuntimeDefault and its filter, for one container.
-    pub(crate) fn built(&self, alloc: Global) -> Result<Built, Refusal>
+    pub(crate) fn built(&self, alloc: Global) -> Result<CompiledProfile, Refusal>
         ensures found { IfOk result (λ b. b.profile ≡ runtime_default) }
         ensures means { IfOk result (λ b. GivesMeaning b.filter b.profile) }
         ensures refused { IfErr result (λ refusal. refusal ≡ Refusal.Memory) }
@@ -56,7 +55,7 @@ impl ReadyDefault {
     }
 }
 
-fn copied(alloc: Global, built: &Built) -> Result<Built, Refusal>
+fn copied(alloc: Global, built: &CompiledProfile) -> Result<CompiledProfile, Refusal>
     ensures same { IfOk result (λ copy. copy ≡ built.now) }
     ensures refused { IfErr result (λ refusal. refusal ≡ Refusal.Memory) }
 {
@@ -66,7 +65,7 @@ fn copied(alloc: Global, built: &Built) -> Result<Built, Refusal>
     }
 }
 
-fn default_built(alloc: Global) -> Result<Built, Refusal>
+fn default_built(alloc: Global) -> Result<CompiledProfile, Refusal>
     ensures found { IfOk result (λ b. b.profile ≡ runtime_default) }
     ensures means { IfOk result (λ b. GivesMeaning b.filter b.profile) }
     ensures refused { IfErr result (λ refusal. refusal ≡ Refusal.Memory) }

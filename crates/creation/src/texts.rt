@@ -1,5 +1,5 @@
-//! What the texts of a container are read as: its script, and its profile with the filter of that.
-ghost use Rattle.std.specs.Prelude.{◌≡◌, ◌≢◌, ◌⊎◌, ◌<◌, Ok, Err, IfOk, IfErr};
+//! What the texts of a container's files are read as: its script, and its profile with the filter of that.
+ghost use Rattle.std.specs.Prelude.{◌≡◌, ◌≢◌, ◌⊎◌, ◌<◌, ℕ, List, Result, Ok, Err, IfOk, IfErr};
 ghost use Rattle.bpf_code.specs.declared.limits.TheConstants.{MAX_INSNS};
 ghost use Rattle.oci_profile.specs.declared.profile.Profile.{Profile};
 ghost use Rattle.oci_profile.specs.Meaning.{weight};
@@ -17,6 +17,78 @@ use cri_msgs::Refusal;
 use oci_profile::{Profile, ProfileFault};
 use script::{Script, ScriptFault};
 use std::alloc::{AllocError, Global};
+
+/// What the text of a file can be read as.
+pub trait ReadAs {
+    // Whether these bytes are read as it.
+    ghost is_of: { List ℕ → Self → Type 0 };
+
+    // Why a file's bytes, or a file that could not be read, are refused.
+    ghost lacks: { Result (List ℕ) Refusal → Refusal → Type 0 };
+
+    /// Reads these bytes.
+    fn read(alloc: Global, bytes: &[u8]) -> Result<Self, Refusal>
+        ensures found { IfOk result (is_of bytes.now) }
+        ensures refused { IfErr result (λ refusal.
+            (refusal ≡ Refusal.Memory) ⊎ lacks (Ok bytes.now) refusal) };
+
+    /// A second owner of the same value.
+    fn share(&self, alloc: Global) -> Result<Self, AllocError>
+        ensures { IfOk result (λ other. other ≡ self.now) };
+
+    /// An upper bound of its memory in bytes, for a text of this length.
+    fn size(&self, length: usize) -> usize;
+}
+
+// An upper bound of a step's memory in bytes, in a list that has grown.
+const STEP_BYTES: usize = 160;
+
+// An upper bound of a filter's memory in bytes.
+const FILTER_BYTES: usize = 64 << 10;
+
+impl ReadAs for Script {
+    ghost use Rattle.script.specs.Script.{ReadsScript};
+    ghost use Rattle.creation.specs.Made.{LacksScript};
+
+    ghost is_of = { ReadsScript };
+
+    ghost lacks = { LacksScript };
+
+    fn read(alloc: Global, bytes: &[u8]) -> Result<Script, Refusal> {
+        script_in(alloc, bytes)
+    }
+
+    fn share(&self, _alloc: Global) -> Result<Script, AllocError> {
+        self.share()
+    }
+
+    // Filters that a script installs take less than twice the memory of their numbers in the text.
+    fn size(&self, length: usize) -> usize {
+        let steps = self.len().saturating_mul(STEP_BYTES);
+        length.saturating_mul(3).saturating_add(steps)
+    }
+}
+
+impl ReadAs for CompiledProfile {
+    ghost use Rattle.creation.specs.Made.{IsCompiledOf, LacksIn};
+
+    ghost is_of = { IsCompiledOf };
+
+    ghost lacks = { LacksIn };
+
+    fn read(alloc: Global, bytes: &[u8]) -> Result<CompiledProfile, Refusal> {
+        compiled_in(alloc, bytes)
+    }
+
+    fn share(&self, alloc: Global) -> Result<CompiledProfile, AllocError> {
+        self.try_clone(alloc)
+    }
+
+    // Entries take less than three times the memory of their text.
+    fn size(&self, length: usize) -> usize {
+        length.saturating_mul(4).saturating_add(FILTER_BYTES)
+    }
+}
 
 fn script_refusal(fault: ScriptFault) -> Refusal
     ensures { (result ≡ Refusal.Memory)
@@ -41,7 +113,7 @@ fn profile_refusal(fault: ProfileFault) -> Refusal
 }
 
 /// The script of a text.
-pub(crate) fn script_in(alloc: Global, bytes: &[u8]) -> Result<Script, Refusal>
+fn script_in(alloc: Global, bytes: &[u8]) -> Result<Script, Refusal>
     ensures found { IfOk result (λ script. ReadsScript bytes.now script) }
     ensures refused { IfErr result (λ refusal.
         (refusal ≡ Refusal.Memory) ⊎ LacksScript (Ok bytes.now) refusal) }
@@ -54,24 +126,24 @@ pub(crate) fn script_in(alloc: Global, bytes: &[u8]) -> Result<Script, Refusal>
 
 /// A profile, and the filter that it is compiled to.
 #[derive(Drop)]
-pub(crate) struct Built {
+pub struct CompiledProfile {
     pub(crate) profile: Profile,
     pub(crate) filter: Filter,
 }
 
-impl Built {
+impl CompiledProfile {
     /// A copy.
-    pub(crate) fn try_clone(&self, alloc: Global) -> Result<Built, AllocError>
+    pub(crate) fn try_clone(&self, alloc: Global) -> Result<CompiledProfile, AllocError>
         ensures { IfOk result (λ copy. copy ≡ self.now) }
     {
         let profile = self.profile.try_clone(alloc)?;
         let filter = self.filter.try_clone(alloc)?;
-        Ok(Built { profile, filter })
+        Ok(CompiledProfile { profile, filter })
     }
 }
 
 /// A profile with its filter.
-pub(crate) fn compiled(alloc: Global, profile: Profile) -> Result<Built, Refusal>
+pub(crate) fn compiled(alloc: Global, profile: Profile) -> Result<CompiledProfile, Refusal>
     // Reported even if memory runs out.
     ensures told { MAX_INSNS < weight profile → result ≡ Err Refusal.InvalidArgument }
     ensures made { IfOk result (λ made. (made.profile ≡ profile) × GivesMeaning made.filter profile) }
@@ -79,7 +151,7 @@ pub(crate) fn compiled(alloc: Global, profile: Profile) -> Result<Built, Refusal
         (refusal ≡ Refusal.Memory) ⊎ ((refusal ≡ Refusal.InvalidArgument) × (MAX_INSNS < weight profile))) }
 {
     match compile(alloc, &profile) {
-        Ok(filter) => Ok(Built { profile, filter }),
+        Ok(filter) => Ok(CompiledProfile { profile, filter }),
         Err(CompileFault::TooLong) => Err(Refusal::InvalidArgument),
         Err(CompileFault::Memory) => Err(Refusal::Memory),
     }
@@ -100,9 +172,9 @@ fn profile_in(alloc: Global, bytes: &[u8]) -> Result<Profile, Refusal>
 }
 
 /// The profile of a text, with its filter.
-pub(crate) fn own_in(alloc: Global, bytes: &[u8]) -> Result<Built, Refusal>
-    ensures found { IfOk result (λ b. ReadsProfile bytes.now b.profile) }
-    ensures means { IfOk result (λ b. GivesMeaning b.filter b.profile) }
+fn compiled_in(alloc: Global, bytes: &[u8]) -> Result<CompiledProfile, Refusal>
+    ensures found { IfOk result (λ made. ReadsProfile bytes.now made.profile) }
+    ensures means { IfOk result (λ made. GivesMeaning made.filter made.profile) }
     ensures refused { IfErr result (λ refusal. (refusal ≡ Refusal.Memory) ⊎ LacksIn (Ok bytes.now) refusal) }
 {
     match profile_in(alloc, bytes) {

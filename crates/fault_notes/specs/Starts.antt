@@ -1,5 +1,5 @@
 -- What a text begins with: JSON (RFC 8259), or YAML 1.2.
-use Rattle.std.specs.Prelude.{ℕ, ◌==◌, Bool, true, false, not, ◌||◌, ◌&&◌, nat_le, List, position, Option}
+use Rattle.std.specs.Prelude.{ℕ, ◌==◌, Bool, false, not, ◌||◌, ◌&&◌, nat_le, List, position, Option}
 use Rattle.std.specs.Prelude.{Some, None, slice_index}
 
 -- RFC 8259, section 2: a blank, a tab, the end of a line

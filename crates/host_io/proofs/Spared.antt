@@ -1,6 +1,6 @@
 -- What is kept once a name beside a path was used.
-use Rattle.std.proofs.Common.{◌≡◌, ◌++◌, ◌↔◌, ℕ, List, Option, None, Some, codes, length, length-append}
-use Rattle.std.proofs.Common.{arith, sym, subst, ap, rules, ◌<◌}
+use Rattle.std.proofs.Common.{◌≡◌, ◌++◌, ℕ, List, Option, None, Some, codes, length, length-append}
+use Rattle.std.proofs.Common.{arith, sym, ap, ◌<◌}
 use Rattle.std.specs.Fmt.{decimal}
 use Rattle.node_io.specs.Held.{Held}
 use Rattle.host_io.specs.declared.whole_file.TheConstants.{NAMES}

@@ -9,7 +9,7 @@ use Rattle.worker_core.specs.Kept.{KeptNode}
 use Rattle.worker_core.specs.Nodes.{IsTaken, NodeState, StandsFor, empty_node}
 use Rattle.worker_core.specs.Slots.{held_in}
 use Rattle.node_lock.specs.declared.entries.Entry.{Entry}
-use Rattle.node_lock.specs.Books.{Books, HasNumbers, IsKept, needed}
+use Rattle.node_lock.specs.Books.{Books, IsKept, needed}
 use Rattle.node_lock.specs.Histories.{EndsAt, GoesOn, IsStep, Leads}
 use Rattle.node_lock.specs.Rooms.{room_for}
 
@@ -34,22 +34,25 @@ ends_pushed settings gone history now old new event e ends step same longer =
 
 -- what a book keeps stays kept behind an entry, where there was room for it and for the ends of the claims
 -- that are held then
-pub kept_on : (settings : Settings) (before : ℕ) (history now : List Entry) (old new : KeptNode)
-    (event : AgentEvent) (e : Entry) (total total_now limit capacity capacity_now ahead : ℕ)
-    → IsKept settings old before history total limit capacity → IsStep old event e.answer new
-    → e.event ≡ event → now ≡ history ++ e ∷ [] → total_now ≡ total + 1
+pub kept_on : (settings : Settings) (before : ℕ) (history now whole whole_now : List Entry)
+    (old new : KeptNode) (event : AgentEvent) (e : Entry)
+    (total total_now limit capacity capacity_now ahead : ℕ)
+    → IsKept settings old before history whole total limit capacity → IsStep old event e.answer new
+    → e.event ≡ event → now ≡ history ++ e ∷ [] → whole_now ≡ whole ++ e ∷ [] → total_now ≡ total + 1
     → held_in new.slots + 1 ≤ ahead → length history + ahead ≤ limit → length history + ahead ≤ capacity_now
-    → IsKept settings new before now total_now limit capacity_now
-kept_on settings before history now old new event e total total_now limit capacity capacity_now ahead kept
-    step same is counted held fits room =
+    → IsKept settings new before now whole_now total_now limit capacity_now
+kept_on settings before history now whole whole_now old new event e total total_now limit capacity
+    capacity_now ahead kept step same is whole_is counted held fits room =
     let longer : length now ≡ length history + 1 = ap length is ∙ length-append history (e ∷ []) in
     let was : total ≡ length history = kept.counted in
     record {
       goes_on = record {
         gone = kept.goes_on.gone;
         before_is = kept.goes_on.before_is;
-        ends = ends_pushed settings kept.goes_on.gone history now old new event e kept.goes_on.ends step same
-            is;
+        whole_is = whole_is ∙ ap (λ all. all ++ e ∷ []) kept.goes_on.whole_is
+            ∙ append_assoc kept.goes_on.gone history (e ∷ [])
+            ∙ ap (λ es. kept.goes_on.gone ++ es) (sym is);
+        ends = ends_pushed settings [] whole whole_now old new event e kept.goes_on.ends step same whole_is;
       };
       numbers = kept.numbers;
       counted = omega (arith, longer, was, counted);
@@ -69,14 +72,15 @@ fits seen now event ahead has same ahead_is has_is has_room =
 
 -- a part that ended went too, and the next one has no entry yet
 pub part_ended : (settings : Settings) (before : ℕ) (history : List Entry) (node : KeptNode)
-    → GoesOn settings before history node → GoesOn settings (before + length history) [] node
-part_ended settings before history node goes =
+    → (whole : List Entry) → GoesOn settings before history whole node
+    → GoesOn settings (before + length history) [] whole node
+part_ended settings before history node whole goes =
     let long : length (goes.gone ++ history) ≡ length goes.gone + length history =
     length-append goes.gone history in
     let was : length goes.gone ≡ before = goes.before_is in
     record {
       gone = goes.gone ++ history;
       before_is = omega (arith, long, was);
-      ends =
-          rw (append-nil (goes.gone ++ history)) goes.ends;
+      whole_is = goes.whole_is ∙ sym (append-nil (goes.gone ++ history));
+      ends = goes.ends;
     }

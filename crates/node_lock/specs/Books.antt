@@ -20,6 +20,8 @@ pub record Books : Type 0 where
   pub before : ℕ
   -- the entries of the part that is there
   pub history : List Entry
+  -- all entries of all parts, with those of earlier parts, which are not stored
+  pub whole : List Entry
   -- the amount of all shares of the count
   pub total : ℕ
   -- how many entries a part may have
@@ -34,11 +36,11 @@ used history node = length history + held_in node.slots
 abbrev pub HasNumbers : ℕ → Type 0
 HasNumbers before = before + MAX_ENTRIES < 2 ^ 64
 
--- what a book keeps: the node is where its history ends, with all parts that went, each entry of the part
--- that is there is counted, and the limit and the memory have room for the ends of all claims that are held
-pub record IsKept (settings : Settings) (node : KeptNode) (before : ℕ) (history : List Entry)
+-- what a book keeps: the node is where the whole history ends, each entry of the part that is there is
+-- counted, and the limit and the memory have room for the ends of all claims that are held
+pub record IsKept (settings : Settings) (node : KeptNode) (before : ℕ) (history whole : List Entry)
     (total limit capacity : ℕ) : Type 0 where
-  pub goes_on : GoesOn settings before history node
+  pub goes_on : GoesOn settings before history whole node
   pub numbers : HasNumbers before
   pub counted : total ≡ length history
   pub small : limit ≤ MAX_ENTRIES

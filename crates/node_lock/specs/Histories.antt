@@ -24,12 +24,14 @@ abbrev pub EndsAt : Settings → List Entry → KeptNode → Type 0
 EndsAt settings history kept = (last : NodeState) × Leads (empty_node settings) history last
     × StandsFor kept last
 
--- The same of a history that was written in parts: so many entries went before those that are there, and with
--- them in front the history is legal, from the empty node on.
-pub record GoesOn (settings : Settings) (before : ℕ) (history : List Entry) (kept : KeptNode) : Type 0 where
+-- The same of a history that was written in parts: so many entries went before those that are there, and the
+-- whole of both is legal, from the empty node on.
+pub record GoesOn (settings : Settings) (before : ℕ) (history whole : List Entry)
+    (kept : KeptNode) : Type 0 where
   pub gone : List Entry
   pub before_is : length gone ≡ before
-  pub ends : EndsAt settings (gone ++ history) kept
+  pub whole_is : whole ≡ gone ++ history
+  pub ends : EndsAt settings whole kept
 
 -- every node that was kept takes the event with this answer, and comes to one that is kept then
 abbrev pub IsStep : KeptNode → AgentEvent → Answer → KeptNode → Type 0

@@ -15,6 +15,7 @@ use crate::limits::{MAX_ENTRIES, PARTS};
 use crate::receipts::Receipt;
 use crate::steps::{entered, room_for};
 use crate::tallies::Tally;
+use crate::whole::Whole;
 use std::alloc::Global;
 use std::marker::Model;
 use std::sync::ledger;
@@ -33,6 +34,7 @@ pub struct Book<L: Ledger> {
     node: Node,
     before: u64,
     history: Vec<Entry>,
+    whole: Whole,
     count: ledger::Book<L>,
     limit: usize,
     closed: bool,
@@ -49,13 +51,14 @@ impl<L: Ledger> Model for Book<L> {
       node = b.node;
       before = b.before;
       history = b.history.items;
+      whole = b.whole.entries;
       total = b.count.total;
       limit = b.limit;
       closed = b.closed;
     } };
 
-    ghost invariant = { λ b. IsKept b.settings b.node b.before b.history.items b.count.total b.limit
-        (vec_capacity b.history) };
+    ghost invariant = { λ b. IsKept b.settings b.node b.before b.history.items b.whole.entries
+        b.count.total b.limit (vec_capacity b.history) };
 }
 
 impl<L: Ledger> Book<L> {
@@ -72,6 +75,7 @@ impl<L: Ledger> Book<L> {
         requires limit { limit ≤ MAX_ENTRIES }
         ensures node { result.0.node ≡ fresh_node settings }
         ensures history { result.0.history ≡ [] }
+        ensures whole { result.0.whole ≡ [] }
         ensures before { result.0.before ≡ 0 }
         ensures settings { result.0.settings ≡ settings }
         ensures limit { result.0.limit ≡ limit }
@@ -86,6 +90,7 @@ impl<L: Ledger> Book<L> {
             node: Node::new(alloc, settings),
             before: 0,
             history: Vec::new(alloc),
+            whole: Whole::none(),
             count,
             limit,
             closed: false,
@@ -100,7 +105,7 @@ impl<L: Ledger> Book<L> {
 
         // With the earlier parts it is one history, which a single thread could have made, and the node is
         // where it ends.
-        ensures legal { GoesOn self.now.settings self.now.before result.now self.now.node }
+        ensures legal { GoesOn self.now.settings self.now.before result.now self.now.whole self.now.node }
     {
         self.history.as_slice()
     }
@@ -165,6 +170,9 @@ impl<L: Ledger> Book<L> {
         ensures node { OnOk result (self.new.node ≡ after_event self.old.node event) }
         ensures counted { OnOk result (share.new.amount ≡ share.old.amount + 1) }
 
+        // It is the last of the whole history, and nothing else came into that.
+        ensures whole { IfOk result (λ r. self.new.whole ≡ self.old.whole ++ r.entry ∷ []) }
+
         // Whatever the earlier parts were, the history goes on from them.
         ensures goes_on { OnOk result ((gone : List Entry)
             → EndsAt self.old.settings (gone ++ self.old.history) self.old.node
@@ -195,6 +203,7 @@ impl<L: Ledger> Book<L> {
             worker,
             event,
         )?;
+        self.whole = self.whole.and(&entry);
         self.count.add(share, 1);
         Ok(Receipt::new(self.last_number(), entry))
     }
@@ -210,6 +219,7 @@ impl<L: Ledger> Book<L> {
         ensures node { self.new.node ≡ self.old.node }
         ensures before { OnOk result (self.new.before ≡ last_number self.old) }
         ensures history { OnOk result (self.new.history ≡ []) }
+        ensures whole { self.new.whole ≡ self.old.whole }
         ensures receipts { OnOk result (tally.new.receipts ≡ []) }
         ensures open { OnOk result (self.new.closed ≡ false) }
         ensures settings { self.new.settings ≡ self.old.settings }

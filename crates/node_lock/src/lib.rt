@@ -17,6 +17,7 @@ mod limits;
 mod receipts;
 mod steps;
 mod tallies;
+mod whole;
 
 pub use audits::audit;
 pub use books::Book;

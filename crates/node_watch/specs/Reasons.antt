@@ -1,11 +1,10 @@
 -- Why the containers of a node wait: the calls that came to nothing last, the newest one first. This
 -- project's own: docs/SEMANTICS.md, "Why a container waits".
-use Rattle.std.specs.Prelude.{ℕ, ◌&&◌, ◌==◌, Bool, true, false, if◌then◌else◌, List, [], ◌∷◌, Option, Some}
+use Rattle.std.specs.Prelude.{ℕ, ◌&&◌, ◌==◌, Bool, true, false, if◌then◌else◌, List, ◌∷◌, Option, Some}
 use Rattle.std.specs.Prelude.{None, find, position, slice_get}
 use Rattle.std.specs.List.{remove}
 use Rattle.std.specs.Str.{bytes_eq}
 use Rattle.cri_msgs.specs.declared.calls.Call.{Call}
-use Rattle.cri_msgs.specs.declared.refusals.Refusal.{Refusal}
 use Rattle.cri_msgs.specs.Names.{refusal_number}
 use Rattle.node_watch.specs.declared.reasons.Reason.{Reason}
 use Rattle.node_watch.specs.declared.reasons.Trouble.{Trouble}

@@ -1,15 +1,12 @@
 -- What is seen of a pod from outside: its phase, and the state of each of its containers as the table of a
 -- node has it. docs/SEMANTICS.md, "What changes".
-use Rattle.std.specs.Prelude.{ℕ, ◌-◌, List, map}
+use Rattle.std.specs.Prelude.{◌-◌, List, map}
 use Rattle.std.specs.List.{zip}
-use Rattle.lifecycle.specs.declared.phases.Phase.{Phase}
 use Rattle.lifecycle.specs.declared.policy.RestartPolicy.{RestartPolicy}
 use Rattle.lifecycle.specs.declared.track.Track.{Track}
 use Rattle.lifecycle.specs.Tracks.{started_of, state_of}
 use Rattle.manifest.specs.declared.containers.Container.{Container}
-use Rattle.manifest.specs.declared.pods.Pod.{Pod}
 use Rattle.node_watch.specs.declared.seen.ContainerSeen.{ContainerSeen}
-use Rattle.node_watch.specs.declared.seen.PodSeen.{PodSeen}
 
 abbrev pub container_seen : RestartPolicy → Container × Track → ContainerSeen
 container_seen policy (container, track) =

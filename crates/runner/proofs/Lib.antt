@@ -2,9 +2,8 @@ pub mod Connections
 pub mod Dues
 pub mod Exits
 pub mod Labels
-pub mod Listing
 pub mod Shares
 pub mod Talks
-pub mod Unwoken
 pub mod Visits
 pub mod Readings
+pub mod Kept

@@ -1,21 +1,29 @@
 -- A visit more, and what a round tells then.
 use Rattle.std.proofs.Common.{◌≡◌, ◌||◌, ◌++◌, ℕ, Bool, true, false, List, ◌∷◌, Option, None, Some, refl, ◌∙◌}
-use Rattle.std.proofs.Common.{ap, subst}
+use Rattle.std.proofs.Common.{ap, subst, IfNone, IfSome}
 use Rattle.std.specs.Option.{option_map}
 use Rattle.runner.specs.declared.rounds.Visit.{Visit}
-use Rattle.runner.specs.Rounds.{Asked, AreVisits, MayVisit, last_of}
+use Rattle.runtime_cell.specs.declared.cell.Did.{Did}
+use Rattle.bpf_code.specs.declared.insn.Insn.{Insn}
+use Rattle.runtime_history.specs.declared.event.Event.TheVariants.{Stepped}
+use Rattle.runtime_history.specs.declared.event.Seen.{Seen}
+use Rattle.runtime_history.specs.History.{Grows}
+use Rattle.runner.specs.Rounds.{Asked, AreVisits, MayVisit, StepsAt, last_of, seen_after}
 
 -- what one of the share came to, whatever the share is called
-pub of_share : (r rs runner runners : ℕ) (asked : Asked) → r ≡ runner → rs ≡ runners → MayVisit r rs asked
-    → MayVisit runner runners asked
-of_share r rs runner runners asked same sames may =
-    subst (λ (n : ℕ). MayVisit n runners asked) same (subst (λ (n : ℕ). MayVisit r n asked) sames may)
+pub of_share : (b : Option (List Insn)) (r rs runner runners : ℕ) (asked : Asked) → r ≡ runner → rs ≡ runners
+    → MayVisit b r rs asked → MayVisit b runner runners asked
+of_share b r rs runner runners asked same sames may =
+    subst (λ (n : ℕ). MayVisit b n runners asked) same (subst (λ (n : ℕ). MayVisit b r n asked) sames may)
 
-pub visits_more : (runner runners above : ℕ) (visit : Visit) (earlier : List Asked) → above ≡ last_of earlier
-    → MayVisit runner runners (record { above = above; visit = Some visit })
-    → AreVisits runner runners earlier
-    → AreVisits runner runners (record { above = above; visit = Some visit } ∷ earlier)
-visits_more runner runners above visit earlier last may are = (refl, last, may, are)
+pub visits_more : (b : Option (List Insn)) (runner runners above : ℕ) (visit : Visit) (start old new : Seen)
+    (earlier : List Asked) → above ≡ last_of earlier → old ≡ seen_after start earlier
+    → MayVisit b runner runners (record { above = above; visit = Some visit; old = old; new = new })
+    → AreVisits b runner runners start earlier
+    → AreVisits b runner runners start
+    (record { above = above; visit = Some visit; old = old; new = new } ∷ earlier)
+visits_more b runner runners above visit start old new earlier last behind may are =
+    (refl, last, behind, may, are)
 
 -- what is kept of it
 pub kept_more : (new old start : Option (List Asked)) (one : Asked) (earlier : List Asked)
@@ -34,3 +42,8 @@ still was false moves went same = absurd cc
 pub now : (was seen moves : Bool) → was ≡ false → was ≡ seen → moves ≡ (seen || moves)
 now was true moves went same = absurd cc
 now was false moves went same = refl
+
+pub steps_at : (b : Option (List Insn)) (id : ℕ) (did : Option Did) (old new : Seen)
+    → IfSome did (λ d. Grows b old (Stepped id d) new) → IfNone did (new ≡ old) → StepsAt b id did old new
+steps_at b id None old new some none = none
+steps_at b id (Some did) old new some none = some

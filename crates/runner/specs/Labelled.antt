@@ -1,21 +1,21 @@
 -- Values under the texts that they name themselves, and turns of a round, which private functions cite.
 use Rattle.std.specs.Prelude.{◌≡◌, ◌==◌, ◌%◌, ◌<◌, ◌≤◌, ℕ, Bool, if◌then◌else◌, IsSome, List, map, Option}
-use Rattle.std.specs.Prelude.{None, Some}
-use Rattle.std.specs.Arc.{arc_value}
-use Rattle.std.specs.declared.sync.Arc.{Arc}
-use Rattle.std.specs.Global.{Global}
+use Rattle.std.specs.Prelude.{None, Some, String, string_bytes}
 use Rattle.std.specs.Map.{lookup}
 use Rattle.std.specs.Str.{bytes_eq}
-use Rattle.runner.specs.declared.lists.SandboxCells.{SandboxCells}
 
 -- each value is found under its own label
 abbrev pub AreLabelled : {X : Type 0} → (X → List ℕ) → List (List ℕ × X) → Type 0
 AreLabelled {X} label entries = (text : List ℕ) (x : X) → lookup (bytes_eq text) entries ≡ Some x
     → label x ≡ text
 
+-- the uids under which values are kept
+abbrev pub uids_in : {Y X : Type 0} → List (String Y × X) → List (List ℕ)
+uids_in entries = map (λ e. string_bytes e.0) entries
+
 -- the ids of cells, with the uids of the sandboxes that they are in
-abbrev pub homes_of : List (ℕ × Arc SandboxCells Global) → List (ℕ × List ℕ)
-homes_of entries = map (λ e. (e.0, (arc_value {X = SandboxCells} e.1).uid)) entries
+abbrev pub homes_of : {X : Type 0} → (X → List ℕ) → List (ℕ × X) → List (ℕ × List ℕ)
+homes_of label entries = map (λ e. (e.0, label e.1)) entries
 
 -- which cells are kept for rounds to visit, and whether one that was to be kept is not
 pub record Visited : Type 0 where

@@ -3,15 +3,21 @@ use Rattle.std.specs.Prelude.{◌≡◌, ◌||◌, ⊤, ℕ, Bool, true, false, 
 use Rattle.std.specs.Prelude.{option_map}
 use Rattle.runtime_cell.specs.declared.cell.Did.{Did}
 use Rattle.runtime_cell.specs.declared.cell.Did.TheVariants.{Idle, Performed, Denied, Ended}
-use Rattle.runtime_cell.specs.Cell.{Cell}
-use Rattle.registry.specs.Kept.{IsNextIn, MayStepIn, home_in}
+use Rattle.bpf_code.specs.declared.insn.Insn.{Insn}
+use Rattle.registry.specs.Kept.{IsNextIn, home_in}
+use Rattle.runtime_history.specs.declared.event.Event.TheVariants.{Stepped}
+use Rattle.runtime_history.specs.declared.event.Seen.{Seen}
+use Rattle.runtime_history.specs.History.{Grows}
 use Rattle.runner.specs.Labelled.{of_share}
 use Rattle.runner.specs.declared.rounds.Visit.{Visit}
 
--- above which id a visit was asked for, and what came of it: none where no id of the share was there
+-- above which id a visit was asked for, and what came of it: none where no id of the share was there; and
+-- what the runner had seen of the history before and after
 pub record Asked : Type 0 where
   pub above : ℕ
   pub visit : Option Visit
+  pub old : Seen
+  pub new : Seen
 
 -- whether the cell's script went on
 abbrev pub moves_on : Option Did → Bool
@@ -21,28 +27,29 @@ moves_on (Some Performed) = true
 moves_on (Some (Denied verdict)) = true
 moves_on (Some (Ended code)) = true
 
--- Of the cells of a sandbox, under their lock, the one with the id does one step. Nothing comes of it where
--- the cell is gone, or where its sandbox could not be held on to.
-abbrev pub StepsAt : ℕ → Option Did → Type 0
-StepsAt id None = ⊤
-StepsAt id (Some did) = (cells : List Cell) × (cells' : List Cell) × MayStepIn cells id (Some did) cells'
+-- The step of the cell with the id is the next event that the runner adds to the history. Nothing happens
+-- where the cell is gone, or where its sandbox could not be held on to.
+abbrev pub StepsAt : Option (List Insn) → ℕ → Option Did → Seen → Seen → Type 0
+StepsAt baseline id None old new = new ≡ old
+StepsAt baseline id (Some did) old new = Grows baseline old (Stepped id did) new
 
 -- the step of a visit
-abbrev pub WasStepped : Option Visit → Type 0
-WasStepped None = ⊤
-WasStepped (Some visit) = (did : Option Did) × StepsAt visit.id did × (visit.went_on ≡ moves_on did)
+abbrev pub WasStepped : Option (List Insn) → Option Visit → Seen → Seen → Type 0
+WasStepped baseline None old new = new ≡ old
+WasStepped baseline (Some visit) old new = (did : Option Did) × StepsAt baseline visit.id did old new
+    × (visit.went_on ≡ moves_on did)
 
 abbrev pub id_in : Option Visit → Option ℕ
 id_in visit = option_map (λ (v : Visit). v.id) visit
 
 -- The least id of the share above the one that was asked for came, and its cell did one step; or there was
--- none. What was at home where is what the registry's lock found: what other threads do between two locks is
--- not known.
-abbrev pub MayVisit : ℕ → ℕ → Asked → Type 0
-MayVisit runner runners asked =
+-- none. What was at home where is what the registry's lock found: what other threads do between two locks
+-- is not known.
+abbrev pub MayVisit : Option (List Insn) → ℕ → ℕ → Asked → Type 0
+MayVisit baseline runner runners asked =
     ((homes : List (ℕ × List ℕ)) × IsNextIn (of_share runner runners (home_in homes)) asked.above
     (id_in asked.visit))
-    × WasStepped asked.visit
+    × WasStepped baseline asked.visit asked.old asked.new
 
 -- of what was asked, the latest first: the id of the last visit, 0 for none
 abbrev pub id_of : Option Visit → ℕ
@@ -62,20 +69,29 @@ abbrev pub went_on : List Asked → Bool
 went_on [] = false
 went_on (asked ∷ earlier) = went_on earlier || went asked.visit
 
--- each is a visit, asked for above the id of the one before
-abbrev pub AreVisits : ℕ → ℕ → List Asked → Type 0
-AreVisits runner runners [] = ⊤
-AreVisits runner runners (asked ∷ earlier) =
-    IsSome asked.visit × (asked.above ≡ last_of earlier) × MayVisit runner runners asked
-    × AreVisits runner runners earlier
+-- what the runner has seen after what was asked, from what it had seen at the start on
+abbrev pub seen_after : Seen → List Asked → Seen
+seen_after start [] = start
+seen_after start (asked ∷ earlier) = asked.new
 
--- a round asks for visits until there is none above the last one
-pub record IsRound (runner runners : ℕ) (asked : List Asked) (told : Bool) : Type 0 where
+-- each is a visit, asked for above the id of the one before, and behind it in the history
+abbrev pub AreVisits : Option (List Insn) → ℕ → ℕ → Seen → List Asked → Type 0
+AreVisits baseline runner runners start [] = ⊤
+AreVisits baseline runner runners start (asked ∷ earlier) =
+    IsSome asked.visit × (asked.above ≡ last_of earlier) × (asked.old ≡ seen_after start earlier)
+    × MayVisit baseline runner runners asked × AreVisits baseline runner runners start earlier
+
+-- A round asks for visits until there is none above the last one. The runner adds to the history what they
+-- did, and nothing else.
+pub record IsRound (baseline : Option (List Insn)) (runner runners : ℕ) (start : Seen) (asked : List Asked)
+    (told : Bool) (seen : Seen) : Type 0 where
   pub end : Asked
   pub visits : List Asked
   pub all : asked ≡ end ∷ visits
   pub none : end.visit ≡ None
   pub behind : end.above ≡ last_of visits
-  pub ends : MayVisit runner runners end
-  pub are : AreVisits runner runners visits
+  pub begins : end.old ≡ seen_after start visits
+  pub ends : MayVisit baseline runner runners end
+  pub are : AreVisits baseline runner runners start visits
+  pub sees : seen ≡ end.new
   pub tells : told ≡ went_on visits

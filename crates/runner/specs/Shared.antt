@@ -1,32 +1,36 @@
--- What a request may get of a runtime that threads share, this project's own: docs/SEMANTICS.md, "Threads".
-use Rattle.std.specs.Prelude.{◌≡◌, List, Option}
+-- A runtime that threads share, this project's own: docs/SEMANTICS.md, "Threads".
+use Rattle.std.specs.Prelude.{◌≡◌, ℕ, Bool, true, false, List, Option}
+use Rattle.std.specs.List.{list_any}
+use Rattle.std.specs.Str.{bytes_eq}
 use Rattle.bpf_code.specs.declared.insn.Insn.{Insn}
-use Rattle.cri_msgs.specs.declared.calls.Call.{Call}
-use Rattle.cri_msgs.specs.declared.calls.Call.TheVariants.{RunPodSandbox}
 use Rattle.cri_msgs.specs.declared.calls.Request.{Request}
 use Rattle.cri_msgs.specs.declared.replies.Reply.{Reply}
-use Rattle.runtime_cell.specs.Cell.{Cell}
 use Rattle.creation.specs.declared.files.FileAnswers.{FileAnswers}
 use Rattle.registry.specs.declared.registry.Registry.{Registry}
-use Rattle.registry.specs.declared.stage.Stage.TheVariants.{Unknown}
-use Rattle.registry.specs.Serves.{IsFull}
-use Rattle.registry.specs.Stands.{AreBound, stages_in}
-use Rattle.runtime_core.specs.Stands.{LendsTo}
+use Rattle.registry.specs.declared.stage.Stage.{Stage}
+use Rattle.registry.specs.declared.stage.Stage.TheVariants.{Live, Removed, Unknown}
+use Rattle.registry.specs.Stands.{stages_in}
+use Rattle.runtime_history.specs.declared.event.Event.TheVariants.{Served}
+use Rattle.runtime_history.specs.declared.event.Seen.{Seen}
+use Rattle.runtime_history.specs.History.{Grows}
 
--- One event on a node with this filter of its own: a registry and a list of cells were held while the request
--- was served. What other threads did before, and will do, is not known.
-pub record MayServe (baseline : Option (List Insn)) (request : Request) (files : FileAnswers)
-    (reply : Reply) : Type 0 where
-  pub registry : Registry
-  pub own : registry.baseline ≡ baseline
-  pub registry' : Registry
-  pub cells : List Cell
-  pub cells' : List Cell
-  pub bound : AreBound registry
-  pub lends : LendsTo registry registry' request.call files reply.answer cells cells'
+-- whether there is a sandbox
+abbrev pub is_live : Stage → Bool
+is_live Unknown = false
+is_live (Live ready) = true
+is_live Removed = false
+
+-- whether the uid is among these
+abbrev pub has : List (List ℕ) → List ℕ → Bool
+has uids uid = list_any (bytes_eq uid) uids
+
+-- the uids that are kept are those of the sandboxes that are there
+abbrev pub AreListed : Registry → List (List ℕ) → Type 0
+AreListed registry uids = (uid : List ℕ) → is_live (stages_in registry uid) ≡ has uids uid
+
+-- What a connection has seen of the history of a node with this filter grows by others' events, and then by
+-- this request, what its files gave, and its answer. All that it has seen is a run.
+pub record MayServe (baseline : Option (List Insn)) (old : Seen) (request : Request) (files : FileAnswers)
+    (reply : Reply) (new : Seen) : Type 0 where
   pub number : reply.id ≡ request.id
-
--- the call may make a sandbox of a uid that was never named
-abbrev pub Wakes : Registry → Call → Type 0
-Wakes registry (RunPodSandbox uid) = (stages_in registry uid ≡ Unknown) × (IsFull (stages_in registry) → ⊥)
-Wakes registry call = ⊥
+  pub grows : Grows baseline old (Served request.call files reply.answer) new

@@ -4,32 +4,39 @@ ghost use Rattle.std.specs.BTreeMap.{get};
 ghost use Rattle.std.specs.Ordering.{nat_cmp};
 ghost use Rattle.registry.specs.Kept.{IsNextIn, home_in};
 
-use crate::lists::SandboxCells;
+use crate::sandbox::SandboxCells;
+use runtime_history::Node;
 use std::alloc::{AllocError, Global};
 use std::collections::BTreeMap;
 use std::marker::Model;
 use std::ops::Bound;
 use std::sync::Arc;
 
-/// The cells that were started and that no visit has found ended, by their ids, each with its sandbox's list.
-/// Contracts see the ids with the uids, and whether one is not kept.
+/// The cells that were started and that no visit has found ended, by their ids, each with its sandbox's
+/// list. Contracts see the ids with the uids, and whether one is not kept.
 #[derive(Drop)]
-pub(crate) struct Due {
-    cells: BTreeMap<u64, Arc<SandboxCells, Global>>,
+pub(crate) struct Due<B: Node> {
+    cells: BTreeMap<u64, Arc<SandboxCells<B>, Global>>,
     // Whether memory to keep a cell here ran out: then all existing cells have to be visited.
     lacks: bool,
 }
 
-impl Model for Due {
+impl<B: Node> Model for Due<B> {
+    ghost use Rattle.std.specs.Arc.{arc_value};
+    ghost use Rattle.runner.specs.declared.sandbox.SandboxCells.{SandboxCells};
     ghost use Rattle.runner.specs.Labelled.{Visited, homes_of};
 
     ghost Value = { Visited };
 
-    ghost view = { λ d. record { homes = homes_of d.cells.entries; lacks = d.lacks } };
+    ghost view = { λ d. record {
+      homes = homes_of (λ list.
+          (arc_value {X = SandboxCells _} list).uid) d.cells.entries;
+      lacks = d.lacks;
+    } };
 }
 
-impl Due {
-    pub(crate) fn new(alloc: Global) -> Due {
+impl<B: Node> Due<B> {
+    pub(crate) fn new(alloc: Global) -> Due<B> {
         Due {
             cells: BTreeMap::new(alloc),
             lacks: false,
@@ -37,7 +44,7 @@ impl Due {
     }
 
     /// Adds a cell that was started.
-    pub(crate) fn put(&mut self, id: u64, list: &Arc<SandboxCells, Global>) {
+    pub(crate) fn put(&mut self, id: u64, list: &Arc<SandboxCells<B>, Global>) {
         if put_in(&mut self.cells, id, list).is_err() {
             self.lacks = true;
         }
@@ -56,7 +63,7 @@ impl Due {
     }
 
     /// The list that has the cell with this id.
-    pub(crate) fn get(&self, id: u64) -> Option<&Arc<SandboxCells, Global>> {
+    pub(crate) fn get(&self, id: u64) -> Option<&Arc<SandboxCells<B>, Global>> {
         self.cells.get(&id)
     }
 
@@ -68,17 +75,17 @@ impl Due {
     }
 }
 
-fn put_in(
-    cells: &mut BTreeMap<u64, Arc<SandboxCells, Global>>,
+fn put_in<B: Node>(
+    cells: &mut BTreeMap<u64, Arc<SandboxCells<B>, Global>>,
     id: u64,
-    list: &Arc<SandboxCells, Global>,
+    list: &Arc<SandboxCells<B>, Global>,
 ) -> Result<(), AllocError> {
     let kept = Arc::try_clone(list)?;
     cells.insert(id, kept)?;
     Ok(())
 }
 
-fn next_key(cells: &BTreeMap<u64, Arc<SandboxCells, Global>>, above: u64) -> Option<u64>
+fn next_key<B: Node>(cells: &BTreeMap<u64, Arc<SandboxCells<B>, Global>>, above: u64) -> Option<u64>
     ensures { IsNextIn (get nat_cmp cells.now) above result }
 {
     let mut later = cells.range((Bound::Excluded(above), Bound::Unbounded));

@@ -7,7 +7,7 @@ ghost use Rattle.runner.specs.Gathered.{Gave, IsTold, profile_path, script_path}
 use cri_msgs::{Call, Request};
 use manifest::SeccompProfile;
 use node_io::{FileFault, Files, MAX_FILE_BYTES};
-use runtime_core::{Contents, FileAnswers};
+use runtime_core::{CompiledProfile, Contents, FileAnswer, FileAnswers, ReadAs};
 
 /// Reads the files of a request: for CreateContainer its image among the scripts and, if its profile is
 /// Localhost, its path among the profiles. Nothing else is read.
@@ -34,10 +34,7 @@ pub fn gather<S: Files, P: Files>(
 }
 
 // The result of reading a Localhost profile.
-fn own_profile<P: Files>(
-    profiles: &mut P,
-    profile: &SeccompProfile,
-) -> Option<Result<Contents, FileFault>>
+fn own_profile<P: Files>(profiles: &mut P, profile: &SeccompProfile) -> FileAnswer<CompiledProfile>
     ensures { Gave P.held P.failed profiles.old (path_of profile.now) result profiles.new }
 {
     match profile {
@@ -47,7 +44,7 @@ fn own_profile<P: Files>(
 }
 
 // The result of reading a file.
-fn contents<F: Files>(files: &mut F, path: &str) -> Result<Contents, FileFault>
+fn contents<F: Files, T: ReadAs + Drop>(files: &mut F, path: &str) -> Result<Contents<T>, FileFault>
     ensures told { IsTold (F.held files.old) (HasRisen (F.failed files.old) (F.failed files.new)) path.now
         result }
     ensures held { F.held files.new ≡ F.held files.old }

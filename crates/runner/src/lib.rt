@@ -15,6 +15,7 @@ mod lists;
 mod notifier;
 mod reader;
 mod rounds;
+mod sandbox;
 mod service;
 mod shared;
 
@@ -25,5 +26,6 @@ pub use laws::constants_are_as_stated;
 pub use notifier::Notifier;
 pub use reader::{LARGE_TEXT, Reader};
 pub use rounds::{Open, StepGate};
+pub use runtime_history::{Begun, Client, Node, laws_of};
 pub use service::{Host, Service};
-pub use shared::{Baseline, SharedHost, SharedRuntime};
+pub use shared::{SharedHost, SharedRuntime};

@@ -1,50 +1,46 @@
 //! The cells of each sandbox, behind a lock of the sandbox's own.
-ghost use Rattle.std.specs.Prelude.{◌≡◌, IfOk, IfSome};
+ghost use Rattle.std.specs.Prelude.{◌≡◌, ◌≢◌, ℕ, IfOk, IfSome, List, OnErr, [], false, is_some, true};
 ghost use Rattle.std.specs.Arc.{arc_value};
 ghost use Rattle.registry.specs.Kept.{by_bytes};
-ghost use Rattle.runner.specs.declared.lists.SandboxCells.{SandboxCells};
-ghost use Rattle.runner.specs.Labelled.{AreLabelled};
+ghost use Rattle.runner.specs.declared.sandbox.SandboxCells.{SandboxCells};
+ghost use Rattle.runner.specs.Labelled.{AreLabelled, uids_in};
+ghost use Rattle.runner.specs.Shared.{has};
 
+use crate::sandbox::SandboxCells;
 use manifest::Uid;
-use runtime_core::Cells;
+use runtime_history::{Blank, KeyedLock, Listed, Node};
 use std::alloc::{AllocError, Global};
 use std::collections::BTreeMap;
 use std::marker::Model;
-use std::sync::{Arc, Mutex};
+use std::sync::Arc;
 
-/// The cells of a sandbox behind their lock. A thread may still have a reference when the sandbox is removed:
-/// it finds no cell then.
+/// The cells of the existing sandboxes, each under its uid. Contracts see which uids there are.
 #[derive(Drop)]
-pub(crate) struct SandboxCells {
-    pub(crate) uid: Uid,
-    pub(crate) cells: Mutex<Cells>,
-}
-
-/// The cells of the existing sandboxes, each under its uid. Contracts see how many there are.
-#[derive(Drop)]
-pub(crate) struct CellLists {
+pub(crate) struct CellLists<B: Node> {
     alloc: Global,
-    map: BTreeMap<String, Arc<SandboxCells, Global>>,
+    map: BTreeMap<String, Arc<SandboxCells<B>, Global>>,
 }
 
-impl Model for CellLists {
-    ghost use Rattle.std.specs.Prelude.{ℕ, length};
+impl<B: Node> Model for CellLists<B> {
+    ghost use Rattle.std.specs.Prelude.{ℕ, List};
     ghost use Rattle.std.specs.Arc.{arc_value};
     ghost use Rattle.registry.specs.Kept.{by_bytes};
-    ghost use Rattle.runner.specs.declared.lists.SandboxCells.{SandboxCells};
-    ghost use Rattle.runner.specs.Labelled.{AreLabelled};
+    ghost use Rattle.runner.specs.declared.sandbox.SandboxCells.{SandboxCells};
+    ghost use Rattle.runner.specs.Labelled.{AreLabelled, uids_in};
 
-    ghost Value = { ℕ };
+    ghost Value = { List (List ℕ) };
 
-    ghost view = { λ l. length l.map.entries };
+    ghost view = { λ l. uids_in l.map.entries };
 
-    ghost invariant = { λ l. AreLabelled (λ list. (arc_value {X = SandboxCells} list).uid)
+    ghost invariant = { λ l. AreLabelled (λ list. (arc_value {X = SandboxCells _} list).uid)
         (by_bytes l.map.entries) };
 }
 
-impl CellLists {
+impl<B: Node> CellLists<B> {
     /// No sandboxes.
-    pub(crate) fn new(alloc: Global) -> CellLists {
+    pub(crate) fn new(alloc: Global) -> CellLists<B>
+        ensures { result ≡ [] }
+    {
         CellLists {
             alloc,
             map: BTreeMap::new(alloc),
@@ -52,70 +48,96 @@ impl CellLists {
     }
 
     /// The cells of a uid's sandbox.
-    pub(crate) fn get(&self, uid: &str) -> Option<&Arc<SandboxCells, Global>>
-        ensures { IfSome result (λ list. (arc_value list.now).uid ≡ uid.now) }
+    pub(crate) fn get(&self, uid: &str) -> Option<&Arc<SandboxCells<B>, Global>>
+        ensures own { IfSome result (λ list. (arc_value {X = SandboxCells _} list.now).uid ≡ uid.now) }
+        ensures found { is_some result ≡ has self.now uid.now }
     {
         get_in(&self.map, uid)
     }
 
-    /// Adds a list without cells for a uid, and returns it.
-    pub(crate) fn put(&mut self, uid: &Uid) -> Result<Arc<SandboxCells, Global>, AllocError>
-        ensures { IfOk result (λ list. (arc_value list).uid ≡ uid.now) }
+    /// Adds a list for a uid, which is still to get its cells, and returns it.
+    pub(crate) fn put(&mut self, uid: &Uid) -> Result<NewList<B>, AllocError>
+        ensures own { IfOk result (λ new. (arc_value {X = SandboxCells _} new.0).uid ≡ uid.now) }
+        ensures blank { IfOk result (λ new. new.1 ≡ (arc_value {X = SandboxCells _} new.0).lock.1) }
+        ensures here { IfOk result (λ _. has self.new uid.now ≡ true) }
+        ensures others { (u : List ℕ) → u ≢ uid.now → has self.new u ≡ has self.old u }
+        ensures err { (u : List ℕ) → OnErr result (has self.new u ≡ has self.old u) }
     {
         put_in(self.alloc, &mut self.map, uid)
     }
 
     /// Removes and returns the cells of a uid's sandbox.
-    pub(crate) fn take(&mut self, uid: &str) -> Option<Arc<SandboxCells, Global>>
-        ensures { IfSome result (λ list. (arc_value list).uid ≡ uid.now) }
+    pub(crate) fn take(&mut self, uid: &str) -> Option<Arc<SandboxCells<B>, Global>>
+        ensures own { IfSome result (λ list. (arc_value {X = SandboxCells _} list).uid ≡ uid.now) }
+        ensures found { is_some result ≡ has self.old uid.now }
+        ensures here { has self.new uid.now ≡ false }
+        ensures others { (u : List ℕ) → u ≢ uid.now → has self.new u ≡ has self.old u }
     {
         take_in(&mut self.map, uid)
     }
 }
 
-fn get_in<'m>(
-    map: &'m BTreeMap<String, Arc<SandboxCells, Global>>,
+// A list that is still to get its cells, and the right to give them to it.
+type NewList<B> = (Arc<SandboxCells<B>, Global>, Blank<Listed<B>>);
+
+fn get_in<'m, B: Node>(
+    map: &'m BTreeMap<String, Arc<SandboxCells<B>, Global>>,
     uid: &str,
-) -> Option<&'m Arc<SandboxCells, Global>>
-    requires { AreLabelled (λ list. (arc_value {X = SandboxCells} list).uid) (by_bytes map.now.entries) }
-    ensures { IfSome result (λ list. (arc_value list.now).uid ≡ uid.now) }
+) -> Option<&'m Arc<SandboxCells<B>, Global>>
+    requires { AreLabelled (λ list. (arc_value {X = SandboxCells _} list).uid) (by_bytes map.now.entries) }
+    ensures own { IfSome result (λ list. (arc_value {X = SandboxCells _} list.now).uid ≡ uid.now) }
+    ensures found { is_some result ≡ has (uids_in map.now.entries) uid.now }
 {
     map.get(uid)
 }
 
-fn put_in(
+fn put_in<B: Node>(
     alloc: Global,
-    map: &mut BTreeMap<String, Arc<SandboxCells, Global>>,
+    map: &mut BTreeMap<String, Arc<SandboxCells<B>, Global>>,
     uid: &Uid,
-) -> Result<Arc<SandboxCells, Global>, AllocError>
-    requires { AreLabelled (λ list. (arc_value {X = SandboxCells} list).uid) (by_bytes map.old.entries) }
-    ensures own { IfOk result (λ list. (arc_value list).uid ≡ uid.now) }
-    ensures labelled { AreLabelled (λ list. (arc_value {X = SandboxCells} list).uid)
+) -> Result<NewList<B>, AllocError>
+    requires { AreLabelled (λ list. (arc_value {X = SandboxCells _} list).uid) (by_bytes map.old.entries) }
+    ensures own { IfOk result (λ new. (arc_value {X = SandboxCells _} new.0).uid ≡ uid.now) }
+    ensures blank { IfOk result (λ new. new.1 ≡ (arc_value {X = SandboxCells _} new.0).lock.1) }
+    ensures labelled { AreLabelled (λ list. (arc_value {X = SandboxCells _} list).uid)
         (by_bytes map.new.entries) }
+    ensures here { IfOk result (λ _. has (uids_in map.new.entries) uid.now ≡ true) }
+    ensures others { (u : List ℕ) → u ≢ uid.now → has (uids_in map.new.entries) u
+        ≡ has (uids_in map.old.entries) u }
+    ensures err { (u : List ℕ) → OnErr result (has (uids_in map.new.entries) u
+        ≡ has (uids_in map.old.entries) u) }
 {
-    let list = new_list(alloc, uid)?;
+    let (list, blank) = new_list(alloc, uid)?;
     let kept = Arc::try_clone(&list)?;
     let key = String::from_str(alloc, uid.as_str())?;
     map.insert(key, kept)?;
-    Ok(list)
+    Ok((list, blank))
 }
 
-fn new_list(alloc: Global, uid: &Uid) -> Result<Arc<SandboxCells, Global>, AllocError>
-    ensures { IfOk result (λ list. (arc_value list).uid ≡ uid.now) }
+fn new_list<B: Node>(alloc: Global, uid: &Uid) -> Result<NewList<B>, AllocError>
+    ensures own { IfOk result (λ new. (arc_value {X = SandboxCells _} new.0).uid ≡ uid.now) }
+    ensures blank { IfOk result (λ new. new.1 ≡ (arc_value {X = SandboxCells _} new.0).lock.1) }
 {
+    let Some((lock, blank)) = KeyedLock::taken(alloc, uid) else {
+        return Err(AllocError);
+    };
     let uid = uid.try_clone(alloc)?;
-    let cells = Mutex::new(Cells::new(alloc));
-    Ok(Arc::new(alloc, SandboxCells { uid, cells })?)
+    let list = Arc::new(alloc, SandboxCells { uid, lock })?;
+    Ok((list, blank))
 }
 
-fn take_in(
-    map: &mut BTreeMap<String, Arc<SandboxCells, Global>>,
+fn take_in<B: Node>(
+    map: &mut BTreeMap<String, Arc<SandboxCells<B>, Global>>,
     uid: &str,
-) -> Option<Arc<SandboxCells, Global>>
-    requires { AreLabelled (λ list. (arc_value {X = SandboxCells} list).uid) (by_bytes map.old.entries) }
-    ensures own { IfSome result (λ list. (arc_value list).uid ≡ uid.now) }
-    ensures labelled { AreLabelled (λ list. (arc_value {X = SandboxCells} list).uid)
+) -> Option<Arc<SandboxCells<B>, Global>>
+    requires { AreLabelled (λ list. (arc_value {X = SandboxCells _} list).uid) (by_bytes map.old.entries) }
+    ensures own { IfSome result (λ list. (arc_value {X = SandboxCells _} list).uid ≡ uid.now) }
+    ensures labelled { AreLabelled (λ list. (arc_value {X = SandboxCells _} list).uid)
         (by_bytes map.new.entries) }
+    ensures found { is_some result ≡ has (uids_in map.old.entries) uid.now }
+    ensures here { has (uids_in map.new.entries) uid.now ≡ false }
+    ensures others { (u : List ℕ) → u ≢ uid.now → has (uids_in map.new.entries) u
+        ≡ has (uids_in map.old.entries) u }
 {
     map.remove(uid)
 }

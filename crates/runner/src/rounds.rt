@@ -1,15 +1,18 @@
 //! Runners: each steps the cells of its share, round after round.
 ghost use Rattle.std.specs.Prelude.{◌≡◌, ◌<◌, ◌++◌, ◌∷◌, ℕ, List, Option, None, option_map};
 ghost use Rattle.runtime_cell.specs.declared.cell.Did.{Did};
-ghost use Rattle.registry.specs.Kept.{IsNextIn, MayStepIn, home_in};
+ghost use Rattle.bpf_code.specs.declared.insn.Insn.{Insn};
+ghost use Rattle.registry.specs.Kept.{IsNextIn, home_in};
+ghost use Rattle.runtime_history.specs.declared.event.Seen.{Seen};
 ghost use Rattle.runner.specs.Labelled.{of_share, visited};
 ghost use Rattle.runner.specs.Rounds.{Asked, IsRound, MayVisit, StepsAt, moves_on};
 
-use crate::lists::SandboxCells;
-use crate::shared::{Baseline, Sandboxes, SharedRuntime};
+use crate::sandbox::SandboxCells;
+use crate::shared::{Sandboxes, SharedRuntime};
 use runtime_cell::Did;
-use runtime_core::Cells;
+use runtime_history::{Client, History, Listed, Node};
 use std::alloc::Global;
+use std::mem;
 use std::sync::{Arc, Wait};
 
 /// Hooks around each step of a cell, called with the lock of the cell's sandbox held. Tests hold a step up
@@ -46,23 +49,34 @@ pub(crate) trait Visits {
 
     ghost runners: { Self → ℕ };
 
+    // The filter of the node, and what the runner has seen of its history.
+    ghost baseline: { Option (List Insn) };
+
+    ghost seen: { Self → Seen };
+
     // What was asked so far, the latest first. None if that is not kept.
     ghost asked: { Self → Option (List Asked) } = { λ _. None };
 
     /// Steps the cell of the runner's share with the least id above this one; `None` if there is none.
     fn visit(&mut self, above: u64) -> Option<Visit>
-        ensures may { MayVisit (runner self.old) (runners self.old)
-            (record { above = above; visit = result }) }
+        ensures may { MayVisit baseline (runner self.old) (runners self.old)
+            (record { above = above; visit = result; old = seen self.old; new = seen self.new }) }
         ensures runner { runner self.new ≡ runner self.old }
         ensures runners { runners self.new ≡ runners self.old }
-        ensures asked { asked self.new ≡ option_map (λ before. record { above = above; visit = result }
-            ∷ before) (asked self.old) };
+        ensures asked { asked self.new ≡ option_map (λ before. record {
+          above = above;
+          visit = result;
+          old = seen self.old;
+          new = seen self.new;
+        } ∷ before) (asked self.old) };
 }
 
 // A round: each visit is asked for above the id of the one before, until there is none. Returns whether a
 // cell went on.
 fn round<V: Visits>(visits: &mut V) -> bool
-    ensures { (asked : List Asked) × IsRound (V.runner visits.old) (V.runners visits.old) asked result
+    ensures { (asked : List Asked)
+        × IsRound V.baseline (V.runner visits.old) (V.runners visits.old) (V.seen visits.old) asked result
+        (V.seen visits.new)
         × (V.asked visits.new ≡ option_map (λ before. asked ++ before) (V.asked visits.old)) }
 {
     let mut last = 0;
@@ -75,34 +89,39 @@ fn round<V: Visits>(visits: &mut V) -> bool
 }
 
 // A step that a round owes. It is neither copied nor dropped, so it is done once.
-struct NextCell {
+struct NextCell<B: Node> {
     id: u64,
     // The list that has the cell. `None` if a reference to it can't be taken.
-    list: Option<Arc<SandboxCells, Global>>,
+    list: Option<Arc<SandboxCells<B>, Global>>,
 }
 
-impl<B: Baseline> SharedRuntime<B> {
+impl<B: Node> SharedRuntime<B> {
     /// A round of one of `runners` runners, which are numbered from 0: each running cell whose id modulo
-    /// `runners` is `runner` is stepped once, in the order of ids, each in its own critical section. Takes no
-    /// memory, and returns whether a cell went on.
+    /// `runners` is `runner` is stepped once, in the order of ids, each in its own critical section. Takes
+    /// no memory, and returns whether a cell went on.
     pub fn step_round<R: Wait, G: StepGate>(
         &self,
         rt: &R,
+        me: &mut Client<B>,
         runner: u64,
         runners: u64,
         gate: &G,
     ) -> bool
         requires { runner < runners }
-        ensures { (asked : List Asked) × IsRound runner runners asked result }
+        ensures { (asked : List Asked) × IsRound B.filter runner runners me.old asked result me.new }
     {
-        round(&mut RunnerVisits {
+        let mut visits = RunnerVisits {
             rt,
             runtime: self,
+            me: mem::replace(me, self.client()),
             gate,
             runner,
             runners,
             over: None,
-        })
+        };
+        let went_on = round(&mut visits);
+        mem::swap(me, &mut visits.me);
+        went_on
     }
 
     // The runner's next step, after the one of this id. A cell that was found ended is not visited again.
@@ -113,10 +132,11 @@ impl<B: Baseline> SharedRuntime<B> {
         runner: u64,
         runners: u64,
         over: Option<u64>,
-    ) -> Option<NextCell>
+    ) -> Option<NextCell<B>>
         requires { runner < runners }
         ensures { (homes : List (ℕ × List ℕ))
-            × IsNextIn (of_share runner runners (home_in homes)) above (option_map (λ next. next.id) result) }
+            × IsNextIn (of_share runner runners (home_in homes)) above (option_map
+            (λ next. next.id) result) }
     {
         let mut sandboxes = self.sandboxes.lock(rt);
         if let Some(id) = over {
@@ -128,9 +148,10 @@ impl<B: Baseline> SharedRuntime<B> {
 
 // The visits of one of a shared runtime's runners. What was asked is not kept.
 #[derive(Drop)]
-struct RunnerVisits<'a, B: Baseline, R: Wait, G: StepGate> {
+struct RunnerVisits<'a, B: Node, R: Wait, G: StepGate> {
     rt: &'a R,
     runtime: &'a SharedRuntime<B>,
+    me: Client<B>,
     gate: &'a G,
     runner: u64,
     runners: u64,
@@ -139,10 +160,14 @@ struct RunnerVisits<'a, B: Baseline, R: Wait, G: StepGate> {
     ghost fit: { runner < runners },
 }
 
-impl<'a, B: Baseline, R: Wait, G: StepGate> Visits for RunnerVisits<'a, B, R, G> {
+impl<'a, B: Node, R: Wait, G: StepGate> Visits for RunnerVisits<'a, B, R, G> {
     ghost runner = { λ v. v.runner };
 
     ghost runners = { λ v. v.runners };
+
+    ghost baseline = { B.filter };
+
+    ghost seen = { λ v. v.me };
 
     fn visit(&mut self, above: u64) -> Option<Visit> {
         let next = self
@@ -150,7 +175,13 @@ impl<'a, B: Baseline, R: Wait, G: StepGate> Visits for RunnerVisits<'a, B, R, G>
             .next_cell(self.rt, above, self.runner, self.runners, self.over)?;
         let id = next.id;
         let is_held = next.list.is_some();
-        let did = step(self.rt, next, self.gate);
+        let did = step(
+            self.rt,
+            &self.runtime.history,
+            &mut self.me,
+            next,
+            self.gate,
+        );
         self.over = if is_held && is_over(did) {
             Some(id)
         } else {
@@ -163,12 +194,13 @@ impl<'a, B: Baseline, R: Wait, G: StepGate> Visits for RunnerVisits<'a, B, R, G>
     }
 }
 
-impl<B: Baseline> Sandboxes<B> {
+impl<B: Node> Sandboxes<B> {
     // The step of the least id above this one that is of the share.
     #[tactic(auto, using(crate::proofs::Shares::next_is_own, crate::proofs::Shares::next_is_none, crate::proofs::Shares::next_is_passed))]
-    fn next_cell(&self, above: u64, runner: u64, runners: u64) -> Option<NextCell>
+    fn next_cell(&self, above: u64, runner: u64, runners: u64) -> Option<NextCell<B>>
         requires { runner < runners }
-        ensures { IsNextIn (of_share runner runners (home_in (visited self.now.registry.homes self.now.due)))
+        ensures { IsNextIn (of_share runner runners (home_in
+            (visited self.now.registered.homes self.now.due)))
             above (option_map (λ next. next.id) result) }
     {
         let mut last = above;
@@ -184,42 +216,58 @@ impl<B: Baseline> Sandboxes<B> {
 
     // The least id above this one that rounds visit.
     fn next_id(&self, above: u64) -> Option<u64>
-        ensures { IsNextIn (home_in (visited self.now.registry.homes self.now.due)) above result }
+        ensures { IsNextIn (home_in (visited self.now.registered.homes self.now.due)) above result }
     {
         if self.due.lacks() {
-            self.registry.next_id(above)
+            self.registered.registry().next_id(above)
         } else {
             self.due.next(above)
         }
     }
 
     // The list that has the cell with this id.
-    fn list_of(&self, id: u64) -> Option<Arc<SandboxCells, Global>> {
+    fn list_of(&self, id: u64) -> Option<Arc<SandboxCells<B>, Global>> {
         if let Some(list) = self.due.get(id) {
             return Arc::try_clone(list).ok();
         }
-        let uid = self.registry.home(id)?;
+        let uid = self.registered.registry().home(id)?;
         let list = self.lists.get(uid)?;
         Arc::try_clone(list).ok()
     }
 }
 
 // Does a step that is owed, and returns its result.
-fn step<R: Wait, G: StepGate>(rt: &R, next: NextCell, gate: &G) -> Option<Did>
-    ensures { StepsAt next.id result }
+fn step<B: Node, R: Wait, G: StepGate>(
+    rt: &R,
+    history: &History<B>,
+    me: &mut Client<B>,
+    next: NextCell<B>,
+    gate: &G,
+) -> Option<Did>
+    ensures { StepsAt B.filter next.id result me.old me.new }
 {
     let NextCell { id, list } = next;
     let list = list?;
-    let mut cells = list.cells.lock(rt);
-    step_in(&mut cells, id, gate)
+    let (mut listed, loan) = list.lock.take(rt);
+    let did = step_in(history, me, &mut listed, id, gate);
+    list.lock.put_back(listed, loan);
+    did
 }
 
 // The critical section of a step.
-fn step_in<G: StepGate>(cells: &mut Cells, id: u64, gate: &G) -> Option<Did>
-    ensures { MayStepIn cells.old id result cells.new }
+#[tactic(auto, using(crate::proofs::Visits::steps_at))]
+fn step_in<B: Node, G: StepGate>(
+    history: &History<B>,
+    me: &mut Client<B>,
+    listed: &mut Listed<B>,
+    id: u64,
+    gate: &G,
+) -> Option<Did>
+    ensures uid { listed.new.0 ≡ listed.old.0 }
+    ensures steps { StepsAt B.filter id result me.old me.new }
 {
     gate.before(id);
-    let did = cells.step(id);
+    let did = listed.step(history, me, id);
     gate.after(id);
     did
 }

@@ -1,130 +1,146 @@
 //! A runtime that threads share. The registry has one lock, and each sandbox's cells have their own, so a
-//! step of a cell blocks only its own sandbox.
-ghost use Rattle.std.specs.Prelude.{◌≡◌, Bool, IfSome, IsTrue, List, None, Option};
+//! step of a cell blocks only its own sandbox. All that happens under these locks is one history.
+ghost use Rattle.std.specs.Prelude.{◌≡◌, ◌≢◌, ◌↔◌, IfNone, IfSome, IsTrue, List, ℕ, is_some, true};
 ghost use Rattle.std.specs.Arc.{arc_value};
-ghost use Rattle.bpf_code.specs.declared.insn.Insn.{Insn};
 ghost use Rattle.cri_msgs.specs.Calls.{uid_of};
-ghost use Rattle.registry.specs.declared.registry.Registry.{Registry};
-ghost use Rattle.registry.specs.declared.stage.Stage.TheVariants.{Live};
-ghost use Rattle.registry.specs.Stands.{AreBound, stages_in};
-ghost use Rattle.runner.specs.Shared.{MayServe, Wakes};
+ghost use Rattle.registry.specs.Stands.{stages_in};
+ghost use Rattle.runtime_history.specs.declared.event.Event.TheVariants.{Served};
+ghost use Rattle.runtime_history.specs.History.{Grows, unseen};
+ghost use Rattle.runtime_history.specs.Sandboxes.{IsLive, Removes, Wakes};
+ghost use Rattle.runner.specs.Shared.{AreListed, has};
 
 use crate::due::Due;
-use crate::lists::{CellLists, SandboxCells};
+use crate::lists::CellLists;
+use crate::sandbox::SandboxCells;
 use crate::service::Host;
-use bpf_verify::Filter;
 use creation::KeptTexts;
-use cri_msgs::{Answer, Call, Refusal, Reply, Request};
+use cri_msgs::{Answer, Call, Reply, Request};
 use manifest::Uid;
-use registry::tell_cells;
 use runtime_cell::Cell;
 use runtime_core::{Cells, FileAnswers, Registry, Stage, uid_of};
+use runtime_history::{Asked, Begun, Blank, Client, History, Listed, Node, Registered};
 use std::alloc::{AllocError, Global};
-use std::marker::{Brand, PhantomData};
+use std::marker::{Brand, Model};
 use std::sync::{Arc, Mutex, Wait};
-
-/// A node's own filter, which confines each of its containers, as a type. The maker of a runtime picks it, so
-/// that the contents of the runtime's lock have this filter and no other.
-pub trait Baseline {
-    ghost filter: { Option (List Insn) };
-}
-
-/// No filter, if none is picked.
-impl Baseline for Brand {
-    ghost filter = { None };
-}
 
 /// What is known of all uids, where their cells are, and which of these rounds visit.
 #[derive(Drop)]
-pub(crate) struct Sandboxes<B: Baseline> {
-    pub(crate) registry: Registry,
-    pub(crate) lists: CellLists,
-    pub(crate) due: Due,
-    alloc: Global,
-    node: PhantomData<B>,
-    ghost bound: { AreBound registry },
-    ghost own: { registry.baseline ≡ B.filter },
+pub(crate) struct Sandboxes<B: Node> {
+    pub(crate) registered: Registered<B>,
+    pub(crate) lists: CellLists<B>,
+    pub(crate) due: Due<B>,
+    // The uids of the lists are those of the sandboxes that are there.
+    ghost listed: { AreListed registered lists },
 }
 
-impl<B: Baseline> Sandboxes<B> {
-    fn new(alloc: Global, baseline: Option<Filter>) -> Sandboxes<B>
-        requires { baseline ≡ B.filter }
-    {
-        let mut registry = Registry::new(alloc, baseline);
-        registry.make_ready();
-        Sandboxes {
-            registry,
-            lists: CellLists::new(alloc),
-            due: Due::new(alloc),
-            alloc,
-            node: PhantomData,
-        }
-    }
-
+impl<B: Node> Sandboxes<B> {
     // The cells of an existing sandbox, to be used after the registry's lock is released.
-    fn there(&self, uid: &Uid) -> Option<Arc<SandboxCells, Global>>
-        ensures { IfSome result (λ _. (registry : Registry) × AreBound registry
-            × (registry.baseline ≡ B.filter) × (ready : Bool) × (stages_in registry uid.now ≡ Live ready)) }
+    fn there(&self, uid: &Uid) -> Option<Arc<SandboxCells<B>, Global>>
+        ensures { IfSome result (λ list. (arc_value list).uid ≡ uid.now) }
     {
-        match self.registry.stage(uid.as_str()) {
-            Stage::Live { .. } => Arc::try_clone(self.lists.get(uid.as_str())?).ok(),
-            Stage::Unknown | Stage::Removed => None,
-        }
+        Arc::try_clone(self.lists.get(uid.as_str())?).ok()
     }
 
-    fn serve<R: Wait>(
+    fn serve<R: Wait, Q: Asked>(
         &mut self,
         rt: &R,
+        alloc: Global,
+        history: &History<B>,
         gone: &mut Cells,
+        me: &mut Client<B>,
         request: Request,
         files: FileAnswers,
     ) -> Reply
-        ensures { MayServe B.filter request files result }
+        requires { (Q.call ≡ request.call) × (Q.files ≡ files) }
+        ensures number { result.id ≡ request.id }
+        ensures grows { Grows B.filter me.old (Served request.call files result.answer) me.new }
     {
-        serve(
+        serve::<B, R, Q>(
             rt,
-            self.alloc,
-            &mut self.registry,
+            alloc,
+            history,
+            &mut self.registered,
             &mut self.lists,
             &mut self.due,
             gone,
+            me,
             request,
             files,
         )
     }
 }
 
-/// A runtime that threads share, on a node with this baseline filter.
+/// A runtime that threads share.
 #[derive(Drop)]
-pub struct SharedRuntime<B: Baseline> {
+pub struct SharedRuntime<B: Node> {
+    pub(crate) history: History<B>,
     pub(crate) sandboxes: Mutex<Sandboxes<B>>,
     // What texts were read as lately. This lock is never held while another one is.
     texts: Mutex<KeptTexts>,
     alloc: Global,
 }
 
-impl<B: Baseline> SharedRuntime<B> {
-    /// An empty runtime.
-    pub fn new(alloc: Global, baseline: Option<Filter>) -> SharedRuntime<B>
-        requires { baseline ≡ B.filter }
+impl<B: Node> SharedRuntime<B> {
+    /// A runtime that has served nothing.
+    pub fn new(alloc: Global, begun: Begun) -> SharedRuntime<B>
+        requires { begun ≡ (B.filter, B.table) }
     {
+        let (history, registered) = begun.of_node::<B>();
+        let sandboxes = Sandboxes {
+            registered,
+            lists: CellLists::new(alloc),
+            due: Due::new(alloc),
+        };
         SharedRuntime {
-            sandboxes: Mutex::new(Sandboxes::new(alloc, baseline)),
+            history,
+            sandboxes: Mutex::new(sandboxes),
             texts: Mutex::new(KeptTexts::new(alloc)),
             alloc,
         }
     }
 
-    /// Serves a request, given the results of reading its files. Its script and profile are read, and the
-    /// profile is compiled, before any lock is taken. The registry's lock, and then that of the sandbox's
-    /// cells, are held until the reply is made; cells are listed under the cells' lock alone. The cells of a
-    /// sandbox that is removed are dropped once neither lock is held.
-    pub fn serve<R: Wait>(&self, rt: &R, request: Request, files: FileAnswers) -> Reply
-        ensures { MayServe B.filter request files result }
+    /// A caller who has seen nothing of its history.
+    pub fn client(&self) -> Client<B>
+        ensures { result ≡ unseen }
     {
-        match self.list(rt, &request) {
+        self.history.client()
+    }
+
+    /// Serves a request, given the results of reading its files. The caller sees the history up to that
+    /// event. The request's script and profile are read, and the profile is compiled, before any lock is
+    /// taken. The registry's lock, and then that of the sandbox's cells, are held until the reply is made;
+    /// cells are listed under the cells' lock alone. The cells of a sandbox that is removed are dropped
+    /// once neither lock is held.
+    pub fn serve<R: Wait>(
+        &self,
+        rt: &R,
+        me: &mut Client<B>,
+        request: Request,
+        files: FileAnswers,
+    ) -> Reply
+        ensures number { result.id ≡ request.id }
+        ensures grows { Grows B.filter me.old (Served request.call files result.answer) me.new }
+    {
+        self.serve_asked::<R, Brand>(rt, me, request, files)
+    }
+
+    fn serve_asked<R: Wait, Q: Asked>(
+        &self,
+        rt: &R,
+        me: &mut Client<B>,
+        request: Request,
+        files: FileAnswers,
+    ) -> Reply
+        requires { (Q.call ≡ request.call) × (Q.files ≡ files) }
+        ensures number { result.id ≡ request.id }
+        ensures grows { Grows B.filter me.old (Served request.call files result.answer) me.new }
+    {
+        match self.list::<R, Q>(rt, me, &request) {
             Some(reply) => reply,
-            None => self.serve_held(rt, request, self.prepared(rt, files)),
+            None => {
+                let files = self.prepared(rt, files);
+                self.serve_held::<R, Q>(rt, me, request, files)
+            }
         }
     }
 
@@ -148,108 +164,202 @@ impl<B: Baseline> SharedRuntime<B> {
     }
 
     // The reply to a request that lists the cells of an existing sandbox.
-    fn list<R: Wait>(&self, rt: &R, request: &Request) -> Option<Reply>
-        ensures { IfSome result (λ reply. (files : FileAnswers) → MayServe B.filter request.now files reply) }
+    fn list<R: Wait, Q: Asked>(
+        &self,
+        rt: &R,
+        me: &mut Client<B>,
+        request: &Request,
+    ) -> Option<Reply>
+        requires { Q.call ≡ request.now.call }
+        ensures number { IfSome result (λ reply. reply.id ≡ request.now.id) }
+        ensures some { IfSome result (λ reply. Grows B.filter me.old
+            (Served request.now.call Q.files reply.answer)
+            me.new) }
+        ensures none { IfNone result (me.new ≡ me.old) }
     {
         if !lists(&request.call) {
             return None;
         }
-        let sandboxes = self.sandboxes.lock(rt);
-        let list = sandboxes.there(uid_of(&request.call))?;
-        // Waiting for these cells blocks no other sandbox. A sandbox that is removed meanwhile has none, and
-        // the reply then says so.
-        drop(sandboxes);
-        let cells = list.cells.lock(rt);
-        let answer = tell_cells(self.alloc, &request.call, &cells)?;
-        Some(Reply {
-            id: request.id,
-            answer,
-        })
+        // Waiting for these cells blocks no other sandbox. A sandbox that is removed meanwhile has none,
+        // and the reply then says so.
+        let list = self.there(rt, uid_of(&request.call))?;
+        tell::<B, R, Q>(rt, self.alloc, &self.history, &list, me, request)
     }
 
-    fn serve_held<R: Wait>(&self, rt: &R, request: Request, files: FileAnswers) -> Reply
-        ensures { MayServe B.filter request files result }
+    // The cells of an existing sandbox.
+    fn there<R: Wait>(&self, rt: &R, uid: &Uid) -> Option<Arc<SandboxCells<B>, Global>>
+        ensures { IfSome result (λ list. (arc_value list).uid ≡ uid.now) }
+    {
+        let sandboxes = self.sandboxes.lock(rt);
+        sandboxes.there(uid)
+    }
+
+    fn serve_held<R: Wait, Q: Asked>(
+        &self,
+        rt: &R,
+        me: &mut Client<B>,
+        request: Request,
+        files: FileAnswers,
+    ) -> Reply
+        requires { (Q.call ≡ request.call) × (Q.files ≡ files) }
+        ensures number { result.id ≡ request.id }
+        ensures grows { Grows B.filter me.old (Served request.call files result.answer) me.new }
     {
         let mut gone = Cells::new(self.alloc);
-        let mut sandboxes = self.sandboxes.lock(rt);
-        let reply = sandboxes.serve(rt, &mut gone, request, files);
-        drop(sandboxes);
+        let reply = self.serve_locked::<R, Q>(rt, &mut gone, me, request, files);
         drop(gone);
         reply
     }
+
+    fn serve_locked<R: Wait, Q: Asked>(
+        &self,
+        rt: &R,
+        gone: &mut Cells,
+        me: &mut Client<B>,
+        request: Request,
+        files: FileAnswers,
+    ) -> Reply
+        requires { (Q.call ≡ request.call) × (Q.files ≡ files) }
+        ensures number { result.id ≡ request.id }
+        ensures grows { Grows B.filter me.old (Served request.call files result.answer) me.new }
+    {
+        let mut sandboxes = self.sandboxes.lock(rt);
+        sandboxes.serve::<R, Q>(rt, self.alloc, &self.history, gone, me, request, files)
+    }
 }
 
-/// The host by which a thread serves a shared runtime's connections.
+/// The host by which a thread serves a shared runtime's connections. Contracts see what the connection has
+/// seen of the runtime's history.
 #[derive(Drop)]
-pub struct SharedHost<'a, B: Baseline, R: Wait> {
+pub struct SharedHost<'a, B: Node, R: Wait> {
     rt: &'a R,
     runtime: &'a SharedRuntime<B>,
+    client: Client<B>,
 }
 
-impl<'a, B: Baseline, R: Wait> SharedHost<'a, B, R> {
-    /// A host of this runtime.
-    pub fn new(rt: &'a R, runtime: &'a SharedRuntime<B>) -> SharedHost<'a, B, R> {
-        SharedHost { rt, runtime }
+impl<'a, B: Node, R: Wait> Model for SharedHost<'a, B, R> {
+    ghost use Rattle.runtime_history.specs.declared.event.Seen.{Seen};
+
+    ghost Value = { Seen };
+
+    ghost view = { λ host. host.client };
+}
+
+impl<'a, B: Node, R: Wait> SharedHost<'a, B, R> {
+    /// A host of this runtime, which has seen nothing of its history.
+    pub fn new(rt: &'a R, runtime: &'a SharedRuntime<B>) -> SharedHost<'a, B, R>
+        ensures { result ≡ unseen }
+    {
+        SharedHost {
+            rt,
+            runtime,
+            client: runtime.client(),
+        }
+    }
+
+    /// The caller that the connection is.
+    pub fn client(&self) -> &Client<B>
+        ensures { result.now ≡ self.now }
+    {
+        &self.client
     }
 }
 
-impl<'a, B: Baseline, R: Wait> Host for SharedHost<'a, B, R> {
+impl<'a, B: Node, R: Wait> Host for SharedHost<'a, B, R> {
     ghost use Rattle.runner.specs.Shared.{MayServe};
 
-    ghost may = { λ _ request files reply _. MayServe B.filter request files reply };
+    ghost may = { MayServe B.filter };
 
     fn serve(&mut self, request: Request, files: FileAnswers) -> Reply {
-        self.runtime.serve(self.rt, request, files)
+        self.runtime
+            .serve(self.rt, &mut self.client, request, files)
     }
 }
 
-fn serve<R: Wait>(
+// Tells the cells of a sandbox, whose lock is held meanwhile.
+fn tell<B: Node, R: Wait, Q: Asked>(
     rt: &R,
     alloc: Global,
-    registry: &mut Registry,
-    lists: &mut CellLists,
-    due: &mut Due,
+    history: &History<B>,
+    list: &SandboxCells<B>,
+    me: &mut Client<B>,
+    request: &Request,
+) -> Option<Reply>
+    requires asked { Q.call ≡ request.now.call }
+    requires own { list.now.uid ≡ uid_of request.now.call }
+    ensures number { IfSome result (λ reply. reply.id ≡ request.now.id) }
+    ensures some { IfSome result (λ reply. Grows B.filter me.old
+        (Served request.now.call Q.files reply.answer)
+        me.new) }
+    ensures none { IfNone result (me.new ≡ me.old) }
+{
+    let (mut listed, loan) = list.lock.take(rt);
+    let reply = listed.tell::<Q>(alloc, history, me, request);
+    list.lock.put_back(listed, loan);
+    reply
+}
+
+fn serve<B: Node, R: Wait, Q: Asked>(
+    rt: &R,
+    alloc: Global,
+    history: &History<B>,
+    registered: &mut Registered<B>,
+    lists: &mut CellLists<B>,
+    due: &mut Due<B>,
     gone: &mut Cells,
+    me: &mut Client<B>,
     request: Request,
     files: FileAnswers,
 ) -> Reply
-    requires { AreBound registry.old }
-    ensures may { MayServe registry.old.baseline request files result }
-    ensures bound { AreBound registry.new }
-    ensures own { registry.new.baseline ≡ registry.old.baseline }
+    requires asked { (Q.call ≡ request.call) × (Q.files ≡ files) }
+    requires listed { AreListed registered.old lists.old }
+    ensures number { result.id ≡ request.id }
+    ensures grows { Grows B.filter me.old (Served request.call files result.answer) me.new }
+    ensures listed { AreListed registered.new lists.new }
 {
-    if wakes(registry, &request.call) {
-        return wake(rt, registry, lists, gone, request, files);
+    if wakes(registered.registry(), &request.call) {
+        return wake::<B, Q>(alloc, history, registered, lists, me, request, files);
     }
     if removes(&request.call) {
-        return remove(rt, alloc, registry, lists, gone, request, files);
+        return remove::<B, R, Q>(
+            rt, alloc, history, registered, lists, gone, me, request, files,
+        );
     }
     match lists.get(uid_of(&request.call).as_str()) {
-        Some(list) => serve_there(rt, registry, list, due, gone, request, files),
-        None => serve_absent(alloc, registry, gone, request, files),
+        Some(list) => serve_there::<B, R, Q>(
+            rt, history, registered, list, due, gone, me, request, files,
+        ),
+        None => registered.serve_absent::<Q>(alloc, history, gone, me, request, files),
     }
 }
 
 // A cell that is started is added to those that rounds visit. That comes after the start, so a visited cell
 // that does nothing has ended.
-fn serve_there<R: Wait>(
+fn serve_there<B: Node, R: Wait, Q: Asked>(
     rt: &R,
-    registry: &mut Registry,
-    list: &Arc<SandboxCells, Global>,
-    due: &mut Due,
+    history: &History<B>,
+    registered: &mut Registered<B>,
+    list: &Arc<SandboxCells<B>, Global>,
+    due: &mut Due<B>,
     gone: &mut Cells,
+    me: &mut Client<B>,
     request: Request,
     files: FileAnswers,
 ) -> Reply
+    requires asked { (Q.call ≡ request.call) × (Q.files ≡ files) }
     requires own { (arc_value list.now).uid ≡ uid_of request.call }
-    requires bound { AreBound registry.old }
-    ensures may { MayServe registry.old.baseline request files result }
-    ensures bound { AreBound registry.new }
-    ensures own { registry.new.baseline ≡ registry.old.baseline }
+    requires live { IsLive (stages_in registered.old (uid_of request.call)) }
+    requires keeps { Removes request.call → ⊥ }
+    ensures number { result.id ≡ request.id }
+    ensures grows { Grows B.filter me.old (Served request.call files result.answer) me.new }
+    ensures stays { IsLive (stages_in registered.new (uid_of request.call)) }
+    ensures others { (u : List ℕ) → u ≢ uid_of request.call → stages_in registered.new u
+        ≡ stages_in registered.old u }
 {
-    let mut cells = list.cells.lock(rt);
-    let starts = id_to_start(&request.call, &cells);
-    let reply = registry.serve_lent(&mut cells, gone, request, files);
+    let (mut listed, loan) = list.lock.take(rt);
+    let starts = id_to_start(&request.call, listed.cells());
+    let reply = registered.serve::<Q>(history, &mut listed, gone, me, request, files);
+    list.lock.put_back(listed, loan);
     if let (Some(id), Answer::Done) = (starts, &reply.answer) {
         due.put(id, list);
     }
@@ -270,7 +380,7 @@ fn id_to_start(call: &Call, cells: &Cells) -> Option<u64> {
 
 // Whether a call may make a sandbox of a uid that was never named.
 fn wakes(registry: &Registry, call: &Call) -> bool
-    ensures { IsTrue result → Wakes registry.now call.now }
+    ensures { IsTrue result ↔ Wakes registry.now call.now }
 {
     match call {
         Call::RunPodSandbox { uid } => {
@@ -280,7 +390,9 @@ fn wakes(registry: &Registry, call: &Call) -> bool
     }
 }
 
-fn removes(call: &Call) -> bool {
+fn removes(call: &Call) -> bool
+    ensures { IsTrue result ↔ Removes call.now }
+{
     matches!(call, Call::RemovePodSandbox { .. })
 }
 
@@ -292,89 +404,106 @@ fn lists(call: &Call) -> bool {
 }
 
 // The list and its lock are made before the registry is asked, and removed again if no sandbox was made.
-fn wake<R: Wait>(
-    rt: &R,
-    registry: &mut Registry,
-    lists: &mut CellLists,
-    gone: &mut Cells,
+fn wake<B: Node, Q: Asked>(
+    alloc: Global,
+    history: &History<B>,
+    registered: &mut Registered<B>,
+    lists: &mut CellLists<B>,
+    me: &mut Client<B>,
     request: Request,
     files: FileAnswers,
 ) -> Reply
-    requires wakes { Wakes registry.old request.call }
-    requires bound { AreBound registry.old }
-    ensures may { MayServe registry.old.baseline request files result }
-    ensures bound { AreBound registry.new }
-    ensures own { registry.new.baseline ≡ registry.old.baseline }
+    requires asked { (Q.call ≡ request.call) × (Q.files ≡ files) }
+    requires wakes { Wakes registered.old request.call }
+    requires listed { AreListed registered.old lists.old }
+    ensures number { result.id ≡ request.id }
+    ensures grows { Grows B.filter me.old (Served request.call files result.answer) me.new }
+    ensures listed { AreListed registered.new lists.new }
 {
     match lists.put(uid_of(&request.call)) {
-        Ok(list) => {
-            let reply = serve_under(rt, registry, &list, gone, request, files);
-            let uid = list.uid.as_str();
-            if registry.stage(uid) == Stage::Unknown {
-                drop(lists.take(uid));
-            }
+        Ok((list, blank)) => {
+            let (reply, listed) = registered.wake::<Q>(
+                alloc, history, me, &list.uid, request, files,
+            );
+            settle(lists, &list, blank, listed);
             reply
         }
         Err(AllocError) => Reply {
             id: request.id,
-            answer: Answer::Refused(Refusal::Memory),
+            answer: registered.refuse::<Q>(history, me),
         },
     }
 }
 
-// The list goes with its sandbox.
-fn remove<R: Wait>(
-    rt: &R,
-    alloc: Global,
-    registry: &mut Registry,
-    lists: &mut CellLists,
-    gone: &mut Cells,
-    request: Request,
-    files: FileAnswers,
-) -> Reply
-    requires { AreBound registry.old }
-    ensures may { MayServe registry.old.baseline request files result }
-    ensures bound { AreBound registry.new }
-    ensures own { registry.new.baseline ≡ registry.old.baseline }
+// Gives a list that was added its cells, or removes it again.
+fn settle<B: Node>(
+    lists: &mut CellLists<B>,
+    list: &SandboxCells<B>,
+    blank: Blank<Listed<B>>,
+    listed: Option<Listed<B>>,
+)
+    requires fits { IfSome listed (λ l. l.0 ≡ list.now.uid) }
+    requires blank { blank ≡ list.now.lock.1 }
+    requires here { has lists.old list.now.uid ≡ true }
+    ensures here { has lists.new list.now.uid ≡ is_some listed }
+    ensures others { (u : List ℕ) → u ≢ list.now.uid → has lists.new u ≡ has lists.old u }
 {
-    match lists.take(uid_of(&request.call).as_str()) {
-        Some(list) => serve_under(rt, registry, &list, gone, request, files),
-        None => serve_absent(alloc, registry, gone, request, files),
+    match listed {
+        Some(listed) => list.lock.fill(listed, blank),
+        None => drop(lists.take(list.uid.as_str())),
     }
 }
 
-// Serves a request with the cells of its sandbox, whose lock is held meanwhile.
-fn serve_under<R: Wait>(
+// The list goes with its sandbox.
+fn remove<B: Node, R: Wait, Q: Asked>(
     rt: &R,
-    registry: &mut Registry,
-    list: &SandboxCells,
+    alloc: Global,
+    history: &History<B>,
+    registered: &mut Registered<B>,
+    lists: &mut CellLists<B>,
     gone: &mut Cells,
+    me: &mut Client<B>,
     request: Request,
     files: FileAnswers,
 ) -> Reply
-    requires own { list.now.uid ≡ uid_of request.call }
-    requires bound { AreBound registry.old }
-    ensures may { MayServe registry.old.baseline request files result }
-    ensures bound { AreBound registry.new }
-    ensures own { registry.new.baseline ≡ registry.old.baseline }
+    requires asked { (Q.call ≡ request.call) × (Q.files ≡ files) }
+    requires removes { Removes request.call }
+    requires listed { AreListed registered.old lists.old }
+    ensures number { result.id ≡ request.id }
+    ensures grows { Grows B.filter me.old (Served request.call files result.answer) me.new }
+    ensures listed { AreListed registered.new lists.new }
 {
-    let mut cells = list.cells.lock(rt);
-    registry.serve_lent(&mut cells, gone, request, files)
+    match lists.take(uid_of(&request.call).as_str()) {
+        Some(list) => {
+            remove_there::<B, R, Q>(rt, history, registered, &list, gone, me, request, files)
+        }
+        None => registered.serve_absent::<Q>(alloc, history, gone, me, request, files),
+    }
 }
 
-// Serves a request that names no existing sandbox.
-fn serve_absent(
-    alloc: Global,
-    registry: &mut Registry,
+// Removes a sandbox that is there. Its cells' lock is held meanwhile.
+fn remove_there<B: Node, R: Wait, Q: Asked>(
+    rt: &R,
+    history: &History<B>,
+    registered: &mut Registered<B>,
+    list: &SandboxCells<B>,
     gone: &mut Cells,
+    me: &mut Client<B>,
     request: Request,
     files: FileAnswers,
 ) -> Reply
-    requires { AreBound registry.old }
-    ensures may { MayServe registry.old.baseline request files result }
-    ensures bound { AreBound registry.new }
-    ensures own { registry.new.baseline ≡ registry.old.baseline }
+    requires asked { (Q.call ≡ request.call) × (Q.files ≡ files) }
+    requires own { list.now.uid ≡ uid_of request.call }
+    requires live { IsLive (stages_in registered.old (uid_of request.call)) }
+    requires removes { Removes request.call }
+    ensures number { result.id ≡ request.id }
+    ensures grows { Grows B.filter me.old (Served request.call files result.answer) me.new }
+    ensures removed { IsLive (stages_in registered.new (uid_of request.call)) → ⊥ }
+    ensures others { (u : List ℕ) → u ≢ uid_of request.call → stages_in registered.new u
+        ≡ stages_in registered.old u }
 {
-    let mut none = Cells::new(alloc);
-    registry.serve_lent(&mut none, gone, request, files)
+    let (mut listed, loan) = list.lock.take(rt);
+    let reply = registered.serve::<Q>(history, &mut listed, gone, me, request, files);
+    list.lock.put_back(listed, loan);
+    reply
 }

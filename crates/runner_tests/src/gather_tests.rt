@@ -1,7 +1,7 @@
 use cri_msgs::{Request, Version};
-use node_io::{FileFault, Files, MAX_FILE_BYTES, MemoryFiles, StoredFile};
+use node_io::{Files, MAX_FILE_BYTES, MemoryFiles, StoredFile};
 use runner::gather;
-use runtime_core::{Contents, FileAnswers};
+use runtime_core::{FileAnswer, FileAnswers, ReadAs};
 use std::alloc::{AllocError, Global};
 use std::test::Fail;
 
@@ -36,9 +36,9 @@ fn request(alloc: Global, members: &str) -> Result<Request, Fail> {
 }
 
 // How many bytes a read gave, or its fault.
-fn read_text(
+fn read_text<T: ReadAs + Drop>(
     alloc: Global,
-    answer: &Option<Result<Contents, FileFault>>,
+    answer: &FileAnswer<T>,
 ) -> Result<String, AllocError> {
     match answer {
         None => String::from_str(alloc, "none"),

@@ -1,11 +1,12 @@
 use creation::{KeptTexts, MAX_KEPT_BYTES, MAX_KEPT_PROFILES, MAX_KEPT_SCRIPTS};
 use node_io::FileFault;
-use runtime_core::{Contents, FileAnswers};
+use runtime_core::{CompiledProfile, Contents, FileAnswer, FileAnswers};
+use script::Script;
 use std::alloc::{AllocError, Global};
 use std::test::Fail;
 
 // A script whose text ends with so many spaces.
-fn script(alloc: Global, code: usize, spaces: usize) -> Result<Contents, AllocError> {
+fn script(alloc: Global, code: usize, spaces: usize) -> Result<Contents<Script>, AllocError> {
     let text = format!(in alloc; "{{\"steps\":[{{\"exit\":{code}}}]}}")?;
     let mut bytes = Vec::from_slice(alloc, text.as_bytes())?;
     for _ in 0..spaces {
@@ -14,7 +15,7 @@ fn script(alloc: Global, code: usize, spaces: usize) -> Result<Contents, AllocEr
     Ok(Contents::new(bytes))
 }
 
-fn profile(alloc: Global, errno: usize) -> Result<Contents, AllocError> {
+fn profile(alloc: Global, errno: usize) -> Result<Contents<CompiledProfile>, AllocError> {
     let text = format!(in alloc;
         "{{\"defaultAction\":\"SCMP_ACT_ERRNO\",\"defaultErrnoRet\":{errno}}}"
     )?;
@@ -26,8 +27,8 @@ fn profile(alloc: Global, errno: usize) -> Result<Contents, AllocError> {
 fn is_new(
     alloc: Global,
     texts: &mut KeptTexts,
-    script: Option<Result<Contents, FileFault>>,
-    profile: Option<Result<Contents, FileFault>>,
+    script: FileAnswer<Script>,
+    profile: FileAnswer<CompiledProfile>,
 ) -> bool {
     let files = texts.lend(FileAnswers { script, profile });
     let files = files.prepared(alloc);

@@ -1,5 +1,7 @@
+ghost use Rattle.std.specs.Prelude.{◌≡◌};
+
 use crate::wires::{add, service, wire};
-use runner::{Ending, Host, SharedHost, SharedRuntime, serve_wire};
+use runner::{Begun, Ending, Host, Node, SharedHost, SharedRuntime, serve_wire};
 use runtime_core::Runtime;
 use std::alloc::{AllocError, Global};
 use std::marker::Brand;
@@ -66,6 +68,20 @@ fn served<H: Host + Drop>(
     Ok((ending, written))
 }
 
+// The same, with a runtime that threads share.
+fn served_by<B: Node, R: Wait>(
+    rt: &R,
+    alloc: Global,
+    begun: Begun,
+    input: &[u8],
+    piece: usize,
+) -> Result<(Ending, Vec<u8>), AllocError>
+    requires { begun ≡ (B.filter, B.table) }
+{
+    let runtime = SharedRuntime::<B>::new(alloc, begun);
+    served(alloc, SharedHost::new(rt, &runtime), input, piece, 0)
+}
+
 // The replies are the same whatever the pieces, also those of a runtime that threads share.
 #[test]
 fn a_pod_lives_over_a_wire(rt: HostRuntime) -> Result<(), Fail> {
@@ -77,9 +93,8 @@ fn a_pod_lives_over_a_wire(rt: HostRuntime) -> Result<(), Fail> {
             one.0 == Ending::Ended && one.1.as_slice() == told.as_slice(),
             "{piece}"
         );
-        let runtime = SharedRuntime::<Brand>::new(alloc, None);
-        let host = SharedHost::new(&rt, &runtime);
-        let shared = served(alloc, host, asked.as_slice(), piece, 0)?;
+        let begun = Begun::new(alloc, None)?;
+        let shared = served_by::<Brand, _>(&rt, alloc, begun, asked.as_slice(), piece)?;
         assert!(rt;
             shared.0 == Ending::Ended && shared.1.as_slice() == told.as_slice(),
             "{piece}"
@@ -173,10 +188,10 @@ fn streams_end(rt: HostRuntime) -> Result<(), Fail> {
 
 // How a connection to a shared runtime ends if its call with this number fails, and whether what was written
 // is a prefix of the reply.
-fn failing_at<R: Wait>(
+fn failing_at<B: Node, R: Wait>(
     rt: &R,
     alloc: Global,
-    runtime: &SharedRuntime<Brand>,
+    runtime: &SharedRuntime<B>,
     failing: u64,
 ) -> Result<(Ending, bool), AllocError> {
     let host = SharedHost::new(rt, runtime);
@@ -187,18 +202,32 @@ fn failing_at<R: Wait>(
 // 52 bytes come in three reads, and 26 are written in two writes; the fourth read finds the end.
 #[test]
 fn a_failure_ends_its_connection_alone(rt: HostRuntime) -> Result<(), Fail> {
-    let alloc = rt.alloc();
-    let runtime = SharedRuntime::<Brand>::new(alloc, None);
-    for failing in 1..=6u64 {
-        let first = failing_at(&rt, alloc, &runtime, failing)?;
-        assert!(rt; first == (Ending::Failed, true), "call {failing} failing");
-        let second = failing_at(&rt, alloc, &runtime, 0)?;
-        assert!(rt;
-            second == (Ending::Ended, true),
-            "behind call {failing} failing"
-        );
-    }
-    let last = failing_at(&rt, alloc, &runtime, 7)?;
-    assert!(rt; last == (Ending::Ended, true));
+    let begun = Begun::new(rt.alloc(), None)?;
+    let first_wrong = first_not_alone::<Brand, _>(&rt, rt.alloc(), begun)?;
+    assert!(rt; first_wrong.is_none(), "{first_wrong:?}");
     Ok(())
+}
+
+// The first of seven calls whose failure does something else than to end its connection alone.
+fn first_not_alone<B: Node, R: Wait>(
+    rt: &R,
+    alloc: Global,
+    begun: Begun,
+) -> Result<Option<u64>, AllocError>
+    requires { begun ≡ (B.filter, B.table) }
+{
+    let runtime = SharedRuntime::<B>::new(alloc, begun);
+    for failing in 1..=7u64 {
+        let first = failing_at(rt, alloc, &runtime, failing)?;
+        let want = if failing == 7 {
+            Ending::Ended
+        } else {
+            Ending::Failed
+        };
+        let second = failing_at(rt, alloc, &runtime, 0)?;
+        if first != (want, true) || second != (Ending::Ended, true) {
+            return Ok(Some(failing));
+        }
+    }
+    Ok(None)
 }

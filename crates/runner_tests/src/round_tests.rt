@@ -1,6 +1,8 @@
+ghost use Rattle.std.specs.Prelude.{◌≡◌};
+
 use crate::wires::asks;
 use cri_msgs::{Answer, Reply, Request, Version};
-use runner::{SharedRuntime, StepGate};
+use runner::{Begun, Client, Node, SharedRuntime, StepGate};
 use runtime_core::FileAnswers;
 use std::alloc::Global;
 use std::marker::Brand;
@@ -47,10 +49,11 @@ impl StepGate for Counted {
 }
 
 // How many calls a container has performed.
-fn performed<R: Wait>(
+fn performed<B: Node, R: Wait>(
     rt: &R,
     alloc: Global,
-    runtime: &SharedRuntime<Brand>,
+    runtime: &SharedRuntime<B>,
+    me: &mut Client<B>,
     uid: &str,
     name: &str,
 ) -> Result<u64, Fail> {
@@ -62,7 +65,7 @@ fn performed<R: Wait>(
         script: None,
         profile: None,
     };
-    let Reply { answer, .. } = runtime.serve(rt, request, files);
+    let Reply { answer, .. } = runtime.serve(rt, me, request, files);
     match answer {
         Answer::Status(status) => Ok(status.performed),
         _ => Err("a status")?,
@@ -71,24 +74,37 @@ fn performed<R: Wait>(
 
 #[test]
 fn rounds_step_their_shares(rt: HostRuntime) -> Result<(), Fail> {
-    let alloc = rt.alloc();
-    let runtime = SharedRuntime::<Brand>::new(alloc, None);
-    asks(&rt, alloc, &runtime, PODS)?;
-    for (runner, runners, visits, goes_on, counts) in ROUNDS {
+    let begun = Begun::new(rt.alloc(), None)?;
+    let wrong = first_wrong::<Brand, _>(&rt, rt.alloc(), begun)?;
+    assert!(rt; wrong.is_none(), "round {wrong:?}");
+    Ok(())
+}
+
+// The place of the first of the rounds that does something else.
+fn first_wrong<B: Node, R: Wait>(rt: &R, alloc: Global, begun: Begun) -> Result<Option<usize>, Fail>
+    requires { begun ≡ (B.filter, B.table) }
+{
+    let runtime = SharedRuntime::<B>::new(alloc, begun);
+    let mut me = runtime.client();
+    asks(rt, alloc, &runtime, PODS)?;
+    for (place, (runner, runners, visits, goes_on, counts)) in ROUNDS.into_iter().enumerate() {
         let gate = Counted {
             steps: AtomicU64::new(0),
         };
-        let went_on = runtime.step_round(&rt, runner, runners, &gate);
-        assert!(rt; went_on == goes_on, "{runner} of {runners}");
+        if runner >= runners {
+            return Ok(Some(place));
+        }
+        let went_on = runtime.step_round(rt, &mut me, runner, runners, &gate);
         let steps = gate.steps.load(Ordering::SeqCst);
-        assert_eq!(rt; steps, visits, "{runner} of {runners}");
         let found = [
-            performed(&rt, alloc, &runtime, "u1", "a")?,
-            performed(&rt, alloc, &runtime, "u2", "b")?,
-            performed(&rt, alloc, &runtime, "u1", "c")?,
-            performed(&rt, alloc, &runtime, "u2", "d")?,
+            performed(rt, alloc, &runtime, &mut me, "u1", "a")?,
+            performed(rt, alloc, &runtime, &mut me, "u2", "b")?,
+            performed(rt, alloc, &runtime, &mut me, "u1", "c")?,
+            performed(rt, alloc, &runtime, &mut me, "u2", "d")?,
         ];
-        assert!(rt; found == counts, "{runner} of {runners}");
+        if went_on != goes_on || steps != visits || found != counts {
+            return Ok(Some(place));
+        }
     }
-    Ok(())
+    Ok(None)
 }

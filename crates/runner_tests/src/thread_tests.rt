@@ -1,6 +1,8 @@
+ghost use Rattle.std.specs.Prelude.{◌≡◌};
+
 use crate::wires::{PROFILES, SCRIPTS, add, asks, files, wire};
 use node_io::{FileFault, Files, MemoryFiles};
-use runner::{Ending, Service, SharedHost, SharedRuntime, StepGate, serve_wire};
+use runner::{Begun, Ending, Node, Service, SharedHost, SharedRuntime, StepGate, serve_wire};
 use std::alloc::{AllocError, Global};
 use std::marker::Brand;
 use std::sync::Wait;
@@ -66,16 +68,17 @@ const STEPPED: &str =
     r#"{"id":7,"ok":{"denied":0,"exit":null,"performed":1,"state":"RUNNING"},"v":1}"#;
 
 // Steps container 2 once the step of container 1 is held, then asks for its status.
-fn goes_by<R: Wait + Clock>(
+fn goes_by<B: Node, R: Wait + Clock>(
     rt: &R,
     alloc: Global,
-    runtime: &SharedRuntime<Brand>,
+    runtime: &SharedRuntime<B>,
     gate: &Hold<'_, R>,
 ) -> Result<bool, AllocError> {
     if !waits(rt, &gate.held) {
         return Ok(false);
     }
-    runtime.step_round(rt, 0, 2, gate);
+    let mut me = runtime.client();
+    runtime.step_round(rt, &mut me, 0, 2, gate);
     let told = asks(rt, alloc, runtime, STATUS)?;
     gate.answered.store(true, Ordering::SeqCst);
     let mut want = Vec::new(alloc);
@@ -84,11 +87,14 @@ fn goes_by<R: Wait + Clock>(
 }
 
 // Whether the step of container 1 waited for the other pod, and whether the other pod stepped meanwhile.
-fn held_up<R: Threads + Wait + Clock + Sync>(
+fn held_up<B: Node + Send + Sync, R: Threads + Wait + Clock + Sync>(
     rt: &R,
     alloc: Global,
-) -> Result<(bool, bool), AllocError> {
-    let runtime = SharedRuntime::<Brand>::new(alloc, None);
+    begun: Begun,
+) -> Result<(bool, bool), AllocError>
+    requires { begun ≡ (B.filter, B.table) }
+{
+    let runtime = SharedRuntime::<B>::new(alloc, begun);
     asks(rt, alloc, &runtime, PODS)?;
     let gate = Hold {
         rt,
@@ -97,9 +103,10 @@ fn held_up<R: Threads + Wait + Clock + Sync>(
         answered: AtomicBool::new(false),
         passed: AtomicBool::new(false),
     };
+    let mut me = runtime.client();
     let (_, other) = join(
         rt,
-        || runtime.step_round(rt, 1, 2, &gate),
+        || runtime.step_round(rt, &mut me, 1, 2, &gate),
         || goes_by(rt, alloc, &runtime, &gate),
     );
     Ok((gate.passed.load(Ordering::SeqCst), other?))
@@ -108,7 +115,7 @@ fn held_up<R: Threads + Wait + Clock + Sync>(
 // A step of one sandbox's cell blocks no other sandbox. One lock around all cells would.
 #[test]
 fn sandboxes_have_locks_of_their_own(rt: HostRuntime) -> Result<(), Fail> {
-    let found = held_up(&rt, rt.alloc())?;
+    let found = held_up::<Brand, _>(&rt, rt.alloc(), Begun::new(rt.alloc(), None)?)?;
     assert!(rt; found == (true, true));
     Ok(())
 }
@@ -141,10 +148,10 @@ const CREATE: &str =
     r#"{"attempt":1,"call":"CreateContainer","id":8,"image":"a.json","name":"main","profile":{"type":"Unconfined"},"uid":"u1","v":1}"#;
 
 // Whether the script of a CreateContainer was read only once another connection was answered.
-fn creates_slowly<R: Wait + Clock>(
+fn creates_slowly<B: Node, R: Wait + Clock>(
     rt: &R,
     alloc: Global,
-    runtime: &SharedRuntime<Brand>,
+    runtime: &SharedRuntime<B>,
     answered: &AtomicBool,
 ) -> Result<bool, AllocError> {
     let mut input = Vec::new(alloc);
@@ -168,10 +175,10 @@ fn creates_slowly<R: Wait + Clock>(
 }
 
 // Asks for another pod, and sets the flag once that was answered.
-fn asks_meanwhile<R: Wait>(
+fn asks_meanwhile<B: Node, R: Wait>(
     rt: &R,
     alloc: Global,
-    runtime: &SharedRuntime<Brand>,
+    runtime: &SharedRuntime<B>,
     answered: &AtomicBool,
 ) -> Result<bool, AllocError> {
     let told = asks(rt, alloc, runtime, RUN_OTHER)?;
@@ -186,11 +193,14 @@ const RUN_OTHER: &str = r#"{"call":"RunPodSandbox","id":9,"uid":"u3","v":2}"#;
 const OTHER_RUNS: &str = r#"{"id":9,"ok":{},"v":2}"#;
 
 // Whether a slow read waited for another connection, and whether that was answered meanwhile.
-fn read_slowly<R: Threads + Wait + Clock + Sync>(
+fn read_slowly<B: Node + Send + Sync, R: Threads + Wait + Clock + Sync>(
     rt: &R,
     alloc: Global,
-) -> Result<(bool, bool), AllocError> {
-    let runtime = SharedRuntime::<Brand>::new(alloc, None);
+    begun: Begun,
+) -> Result<(bool, bool), AllocError>
+    requires { begun ≡ (B.filter, B.table) }
+{
+    let runtime = SharedRuntime::<B>::new(alloc, begun);
     asks(rt, alloc, &runtime, PODS)?;
     let answered = AtomicBool::new(false);
     let (slow, other) = join(
@@ -204,7 +214,7 @@ fn read_slowly<R: Threads + Wait + Clock + Sync>(
 // No lock is held while a file is read.
 #[test]
 fn a_slow_file_holds_up_its_own_connection_alone(rt: HostRuntime) -> Result<(), Fail> {
-    let found = read_slowly(&rt, rt.alloc())?;
+    let found = read_slowly::<Brand, _>(&rt, rt.alloc(), Begun::new(rt.alloc(), None)?)?;
     assert!(rt; found == (true, true));
     Ok(())
 }
@@ -253,10 +263,10 @@ fn long_script(alloc: Global) -> Result<String, AllocError> {
 
 // Creates a container with the long script at this attempt, and sets the flags once its file was read and
 // once it was answered.
-fn creates_long<R: Wait>(
+fn creates_long<B: Node, R: Wait>(
     rt: &R,
     alloc: Global,
-    runtime: &SharedRuntime<Brand>,
+    runtime: &SharedRuntime<B>,
     script: &str,
     attempt: u32,
     flags: (&AtomicBool, &AtomicBool),
@@ -284,10 +294,10 @@ fn creates_long<R: Wait>(
 }
 
 // How many requests of another pod are answered between the read of the file and the answer.
-fn answers_meanwhile<R: Wait + Clock>(
+fn answers_meanwhile<B: Node, R: Wait + Clock>(
     rt: &R,
     alloc: Global,
-    runtime: &SharedRuntime<Brand>,
+    runtime: &SharedRuntime<B>,
     flags: (&AtomicBool, &AtomicBool),
 ) -> Result<u32, AllocError> {
     let (was_read, answered) = flags;
@@ -302,10 +312,10 @@ fn answers_meanwhile<R: Wait + Clock>(
 }
 
 // How many requests are answered while a container with the long script is created at this attempt.
-fn created_meanwhile<R: Threads + Wait + Clock + Sync>(
+fn created_meanwhile<B: Node + Send + Sync, R: Threads + Wait + Clock + Sync>(
     rt: &R,
     alloc: Global,
-    runtime: &SharedRuntime<Brand>,
+    runtime: &SharedRuntime<B>,
     script: &str,
     attempt: u32,
 ) -> Result<u32, AllocError> {
@@ -321,11 +331,14 @@ fn created_meanwhile<R: Threads + Wait + Clock + Sync>(
 }
 
 // The most that are answered during one of a few creations, which begin until enough are.
-fn most_answered<R: Threads + Wait + Clock + Sync>(
+fn most_answered<B: Node + Send + Sync, R: Threads + Wait + Clock + Sync>(
     rt: &R,
     alloc: Global,
-) -> Result<u32, AllocError> {
-    let runtime = SharedRuntime::<Brand>::new(alloc, None);
+    begun: Begun,
+) -> Result<u32, AllocError>
+    requires { begun ≡ (B.filter, B.table) }
+{
+    let runtime = SharedRuntime::<B>::new(alloc, begun);
     asks(rt, alloc, &runtime, PODS)?;
     let script = long_script(alloc)?;
     let mut most = 0;
@@ -343,7 +356,7 @@ const ENOUGH: u32 = 8;
 // No lock is held while a script is read.
 #[test]
 fn a_long_script_holds_up_its_own_connection_alone(rt: HostRuntime) -> Result<(), Fail> {
-    let most = most_answered(&rt, rt.alloc())?;
+    let most = most_answered::<Brand, _>(&rt, rt.alloc(), Begun::new(rt.alloc(), None)?)?;
     assert!(rt; most >= ENOUGH, "{most}");
     Ok(())
 }

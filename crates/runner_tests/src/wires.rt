@@ -1,9 +1,8 @@
 use cri_frames::frame_of;
 use cri_msgs::{MAX_TEXT, Version};
 use node_io::{MemoryFiles, MemoryWire, StoredFile};
-use runner::{Service, SharedHost, SharedRuntime, serve_wire};
+use runner::{Node, Service, SharedHost, SharedRuntime, serve_wire};
 use std::alloc::{AllocError, Global};
-use std::marker::Brand;
 use std::sync::Wait;
 
 pub(crate) const CALLS: &str =
@@ -76,10 +75,10 @@ pub(crate) fn wire(
 }
 
 // Serves the requests of these texts, one per line, over a wire, and returns what was written.
-pub(crate) fn asks<R: Wait>(
+pub(crate) fn asks<B: Node, R: Wait>(
     rt: &R,
     alloc: Global,
-    runtime: &SharedRuntime<Brand>,
+    runtime: &SharedRuntime<B>,
     texts: &str,
 ) -> Result<Vec<u8>, AllocError> {
     let mut input = Vec::new(alloc);

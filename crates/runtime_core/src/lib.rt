@@ -7,7 +7,7 @@ mod lists;
 mod runtime;
 
 pub use calls::uid_of;
-pub use creation::{Contents, FileAnswers};
+pub use creation::{CompiledProfile, Contents, FileAnswer, FileAnswers, ReadAs};
 pub use registry::{
     Cells, MAX_CELLS, MAX_KEYS, MAX_UIDS, Registry, STOPPED, Stage, TERMINATED,
     constants_are_as_stated,

@@ -1,4 +1,5 @@
 pub mod Accepting
+pub mod Places
 pub mod Stops
 pub mod StopText
 pub mod Telling

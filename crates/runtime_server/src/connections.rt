@@ -1,5 +1,10 @@
 //! The connections that are open at once.
+ghost use Rattle.std.specs.Prelude.{◌≡◌, ◌⊎◌, IfErr, IfOk, None, Some, false, length, slice_set, true};
+ghost use Rattle.runtime_server.specs.Places.{first_free};
+ghost use Rattle.runtime_server.specs.declared.connections.NoPlace.{NoPlace};
+ghost use Rattle.runtime_server.specs.declared.connections.TheConstants.{MAX_CONNECTIONS};
 
+use crate::places::Places;
 use node_io::Cause;
 use std::alloc::{AllocError, Global};
 use std::net::Shutdown;
@@ -12,8 +17,39 @@ pub const MAX_CONNECTIONS: usize = 128;
 // A place for each connection that may be open.
 #[derive(Drop)]
 struct Open {
-    places: Vec<Option<UnixStream>>,
+    places: Places<UnixStream>,
     closed: bool,
+    ghost count: { length places ≡ MAX_CONNECTIONS },
+}
+
+impl Open {
+    fn new(alloc: Global) -> Result<Open, AllocError>
+        ensures { IfOk result (λ made. made.closed ≡ false) }
+    {
+        Ok(Open {
+            places: Places::new(alloc, MAX_CONNECTIONS)?,
+            closed: false,
+        })
+    }
+
+    // Gives a connection the first free place, or returns it with the reason why it has none.
+    fn enter(&mut self, stream: UnixStream) -> Result<usize, (NoPlace, UnixStream)>
+        ensures entered { IfOk result (λ place. (self.old.closed ≡ false)
+            × (first_free self.old.places ≡ Some place)
+            × (self.new.places ≡ slice_set self.old.places place (Some stream))) }
+        ensures none { IfErr result (λ back. (back.1 ≡ stream) × (self.new.places ≡ self.old.places)
+            × (((back.0 ≡ NoPlace.Closed) × (self.old.closed ≡ true))
+            ⊎ ((back.0 ≡ NoPlace.Full) × (first_free self.old.places ≡ None)))) }
+        ensures closed { self.new.closed ≡ self.old.closed }
+    {
+        if self.closed {
+            return Err((NoPlace::Closed, stream));
+        }
+        match self.places.put(stream) {
+            Ok(place) => Ok(place),
+            Err(stream) => Err((NoPlace::Full, stream)),
+        }
+    }
 }
 
 /// Why a connection gets no place.
@@ -36,15 +72,8 @@ pub struct Connections {
 impl Connections {
     /// No connection is open yet.
     pub fn new(alloc: Global) -> Result<Connections, AllocError> {
-        let mut places = Vec::new(alloc);
-        for _ in 0..MAX_CONNECTIONS {
-            places.push(None)?;
-        }
         Ok(Connections {
-            open: Mutex::new(Open {
-                places,
-                closed: false,
-            }),
+            open: Mutex::new(Open::new(alloc)?),
         })
     }
 
@@ -53,37 +82,31 @@ impl Connections {
         if self.is_closed(rt) {
             return Err(NoPlace::Closed);
         }
-        // A copy that finds no place is dropped after the lock is released.
-        let mut copy = match stream.try_clone() {
-            Ok(copy) => Some(copy),
+        let copy = match stream.try_clone() {
+            Ok(copy) => copy,
             Err(error) => return Err(NoPlace::System(Cause::of(&error))),
         };
         let mut open = self.open.lock(rt);
-        let place = if open.closed {
-            Err(NoPlace::Closed)
-        } else {
-            put_in(&mut open.places, &mut copy).ok_or(NoPlace::Full)
-        };
+        let entered = open.enter(copy);
         drop(open);
-        drop(copy);
-        place
+        // A copy that found no place is dropped here, after the lock was released.
+        match entered {
+            Ok(place) => Ok(place),
+            Err((why, _copy)) => Err(why),
+        }
     }
 
     /// Gives a place back.
     pub fn leave<R: Wait>(&self, rt: &R, place: usize) {
         let mut open = self.open.lock(rt);
-        let left = take_at(&mut open.places, place);
+        let left = open.places.take(place);
         drop(open);
         drop(left);
     }
 
     /// Whether none is open.
     pub fn is_empty<R: Wait>(&self, rt: &R) -> bool {
-        self.open
-            .lock(rt)
-            .places
-            .iter()
-            .all(|place| place.is_none())
+        self.open.lock(rt).places.is_empty()
     }
 
     /// Whether no more are served.
@@ -98,23 +121,11 @@ impl Connections {
         drop(open);
         for place in 0..MAX_CONNECTIONS {
             let mut open = self.open.lock(rt);
-            let stream = take_at(&mut open.places, place);
+            let stream = open.places.take(place);
             drop(open);
             if let Some(stream) = stream {
                 let _ = stream.shutdown(Shutdown::Both);
             }
         }
     }
-}
-
-// Moves a connection into the first place that is free, if there is one.
-fn put_in(places: &mut Vec<Option<UnixStream>>, stream: &mut Option<UnixStream>) -> Option<usize> {
-    let free = places.iter().position(|place| place.is_none())?;
-    let place = places.get_mut(free)?;
-    *place = stream.take();
-    Some(free)
-}
-
-fn take_at(places: &mut Vec<Option<UnixStream>>, place: usize) -> Option<UnixStream> {
-    places.get_mut(place)?.take()
 }

@@ -10,8 +10,8 @@ use fault_notes::{ShownPath, profile_note, script_note};
 use manifest::SeccompProfile;
 use node_io::{CausedFault, FileFault, MAX_FILE_BYTES, SystemFiles};
 use oci_profile::ProfileFault;
-use runtime_core::{Contents, FileAnswers};
-use script::ScriptFault;
+use runtime_core::{CompiledProfile, FileAnswer, FileAnswers};
+use script::{Script, ScriptFault};
 use std::alloc::{AllocError, Global};
 
 /// Whether an answer may be due to a bad file.
@@ -49,7 +49,7 @@ fn wrong_script(
     alloc: Global,
     files: &SystemFiles<'_, HostRuntime>,
     path: &str,
-    read: &Option<Result<Contents, FileFault>>,
+    read: &FileAnswer<Script>,
 ) -> Result<Option<String>, AllocError> {
     match read {
         None => Ok(None),
@@ -82,7 +82,7 @@ fn wrong_profile(
     alloc: Global,
     files: &SystemFiles<'_, HostRuntime>,
     path: &str,
-    read: &Option<Result<Contents, FileFault>>,
+    read: &FileAnswer<CompiledProfile>,
 ) -> Result<Option<String>, AllocError> {
     match read {
         None => Ok(None),

@@ -1,39 +1,41 @@
 //! A runtime that threads share, and the runners that step its containers.
 ghost use Rattle.std.specs.Prelude.{◌≡◌, ◌<◌};
+ghost use Rattle.runtime_history.specs.History.{unseen};
 
-use bpf_verify::Filter;
 use cri_msgs::{Call, MessageFault, Reply, Request, Version};
-use runner::{Baseline, Host, Notifier, Open, Reader, SharedHost, SharedRuntime};
+use runner::{Begun, Host, Node, Notifier, Open, Reader, SharedHost, SharedRuntime};
 use runtime_core::FileAnswers;
 use std::alloc::{AllocError, Global};
+use std::marker::Model;
 use std::sync::Wait;
 use std::thread::{Scope, Threads};
 
-/// A runtime on a node with this baseline filter, with the notifier of its runners and the reader of large
-/// texts.
+/// A runtime that threads share, with the notifier of its runners and the reader of large texts.
 #[derive(Drop)]
-pub struct Engine<B: Baseline> {
+pub struct Engine<B: Node> {
     runtime: SharedRuntime<B>,
     notifier: Notifier,
     reader: Reader,
     alloc: Global,
 }
 
-impl<B: Baseline> Engine<B> {
-    /// A runtime without containers.
-    pub fn new(alloc: Global, baseline: Option<Filter>) -> Engine<B>
-        requires { baseline ≡ B.filter }
+impl<B: Node> Engine<B> {
+    /// A runtime that has served nothing.
+    pub fn new(alloc: Global, begun: Begun) -> Engine<B>
+        requires { begun ≡ (B.filter, B.table) }
     {
         Engine {
-            runtime: SharedRuntime::new(alloc, baseline),
+            runtime: SharedRuntime::new(alloc, begun),
             notifier: Notifier::new(),
             reader: Reader::new(),
             alloc,
         }
     }
 
-    /// The host by which a thread asks it.
-    pub fn host<'a, R: Wait>(&'a self, rt: &'a R) -> EngineHost<'a, B, R> {
+    /// The host by which a thread asks it, which has seen nothing of its history.
+    pub fn host<'a, R: Wait>(&'a self, rt: &'a R) -> EngineHost<'a, B, R>
+        ensures { result ≡ unseen }
+    {
         EngineHost {
             rt,
             host: SharedHost::new(rt, &self.runtime),
@@ -62,17 +64,18 @@ impl<B: Baseline> Engine<B> {
         if runner >= runners {
             return;
         }
+        let mut me = self.runtime.client();
         self.notifier.work(
             rt,
             || -> bool
                 requires { runner < runners }
-            { self.runtime.step_round(rt, runner, runners, &Open) },
+            { self.runtime.step_round(rt, &mut me, runner, runners, &Open) },
         );
     }
 }
 
 /// Starts the runners of an engine and its reader, each in a thread of its own.
-pub fn start_runners<'s, 'e, B: Baseline + Send + Sync, R: Threads + Wait + Sync>(
+pub fn start_runners<'s, 'e, B: Node + Send + Sync, R: Threads + Wait + Sync>(
     scope: &'s Scope<'s, &'e ()>,
     rt: &'e R,
     engine: &'e Engine<B>,
@@ -86,19 +89,28 @@ pub fn start_runners<'s, 'e, B: Baseline + Send + Sync, R: Threads + Wait + Sync
     Ok(())
 }
 
-/// The host of an engine's runtime, which wakes the runners for each container that is started.
+/// The host of an engine's runtime, which wakes the runners for each container that is started. Contracts see
+/// what the connection has seen of the runtime's history.
 #[derive(Drop)]
-pub struct EngineHost<'a, B: Baseline, R: Wait> {
+pub struct EngineHost<'a, B: Node, R: Wait> {
     rt: &'a R,
     host: SharedHost<'a, B, R>,
     notifier: &'a Notifier,
     reader: &'a Reader,
 }
 
-impl<B: Baseline, R: Wait> Host for EngineHost<'_, B, R> {
+impl<'a, B: Node, R: Wait> Model for EngineHost<'a, B, R> {
+    ghost use Rattle.runtime_history.specs.declared.event.Seen.{Seen};
+
+    ghost Value = { Seen };
+
+    ghost view = { λ host. host.host };
+}
+
+impl<B: Node, R: Wait> Host for EngineHost<'_, B, R> {
     ghost use Rattle.runner.specs.Shared.{MayServe};
 
-    ghost may = { λ _ request files reply _. MayServe B.filter request files reply };
+    ghost may = { MayServe B.filter };
 
     fn serve(&mut self, request: Request, files: FileAnswers) -> Reply {
         let starts = matches!(&request.call, Call::StartContainer { .. });

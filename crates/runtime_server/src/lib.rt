@@ -12,6 +12,7 @@ mod engine;
 mod inputs;
 mod laws;
 mod path_lock;
+mod places;
 mod scriptd;
 mod site;
 mod socket_fault;

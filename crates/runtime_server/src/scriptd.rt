@@ -6,9 +6,8 @@ use crate::inputs::{baseline_at, look_at_folders};
 use crate::site::{Address, Site, Tells, accept_all};
 use crate::stops::{ServerStop, Told, socket_stop};
 use crate::teller::{Stream, Teller};
-use bpf_verify::Filter;
 use command_line::{ScriptdLine, scriptd_line};
-use runner::Baseline;
+use runner::{Begun, Node};
 use std::alloc::AllocError;
 use std::io::Write;
 use std::marker::Brand;
@@ -51,28 +50,25 @@ fn run<'a, R: Threads + Wait + Clock + Copy + Send + Sync + 'static>(
     let line = scriptd_line(system.alloc(), words)?;
     look_at_folders(system, [line.scripts, line.profiles])?;
     let baseline = baseline_at(system, line.baseline)?;
-    run_line::<Brand, R>(rt, system, &line, baseline)
+    let begun = Begun::new(system.alloc(), baseline)?;
+    run_line::<Brand, R>(rt, system, &line, begun)
 }
 
-// Does what the line says, on a node with this baseline filter.
-fn run_line<
-    'a,
-    B: Baseline + Send + Sync,
-    R: Threads + Wait + Clock + Copy + Send + Sync + 'static,
->(
+// Does what the line says, with this runtime.
+fn run_line<'a, B: Node + Send + Sync, R: Threads + Wait + Clock + Copy + Send + Sync + 'static>(
     rt: &R,
     system: &HostRuntime,
     line: &ScriptdLine<'a>,
-    baseline: Option<Filter>,
+    begun: Begun,
 ) -> Result<(), ServerStop<'a>>
-    requires { baseline ≡ B.filter }
+    requires { begun ≡ (B.filter, B.table) }
 {
     let teller = if line.verbose {
         Some(Teller::start(*rt, *system, Stream::Error)?)
     } else {
         None
     };
-    let site = match Site::<B>::open(rt, system, address_of(line), baseline, teller) {
+    let site = match Site::<B>::open(rt, system, address_of(line), begun, teller) {
         Ok(site) => site,
         Err(fault) => return Err(socket_stop(line.socket, fault)),
     };
@@ -98,7 +94,7 @@ fn address_of<'a>(line: &ScriptdLine<'a>) -> Address<'a>
 }
 
 // Serves until the site is closed. If a thread for a runner can't be started, it is closed immediately.
-fn serve<B: Baseline + Send + Sync, R: Threads + Wait + Clock + Sync>(
+fn serve<B: Node + Send + Sync, R: Threads + Wait + Clock + Sync>(
     rt: &R,
     system: &HostRuntime,
     site: &Site<'_, B>,
@@ -111,7 +107,7 @@ fn serve<B: Baseline + Send + Sync, R: Threads + Wait + Clock + Sync>(
     })
 }
 
-fn serve_in<'s, 'e, B: Baseline + Send + Sync, R: Threads + Wait + Clock + Sync>(
+fn serve_in<'s, 'e, B: Node + Send + Sync, R: Threads + Wait + Clock + Sync>(
     scope: &'s Scope<'s, &'e ()>,
     rt: &'e R,
     system: &'e HostRuntime,

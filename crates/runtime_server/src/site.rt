@@ -9,12 +9,12 @@ use crate::socket_fault::SocketFault;
 use crate::sockets::Socket;
 use crate::teller::Teller;
 use crate::telling::{asked, listening_line, reply_line};
-use bpf_verify::Filter;
 use cri_msgs::{MessageFault, Reply, Request, Version};
 use node_io::{Cause, StreamWire, SystemFiles};
-use runner::{Baseline, Host, Service, serve_wire};
+use runner::{Begun, Host, Node, Service, serve_wire};
 use runtime_core::FileAnswers;
 use std::alloc::Global;
+use std::marker::Model;
 use std::os::unix::net::UnixStream;
 use std::sync::{Arc, Wait};
 use std::thread::{self, Scope, Threads};
@@ -63,9 +63,9 @@ impl Tells {
     }
 }
 
-/// A runtime that is served over a socket, on a node with this baseline filter.
+/// A runtime that is served over a socket.
 #[derive(Drop)]
-pub struct Site<'a, B: Baseline> {
+pub struct Site<'a, B: Node> {
     alloc: Global,
     address: Address<'a>,
     socket: Socket,
@@ -76,16 +76,16 @@ pub struct Site<'a, B: Baseline> {
     pub engine: Engine<B>,
 }
 
-impl<'a, B: Baseline> Site<'a, B> {
-    /// Listens at the address. The runtime has no containers. The teller has its lines.
+impl<'a, B: Node> Site<'a, B> {
+    /// Listens at the address. The runtime has served nothing. The teller has its lines.
     pub fn open<R: Wait>(
         rt: &R,
         system: &HostRuntime,
         address: Address<'a>,
-        baseline: Option<Filter>,
+        begun: Begun,
         teller: Option<Arc<Teller, Global>>,
     ) -> Result<Site<'a, B>, SocketFault>
-        requires { baseline ≡ B.filter }
+        requires { begun ≡ (B.filter, B.table) }
         ensures { IfOk result (λ site. site.address ≡ address.entry) }
     {
         let connections = Connections::new(system.alloc())?;
@@ -99,7 +99,7 @@ impl<'a, B: Baseline> Site<'a, B> {
             socket,
             connections,
             teller,
-            engine: Engine::new(system.alloc(), baseline),
+            engine: Engine::new(system.alloc(), begun),
         })
     }
 
@@ -119,9 +119,10 @@ impl<'a, B: Baseline> Site<'a, B> {
     }
 }
 
-// Answers the requests of one connection. Each answer is reported once it was given.
+// Answers the requests of one connection. Each answer is reported once it was given. Contracts see what the
+// connection has seen of the runtime's history.
 #[derive(Drop)]
-struct ToldHost<'a, B: Baseline, R: Wait> {
+struct ToldHost<'a, B: Node, R: Wait> {
     rt: &'a R,
     system: &'a HostRuntime,
     site: &'a Site<'a, B>,
@@ -129,7 +130,15 @@ struct ToldHost<'a, B: Baseline, R: Wait> {
     connection: u64,
 }
 
-impl<B: Baseline, R: Wait> ToldHost<'_, B, R> {
+impl<'a, B: Node, R: Wait> Model for ToldHost<'a, B, R> {
+    ghost use Rattle.runtime_history.specs.declared.event.Seen.{Seen};
+
+    ghost Value = { Seen };
+
+    ghost view = { λ host. host.host };
+}
+
+impl<B: Node, R: Wait> ToldHost<'_, B, R> {
     // What is wrong with the files of a request. If memory for it runs out, the answer is reported without
     // it.
     fn wrong_in(&self, request: &Request, files: &FileAnswers) -> Option<String> {
@@ -140,10 +149,10 @@ impl<B: Baseline, R: Wait> ToldHost<'_, B, R> {
     }
 }
 
-impl<B: Baseline, R: Wait> Host for ToldHost<'_, B, R> {
+impl<B: Node, R: Wait> Host for ToldHost<'_, B, R> {
     ghost use Rattle.runner.specs.Shared.{MayServe};
 
-    ghost may = { λ _ request files reply _. MayServe B.filter request files reply };
+    ghost may = { MayServe B.filter };
 
     fn serve(&mut self, request: Request, files: FileAnswers) -> Reply {
         let (Some(teller), Tells::WrongFiles | Tells::Each) = (
@@ -173,7 +182,7 @@ impl<B: Baseline, R: Wait> Host for ToldHost<'_, B, R> {
 }
 
 // What serves a connection: the scripts and the profiles of the address.
-fn service_for<'a, B: Baseline, R: Wait>(
+fn service_for<'a, B: Node, R: Wait>(
     rt: &'a R,
     system: &'a HostRuntime,
     site: &'a Site<'a, B>,
@@ -196,7 +205,7 @@ fn service_for<'a, B: Baseline, R: Wait>(
 }
 
 /// Serves a connection to its end.
-fn serve_stream<B: Baseline, R: Wait>(
+fn serve_stream<B: Node, R: Wait>(
     rt: &R,
     system: &HostRuntime,
     site: &Site<'_, B>,
@@ -209,7 +218,7 @@ fn serve_stream<B: Baseline, R: Wait>(
 }
 
 /// Accepts connections, and serves each in a thread of its own, until the site is closed.
-pub fn accept_all<'s, 'e, B: Baseline + Send + Sync, R: Threads + Wait + Clock + Sync>(
+pub fn accept_all<'s, 'e, B: Node + Send + Sync, R: Threads + Wait + Clock + Sync>(
     scope: &'s Scope<'s, &'e ()>,
     rt: &'e R,
     system: &'e HostRuntime,
@@ -240,7 +249,7 @@ pub fn accept_all<'s, 'e, B: Baseline + Send + Sync, R: Threads + Wait + Clock +
 
 // Serves a connection in a thread of its own, if there is a place for it, and returns the fault of the system
 // if that is why there is none.
-fn admit<'s, 'e, B: Baseline + Send + Sync, R: Threads + Wait + Sync>(
+fn admit<'s, 'e, B: Node + Send + Sync, R: Threads + Wait + Sync>(
     scope: &'s Scope<'s, &'e ()>,
     rt: &'e R,
     system: &'e HostRuntime,

@@ -4,7 +4,8 @@ use cri_msgs::{Answer, Call, ContainerMetadata, Key, Reply, Request, Version};
 use manifest::{DescendingPath, Label, SeccompProfile, Uid};
 use node_io::FileFault;
 use runtime_cell::{Cell, Did};
-use runtime_core::{Contents, FileAnswers, Runtime};
+use runtime_core::{Contents, FileAnswer, FileAnswers, ReadAs, Runtime};
+use script::Script;
 use std::alloc::{AllocError, Global};
 use std::process::Abort;
 use std::test::Fail;
@@ -105,7 +106,7 @@ fn file_text(alloc: Global, word: &str) -> Result<String, AllocError> {
     }
 }
 
-fn answer(alloc: Global, word: &str) -> Result<Option<Result<Contents, FileFault>>, AllocError> {
+fn answer<T: ReadAs + Drop>(alloc: Global, word: &str) -> Result<FileAnswer<T>, AllocError> {
     let fault = match word {
         "" => return Ok(None),
         "absent" => FileFault::NotFound,
@@ -243,7 +244,7 @@ impl Play {
         Ok(text)
     }
 
-    fn serves(&mut self, call: Call, script: Option<Result<Contents, FileFault>>) -> Answer {
+    fn serves(&mut self, call: Call, script: FileAnswer<Script>) -> Answer {
         let id = self.number;
         let files = FileAnswers {
             script,

@@ -4,9 +4,8 @@ use Rattle.std.proofs.Common.{Result, Ok, Err, refl, sym, ap, subst, ◌∙◌, 
 use Rattle.std.specs.Prelude.{◌≢◌}
 use Rattle.bpf_code.specs.declared.insn.Insn.{Insn}
 use Rattle.serde_json.specs.Data.{Data}
-use Rattle.json_tree.specs.Reading.{Both, Gives}
+use Rattle.json_tree.specs.Reading.{Both}
 use Rattle.json_tree.specs.Reading.{as_fault}
-use Rattle.script.specs.declared.faults.ScriptFault.{ScriptFault}
 use Rattle.script.specs.declared.faults.ScriptFault.TheVariants.{Memory}
 use Rattle.script.specs.declared.placed.ScriptFaultAt.{ScriptFaultAt}
 use Rattle.script.specs.Faults.{fault_of_step}
@@ -14,7 +13,7 @@ use Rattle.script.specs.declared.scripts.Step.{Step}
 use Rattle.script.specs.declared.scripts.Step.TheVariants.{Call, Exit, ExitByAttempt, Install}
 use Rattle.script.specs.Script.{HasSoundFilters, IsSoundStep, IsStep, ReadsScript}
 use Rattle.script.specs.Reading.{step_of, text_items, StepText, IsReadAs, HasFault, IsRefused, IsFirstOfSteps}
-use Rattle.script.specs.Reading.{IsFirstIn, IsFirstFault, IsFirstFaultAt, GivesStep, GivesSteps, Reads}
+use Rattle.script.specs.Reading.{IsFirstIn, IsFirstFaultAt, GivesStep, GivesSteps, Reads}
 use Rattle.script.specs.Reading.StepText.{Whole, Installs}
 use Rattle.serde_json.specs.View.{view}
 use Rattle.serde_json.specs.declared.value.Value.{Value}

@@ -1,5 +1,5 @@
 -- What is read is so: each reading, where it goes on, gives what the tree has.
-use Rattle.std.proofs.Common.{◌≡◌, ◌⊎◌, inl, inr, ℕ, ◌<◌, List, [], ◌∷◌, length, codes, cond, eqb, leb, ltb}
+use Rattle.std.proofs.Common.{◌≡◌, ◌⊎◌, inl, inr, ℕ, ◌<◌, List, [], length, codes, cond, eqb, leb, ltb}
 use Rattle.std.proofs.Common.{Bool, true, false, Option, Some, None, Result, Ok, Err, refl, sym, ap, subst}
 use Rattle.std.proofs.Common.{◌∙◌, arith}
 use Rattle.std.specs.Prelude.{IfOk}
@@ -10,7 +10,7 @@ use Rattle.serde_json.specs.Data.{Data}
 use Rattle.serde_json.specs.Find.{get}
 use Rattle.json_tree.specs.Tree.{each, has, list, object, text, tree_of, value, whole, wholes, word}
 use Rattle.json_tree.specs.declared.faults.TextFault.TheVariants.{NotJson}
-use Rattle.json_tree.specs.Reading.{or_else, refuse_if, if_there, in_order_after, as_fault, as_read, document}
+use Rattle.json_tree.specs.Reading.{or_else, refuse_if, if_there, as_fault, as_read, document}
 use Rattle.json_tree.specs.Reading.{Both, HasField, MayHaveField}
 use Rattle.json_place.specs.declared.fields.FieldFaultAt.{FieldFaultAt}
 use Rattle.json_place.specs.Parts.{Part, Member}
@@ -36,7 +36,7 @@ use Rattle.script.specs.declared.reader.StepKind.TheVariants as kind
 use Rattle.script.specs.declared.install.Row.{Row}
 use Rattle.script.specs.Script.{number_of_name, code, row, rows, IsCall, HasArgs, HasArch, HasIp}
 use Rattle.script.specs.Script.{HasCallFields, Says, SpellsFilter, IsStep, IsScript, ReadsScript}
-use Rattle.script.specs.Reading.{here, items_of, code_at, code_of, codes_of, no_row, number_of, call_of}
+use Rattle.script.specs.Reading.{here, items_of, code_of, codes_of, no_row, number_of, call_of}
 use Rattle.script.specs.Reading.{args_of, arch_of, ip_of, on_error_of, call_fields_of, exit_of}
 use Rattle.script.specs.Reading.{exit_by_attempt_of, rows_of, the_kind, kind_of, call_step_of, exit_step_of}
 use Rattle.script.specs.Reading.{exit_by_attempt_step_of, install_step_of, step_of_kind, step_of, text_items}

@@ -1,5 +1,5 @@
 -- What is so is read: where the tree has it, each reading goes on and gives it.
-use Rattle.std.proofs.Common.{◌≡◌, inl, inr, ℕ, ◌<◌, List, [], ◌∷◌, ◌&&◌, length, codes, cond, leb, Bool}
+use Rattle.std.proofs.Common.{◌≡◌, inl, inr, ℕ, ◌<◌, List, [], ◌∷◌, length, codes, cond, leb, Bool}
 use Rattle.std.proofs.Common.{true, false, Option, Some, None, Ok, Err, refl, sym, ap, arith}
 use Rattle.std.specs.List.{list_all}
 use Rattle.std.proofs.Math.Dec.{eqb-suc-zero}

@@ -11,7 +11,7 @@ use Rattle.json_tree.specs.Tree.{each, has, list, object, text, value, whole, wh
 use Rattle.json_tree.specs.Reading.{◌>>=◌, ◌>>◌, refuse_if, or_else, if_there, in_order_after, as_fault}
 use Rattle.json_tree.specs.Reading.{as_read, document as document_of, Both}
 use Rattle.json_place.specs.declared.fields.FieldFaultAt.{FieldFaultAt}
-use Rattle.json_place.specs.Parts.{Member, Item}
+use Rattle.json_place.specs.Parts.{Member}
 use Rattle.json_place.specs.Fields.{GivesAt, item_place, required, required_each, optional}
 use Rattle.script.specs.declared.faults.ScriptFault.{ScriptFault}
 use Rattle.script.specs.declared.faults.ScriptFault.TheVariants.{Missing, WrongType, UnknownCall, TooMany}

@@ -1,5 +1,5 @@
 //! The script and the profile that trials share.
-use runtime_core::{Contents, FileAnswers};
+use runtime_core::{Contents, FileAnswers, ReadAs};
 use std::alloc::Global;
 
 /// A script with a step of each kind.
@@ -17,7 +17,7 @@ pub const PROFILE: &str =
 {"names":["clone","clone3"],"action":"SCMP_ACT_TRACE","errnoRet":7,"args":[{"index":0,"value":2114060288,
 "valueTwo":0,"op":"SCMP_CMP_MASKED_EQ"},{"index":1,"value":9,"op":"SCMP_CMP_GT"}]}]}"#;
 
-fn contents(alloc: Global, text: &str) -> Option<Contents> {
+fn contents<T: ReadAs + Drop>(alloc: Global, text: &str) -> Option<Contents<T>> {
     Some(Contents::new(Vec::from_slice(alloc, text.as_bytes()).ok()?))
 }
 

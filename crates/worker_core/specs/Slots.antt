@@ -2,14 +2,16 @@
 -- "The agent: the node".
 use Rattle.std.specs.Prelude.{◌≡◌, ℕ, ◌+◌, ◌≤◌, ◌==◌, Bool, true, false, if◌then◌else◌, List, [], ◌∷◌, Option}
 use Rattle.std.specs.Prelude.{Some, None, slice_get, slice_set, position}
-use Rattle.std.specs.List.{remove}
+use Rattle.std.specs.List.{list_all, list_any, remove}
 use Rattle.std.specs.Str.{bytes_eq}
+use Rattle.lifecycle.specs.declared.phases.Phase.{Phase}
+use Rattle.lifecycle.specs.declared.phases.Phase.TheVariants as phase
 use Rattle.manifest.specs.declared.pods.Pod.{Pod}
 use Rattle.cri_msgs.specs.declared.calls.Request.{Request}
 use Rattle.worker_pod.specs.declared.settings.Outcome.{Outcome}
 use Rattle.worker_pod.specs.declared.settings.Outcome.TheVariants as outcome
 use Rattle.worker_pod.specs.declared.settings.Settings.{Settings}
-use Rattle.worker_pod.specs.Next.{due_of, is_gone}
+use Rattle.worker_pod.specs.Next.{due_of, is_gone, phase_in}
 use Rattle.worker_pod.specs.Past.{Kept, after, records_exit, start, with_deleted}
 use Rattle.worker_core.specs.declared.events.Reported.{Reported}
 use Rattle.worker_core.specs.declared.events.Reported.TheVariants.{Replied, Lost}
@@ -62,6 +64,37 @@ claim_of worker slots = request_at slots (holder_of worker slots)
 -- where the pod of this uid stands
 abbrev pub place_of : List ℕ → List Slot → Option ℕ
 place_of uid slots = position (λ s. bytes_eq s.state.pod.uid uid) slots
+
+abbrev pub slot_at : List Slot → Option ℕ → Option Slot
+slot_at slots None = None
+slot_at slots (Some place) = slice_get slots place
+
+-- the pod of this uid
+abbrev pub slot_of : List ℕ → List Slot → Option Slot
+slot_of uid slots = slot_at slots (place_of uid slots)
+
+-- a pod in this phase stays in it
+abbrev pub is_final : Phase → Bool
+is_final phase.Succeeded = true
+is_final phase.Failed = true
+is_final phase.Pending = false
+is_final phase.Running = false
+is_final phase.Unknown = false
+
+abbrev pub is_failed : Phase → Bool
+is_failed phase.Failed = true
+is_failed phase.Pending = false
+is_failed phase.Running = false
+is_failed phase.Succeeded = false
+is_failed phase.Unknown = false
+
+-- each pod is Succeeded or Failed
+abbrev pub is_settled : List Slot → Bool
+is_settled slots = list_all (λ slot. is_final (phase_in slot.state)) slots
+
+-- a pod is Failed
+abbrev pub has_failed : List Slot → Bool
+has_failed slots = list_any (λ slot. is_failed (phase_in slot.state)) slots
 
 -- from when on a request is due that a worker can be given: the pod is one that nobody holds
 abbrev pub free_due : Slot → Option ℕ

@@ -1,5 +1,5 @@
 ghost use Rattle.std.specs.Prelude.{◌≡◌, ◌<◌, ◌≤◌, Some, None, length, nat_lt, true, false, is_some};
-ghost use Rattle.std.specs.Prelude.{slice_get, map, IfSome, IfOk, OnOk, OnErr, option_copied, IsOk};
+ghost use Rattle.std.specs.Prelude.{slice_get, map, IfSome, IfOk, OnOk, OnErr, option_copied, option_map, IsOk};
 ghost use Rattle.worker_core.specs.declared.limits.TheConstants.{LAST_NUMBER, MAX_PODS, MAX_UIDS};
 ghost use Rattle.worker_core.specs.Kept.{Foresees, KeptStep, Takes, admit_answer, after_admit, after_claim};
 ghost use Rattle.worker_core.specs.Kept.{after_delete, after_end, after_tick, claim_answer, delete_answer};
@@ -9,7 +9,8 @@ ghost use Rattle.worker_pod.specs.Next.{phase_in};
 ghost use Rattle.worker_core.specs.Turns.{soonest};
 ghost use Rattle.worker_core.specs.Laws.{IsClaimOf};
 ghost use Rattle.worker_core.specs.Nodes.{Comes, IsNextDue, NodeState, StandsFor, empty_node, kept_of};
-ghost use Rattle.worker_core.specs.Slots.{claim_of, held_in, holder_of, outcome_of, place_of};
+ghost use Rattle.worker_core.specs.Slots.{claim_of, has_failed, held_in, holder_of, is_settled, outcome_of};
+ghost use Rattle.worker_core.specs.Slots.{place_of, slot_of};
 
 use crate::answers::{Answer, NodeRefusal};
 use crate::claims::{Grant, granted};
@@ -17,7 +18,9 @@ use crate::events::{AgentEvent, Reported};
 use crate::known::KnownUids;
 use crate::limits::{LAST_NUMBER, MAX_PODS, MAX_UIDS};
 use crate::pods::Pods;
-use crate::slots::{Held, claim_of, fresh_slot, held_in, holder_of, place_of};
+use crate::slots::{
+    Held, claim_of, fresh_slot, has_failed, held_in, holder_of, is_settled, place_of,
+};
 use crate::turns::Turn;
 use cri_msgs::Request;
 use manifest::{Pod, Uid};
@@ -369,6 +372,41 @@ impl Node {
             Some(slot) => Some(slot.state.view()),
             None => None,
         }
+    }
+
+    /// The pod of this uid.
+    pub fn pod_of(&self, uid: &Uid) -> Option<PodView<'_>>
+        ensures pod { option_map (λ view. view.pod.now) result
+            ≡ option_map (λ slot. slot.state.pod) (slot_of uid.now self.now.slots) }
+        ensures tracks { option_map (λ view. view.tracks.now) result
+            ≡ option_map (λ slot. slot.state.tracks) (slot_of uid.now self.now.slots) }
+        ensures phase { option_map (λ view. view.phase) result
+            ≡ option_map (λ slot. phase_in slot.state) (slot_of uid.now self.now.slots) }
+        ensures lost { option_map (λ view. view.lost) result
+            ≡ option_map (λ slot. slot.state.lost) (slot_of uid.now self.now.slots) }
+    {
+        let slots = self.pods.as_slice();
+        match place_of(uid, slots) {
+            Some(place) => match slots.get(place) {
+                Some(slot) => Some(slot.state.view()),
+                None => None,
+            },
+            None => None,
+        }
+    }
+
+    /// Whether each pod is Succeeded or Failed.
+    pub fn is_settled(&self) -> bool
+        ensures { result ≡ is_settled self.now.slots }
+    {
+        is_settled(self.pods.as_slice())
+    }
+
+    /// Whether a pod is Failed.
+    pub fn has_failed(&self) -> bool
+        ensures { result ≡ has_failed self.now.slots }
+    {
+        has_failed(self.pods.as_slice())
     }
 
     /// The moment, in seconds and not before now, from which on a request is due for a pod that nobody holds,

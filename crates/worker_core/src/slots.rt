@@ -5,10 +5,12 @@ ghost use Rattle.worker_core.specs.Known.{with_uid};
 ghost use Rattle.worker_core.specs.Slots.{AllEndedBy, changed, claimed_by, deleted, ended, free_due};
 ghost use Rattle.worker_core.specs.Slots.{fresh_slot, held_in, holder_of, is_free, is_gone_slot, is_held_by};
 ghost use Rattle.worker_core.specs.Slots.{place_of, claim_of, request_at, request_of, records_at};
-ghost use Rattle.worker_core.specs.Slots.{records_held};
+ghost use Rattle.worker_core.specs.Slots.{has_failed, is_failed, is_final, is_settled, records_held};
+ghost use Rattle.worker_pod.specs.Next.{phase_in};
 
 use crate::known::KnownUids;
 use cri_msgs::Request;
+use lifecycle::Phase;
 use manifest::{Pod, Uid};
 use std::alloc::{AllocError, Global};
 use worker_pod::{Outcome, PodState, Settings};
@@ -56,6 +58,25 @@ impl Slot {
         }
     }
 
+    // Whether the pod stays in its phase.
+    fn is_final(&self) -> bool
+        ensures { result ≡ is_final (phase_in self.now.state) }
+    {
+        match self.state.view().phase {
+            Phase::Succeeded | Phase::Failed => true,
+            Phase::Pending | Phase::Running | Phase::Unknown => false,
+        }
+    }
+
+    fn is_failed(&self) -> bool
+        ensures { result ≡ is_failed (phase_in self.now.state) }
+    {
+        match self.state.view().phase {
+            Phase::Failed => true,
+            Phase::Pending | Phase::Running | Phase::Succeeded | Phase::Unknown => false,
+        }
+    }
+
     // The moment from which on a request is due that a worker can be given.
     pub(crate) fn free_due(&self) -> Option<u64>
         ensures { result ≡ free_due self.now }
@@ -66,6 +87,20 @@ impl Slot {
             None
         }
     }
+}
+
+// Whether each pod is Succeeded or Failed.
+pub(crate) fn is_settled(slots: &[Slot]) -> bool
+    ensures { result ≡ is_settled slots.now }
+{
+    slots.iter().all(|slot| slot.is_final())
+}
+
+// Whether a pod is Failed.
+pub(crate) fn has_failed(slots: &[Slot]) -> bool
+    ensures { result ≡ has_failed slots.now }
+{
+    slots.iter().any(|slot| slot.is_failed())
 }
 
 pub(crate) fn fresh_slot(alloc: Global, pod: Pod, settings: Settings) -> Result<Slot, AllocError>

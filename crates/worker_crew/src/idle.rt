@@ -1,9 +1,9 @@
 //! Whether a node waits only for time to pass.
+ghost use Rattle.worker_crew.specs.Idle.{Stands};
 
-use lifecycle::Phase;
 use node_lock::Book;
 use std::sync::ledger::Ledger;
-use worker_core::{AgentEvent, MAX_PODS, Node};
+use worker_core::AgentEvent;
 
 /// Why no worker has anything to do.
 #[derive(Clone, Copy, Debug, PartialEq, Eq)]
@@ -22,31 +22,10 @@ pub(crate) enum Standstill {
     Endless,
 }
 
-/// Whether a pod in this phase stays in it.
-fn is_final(phase: Phase) -> bool {
-    match phase {
-        Phase::Succeeded | Phase::Failed => true,
-        Phase::Pending | Phase::Running | Phase::Unknown => false,
-    }
-}
-
-fn is_over(node: &Node) -> bool {
-    for place in 0..MAX_PODS {
-        if let Some(view) = node.pod(place) {
-            if !is_final(view.phase) {
-                return false;
-            }
-        }
-    }
-    true
-}
-
-/// What worker 0 is to do at this moment. `None` if the workers have something to do.
-pub(crate) fn standstill_of<L: Ledger>(
-    book: &Book<L>,
-    workers: u32,
-    now: u64,
-) -> Option<Standstill> {
+/// What worker 0 has to do at this moment. `None` if the workers have something to do.
+pub(crate) fn standstill_of<L: Ledger>(book: &Book<L>, workers: u32, now: u64) -> Option<Standstill>
+    ensures { Stands book.now workers now result }
+{
     let node = book.node();
     if workers == 0 {
         return Some(Standstill::Deserted);
@@ -56,7 +35,7 @@ pub(crate) fn standstill_of<L: Ledger>(
     }
     // A pod that is over has something due if it was deleted: it has to leave.
     let due = node.next_due();
-    if due.is_none() && is_over(node) {
+    if due.is_none() && node.is_settled() {
         return Some(Standstill::Over);
     }
     if !book.has_room(&AgentEvent::Claim(1)) {

@@ -1,14 +1,30 @@
 //! What is kept beside a node's book about the changes that its entries made: lines that were not printed
 //! yet, and why containers wait. It is updated under the book's lock, so that no change is missed.
 
-use cri_msgs::{Answer, Call};
-use lifecycle::Phase;
+ghost use Rattle.std.specs.Prelude.{◌≡◌, ◌<◌, ◌++◌, [], ◌∷◌, IfOk, IfSome, IsTrue, Ok, length};
+ghost use Rattle.std.specs.Prelude.{option_copied, option_map};
+ghost use Rattle.std.specs.Bool.{OnFalse};
+ghost use Rattle.std.specs.Global.{Global};
+ghost use Rattle.std.specs.declared.string.String.{String};
+ghost use Rattle.std.specs.String.{string_bytes};
+ghost use Rattle.cri_msgs.specs.Calls.{uid_of};
+ghost use Rattle.lifecycle.specs.BackOff.{later};
+ghost use Rattle.node_watch.specs.Changes.{pod_changes};
+ghost use Rattle.node_watch.specs.Seen.{containers_seen};
+ghost use Rattle.node_watch.specs.declared.seen.PodSeen.{PodSeen};
+ghost use Rattle.worker_core.specs.Slots.{claim_of, slot_of};
+ghost use Rattle.worker_crew.specs.declared.observer.TheConstants.{MAX_CHANGES};
+ghost use Rattle.worker_crew.specs.Observed.{Adds, Admits, Ends, IsBefore, IsChange};
+ghost use Rattle.worker_crew.specs.Observed.{IsSeenBefore, refusal_by, refusal_in, trouble_by, trouble_of};
+
+use cri_msgs::{Answer, Call, Refusal};
 use manifest::Uid;
 use node_lock::Entry;
 use node_watch::{Form, PodSeen, Reasons, Trouble, gone_line, pod_changes, uid_of};
 use std::alloc::{AllocError, Global};
+use std::marker::Model;
 use std::mem;
-use worker_core::{AgentEvent, MAX_PODS, Node, Reported};
+use worker_core::{AgentEvent, Node, Reported};
 use worker_pod::PodView;
 
 /// The most lines of changes that wait to be printed. Those beyond are left out, and counted.
@@ -41,6 +57,19 @@ pub(crate) struct Observer {
     changes: Changes,
 }
 
+impl Model for Observer {
+    ghost use Rattle.worker_crew.specs.Observed.{Beside};
+
+    ghost Value = { Beside };
+
+    ghost view = { λ o. record {
+      observed = o.observed;
+      reasons = o.reasons;
+      lines = o.changes.lines.items;
+      left_out = o.changes.left_out;
+    } };
+}
+
 /// A worker's claim before it ends: its call, and how its pod is seen then.
 #[derive(Drop)]
 pub(crate) struct Before {
@@ -48,32 +77,46 @@ pub(crate) struct Before {
     seen: Option<PodSeen>,
 }
 
-fn view_of<'n>(node: &'n Node, uid: &Uid) -> Option<PodView<'n>> {
-    for place in 0..MAX_PODS {
-        if let Some(view) = node.pod(place) {
-            if view.pod.uid == *uid {
-                return Some(view);
-            }
-        }
-    }
-    None
-}
-
-// Why the claim failed, if it did. An invalid reply leaves the pod Unknown.
-fn trouble_of(event: &AgentEvent, view: Option<PodView<'_>>) -> Option<Trouble> {
-    if let AgentEvent::Report(_, Reported::Replied(reply)) = event {
-        if let Answer::Refused(refusal) = reply.answer {
-            return Some(Trouble::Refused(refusal));
-        }
-    }
-    match view {
-        Some(view) if view.phase == Phase::Unknown => Some(Trouble::Lost),
+// The refusal that an event brings.
+fn refusal_by(event: &AgentEvent) -> Option<Refusal>
+    ensures { result ≡ refusal_by event.now }
+{
+    let AgentEvent::Report(_, Reported::Replied(reply)) = event else {
+        return None;
+    };
+    match reply.answer {
+        Answer::Refused(refusal) => Some(refusal),
         _ => None,
     }
 }
 
+// Why a claim failed, if it did. What the node keeps of its pod says whether the call was lost.
+fn trouble_by(refusal: Option<Refusal>, lost: Option<bool>) -> Option<Trouble>
+    ensures { result ≡ trouble_by refusal lost }
+{
+    match (refusal, lost) {
+        (Some(refusal), _) => Some(Trouble::Refused(refusal)),
+        (None, Some(true)) => Some(Trouble::Lost),
+        (None, Some(false) | None) => None,
+    }
+}
+
+// The same for the claim of a call that this event ended.
+fn trouble_of(event: &AgentEvent, node: &Node, call: &Call) -> Option<Trouble>
+    ensures { result ≡ trouble_of event.now (slot_of (uid_of call.now) node.now.slots) }
+{
+    let lost = match node.pod_of(uid_of(call)) {
+        Some(view) => Some(view.lost),
+        None => None,
+    };
+    trouble_by(refusal_by(event), lost)
+}
+
 impl Observer {
-    pub(crate) fn new(alloc: Global, observed: Observed) -> Observer {
+    /// Nothing was kept yet.
+    pub(crate) fn new(alloc: Global, observed: Observed) -> Observer
+        ensures { result ≡ record { observed = observed; reasons = []; lines = []; left_out = 0 } }
+    {
         Observer {
             alloc,
             observed,
@@ -86,12 +129,18 @@ impl Observer {
     }
 
     /// Whether there are changes that were not printed yet.
-    pub(crate) fn has_changes(&self) -> bool {
+    pub(crate) fn has_changes(&self) -> bool
+        ensures { OnFalse result ((self.now.lines ≡ []) × (self.now.left_out ≡ 0)) }
+    {
         !self.changes.lines.is_empty() || self.changes.left_out > 0
     }
 
     /// Takes out the changes that were not printed yet.
-    pub(crate) fn take(&mut self) -> Changes {
+    pub(crate) fn take(&mut self) -> Changes
+        ensures lines { result.lines.items ≡ self.old.lines }
+        ensures left_out { result.left_out ≡ self.old.left_out }
+        ensures rest { self.new ≡ record self.old { lines = []; left_out = 0 } }
+    {
         let none = Changes {
             lines: Vec::new(self.alloc),
             left_out: 0,
@@ -100,12 +149,16 @@ impl Observer {
     }
 
     /// Why containers wait.
-    pub(crate) fn reasons(&self) -> &Reasons {
+    pub(crate) fn reasons(&self) -> &Reasons
+        ensures { result.now ≡ self.now.reasons }
+    {
         &self.reasons
     }
 
     /// Why containers wait. Drops all else that is kept.
-    pub(crate) fn into_reasons(self) -> Reasons {
+    pub(crate) fn into_reasons(self) -> Reasons
+        ensures { result ≡ self.reasons }
+    {
         let Observer {
             reasons,
             changes,
@@ -115,36 +168,71 @@ impl Observer {
         reasons
     }
 
-    fn add(&mut self, line: Result<String, AllocError>) {
-        let has_place = self.changes.lines.len() < MAX_CHANGES;
-        let is_kept = match line {
-            Ok(line) => line.is_empty() || has_place && self.changes.lines.push(line).is_ok(),
-            Err(_) => false,
-        };
-        if !is_kept {
-            self.changes.left_out = self.changes.left_out.saturating_add(1);
+    // Adds a line, if it has a text. One that could not be made is counted.
+    fn add(&mut self, line: Result<String, AllocError>)
+        ensures { Adds (λ text. (made : String Global) × (line ≡ Ok made) × (text ≡ string_bytes made))
+            self.old self.new }
+    {
+        match line {
+            Ok(line) => self.add_line(line),
+            Err(_) => self.leave_out(),
         }
     }
 
-    // How a pod is seen, where changes are kept.
-    fn seen(&self, view: PodView<'_>) -> Result<Option<PodSeen>, AllocError> {
-        match self.observed {
-            Observed::Changes(_) => Ok(Some(PodSeen::of(self.alloc, view)?)),
-            Observed::Nothing | Observed::Reasons => Ok(None),
+    fn add_line(&mut self, line: String)
+        ensures { Adds (λ text. text ≡ string_bytes line) self.old self.new }
+    {
+        if line.is_empty() {
+            return;
+        }
+        if !self.put(line) {
+            self.leave_out();
         }
     }
 
-    fn copy_of(&self, node: &Node, call: &Call) -> Result<Before, AllocError> {
+    // Keeps a line. False if there is no place or no memory for it.
+    fn put(&mut self, line: String) -> bool
+        ensures kept { IsTrue result → (length self.old.lines < MAX_CHANGES)
+            × (self.new ≡ record self.old { lines = self.old.lines ++ line ∷ [] }) }
+        ensures not_kept { OnFalse result (self.new ≡ self.old) }
+    {
+        self.changes.lines.len() < MAX_CHANGES && self.changes.lines.push(line).is_ok()
+    }
+
+    fn leave_out(&mut self)
+        ensures { self.new ≡ record self.old { left_out = later self.old.left_out 1 } }
+    {
+        self.changes.left_out = self.changes.left_out.saturating_add(1);
+    }
+
+    // How the pod of a call is seen, where changes are kept.
+    fn seen(&self, node: &Node, call: &Call) -> Result<Option<PodSeen>, AllocError>
+        ensures { IfOk result (IsSeenBefore self.now.observed (slot_of (uid_of call.now) node.now.slots)) }
+    {
+        match (self.observed, node.pod_of(uid_of(call))) {
+            (Observed::Changes(_), Some(view)) => Ok(Some(PodSeen::of(self.alloc, view)?)),
+            (Observed::Changes(_) | Observed::Nothing | Observed::Reasons, _) => Ok(None),
+        }
+    }
+
+    fn copy_of(&self, node: &Node, call: &Call) -> Result<Before, AllocError>
+        ensures call { IfOk result (λ before. before.call ≡ call.now) }
+        ensures seen { IfOk result (λ before. IsSeenBefore self.now.observed
+            (slot_of (uid_of call.now) node.now.slots) before.seen) }
+    {
         let copy = call.try_clone(self.alloc)?;
-        let seen = match view_of(node, uid_of(call)) {
-            Some(view) => self.seen(view)?,
-            None => None,
-        };
+        let seen = self.seen(node, call)?;
         Ok(Before { call: copy, seen })
     }
 
-    /// What a worker's claim is about, before it ends. `None` if nothing is kept, or memory runs out.
-    pub(crate) fn before(&mut self, node: &Node, worker: u32) -> Option<Before> {
+    /// The call of a worker's claim and how its pod is seen, before the claim ends. `None` if nothing is kept,
+    /// or memory runs out.
+    pub(crate) fn before(&mut self, node: &Node, worker: u32) -> Option<Before>
+        ensures before { IfSome result (λ b. IsBefore self.old.observed node.now worker b.call b.seen) }
+        ensures observed { self.new.observed ≡ self.old.observed }
+        ensures reasons { self.new.reasons ≡ self.old.reasons }
+        ensures lines { self.new.lines ≡ self.old.lines }
+    {
         if self.observed == Observed::Nothing {
             return None;
         }
@@ -159,17 +247,19 @@ impl Observer {
     }
 
     /// Records that the claim has ended at this moment, by this entry.
-    pub(crate) fn ended(&mut self, moment: u64, node: &Node, entry: &Entry, before: Before) {
-        let view = view_of(node, uid_of(&before.call));
+    pub(crate) fn ended(&mut self, moment: u64, node: &Node, entry: &Entry, before: &Before)
+        ensures { Ends self.old.observed moment node.now entry.now.event before.now.call before.now.seen
+            self.old self.new }
+    {
         match self.observed {
             Observed::Nothing => {}
             Observed::Reasons => {
-                let trouble = trouble_of(&entry.event, view);
+                let trouble = trouble_of(&entry.event, node, &before.call);
                 // If memory runs out, the reason is not kept.
                 let _ = self.reasons.note(moment, &before.call, trouble);
             }
             Observed::Changes(form) => {
-                let line = self.change_of(form, moment, view, &before);
+                let line = self.change_of(form, moment, node, before);
                 self.add(line);
             }
         }
@@ -179,28 +269,45 @@ impl Observer {
         &self,
         form: Form,
         moment: u64,
-        view: Option<PodView<'_>>,
+        node: &Node,
         before: &Before,
-    ) -> Result<String, AllocError> {
-        match view {
-            Some(view) => {
-                let seen = PodSeen::of(self.alloc, view)?;
-                pod_changes(self.alloc, form, moment, before.seen.as_ref(), &seen)
-            }
-            None => gone_line(self.alloc, form, moment, uid_of(&before.call)),
+    ) -> Result<String, AllocError>
+        ensures { IfOk result (λ line. IsChange form moment (uid_of before.now.call)
+            (slot_of (uid_of before.now.call) node.now.slots) before.now.seen (string_bytes line)) }
+    {
+        let uid = uid_of(&before.call);
+        match node.pod_of(uid) {
+            Some(view) => self.changes_since(form, moment, before.seen.as_ref(), view),
+            None => gone_line(self.alloc, form, moment, uid),
         }
     }
 
+    // What changed of a pod that was seen so before, or not at all.
+    fn changes_since(
+        &self,
+        form: Form,
+        moment: u64,
+        old: Option<&PodSeen>,
+        view: PodView<'_>,
+    ) -> Result<String, AllocError>
+        ensures { IfOk result (λ line. (now : PodSeen) × (now.uid ≡ view.entry.pod.now.uid)
+            × (now.phase ≡ view.entry.phase) × (now.containers.items
+            ≡ containers_seen view.entry.pod.now.policy view.entry.pod.now.containers.all view.entry.tracks.now)
+            × (string_bytes line ≡ pod_changes form moment (option_copied old.entry) now)) }
+    {
+        let seen = PodSeen::of(self.alloc, view)?;
+        pod_changes(self.alloc, form, moment, old, &seen)
+    }
+
     /// Records that a pod was admitted at this moment.
-    pub(crate) fn admitted(&mut self, moment: u64, node: &Node, uid: &Uid) {
+    pub(crate) fn admitted(&mut self, moment: u64, node: &Node, uid: &Uid)
+        ensures { Admits self.old.observed moment (slot_of uid.now node.now.slots) self.old self.new }
+    {
         let Observed::Changes(form) = self.observed else {
             return;
         };
-        if let Some(view) = view_of(node, uid) {
-            let line = match PodSeen::of(self.alloc, view) {
-                Ok(seen) => pod_changes(self.alloc, form, moment, None, &seen),
-                Err(error) => Err(error),
-            };
+        if let Some(view) = node.pod_of(uid) {
+            let line = self.changes_since(form, moment, None, view);
             self.add(line);
         }
     }

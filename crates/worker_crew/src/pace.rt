@@ -1,6 +1,7 @@
 //! Worker 0 advances the time: by a virtual clock that moves on when nothing else can happen, or by the
 //! machine's clock.
 ghost use Rattle.std.specs.Prelude.{◌≡◌};
+ghost use Rattle.worker_crew.specs.Idle.{next_look, next_of};
 
 use crate::coordinator::Coordinator;
 use crate::errands::Errands;
@@ -161,7 +162,9 @@ impl TimeKeeper {
 
 // When the clock is to be looked at again, if nothing changes before: in a second, if workers have something
 // to do.
-fn next_look(found: Option<Standstill>, now: u64) -> u64 {
+fn next_look(found: Option<Standstill>, now: u64) -> u64
+    ensures { result ≡ next_look found now }
+{
     match found {
         Some(Standstill::At(due)) => due,
         Some(_) => u64::MAX,
@@ -242,7 +245,9 @@ enum Next {
     Nothing,
 }
 
-fn next_of(found: Option<Standstill>, until: u64) -> Next {
+fn next_of(found: Option<Standstill>, until: u64) -> Next
+    ensures { result ≡ next_of found until }
+{
     match found {
         None => Next::Nothing,
         Some(Standstill::Over) => Next::End(Ended::Settled),

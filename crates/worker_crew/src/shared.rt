@@ -2,6 +2,8 @@
 ghost use Rattle.std.specs.Prelude.{◌≡◌, ◌+◌, ◌<◌, [], IfOk, IfSome, IfNone, OnOk, OnErr, OnSome};
 ghost use Rattle.worker_core.specs.declared.events.AgentEvent.TheVariants.{Claim};
 ghost use Rattle.node_lock.specs.Books.{worker_of};
+ghost use Rattle.worker_crew.specs.Idle.{Stands, StandsByCount};
+ghost use Rattle.worker_crew.specs.Observed.{Ends, IsBefore, Observes, ticked_by};
 
 use crate::idle::{Standstill, standstill_of};
 use crate::observer::{Before, Changes, Observed, Observer};
@@ -13,7 +15,7 @@ use std::sync::atomic::{AtomicU64, Ordering};
 use std::sync::ledger::{Ledger, Share};
 use std::sync::{Condvar, CondvarTimeouts, Mutex, Wait};
 use std::time::{Clock, Duration};
-use worker_core::{AgentEvent, Answer, MAX_PODS, Node};
+use worker_core::{AgentEvent, Answer, Node};
 
 /// What the lock protects: the book, how many workers have not ended, the number of the last entry that
 /// advanced the time, and what is kept of the entries beside the book.
@@ -77,23 +79,17 @@ fn has_nothing<L: Ledger>(book: &Book<L>, worker: u32) -> bool {
 
 /// Describes a node.
 pub trait NodeTeller {
-    /// What is told of a node.
+    /// The description.
     type Told;
 
-    /// What is told of the node, and of why its containers wait. Uses no file and no socket.
+    /// Describes the node, and why its containers wait. Uses no file and no socket.
     fn tell(&self, node: &Node, reasons: &Reasons) -> Result<Self::Told, AllocError>;
 }
 
-fn has_pod(node: &Node, uid: &Uid) -> bool {
-    for place in 0..MAX_PODS {
-        if node.pod(place).is_some_and(|view| view.pod.uid == *uid) {
-            return true;
-        }
-    }
-    false
-}
-
-fn counted_standstill<L: Ledger>(guarded: &Guarded<L>, now: u64) -> Option<Standstill> {
+// The same by the virtual clock.
+fn counted_standstill<L: Ledger>(guarded: &Guarded<L>, now: u64) -> Option<Standstill>
+    ensures { StandsByCount guarded.now.book guarded.now.workers guarded.now.ticked now result }
+{
     match standstill_of(&guarded.book, guarded.workers, now) {
         None if guarded.book.last_number().saturating_sub(guarded.ticked) > MAX_AT_MOMENT => Some(
             Standstill::Endless,
@@ -103,7 +99,14 @@ fn counted_standstill<L: Ledger>(guarded: &Guarded<L>, now: u64) -> Option<Stand
 }
 
 // Observes what worker 0 recorded.
-fn observe<L: Ledger>(guarded: &mut Guarded<L>, receipt: &Receipt, moment: u64) {
+fn observe<L: Ledger>(guarded: &mut Guarded<L>, receipt: &Receipt, moment: u64)
+    ensures observer { Observes guarded.old.observer.observed moment guarded.old.book.node
+        receipt.now.entry.event receipt.now.entry.answer guarded.old.observer guarded.new.observer }
+    ensures ticked { guarded.new.ticked ≡ ticked_by receipt.now.entry.event receipt.now.number
+        guarded.old.ticked }
+    ensures book { guarded.new.book ≡ guarded.old.book }
+    ensures workers { guarded.new.workers ≡ guarded.old.workers }
+{
     let Entry { event, answer, .. } = receipt.entry();
     match (event, answer) {
         (AgentEvent::Tick(_), _) => guarded.ticked = receipt.number(),
@@ -116,17 +119,24 @@ fn observe<L: Ledger>(guarded: &mut Guarded<L>, receipt: &Receipt, moment: u64) 
     }
 }
 
-fn before_of<L: Ledger>(guarded: &mut Guarded<L>, worker: u32) -> Option<Before> {
+fn before_of<L: Ledger>(guarded: &mut Guarded<L>, worker: u32) -> Option<Before>
+    ensures before { IfSome result (λ b. IsBefore guarded.old.observer.observed guarded.old.book.node worker
+        b.call b.seen) }
+    ensures book { guarded.new.book ≡ guarded.old.book }
+    ensures workers { guarded.new.workers ≡ guarded.old.workers }
+    ensures ticked { guarded.new.ticked ≡ guarded.old.ticked }
+{
     guarded.observer.before(guarded.book.node(), worker)
 }
 
 // Observes what a worker reported of its claim.
-fn observe_end<L: Ledger>(
-    guarded: &mut Guarded<L>,
-    receipt: &Receipt,
-    before: Before,
-    moment: u64,
-) {
+fn observe_end<L: Ledger>(guarded: &mut Guarded<L>, receipt: &Receipt, before: &Before, moment: u64)
+    ensures observer { Ends guarded.old.observer.observed moment guarded.old.book.node
+        receipt.now.entry.event before.now.call before.now.seen guarded.old.observer guarded.new.observer }
+    ensures book { guarded.new.book ≡ guarded.old.book }
+    ensures workers { guarded.new.workers ≡ guarded.old.workers }
+    ensures ticked { guarded.new.ticked ≡ guarded.old.ticked }
+{
     guarded
         .observer
         .ended(moment, guarded.book.node(), receipt.entry(), before);
@@ -223,7 +233,7 @@ impl<L: Ledger> Shared<L> {
         let mut guarded = self.guarded.lock(rt);
         let before = before_of(&mut guarded, worker);
         let recorded = record_behind(&mut guarded.book, share, worker, event, last);
-        if let (Some(before), Some(receipt)) = (before, &recorded) {
+        if let (Some(before), Some(receipt)) = (&before, &recorded) {
             observe_end(&mut guarded, receipt, before, self.moment());
         }
         drop(guarded);
@@ -352,7 +362,7 @@ impl<L: Ledger> Shared<L> {
     /// Whether a pod of this uid is on the node.
     pub fn has_pod<R: Wait>(&self, rt: &R, uid: &Uid) -> bool {
         let guarded = self.guarded.lock(rt);
-        has_pod(guarded.book.node(), uid)
+        guarded.book.node().pod_of(uid).is_some()
     }
 
     /// The uid of the pod at this place, in order of admission.

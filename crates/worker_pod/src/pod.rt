@@ -27,6 +27,8 @@ pub struct PodView<'p> {
     /// What became of its containers, init ones first, as they stand in the manifest.
     pub tracks: &'p [Track],
     pub phase: Phase,
+    /// Whether its last claim was lost or given up.
+    pub lost: bool,
 }
 
 /// A pod on a node, and what was told of it.
@@ -97,16 +99,18 @@ impl PodState {
         })
     }
 
-    /// Its manifest, its containers and its phase.
+    /// Its manifest, its containers, its phase, and whether its last claim was lost.
     pub fn view(&self) -> PodView<'_>
         ensures pod { result.pod.now ≡ self.now.pod }
         ensures tracks { result.tracks.now ≡ self.now.tracks }
         ensures phase { result.phase ≡ phase_in self.now }
+        ensures lost { result.lost ≡ self.now.lost }
     {
         PodView {
             pod: &self.pod,
             tracks: self.tracks.as_slice(),
             phase: self.phase,
+            lost: self.lost,
         }
     }
 

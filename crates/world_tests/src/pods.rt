@@ -1,7 +1,7 @@
 use cri_msgs::{Call, Request};
 use manifest::{DescendingPath, Pod, PodFault, SeccompProfile};
 use node_io::FileFault;
-use runtime_core::{Contents, FileAnswers};
+use runtime_core::{Contents, FileAnswers, ReadAs};
 use std::alloc::{AllocError, Global};
 
 // The files by their paths: scripts, and profiles.
@@ -36,10 +36,10 @@ const FILES: [(&str, &str); 8] = [
     ),
 ];
 
-fn file_at(
+fn file_at<T: ReadAs + Drop>(
     alloc: Global,
     path: &DescendingPath,
-) -> Result<Result<Contents, FileFault>, AllocError> {
+) -> Result<Result<Contents<T>, FileFault>, AllocError> {
     for (name, text) in FILES {
         if path.as_str() == name {
             let text = String::from_str(alloc, text)?;

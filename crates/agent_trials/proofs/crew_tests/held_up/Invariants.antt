@@ -1,5 +1,8 @@
--- The ledger is that of the blank.
+-- The ledger is that of the blank, and the node has the table of the history that begins.
 use Rattle.agent_trials.proofs.crew_tests.held_up.Given as goal
 
-abbrev pub ghosts-entries_at_call : goal.ghosts-entries_at_call
-ghosts-entries_at_call g a = record { name = a.blank.name; parts = a.blank.parts }
+abbrev pub ghosts-entries_at_call-L-Ledger : goal.ghosts-entries_at_call-L-Ledger
+ghosts-entries_at_call-L-Ledger g a = record { name = a.blank.name; parts = a.blank.parts }
+
+abbrev pub ghosts-entries_at_call-B-Node : goal.ghosts-entries_at_call-B-Node
+ghosts-entries_at_call-B-Node g a = record { filter = a.node.0; table = a.node.1 }

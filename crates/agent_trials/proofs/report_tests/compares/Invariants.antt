@@ -1,5 +1,8 @@
--- The ledger is that of the blank.
+-- The ledger is that of the blank, and the node has the table of the history that begins.
 use Rattle.agent_trials.proofs.report_tests.compares.Given as goal
 
-abbrev pub ghosts-compared : goal.ghosts-compared
-ghosts-compared g a = record { name = a.blank.name; parts = a.blank.parts }
+abbrev pub ghosts-compared-L-Ledger : goal.ghosts-compared-L-Ledger
+ghosts-compared-L-Ledger g a = record { name = a.blank.name; parts = a.blank.parts }
+
+abbrev pub ghosts-compared-B-Node : goal.ghosts-compared-B-Node
+ghosts-compared-B-Node g a = record { filter = a.node.0; table = a.node.1 }

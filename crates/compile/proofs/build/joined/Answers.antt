@@ -8,11 +8,12 @@ use Rattle.compile.specs.declared.build.Way.{Way}
 use Rattle.compile.proofs.Reaching.{found_weaker, joined_way, straight_way, turned_way}
 use Rattle.compile.proofs.build.joined.Goals as goal
 
-pub returns-then-is_same-clause-gives : goal.returns-then-is_same-clause-gives
-returns-then-is_same-clause-gives c = λ call value gives.
-    c.if-is_same.ensures refl call value c.max.result
+pub returns-then-is_steady-clause-gives : goal.returns-then-is_steady-clause-gives
+returns-then-is_steady-clause-gives c = λ call value gives a _.
+    c.if-is_steady.ensures refl call (shown c.args.probe.now.base call) value c.max.result
     (joined_way c.args.probe.now.base c.args.code.now call (told c.args.probe.now call) c.args.yes c.args.no
-    value c.max.result c.if-yes-no.true (omega (arith, c.max.ensures)) (omega (arith, c.max.ensures)) gives)
+    value c.max.result c.if-yes-no.true (omega (arith, c.max.ensures)) (omega (arith, c.max.ensures)) gives
+    (shown c.args.probe.now.base call) (λ _. refl)) a
 
 pub returns-then-probe-clause-gives : goal.returns-then-probe-clause-gives
 returns-then-probe-clause-gives c =

@@ -1,4 +1,5 @@
-use Rattle.std.proofs.Common.{ℕ, ◌-◌, ◌/◌, List, length, take, drop, subst}
+use Rattle.std.proofs.Common.{◌≡◌, ℕ, ◌-◌, ◌/◌, ◌∙◌, List, length, take, drop, subst, ap, sym, arith}
+use Rattle.std.proofs.lemmas.List.{take_all}
 use Rattle.bpf_code.specs.declared.insn.Insn.{Insn}
 use Rattle.compile.specs.declared.atom.TheConstants.{NOWHERE}
 use Rattle.call_data.specs.declared.sys_call.SysCall.{SysCall}
@@ -7,7 +8,7 @@ use Rattle.compile.specs.Ways.{WayGives}
 use Rattle.compile.specs.declared.build.Way.{Way}
 use Rattle.compile.specs.declared.residual.Rule.{Rule}
 use Rattle.compile.proofs.Restricting.{first_parted, left_some}
-use Rattle.compile.proofs.Reaching.{found_weaker, way_kept}
+use Rattle.compile.proofs.Reaching.{found_weaker}
 use Rattle.compile.proofs.diagram.+parts.Goals as goal
 
 pub returns-clause-gives : goal.returns-clause-gives
@@ -17,8 +18,11 @@ returns-clause-gives t c =
     let new : List Insn = c.parts-2.new.code in
     let rules : List Rule = c.args.rules.now in
     let at : ℕ = length rules / 2 in
+    let back : c.cut.new.self ≡ old =
+    c.cut.ensures ∙ ap (λ n. take n c.build.new.code) c.len-start.ensures
+    ∙ c.in_ok-way.ensures.extends old (take_all (length old) old (omega arith)) in
     let Rest : Way → Type 0 = λ way. (call : SysCall) (other : ℕ)
-    → WayGives NOWHERE c.whole.new.code call c.args.last other
+    → WayGives NOWHERE c.cut.new.self call c.args.last other
     → WayGives NOWHERE mid call way (first_value (take (length rules - at) (drop at rules)) other call) in
     let Front : Way → Type 0 = λ way. (call : SysCall) (value : ℕ)
     → WayGives NOWHERE mid call c.in-Some-2.rest value
@@ -31,5 +35,5 @@ returns-clause-gives t c =
     subst P (first_parted rules at other call)
     (gives call (first_value (take (length rules - at) (drop at rules)) other call)
     (left_some c.in_ok-rest.field-0 c.in-Some-2.rest Rest c.in-Some-2.is c.in_ok-rest.ensures.gives call other
-    (way_kept old c.whole.new.code NOWHERE call c.args.last other c.in_ok-way.ensures.keeps last))))
+    (subst (λ code. WayGives NOWHERE code call c.args.last other) (sym back) last))))
     c.parts-2.ensures.gives

@@ -1,7 +1,7 @@
 use Rattle.std.proofs.Common.{ap, sym, ◌∙◌}
 use Rattle.compile.proofs.Gathering.{none_found, one_found}
-use Rattle.compile.proofs.search.points_for.Goals as goal
 use Rattle.compile.proofs.search.points_for.Goals.{then-names+in-Some+in_ok-add-in-Some, else-names}
+use Rattle.compile.proofs.search.points_for.Goals as goal
 
 pub loop-entry-preserved : goal.loop-entry-preserved
 loop-entry-preserved c =

@@ -6,11 +6,20 @@ use Rattle.runner.proofs.rounds.round.Goals as goal
 pub loop-visit-preserved-then-went_on : goal.loop-visit-preserved-then-went_on
 loop-visit-preserved-then-went_on g c =
     let so = c.loop-visit.invariant in
-    let one : Asked = record { above = c.loop-visit.last; visit = Some c.in-Some.visit } in
+    let old = g.V.Visits.seen c.loop-visit.visits in
+    let new = g.V.Visits.seen c.visit.new.self in
+    let one : Asked = record {
+      above = c.loop-visit.last;
+      visit = Some c.in-Some.visit;
+      old = old;
+      new =
+          new;
+    } in
     record {
       asked = one ∷ so.asked;
-      are = visits_more _ _ c.loop-visit.last c.in-Some.visit so.asked so.last
-          (of_share _ _ _ _ one so.runner so.runners c.in-Some.ensures.may) so.are;
+      are = visits_more _ _ _ c.loop-visit.last c.in-Some.visit _ old new so.asked so.last so.seen
+          (of_share _ _ _ _ _ one so.runner so.runners c.in-Some.ensures.may) so.are;
+      seen = refl;
       last = refl;
       went = still _ _ _ c.if-went_on.true so.went;
       runner = c.in-Some.ensures.runner ∙ so.runner;
@@ -21,11 +30,20 @@ loop-visit-preserved-then-went_on g c =
 pub loop-visit-preserved : goal.loop-visit-preserved
 loop-visit-preserved g c =
     let so = c.loop-visit.invariant in
-    let one : Asked = record { above = c.loop-visit.last; visit = Some c.in-Some.visit } in
+    let old = g.V.Visits.seen c.loop-visit.visits in
+    let new = g.V.Visits.seen c.visit.new.self in
+    let one : Asked = record {
+      above = c.loop-visit.last;
+      visit = Some c.in-Some.visit;
+      old = old;
+      new =
+          new;
+    } in
     record {
       asked = one ∷ so.asked;
-      are = visits_more _ _ c.loop-visit.last c.in-Some.visit so.asked so.last
-          (of_share _ _ _ _ one so.runner so.runners c.in-Some.ensures.may) so.are;
+      are = visits_more _ _ _ c.loop-visit.last c.in-Some.visit _ old new so.asked so.last so.seen
+          (of_share _ _ _ _ _ one so.runner so.runners c.in-Some.ensures.may) so.are;
+      seen = refl;
       last = refl;
       went = now _ _ _ c.if-went_on.false so.went;
       runner = c.in-Some.ensures.runner ∙ so.runner;
@@ -36,7 +54,12 @@ loop-visit-preserved g c =
 pub returns : goal.returns
 returns g c =
     let so = c.loop-visit.invariant in
-    let end : Asked = record { above = c.loop-visit.last; visit = c.visit.result } in (
+    let end : Asked = record {
+      above = c.loop-visit.last;
+      visit = c.visit.result;
+      old = g.V.Visits.seen c.loop-visit.visits;
+      new = g.V.Visits.seen c.visit.new.self;
+    } in (
       end ∷ so.asked,
       record {
         end = end;
@@ -44,8 +67,10 @@ returns g c =
         all = refl;
         none = c.in_default.is;
         behind = so.last;
-        ends = of_share _ _ _ _ end so.runner so.runners c.visit.ensures.may;
+        begins = so.seen;
+        ends = of_share _ _ _ _ _ end so.runner so.runners c.visit.ensures.may;
         are = so.are;
+        sees = refl;
         tells = so.went;
       },
       kept_more _ _ _ end so.asked c.visit.ensures.asked so.kept,

@@ -1,13 +1,15 @@
 -- What a round has asked so far.
 use Rattle.std.proofs.Common.{◌≡◌, ◌-◌, ◌^◌, ◌++◌, List}
 use Rattle.std.specs.Option.{option_map}
-use Rattle.runner.specs.Rounds.{Asked, AreVisits, last_of, went_on}
+use Rattle.runner.specs.Rounds.{Asked, AreVisits, last_of, seen_after, went_on}
 use Rattle.runner.proofs.rounds.round.Given as goal
 
 abbrev pub invariant-loop-visit : goal.invariant-loop-visit
 invariant-loop-visit g l = record {
   asked : List Asked;
-  are : AreVisits (g.V.Visits.runner l.fn.visits) (g.V.Visits.runners l.fn.visits) asked;
+  are : AreVisits g.V.Visits.baseline (g.V.Visits.runner l.fn.visits) (g.V.Visits.runners l.fn.visits)
+      (g.V.Visits.seen l.fn.visits) asked;
+  seen : g.V.Visits.seen l.visits ≡ seen_after (g.V.Visits.seen l.fn.visits) asked;
   last : l.last ≡ last_of asked;
   went : l.went_on ≡ went_on asked;
   runner : g.V.Visits.runner l.visits ≡ g.V.Visits.runner l.fn.visits;

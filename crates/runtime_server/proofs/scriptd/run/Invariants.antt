@@ -1,5 +1,5 @@
--- The node's own filter is that of the line.
+-- The node's own filter is that of the line, and its table that of the history that begins.
 use Rattle.runtime_server.proofs.scriptd.run.Given as goal
 
 abbrev pub ghosts-run_line : goal.ghosts-run_line
-ghosts-run_line g a = record { filter = a.baseline }
+ghosts-run_line g a = record { filter = a.begun.0; table = a.begun.1 }

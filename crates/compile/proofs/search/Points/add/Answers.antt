@@ -9,8 +9,8 @@ returns-clause-sorted c =
     c.as_slice-2.ensures.value c.place_of-at.ensures.inside c.place_of-at.ensures.below
     c.place_of-at.ensures.there c.if-has.ensures.no in
     rw (c.in_ok-insert.ensures.items, c.in_ok-insert-2.ensures.items)
-    (sorted_insert c.args.self.now.numbers.items c.args.self.now.values.items c.place_of-at.result c.args.number
-    c.args.value c.requires.sorted fits)
+    (sorted_insert c.args.self.now.numbers.items c.args.self.now.values.items c.place_of-at.result
+    c.args.number c.args.value c.requires.sorted fits)
 
 pub returns-clause-found : goal.returns-clause-found
 returns-clause-found c = λ arg other answer found.
@@ -20,5 +20,5 @@ returns-clause-found c = λ arg other answer found.
     c.as_slice-2.ensures.value c.place_of-at.ensures.inside c.place_of-at.ensures.below
     c.place_of-at.ensures.there c.if-has.ensures.no in
     rw (c.in_ok-insert.ensures.items, c.in_ok-insert-2.ensures.items)
-    (found_insert c.args.self.now.numbers.items c.args.self.now.values.items c.place_of-at.result c.args.number
-    c.args.value arg other answer c.requires.sorted fits found)
+    (found_insert c.args.self.now.numbers.items c.args.self.now.values.items c.place_of-at.result
+    c.args.number c.args.value arg other answer c.requires.sorted fits found)

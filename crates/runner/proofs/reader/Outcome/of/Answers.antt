@@ -1,11 +1,9 @@
 -- What was read is said by the text's own reading.
 use Rattle.std.proofs.Common.{◌≡◌, ◌≢◌, Ok, List, ℕ, subst}
 use Rattle.std.specs.Prelude.{IfOk, IfErr}
-use Rattle.json_tree.specs.Reading.{Gives}
 use Rattle.cri_msgs.specs.declared.calls.Request.{Request}
-use Rattle.cri_msgs.specs.declared.faults.MessageFault.TheVariants.{Memory, NoMessage}
+use Rattle.cri_msgs.specs.declared.faults.MessageFault.TheVariants.{Memory}
 use Rattle.cri_msgs.specs.Reading.{request_reading}
-use Rattle.cri_msgs.specs.Requests.{ReadsRequest}
 use Rattle.runner.specs.Readings.{IsOther}
 use Rattle.runner.proofs.Readings.{is_found, is_other}
 use Rattle.runner.proofs.reader.Outcome.of.Goals as goal

@@ -1,0 +1,47 @@
+use Rattle.std.proofs.Common.{◌≡◌, ◌∷◌, ◌&&◌, [], List, ap, sym, ◌∙◌, cond, length, arith, true, false, refl}
+use Rattle.oci_profile.specs.Decision.{value_of}
+use Rattle.oci_profile.specs.Meaning.{all_hold, names}
+use Rattle.compile.specs.declared.residual.Rule.{Rule}
+use Rattle.compile.specs.Residuals.{clauses_hold, first_value}
+use Rattle.compile.specs.Rooms.{size_of_rules}
+use Rattle.compile.proofs.Restricting.{first_append}
+use Rattle.compile.proofs.Saying.{entry_says, size_of_pushed}
+use Rattle.compile.proofs.rules.add_named.Goals as goal
+
+pub returns-then-is_void-clause-holds : goal.returns-then-is_void-clause-holds
+returns-then-is_void-clause-holds c = λ call other is_call.
+    let never : all_hold c.args.entry.now call ≡ false =
+    sym (entry_says c.args.entry.now c.as_slice.result.now c.in_ok-clauses.clauses.items _ call
+    c.as_slice.ensures.value c.in_ok-clauses.ensures is_call)
+    ∙ ap (λ cs. clauses_hold cs call) (sym c.as_slice-2.ensures.value) ∙ c.if-is_void.ensures.yes refl call in
+    let named : names c.args.entry.now c.args.nr ≡ true = sym c.names.ensures ∙ c.if-not-names.false in
+    ap (λ b. first_value c.args.rules.now.items (cond b (value_of c.args.entry.now.decision) other) call)
+    (sym (ap (λ b. b && all_hold c.args.entry.now call) named ∙ never))
+
+pub returns-clause-holds : goal.returns-clause-holds
+returns-clause-holds c = λ call other is_call.
+    let rule : Rule = record { clauses = c.in_ok-clauses.clauses; value = c.value.result } in
+    let old : List Rule = c.args.rules.now.items in
+    let named : names c.args.entry.now c.args.nr ≡ true = sym c.names.ensures ∙ c.if-not-names.false in
+    ap (λ rs. first_value rs other call) c.in_ok-push.ensures.items
+    ∙ first_append old (rule ∷ []) other call
+    ∙ ap (λ b. first_value old (cond b c.value.result other) call)
+    (entry_says c.args.entry.now c.as_slice.result.now c.in_ok-clauses.clauses.items _ call
+    c.as_slice.ensures.value c.in_ok-clauses.ensures is_call)
+    ∙ ap (λ n. first_value old (cond (all_hold c.args.entry.now call) n other) call) c.value.ensures
+    ∙ ap (λ b. first_value old (cond (b && all_hold c.args.entry.now call)
+    (value_of c.args.entry.now.decision) other) call) (sym named)
+
+pub returns-clause-size : goal.returns-clause-size
+returns-clause-size c =
+    let rule : Rule = record { clauses = c.in_ok-clauses.clauses; value = c.value.result } in
+    let old : List Rule = c.args.rules.now.items in
+    let named : names c.args.entry.now c.args.nr ≡ true = sym c.names.ensures ∙ c.if-not-names.false in
+    omega (
+      arith,
+      ap size_of_rules c.in_ok-push.ensures.items,
+      size_of_pushed old rule,
+      c.in_ok-clauses.ensures.longer,
+      ap length c.as_slice.ensures.value,
+      ap (λ b. cond b (length c.args.entry.now.conds) 0) named,
+    )

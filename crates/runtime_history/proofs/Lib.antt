@@ -1,0 +1,11 @@
+pub mod Totals
+pub mod Known
+pub mod Serving
+pub mod Stepping
+pub mod Listing
+pub mod Moves
+pub mod Locks
+pub mod Stages
+pub mod Unwoken
+pub mod Lacking
+pub mod Lawful

@@ -1,0 +1,90 @@
+-- Each step of a lock keeps its rule.
+use Rattle.std.proofs.Common.{◌≡◌, ℕ, List, [], ◌∷◌, get_or, sym, refl, ◌∙◌, subst, arith, Option}
+use Rattle.std.proofs.Common.{Some, None, length-set, get_or-set_same}
+use mathlib.Core.Logic.{dite}
+use mathlib.Core.Option.{some}
+use native.Mathlib.Decide.{ℕ_discrete}
+use Rattle.atomic_table.specs.Table.{Me, keeps, takes, gives, Allows, Arrives}
+use Rattle.atomic_table.proofs.Lists.{set_here}
+use Rattle.runtime_history.specs.Keyed.{Guarded, Seized}
+
+module _ {T V : Type 0} (fits : T → Type 0) where
+  pub releases : (id : ℕ) (m : Me (Option T) V) (v : V) (value : T) (more : List (ℕ × Option T))
+      → m ≡ (v, (0, Some value) ∷ more) → fits value
+      → Allows (Guarded fits) 1 id m 0 (λ _. 0) (λ _ _. Unit {0})
+  releases id m v value more e ok = subst (λ (x : Me (Option T) V). Allows (Guarded fits) 1 id x 0
+      (λ _. 0) (λ _ _. Unit {0})) (sym e)
+      (λ s g wide me _. let long = g.0 in let none = get_or-set_same s.words 0 0 0 (omega arith) in (
+        v,
+        gives,
+        tt,
+        (
+          length-set s.words 0 0
+              ∙ g.0,
+          (λ _. (
+            value,
+            set_here s.homes 0 (some (Some value))
+                (omega arith),
+            ok,
+          )),
+          (λ e'. absurd (omega arith)),
+        ),
+        tt,
+      ))
+
+  pub seizes : (n : ℕ) (v : V) → Arrives (Guarded fits) n 0 (λ _. 1) (λ r m. r ≡ 0 → Seized {V = V} fits m)
+  seizes n v s g wide _ = let long = g.0 in let one = get_or-set_same s.words 0 1 0 (omega arith) in
+      dite (ℕ_discrete (get_or s.words 0 0) 0)
+      (λ free. let t = g.1 free in (
+        v,
+        takes 0 (Some t.0),
+        t.1,
+        (
+          length-set s.words 0 1
+              ∙ long,
+          (λ e. absurd (omega arith)),
+          (λ e. absurd (omega arith)),
+        ),
+        λ _. (t.0, refl, t.2),
+      ))
+      (λ held. (
+        v,
+        keeps,
+        tt,
+        (
+          length-set s.words 0 1
+              ∙ long,
+          (λ e. absurd (omega arith)),
+          (λ e. absurd (omega arith)),
+        ),
+        λ e. absurd (held e),
+      ))
+
+  pub blanks : (n id : ℕ) (v : V) → Allows (Guarded fits) n id (v, []) 0 (λ _. 1) (λ r m. r ≡ 2
+      → m.1 ≡ (0, None) ∷ [])
+  blanks n id v s g wide at _ = let long = g.0 in let one = get_or-set_same s.words 0 1 0 (omega arith) in
+      dite (ℕ_discrete (get_or s.words 0 0) 2)
+      (λ blank. (
+        v,
+        takes 0 None,
+        g.2 blank,
+        (
+          length-set s.words 0 1
+              ∙ long,
+          (λ e. absurd (omega arith)),
+          (λ e. absurd (omega arith)),
+        ),
+        λ _. refl,
+      ))
+      (λ held. (
+        v,
+        keeps,
+        tt,
+        (
+          length-set s.words 0 1
+              ∙ long,
+          (λ e. absurd (omega arith)),
+          (λ e. absurd (omega arith)),
+        ),
+        λ e. absurd (held e),
+      ))

@@ -1,0 +1,12 @@
+use Rattle.runtime_history.proofs.Moves.{goes_on, served_new}
+use Rattle.runtime_history.proofs.tokens.note_new.Goals as goal
+
+pub load-requires : goal.load-requires
+load-requires g c =
+    let r = c.requires in
+    let l = r.lent in (
+      r.me,
+      r.table,
+      rw (r.event.0, r.event.1, r.event.2, l.1) (goes_on _ _ _ _ _ _ _ _ _
+          (λ s has cells. served_new s l.0 _ _ _ _ _ l.3 l.4 l.2 has)),
+    )

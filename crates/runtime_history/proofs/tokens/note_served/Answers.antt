@@ -1,0 +1,12 @@
+use Rattle.runtime_history.proofs.Moves.{goes_on, served}
+use Rattle.runtime_history.proofs.tokens.note_served.Goals as goal
+
+pub load-requires : goal.load-requires
+load-requires g c =
+    let r = c.requires in
+    let l = r.lent in (
+      r.me,
+      r.table,
+      rw (r.event.0, r.event.1, r.event.2, l.2) (goes_on _ _ _ _ _ _ _ _ _
+          (λ s has cells. served s l.0 _ _ _ _ l.1 _ l.3 has cells)),
+    )

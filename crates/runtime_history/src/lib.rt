@@ -1,0 +1,17 @@
+//! One history of a runtime that threads share: its registry lies under one lock, and the cells of each
+//! sandbox under a lock of their own. Each event is added to the history under a lock of what it changes,
+//! and each caller sees a run of the laws of every run.
+#![tactic(auto)]
+
+mod event;
+mod keyed;
+mod laws;
+mod parts;
+mod room;
+mod tokens;
+
+pub use event::{Event, Seen};
+pub use keyed::{Blank, Keyed, KeyedLock, Loan};
+pub use laws::laws_of;
+pub use parts::{Begun, Client, History, Listed, Registered};
+pub use room::{Asked, Node};

@@ -1,0 +1,399 @@
+//! What lies under the registry's lock, under the lock of a sandbox's cells, and with a caller.
+ghost use Rattle.std.specs.Prelude.{◌≡◌, ◌≢◌, ◌<◌, ℕ, List, [], IfNone, IfOk, IfSome, IsTrue, ◌↔◌};
+ghost use Rattle.atomic_table.specs.Seated.{TableId};
+ghost use Rattle.cri_msgs.specs.Calls.{uid_of};
+ghost use Rattle.cri_msgs.specs.declared.replies.Answer.TheVariants.{Refused};
+ghost use Rattle.cri_msgs.specs.declared.refusals.Refusal.TheVariants.{Memory};
+ghost use Rattle.registry.specs.declared.stage.Stage.TheVariants.{Unknown};
+ghost use Rattle.registry.specs.Kept.{MayStepIn};
+ghost use Rattle.registry.specs.Stands.{stages_in};
+ghost use Rattle.runtime_history.specs.declared.event.Event.TheVariants.{Served, Stepped};
+ghost use Rattle.runtime_history.specs.History.{Grows, IsRunOf, unseen};
+ghost use Rattle.runtime_history.specs.Sandboxes.{IsLive, Removes, Wakes};
+
+use crate::event::Seen;
+use crate::keyed::Keyed;
+use crate::room::{Agreed, Asked, Node, Notes, Token, View};
+use crate::tokens::{
+    cells_part, lend_cells, lend_registry, new_caller, note_absent, note_new, note_served,
+    note_stepped, note_told, registry_part,
+};
+use atomic_table::Table;
+use bpf_verify::Filter;
+use creation::FileAnswers;
+use cri_msgs::{Answer, Refusal, Reply, Request};
+use manifest::Uid;
+use registry::{Cells, Registry, Stage, tell_cells};
+use runtime_cell::Did;
+use std::alloc::{AllocError, Global};
+use std::marker::{Brand, Model, PhantomData};
+
+/// The table of a runtime's history.
+#[derive(Drop)]
+pub struct History<B: Node> {
+    table: Table<(), View, Registry, Agreed, Global>,
+    node: PhantomData<B>,
+    ghost named: { table.shared.table_id ≡ B.table },
+    ghost words: { 0 < table.shared.table_id.words },
+    ghost filter: { table.shared.key.baseline ≡ B.filter },
+}
+
+/// A runtime that has served nothing, on a node with a filter of its own. Contracts see the filter, and
+/// which table the history has.
+#[derive(Drop)]
+pub struct Begun {
+    table: Table<(), View, Registry, Agreed, Global>,
+    token: Token,
+    registry: Registry,
+}
+
+impl Model for Begun {
+    ghost use Rattle.std.specs.Prelude.{◌≡◌, ◌<◌, ℕ, List, [], Option};
+    ghost use Rattle.atomic_table.specs.Seated.{TableId};
+    ghost use Rattle.bpf_code.specs.declared.insn.Insn.{Insn};
+    ghost use Rattle.registry.specs.declared.stage.Stage.TheVariants.{Unknown};
+    ghost use Rattle.registry.specs.Stands.{stages_in};
+    ghost use Rattle.runtime_history.specs.Agreed.{keeper};
+
+    ghost Value = { Option (List Insn) × TableId };
+
+    ghost view = { λ b. (b.table.shared.key.baseline, b.table.shared.table_id) };
+
+    ghost invariant = { λ b. (b.token.table_id ≡ b.table.shared.table_id)
+        × (b.token.me ≡ (keeper b.registry, [])) × (0 < b.table.shared.table_id.words)
+        × (b.registry.baseline ≡ b.table.shared.key.baseline)
+        × ((uid : List ℕ) → stages_in b.registry uid ≡ Unknown) };
+}
+
+/// A caller of a runtime. Contracts see what it knows of the history.
+#[derive(Drop)]
+pub struct Client<B: Node> {
+    token: Token,
+    node: PhantomData<B>,
+}
+
+impl<B: Node> Model for Client<B> {
+    ghost use Rattle.std.specs.Prelude.{◌≡◌, []};
+    ghost use Rattle.runtime_history.specs.declared.event.Seen.{Seen};
+    ghost use Rattle.runtime_history.specs.History.{IsRunOf};
+    ghost use Rattle.runtime_history.specs.Agreed.{reader};
+
+    ghost Value = { Seen };
+
+    ghost view = { λ c. c.token.me.0.seen };
+
+    // All that it has seen is a run.
+    ghost invariant = { λ c. (c.token.table_id ≡ B.table) × (c.token.me ≡ (reader c.token.me.0.seen, []))
+        × IsRunOf B.filter c.token.me.0.seen.all };
+}
+
+/// What lies under the registry's lock. Contracts see the registry.
+#[derive(Drop)]
+pub struct Registered<B: Node> {
+    token: Token,
+    registry: Registry,
+    node: PhantomData<B>,
+}
+
+impl<B: Node> Model for Registered<B> {
+    ghost use Rattle.std.specs.Prelude.{◌≡◌, []};
+    ghost use Rattle.registry.specs.declared.registry.Registry.{Registry};
+    ghost use Rattle.runtime_history.specs.Agreed.{keeper};
+
+    ghost Value = { Registry };
+
+    ghost view = { λ r. r.registry };
+
+    ghost invariant = { λ r. (r.token.table_id ≡ B.table) × (r.token.me ≡ (keeper r.registry, [])) };
+}
+
+/// What lies under the lock of a sandbox's cells. Contracts see the uid and the cells.
+#[derive(Drop)]
+pub struct Listed<B: Node> {
+    token: Token,
+    cells: Cells,
+    node: PhantomData<B>,
+}
+
+impl<B: Node> Model for Listed<B> {
+    ghost use Rattle.std.specs.Prelude.{◌≡◌, ℕ, List, []};
+    ghost use Rattle.runtime_cell.specs.Cell.{Cell};
+    ghost use Rattle.runtime_history.specs.Agreed.{holder, uid_by};
+
+    ghost Value = { List ℕ × List Cell };
+
+    ghost view = { λ l. (uid_by l.token.me.0.cells, l.cells) };
+
+    ghost invariant = { λ l. (l.token.table_id ≡ B.table)
+        × (l.token.me ≡ (holder (uid_by l.token.me.0.cells) l.cells, [])) };
+}
+
+/// They fit the uid of their sandbox.
+impl<B: Node> Keyed for Listed<B> {
+    ghost use Rattle.std.specs.Prelude.{◌≡◌};
+
+    ghost fits = { λ uid listed. listed.0 ≡ uid };
+}
+
+impl Begun {
+    /// A runtime of a node with this filter. RuntimeDefault is compiled once.
+    pub fn new(alloc: Global, baseline: Option<Filter>) -> Result<Begun, AllocError>
+        ensures { IfOk result (λ begun. begun.0 ≡ baseline) }
+    {
+        let mut registry = Registry::new(alloc, baseline);
+        registry.make_ready();
+        let (table, token) = Table::of_words(alloc, &[0], &registry)?;
+        Ok(Begun {
+            table,
+            token,
+            registry,
+        })
+    }
+
+    /// The history, and what lies under the registry's lock.
+    pub fn of_node<B: Node>(self) -> (History<B>, Registered<B>)
+        requires { self ≡ (B.filter, B.table) }
+        ensures { (uid : List ℕ) → stages_in result.1 uid ≡ Unknown }
+    {
+        let Begun {
+            table,
+            token,
+            registry,
+        } = self;
+        let history = History {
+            table,
+            node: PhantomData,
+        };
+        let registered = Registered {
+            token,
+            registry,
+            node: PhantomData,
+        };
+        (history, registered)
+    }
+}
+
+impl<B: Node> History<B> {
+    /// A caller who has seen nothing.
+    pub fn client(&self) -> Client<B>
+        ensures { result ≡ unseen }
+    {
+        Client {
+            token: new_caller(self.notes()),
+            node: PhantomData,
+        }
+    }
+
+    fn notes(&self) -> &Notes
+        ensures { (result.now.table_id ≡ B.table) × (0 < result.now.table_id.words)
+            × (result.now.key.baseline ≡ B.filter) }
+    {
+        &self.table.shared
+    }
+}
+
+impl<B: Node> Client<B> {
+    /// What it has seen is a run.
+    pub(crate) fn is_run(&self)
+        ensures { IsRunOf B.filter self.now.all }
+    {
+        let _token = &self.token;
+    }
+}
+
+impl<B: Node> Registered<B> {
+    /// The registry.
+    pub fn registry(&self) -> &Registry
+        ensures { result.now ≡ self.now }
+    {
+        &self.registry
+    }
+
+    /// Serves a request with the cells of its sandbox, which is there.
+    #[tactic(auto, using(crate::proofs::Stages::live_still))]
+    pub fn serve<Q: Asked>(
+        &mut self,
+        history: &History<B>,
+        listed: &mut Listed<B>,
+        gone: &mut Cells,
+        me: &mut Client<B>,
+        request: Request,
+        files: FileAnswers,
+    ) -> Reply
+        requires asked { (Q.call ≡ request.call) × (Q.files ≡ files) }
+        requires own { listed.old.0 ≡ uid_of request.call }
+        requires live { IsLive (stages_in self.old (uid_of request.call)) }
+        ensures number { result.id ≡ request.id }
+        ensures grows { Grows B.filter me.old (Served request.call files result.answer) me.new }
+        ensures uid { listed.new.0 ≡ listed.old.0 }
+        ensures removed { Removes request.call → IsLive (stages_in self.new (uid_of request.call)) → ⊥ }
+        ensures stays { (Removes request.call → ⊥) → IsLive (stages_in self.new (uid_of request.call)) }
+        ensures others { (u : List ℕ) → u ≢ uid_of request.call
+            → stages_in self.new u ≡ stages_in self.old u }
+    {
+        let notes = history.notes();
+        lend_registry(notes, &mut me.token, &mut self.token);
+        lend_cells(notes, &mut me.token, &mut listed.token);
+        let reply = self
+            .registry
+            .serve_lent(&mut listed.cells, gone, request, files);
+        note_served::<Brand, Q>(
+            notes,
+            &mut me.token,
+            &self.registry,
+            &listed.cells,
+            &reply.answer,
+        );
+        listed.token = cells_part(notes, &mut me.token);
+        self.token = registry_part(notes, &mut me.token);
+        reply
+    }
+
+    /// Serves a request that names no sandbox which is there, and makes none.
+    pub fn serve_absent<Q: Asked>(
+        &mut self,
+        alloc: Global,
+        history: &History<B>,
+        gone: &mut Cells,
+        me: &mut Client<B>,
+        request: Request,
+        files: FileAnswers,
+    ) -> Reply
+        requires asked { (Q.call ≡ request.call) × (Q.files ≡ files) }
+        requires dead { IsLive (stages_in self.old (uid_of request.call)) → ⊥ }
+        requires makes_none { Wakes self.old request.call → ⊥ }
+        ensures number { result.id ≡ request.id }
+        ensures grows { Grows B.filter me.old (Served request.call files result.answer) me.new }
+        ensures stays { IsLive (stages_in self.new (uid_of request.call)) → ⊥ }
+        ensures others { (u : List ℕ) → u ≢ uid_of request.call
+            → stages_in self.new u ≡ stages_in self.old u }
+    {
+        let notes = history.notes();
+        let mut none = Cells::new(alloc);
+        lend_registry(notes, &mut me.token, &mut self.token);
+        let reply = self.registry.serve_lent(&mut none, gone, request, files);
+        note_absent::<Brand, Q>(notes, &mut me.token, &self.registry, &reply.answer);
+        self.token = registry_part(notes, &mut me.token);
+        reply
+    }
+
+    /// Serves a request that may make a sandbox of this uid, and returns what is to lie under the lock of
+    /// its cells. `None` if memory ran out, and there is no sandbox.
+    pub fn wake<Q: Asked>(
+        &mut self,
+        alloc: Global,
+        history: &History<B>,
+        me: &mut Client<B>,
+        uid: &Uid,
+        request: Request,
+        files: FileAnswers,
+    ) -> (Reply, Option<Listed<B>>)
+        requires asked { (Q.call ≡ request.call) × (Q.files ≡ files) }
+        requires own { uid.now ≡ uid_of request.call }
+        requires wakes { Wakes self.old request.call }
+        ensures number { result.0.id ≡ request.id }
+        ensures grows { Grows B.filter me.old (Served request.call files result.0.answer) me.new }
+        ensures made { IfSome result.1 (λ listed. (listed.0 ≡ uid.now)
+            × IsLive (stages_in self.new uid.now)) }
+        ensures none { IfNone result.1 (IsLive (stages_in self.new uid.now) → ⊥) }
+        ensures others { (u : List ℕ) → u ≢ uid.now → stages_in self.new u ≡ stages_in self.old u }
+    {
+        let notes = history.notes();
+        let mut cells = Cells::new(alloc);
+        let mut gone = Cells::new(alloc);
+        lend_registry(notes, &mut me.token, &mut self.token);
+        let reply = self
+            .registry
+            .serve_lent(&mut cells, &mut gone, request, files);
+        if !is_live(self.registry.stage(uid.as_str())) {
+            note_absent::<Brand, Q>(notes, &mut me.token, &self.registry, &reply.answer);
+            self.token = registry_part(notes, &mut me.token);
+            return (reply, None);
+        }
+        note_new::<Brand, Q>(notes, &mut me.token, &self.registry, &cells, &reply.answer);
+        let token = cells_part(notes, &mut me.token);
+        self.token = registry_part(notes, &mut me.token);
+        let listed = Listed {
+            token,
+            cells,
+            node: PhantomData,
+        };
+        (reply, Some(listed))
+    }
+
+    /// Refuses a request that might have made a sandbox, as memory ran out.
+    pub fn refuse<Q: Asked>(&mut self, history: &History<B>, me: &mut Client<B>) -> Answer
+        requires wakes { Wakes self.old Q.call }
+        ensures answer { result ≡ Refused Memory }
+        ensures grows { Grows B.filter me.old (Served Q.call Q.files result) me.new }
+        ensures same { self.new ≡ self.old }
+    {
+        let notes = history.notes();
+        let answer = Answer::Refused(Refusal::Memory);
+        lend_registry(notes, &mut me.token, &mut self.token);
+        note_absent::<Brand, Q>(notes, &mut me.token, &self.registry, &answer);
+        self.token = registry_part(notes, &mut me.token);
+        answer
+    }
+}
+
+fn is_live(stage: Stage) -> bool
+    ensures { IsTrue result ↔ IsLive stage }
+{
+    match stage {
+        Stage::Live { .. } => true,
+        Stage::Unknown | Stage::Removed => false,
+    }
+}
+
+impl<B: Node> Listed<B> {
+    /// The cells.
+    pub fn cells(&self) -> &Cells
+        ensures { result.now ≡ self.now.1 }
+    {
+        &self.cells
+    }
+
+    /// The cell with this id does a step. `None` if it is not there, and then nothing happened.
+    pub fn step(&mut self, history: &History<B>, me: &mut Client<B>, id: u64) -> Option<Did>
+        ensures uid { self.new.0 ≡ self.old.0 }
+        ensures some { IfSome result (λ did. Grows B.filter me.old (Stepped id did) me.new) }
+        ensures none { IfNone result (me.new ≡ me.old) }
+        ensures moves { MayStepIn self.old.1 id result self.new.1 }
+    {
+        let did = self.cells.step(id)?;
+        let notes = history.notes();
+        lend_cells(notes, &mut me.token, &mut self.token);
+        note_stepped::<Brand>(notes, &mut me.token, id, did, &self.cells);
+        self.token = cells_part(notes, &mut me.token);
+        Some(did)
+    }
+
+    /// The reply to a request that lists these cells. `None` for any other request.
+    pub fn tell<Q: Asked>(
+        &mut self,
+        alloc: Global,
+        history: &History<B>,
+        me: &mut Client<B>,
+        request: &Request,
+    ) -> Option<Reply>
+        requires asked { Q.call ≡ request.now.call }
+        requires own { self.old.0 ≡ uid_of request.now.call }
+        ensures number { IfSome result (λ reply. reply.id ≡ request.now.id) }
+        ensures some { IfSome result (λ reply. Grows B.filter me.old
+            (Served request.now.call Q.files reply.answer)
+            me.new) }
+        ensures none { IfNone result (me.new ≡ me.old) }
+        ensures same { self.new ≡ self.old }
+    {
+        let answer = tell_cells(alloc, &request.call, &self.cells)?;
+        let notes = history.notes();
+        lend_cells(notes, &mut me.token, &mut self.token);
+        note_told::<Brand, Q>(notes, &mut me.token, &self.cells, &answer);
+        self.token = cells_part(notes, &mut me.token);
+        Some(Reply {
+            id: request.id,
+            answer,
+        })
+    }
+}

@@ -1,0 +1,172 @@
+//! The table that ties a registry, the cells of sandboxes and their callers to one history.
+use crate::event::{Event, Seen};
+use atomic_table::{Join, Play, Seat, Shared, Split, TableRule};
+use creation::FileAnswers;
+use cri_msgs::Call;
+use manifest::Uid;
+use registry::{Cells, Registry};
+use std::marker::{Brand, PhantomData};
+
+/// A node as a type: its own filter, which confines each of its containers, and the table of its history.
+/// The maker of a runtime picks it, so that what lies under the runtime's locks has this filter and this
+/// table.
+pub trait Node {
+    ghost use Rattle.std.specs.Prelude.{List, Option};
+    ghost use Rattle.bpf_code.specs.declared.insn.Insn.{Insn};
+    ghost use Rattle.atomic_table.specs.Seated.{TableId};
+
+    ghost filter: { Option (List Insn) };
+
+    ghost table: { TableId };
+}
+
+/// No filter and no table, if none is picked.
+impl Node for Brand {
+    ghost use Rattle.std.specs.Prelude.{None};
+    ghost use Rattle.runtime_history.specs.Agreed.{no_table};
+
+    ghost filter = { None };
+
+    ghost table = { no_table };
+}
+
+/// What a token knows: what the registry is, what the cells of one sandbox are, and a beginning of the
+/// history. No value of it is made.
+pub struct View {
+    pub registry: Option<Registry>,
+    pub cells: Option<(Uid, Cells)>,
+    pub seen: Seen,
+}
+
+/// There is one history, and each part of the runtime that it led to is known by one token at most.
+pub struct Agreed;
+
+impl TableRule<(), View, Registry> for Agreed {
+    ghost use Rattle.runtime_history.specs.Agreed.{Kept, keeper};
+
+    ghost holds = { λ registry s. Kept registry.baseline s.views };
+
+    ghost first = { keeper };
+}
+
+/// One event, and what its token knows then but for the history. Each call picks it.
+pub trait Happens {
+    ghost use Rattle.std.specs.Prelude.{List, Option};
+    ghost use Rattle.bpf_code.specs.declared.insn.Insn.{Insn};
+    ghost use Rattle.runtime_history.specs.declared.event.Event.{Event};
+    ghost use Rattle.runtime_history.specs.declared.room.View.{View};
+
+    ghost baseline: { Option (List Insn) };
+
+    ghost event: { Event };
+
+    ghost after: { View };
+}
+
+impl Happens for Brand {
+    ghost use Rattle.std.specs.Prelude.{None};
+    ghost use Rattle.runtime_cell.specs.declared.cell.Did.TheVariants.{Idle};
+    ghost use Rattle.runtime_history.specs.declared.event.Event.TheVariants.{Stepped};
+    ghost use Rattle.runtime_history.specs.Agreed.{nobody};
+
+    ghost baseline = { None };
+
+    ghost event = { Stepped 0 Idle };
+
+    ghost after = { nobody };
+}
+
+/// A call and what its files gave, as a type: both are handed on before the answer is known. Each call
+/// picks it.
+pub trait Asked {
+    ghost use Rattle.cri_msgs.specs.declared.calls.Call.{Call};
+    ghost use Rattle.creation.specs.declared.files.FileAnswers.{FileAnswers};
+
+    ghost call: { Call };
+
+    ghost files: { FileAnswers };
+}
+
+impl Asked for Brand {
+    ghost use Rattle.std.specs.Prelude.{[], None};
+    ghost use Rattle.cri_msgs.specs.declared.calls.Call.TheVariants.{ListContainers};
+
+    ghost call = { ListContainers [] };
+
+    ghost files = { record { script = None; profile = None } };
+}
+
+/// A step at which the event is added to the history.
+pub struct Tells<E> {
+    event: PhantomData<E>,
+}
+
+impl<E: Happens> Play<(), View> for Tells<E> {
+    ghost use Rattle.runtime_history.specs.Agreed.{Told};
+
+    ghost then = { λ _ me _ me'. Told E.baseline E.event E.after me me' };
+}
+
+/// A step at which a new caller comes, who has seen nothing.
+pub struct Comes;
+
+impl Play<(), View> for Comes {
+    ghost use Rattle.std.specs.Prelude.{◌≡◌};
+    ghost use Rattle.runtime_history.specs.Agreed.{nobody};
+
+    ghost then = { λ _ _ _ me'. me'.0 ≡ nobody };
+}
+
+/// All that a token knows goes to another.
+pub struct Whole;
+
+impl Split<View> for Whole {
+    ghost use Rattle.runtime_history.specs.Agreed.{nobody};
+
+    ghost left = { λ _. nobody };
+
+    ghost right = { λ v. v };
+}
+
+/// The registry's part.
+pub struct OfRegistry;
+
+impl Split<View> for OfRegistry {
+    ghost use Rattle.runtime_history.specs.Agreed.{without_registry, registry_of};
+
+    ghost left = { without_registry };
+
+    ghost right = { registry_of };
+}
+
+impl Join<View> for OfRegistry {
+    ghost use Rattle.runtime_history.specs.Agreed.{with_registry, nobody};
+
+    ghost both = { with_registry };
+
+    ghost spent = { nobody };
+}
+
+/// The part of a sandbox's cells.
+pub struct OfCells;
+
+impl Split<View> for OfCells {
+    ghost use Rattle.runtime_history.specs.Agreed.{without_cells, cells_of};
+
+    ghost left = { without_cells };
+
+    ghost right = { cells_of };
+}
+
+impl Join<View> for OfCells {
+    ghost use Rattle.runtime_history.specs.Agreed.{with_cells, nobody};
+
+    ghost both = { with_cells };
+
+    ghost spent = { nobody };
+}
+
+pub type Notes = Shared<(), View, Registry, Agreed>;
+
+/// A token of no bytes: the registry's, that of a sandbox's cells, or a caller's.
+pub type Token = Seat<(), View>;

@@ -1,0 +1,193 @@
+//! Steps of tokens: what each lends, what is added to the history, and what goes back.
+ghost use Rattle.std.specs.Prelude.{◌≡◌, ◌<◌, [], List, map, Some, None};
+ghost use Rattle.runtime_cell.specs.Cell.{Cell};
+ghost use Rattle.cri_msgs.specs.Calls.{uid_of};
+ghost use Rattle.registry.specs.declared.registry.Registry.{Registry};
+ghost use Rattle.registry.specs.declared.stage.Stage.TheVariants.{Unknown};
+ghost use Rattle.registry.specs.Kept.{MayStepIn};
+ghost use Rattle.registry.specs.Runtime.{id_of};
+ghost use Rattle.registry.specs.Serves.{TellsCells};
+ghost use Rattle.registry.specs.Stands.{stages_in};
+ghost use Rattle.runtime_core.specs.Stands.{LendsTo};
+ghost use Rattle.runtime_history.specs.declared.event.Event.TheVariants.{Served, Stepped};
+ghost use Rattle.runtime_history.specs.History.{unseen};
+ghost use Rattle.runtime_history.specs.Sandboxes.{IsLive};
+ghost use Rattle.runtime_history.specs.Agreed.{Told, cells_of, nobody, registry_of, uid_by, view, with_cells};
+ghost use Rattle.runtime_history.specs.Agreed.{with_registry, without_cells, without_registry};
+
+use crate::room::{Asked, Comes, Happens, Notes, OfCells, OfRegistry, Tells, Token, Whole};
+use cri_msgs::Answer;
+use registry::{Cells, Registry};
+use runtime_cell::Did;
+
+/// Lends the registry's part to a caller's token.
+#[tactic(auto, using(crate::proofs::Moves::whole_splits, crate::proofs::Moves::registry_joins))]
+pub(crate) fn lend_registry(notes: &Notes, me: &mut Token, from: &mut Token)
+    requires table { 0 < notes.now.table_id.words }
+    requires me { me.old.table_id ≡ notes.now.table_id }
+    requires from { (from.old.table_id ≡ notes.now.table_id) × (from.old.me.1 ≡ []) }
+    ensures me { (me.new.table_id ≡ me.old.table_id)
+        × (me.new.me ≡ (with_registry me.old.me.0 from.old.me.0, me.old.me.1)) }
+    ensures from { (from.new.table_id ≡ from.old.table_id) × (from.new.me ≡ (nobody, from.old.me.1)) }
+{
+    let part = notes.split_seat::<Whole>(from);
+    notes.join_seat::<OfRegistry>(me, part);
+}
+
+/// Lends the part of a sandbox's cells to a caller's token.
+#[tactic(auto, using(crate::proofs::Moves::whole_splits, crate::proofs::Moves::cells_join))]
+pub(crate) fn lend_cells(notes: &Notes, me: &mut Token, from: &mut Token)
+    requires table { 0 < notes.now.table_id.words }
+    requires me { me.old.table_id ≡ notes.now.table_id }
+    requires from { (from.old.table_id ≡ notes.now.table_id) × (from.old.me.1 ≡ []) }
+    ensures me { (me.new.table_id ≡ me.old.table_id)
+        × (me.new.me ≡ (with_cells me.old.me.0 from.old.me.0, me.old.me.1)) }
+    ensures from { (from.new.table_id ≡ from.old.table_id) × (from.new.me ≡ (nobody, from.old.me.1)) }
+{
+    let part = notes.split_seat::<Whole>(from);
+    notes.join_seat::<OfCells>(me, part);
+}
+
+/// The registry's part of a caller's token, as a token of its own.
+#[tactic(auto, using(crate::proofs::Moves::registry_splits))]
+pub(crate) fn registry_part(notes: &Notes, me: &mut Token) -> Token
+    requires table { 0 < notes.now.table_id.words }
+    requires me { me.old.table_id ≡ notes.now.table_id }
+    ensures me { (me.new.table_id ≡ me.old.table_id)
+        × (me.new.me ≡ (without_registry me.old.me.0, me.old.me.1)) }
+    ensures part { (result.table_id ≡ me.old.table_id) × (result.me ≡ (registry_of me.old.me.0, [])) }
+{
+    notes.split_seat::<OfRegistry>(me)
+}
+
+/// The part of a sandbox's cells of a caller's token, as a token of its own.
+#[tactic(auto, using(crate::proofs::Moves::cells_split))]
+pub(crate) fn cells_part(notes: &Notes, me: &mut Token) -> Token
+    requires table { 0 < notes.now.table_id.words }
+    requires me { me.old.table_id ≡ notes.now.table_id }
+    ensures me { (me.new.table_id ≡ me.old.table_id)
+        × (me.new.me ≡ (without_cells me.old.me.0, me.old.me.1)) }
+    ensures part { (result.table_id ≡ me.old.table_id) × (result.me ≡ (cells_of me.old.me.0, [])) }
+{
+    notes.split_seat::<OfCells>(me)
+}
+
+/// The token of a caller who has seen nothing.
+#[tactic(auto, using(crate::proofs::Moves::comes))]
+pub(crate) fn new_caller(notes: &Notes) -> Token
+    requires { 0 < notes.now.table_id.words }
+    ensures { (result.table_id ≡ notes.now.table_id) × (result.me ≡ (nobody, [])) }
+{
+    let (_, token) = notes.load_new_seat::<Comes>(0);
+    token
+}
+
+/// Adds that a request was served with the cells of its sandbox.
+pub(crate) fn note_served<E: Happens, Q: Asked>(
+    notes: &Notes,
+    me: &mut Token,
+    registry: &Registry,
+    cells: &Cells,
+    answer: &Answer,
+)
+    requires event { (E.baseline ≡ notes.now.key.baseline) × (E.event ≡ Served Q.call Q.files answer.now)
+        × (E.after ≡ view (Some registry.now) (Some (uid_of Q.call, cells.now)) unseen) }
+    requires table { 0 < notes.now.table_id.words }
+    requires me { me.old.table_id ≡ notes.now.table_id }
+    requires lent { (old : Registry) × (before : List Cell)
+        × (me.old.me ≡ (view (Some old) (Some (uid_of Q.call, before)) me.old.me.0.seen, []))
+        × LendsTo old registry.now Q.call Q.files answer.now before cells.now }
+    ensures table { me.new.table_id ≡ me.old.table_id }
+    ensures told { Told notes.now.key.baseline (Served Q.call Q.files answer.now)
+        (view (Some registry.now) (Some (uid_of Q.call, cells.now)) unseen) me.old.me me.new.me }
+{
+    notes.load::<Tells<E>>(me, 0);
+}
+
+/// Adds that a request was served which names no sandbox that is there.
+pub(crate) fn note_absent<E: Happens, Q: Asked>(
+    notes: &Notes,
+    me: &mut Token,
+    registry: &Registry,
+    answer: &Answer,
+)
+    requires event { (E.baseline ≡ notes.now.key.baseline) × (E.event ≡ Served Q.call Q.files answer.now)
+        × (E.after ≡ view (Some registry.now) None unseen) }
+    requires table { 0 < notes.now.table_id.words }
+    requires me { me.old.table_id ≡ notes.now.table_id }
+    requires lent { (old : Registry) × (behind : List Cell)
+        × (me.old.me ≡ (view (Some old) None me.old.me.0.seen, []))
+        × LendsTo old registry.now Q.call Q.files answer.now [] behind
+        × (IsLive (stages_in old (uid_of Q.call)) → ⊥)
+        × (IsLive (stages_in registry.now (uid_of Q.call)) → ⊥) }
+    ensures table { me.new.table_id ≡ me.old.table_id }
+    ensures told { Told notes.now.key.baseline (Served Q.call Q.files answer.now)
+        (view (Some registry.now) None unseen) me.old.me me.new.me }
+{
+    notes.load::<Tells<E>>(me, 0);
+}
+
+/// Adds that a request was served which made its sandbox. The caller's token then has the part of its cells.
+pub(crate) fn note_new<E: Happens, Q: Asked>(
+    notes: &Notes,
+    me: &mut Token,
+    registry: &Registry,
+    cells: &Cells,
+    answer: &Answer,
+)
+    requires event { (E.baseline ≡ notes.now.key.baseline) × (E.event ≡ Served Q.call Q.files answer.now)
+        × (E.after ≡ view (Some registry.now) (Some (uid_of Q.call, cells.now)) unseen) }
+    requires table { 0 < notes.now.table_id.words }
+    requires me { me.old.table_id ≡ notes.now.table_id }
+    requires lent { (old : Registry) × (me.old.me ≡ (view (Some old) None me.old.me.0.seen, []))
+        × LendsTo old registry.now Q.call Q.files answer.now [] cells.now
+        × (stages_in old (uid_of Q.call) ≡ Unknown)
+        × IsLive (stages_in registry.now (uid_of Q.call)) }
+    ensures table { me.new.table_id ≡ me.old.table_id }
+    ensures told { Told notes.now.key.baseline (Served Q.call Q.files answer.now)
+        (view (Some registry.now) (Some (uid_of Q.call, cells.now)) unseen) me.old.me me.new.me }
+{
+    notes.load::<Tells<E>>(me, 0);
+}
+
+/// Adds that the cells of a sandbox were told.
+pub(crate) fn note_told<E: Happens, Q: Asked>(
+    notes: &Notes,
+    me: &mut Token,
+    cells: &Cells,
+    answer: &Answer,
+)
+    requires event { (E.baseline ≡ notes.now.key.baseline) × (E.event ≡ Served Q.call Q.files answer.now)
+        × (E.after ≡ view None (Some (uid_of Q.call, cells.now)) unseen) }
+    requires table { 0 < notes.now.table_id.words }
+    requires me { (me.old.table_id ≡ notes.now.table_id)
+        × (me.old.me ≡ (view None (Some (uid_of Q.call, cells.now)) me.old.me.0.seen, [])) }
+    requires told { TellsCells Q.call cells.now answer.now }
+    ensures table { me.new.table_id ≡ me.old.table_id }
+    ensures told { Told notes.now.key.baseline (Served Q.call Q.files answer.now)
+        (view None (Some (uid_of Q.call, cells.now)) unseen) me.old.me me.new.me }
+{
+    notes.load::<Tells<E>>(me, 0);
+}
+
+/// Adds that the cell with this id did a step.
+pub(crate) fn note_stepped<E: Happens>(
+    notes: &Notes,
+    me: &mut Token,
+    id: u64,
+    did: Did,
+    cells: &Cells,
+)
+    requires event { (E.baseline ≡ notes.now.key.baseline) × (E.event ≡ Stepped id did)
+        × (E.after ≡ view None (Some (uid_by me.old.me.0.cells, cells.now)) unseen) }
+    requires table { 0 < notes.now.table_id.words }
+    requires me { me.old.table_id ≡ notes.now.table_id }
+    requires lent { (before : List Cell)
+        × (me.old.me ≡ (view None (Some (uid_by me.old.me.0.cells, before)) me.old.me.0.seen, []))
+        × MayStepIn before id (Some did) cells.now × (map id_of cells.now ≡ map id_of before) }
+    ensures table { me.new.table_id ≡ me.old.table_id }
+    ensures told { Told notes.now.key.baseline (Stepped id did)
+        (view None (Some (uid_by me.old.me.0.cells, cells.now)) unseen) me.old.me me.new.me }
+{
+    notes.load::<Tells<E>>(me, 0);
+}

@@ -1,0 +1,140 @@
+-- What is kept beside a node's book of its entries: this project's own. docs/SEMANTICS.md, "Why a container
+-- waits" and "What changes".
+use Rattle.std.specs.Prelude.{◌≡◌, ◌⊎◌, ℕ, ◌<◌, ◌++◌, Bool, true, false, List, [], ◌∷◌, length, Option}
+use Rattle.std.specs.Prelude.{Some, None, option_map}
+use Rattle.std.specs.Global.{Global}
+use Rattle.std.specs.String.{string_bytes}
+use Rattle.std.specs.declared.string.String.{String}
+use Rattle.cri_msgs.specs.declared.calls.Call.{Call}
+use Rattle.cri_msgs.specs.declared.refusals.Refusal.{Refusal}
+use Rattle.cri_msgs.specs.declared.replies.Answer.{Answer}
+use Rattle.cri_msgs.specs.declared.replies.Answer.TheVariants as answer
+use Rattle.cri_msgs.specs.Calls.{uid_of}
+use Rattle.lifecycle.specs.BackOff.{later}
+use Rattle.node_watch.specs.declared.forms.Form.{Form}
+use Rattle.node_watch.specs.declared.reasons.Reason.{Reason}
+use Rattle.node_watch.specs.declared.reasons.Trouble.{Trouble}
+use Rattle.node_watch.specs.declared.reasons.Trouble.TheVariants as trouble
+use Rattle.node_watch.specs.declared.seen.PodSeen.{PodSeen}
+use Rattle.node_watch.specs.Changes.{gone_line, pod_changes}
+use Rattle.node_watch.specs.Reasons.{noted}
+use Rattle.node_watch.specs.Seen.{containers_seen}
+use Rattle.worker_pod.specs.Next.{phase_in}
+use Rattle.worker_core.specs.declared.answers.Answer as core_answer
+use Rattle.worker_core.specs.declared.answers.Answer.TheVariants as core
+use Rattle.worker_core.specs.declared.events.AgentEvent.{AgentEvent}
+use Rattle.worker_core.specs.declared.events.AgentEvent.TheVariants.{Admit, Report, Tick}
+use Rattle.worker_core.specs.declared.events.Reported.{Reported}
+use Rattle.worker_core.specs.declared.events.Reported.TheVariants.{Replied, Lost}
+use Rattle.worker_core.specs.declared.slots.Slot.{Slot}
+use Rattle.worker_core.specs.Kept.{KeptNode}
+use Rattle.worker_core.specs.Slots.{claim_of, slot_of}
+use Rattle.worker_crew.specs.declared.observer.Observed.{Observed}
+use Rattle.worker_crew.specs.declared.observer.Observed.TheVariants.{Nothing, Reasons, Changes}
+use Rattle.worker_crew.specs.declared.observer.TheConstants.{MAX_CHANGES}
+
+pub record Beside : Type 0 where
+  pub observed : Observed
+  -- why containers wait
+  pub reasons : List Reason
+  -- the lines of changes that were not printed yet
+  pub lines : List (String Global)
+  -- how many lines were left out after them
+  pub left_out : ℕ
+
+-- the refusal that a report brings
+abbrev pub refusal_in : Answer → Option Refusal
+refusal_in (answer.Refused refusal) = Some refusal
+refusal_in other = None
+
+abbrev pub refusal_told : Reported → Option Refusal
+refusal_told (Replied reply) = refusal_in reply.answer
+refusal_told Lost = None
+
+abbrev pub refusal_by : AgentEvent → Option Refusal
+refusal_by (Report worker told) = refusal_told told
+refusal_by event = None
+
+abbrev pub lost_trouble : Option Bool → Option Trouble
+lost_trouble (Some true) = Some trouble.Lost
+lost_trouble (Some false) = None
+lost_trouble None = None
+
+abbrev pub trouble_by : Option Refusal → Option Bool → Option Trouble
+trouble_by (Some refusal) lost = Some (trouble.Refused refusal)
+trouble_by None lost = lost_trouble lost
+
+-- Why a claim came to nothing, if it did, by the event that ended it and by what the node keeps of the pod: a
+-- refusal; or a call that was lost, which no reply that counts has followed.
+abbrev pub trouble_of : AgentEvent → Option Slot → Option Trouble
+trouble_of event slot = trouble_by (refusal_by event) (option_map (λ s. s.state.lost) slot)
+
+-- how the pod in a slot is seen
+abbrev pub IsSeen : Slot → PodSeen → Type 0
+IsSeen slot seen = (seen.uid ≡ slot.state.pod.uid) × (seen.phase ≡ phase_in slot.state)
+    × (seen.containers.items
+    ≡ containers_seen slot.state.pod.policy slot.state.pod.containers.all slot.state.tracks)
+
+-- what changed of the pod of a uid, which is in this slot now and was seen so before
+abbrev pub IsChange : Form → ℕ → List ℕ → Option Slot → Option PodSeen → List ℕ → Type 0
+IsChange form moment uid None was text = text ≡ gone_line form moment uid
+IsChange form moment uid (Some slot) was text = (now : PodSeen) × IsSeen slot now
+    × (text ≡ pod_changes form moment was now)
+
+-- Nothing else changed but the lines: this text came behind them, if there is one, or it was left out and is
+-- counted, for want of a place or of memory.
+pub record Adds (IsText : List ℕ → Type 0) (old new : Beside) : Type 0 where
+  pub observed : new.observed ≡ old.observed
+  pub reasons : new.reasons ≡ old.reasons
+  pub lines :
+      (IsText [] × (new.lines ≡ old.lines) × (new.left_out ≡ old.left_out))
+      ⊎ (((line : String Global) × IsText (string_bytes line) × (new.lines ≡ old.lines ++ line ∷ [])
+      × (length old.lines < MAX_CHANGES) × (new.left_out ≡ old.left_out))
+      ⊎ ((new.lines ≡ old.lines) × (new.left_out ≡ later old.left_out 1)))
+
+-- what is known before the end of a claim: the call, and how its pod is seen, where changes are kept
+abbrev pub IsSeenBefore : Observed → Option Slot → Option PodSeen → Type 0
+IsSeenBefore (Changes form) (Some slot) (Some seen) = IsSeen slot seen
+IsSeenBefore (Changes form) (Some slot) None = ⊥
+IsSeenBefore observed slot seen = seen ≡ None
+
+pub record IsBefore (observed : Observed) (node : KeptNode) (worker : ℕ) (call : Call)
+    (seen : Option PodSeen) : Type 0 where
+  pub claimed : option_map (λ request. request.call) (claim_of worker node.slots) ≡ Some call
+  pub pod : IsSeenBefore observed (slot_of (uid_of call) node.slots) seen
+
+-- the reasons are those behind this end of a call, or memory ran out, and they are as they were
+pub record Notes (noted : List Reason) (old new : Beside) : Type 0 where
+  pub observed : new.observed ≡ old.observed
+  pub lines : new.lines ≡ old.lines
+  pub left_out : new.left_out ≡ old.left_out
+  pub reasons : (new.reasons ≡ noted) ⊎ (new.reasons ≡ old.reasons)
+
+-- the end of a claim, at this moment, by an entry with this event, which left the node so
+abbrev pub Ends : Observed → ℕ → KeptNode → AgentEvent → Call → Option PodSeen → Beside → Beside → Type 0
+Ends Nothing moment node event call seen old new = new ≡ old
+Ends Reasons moment node event call seen old new =
+    Notes (noted moment call (trouble_of event (slot_of (uid_of call) node.slots)) old.reasons) old new
+Ends (Changes form) moment node event call seen old new =
+    Adds (IsChange form moment (uid_of call) (slot_of (uid_of call) node.slots) seen) old new
+
+-- the admission of a pod
+abbrev pub IsFirst : Form → ℕ → Option Slot → List ℕ → Type 0
+IsFirst form moment None text = ⊥
+IsFirst form moment (Some slot) text = (now : PodSeen) × IsSeen slot now
+    × (text ≡ pod_changes form moment None now)
+
+abbrev pub Admits : Observed → ℕ → Option Slot → Beside → Beside → Type 0
+Admits (Changes form) moment (Some slot) old new = Adds (IsFirst form moment (Some slot)) old new
+Admits observed moment slot old new = new ≡ old
+
+-- what worker 0 did: the admission of a pod is a change
+abbrev pub Observes : Observed → ℕ → KeptNode → AgentEvent → core_answer.Answer → Beside → Beside → Type 0
+Observes observed moment node (Admit pod) core.Done old new =
+    Admits observed moment (slot_of pod.uid node.slots) old new
+Observes observed moment node event answer old new = new ≡ old
+
+-- the number of the last entry that advanced the time
+abbrev pub ticked_by : AgentEvent → ℕ → ℕ → ℕ
+ticked_by (Tick now) number before = number
+ticked_by event number before = before
