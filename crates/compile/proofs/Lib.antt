@@ -12,6 +12,7 @@ pub mod Weights
 pub mod Assembled
 pub mod Finding
 mod Gathering
+mod Hiding
 mod Settling
 mod Bits
 mod Restricting

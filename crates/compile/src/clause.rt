@@ -21,7 +21,7 @@ pub(crate) enum Literal {
 }
 
 /// Holds if one of the two literals does.
-#[derive(Clone, Copy)]
+#[derive(Clone, Copy, PartialEq, Eq)]
 pub(crate) struct Clause {
     pub(crate) one: Literal,
     pub(crate) other: Literal,

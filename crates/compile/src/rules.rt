@@ -206,7 +206,21 @@ pub(crate) fn is_void(clauses: &[Clause]) -> bool
     false
 }
 
-/// Adds an entry as a rule if it names the number, unless its conditions never hold.
+/// Whether one of the rules has just these clauses, so that a later rule with them is never reached.
+fn is_hidden(rules: &[Rule], clauses: &[Clause]) -> bool
+    ensures { IsTrue result → (call : SysCall) (one other : ℕ) → clauses_hold clauses.now call ≡ true
+        → first_value rules.now one call ≡ first_value rules.now other call }
+{
+    for rule in rules {
+        if rule.clauses.as_slice() == clauses {
+            return true;
+        }
+    }
+    false
+}
+
+/// Adds an entry as a rule if it names the number, unless it decides nothing: its conditions never hold, or
+/// an entry before it has the same.
 fn add_named(rules: &mut Vec<Rule>, alloc: Global, entry: &Entry, nr: u32) -> Result<(), AllocError>
     ensures holds { OnOk result ((call : SysCall) (other : ℕ) → IsCall call
         → first_value rules.new.items other call ≡ first_value rules.old.items
@@ -222,6 +236,9 @@ fn add_named(rules: &mut Vec<Rule>, alloc: Global, entry: &Entry, nr: u32) -> Re
     }
     let clauses = clauses_of(alloc, entry.conds.as_slice())?;
     if is_void(clauses.as_slice()) {
+        return Ok(());
+    }
+    if is_hidden(rules.as_slice(), clauses.as_slice()) {
         return Ok(());
     }
     rules.push(Rule {

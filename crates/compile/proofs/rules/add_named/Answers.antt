@@ -1,9 +1,10 @@
-use Rattle.std.proofs.Common.{◌≡◌, ◌∷◌, ◌&&◌, [], List, ap, sym, ◌∙◌, cond, length, arith, true, false, refl}
+use Rattle.std.proofs.Common.{◌≡◌, ℕ, ◌∷◌, ◌&&◌, [], List, ap, sym, ◌∙◌, cond, length, arith, true, false, refl}
 use Rattle.oci_profile.specs.Decision.{value_of}
 use Rattle.oci_profile.specs.Meaning.{all_hold, names}
 use Rattle.compile.specs.declared.residual.Rule.{Rule}
 use Rattle.compile.specs.Residuals.{clauses_hold, first_value}
 use Rattle.compile.specs.Rooms.{size_of_rules}
+use Rattle.compile.proofs.Hiding.{hidden_adds}
 use Rattle.compile.proofs.Restricting.{first_append}
 use Rattle.compile.proofs.Saying.{entry_says, size_of_pushed}
 use Rattle.compile.proofs.rules.add_named.Goals as goal
@@ -17,6 +18,22 @@ returns-then-is_void-clause-holds c = λ call other is_call.
     let named : names c.args.entry.now c.args.nr ≡ true = sym c.names.ensures ∙ c.if-not-names.false in
     ap (λ b. first_value c.args.rules.now.items (cond b (value_of c.args.entry.now.decision) other) call)
     (sym (ap (λ b. b && all_hold c.args.entry.now call) named ∙ never))
+
+pub returns-then-is_hidden-clause-holds : goal.returns-then-is_hidden-clause-holds
+returns-then-is_hidden-clause-holds c = λ call other is_call.
+    let old : List Rule = c.args.rules.now.items in
+    let value : ℕ = value_of c.args.entry.now.decision in
+    let named : names c.args.entry.now c.args.nr ≡ true = sym c.names.ensures ∙ c.if-not-names.false in
+    let said = ap (λ cs. clauses_hold cs call) c.as_slice-4.ensures.value
+    ∙ entry_says c.args.entry.now c.as_slice.result.now c.in_ok-clauses.clauses.items _ call
+    c.as_slice.ensures.value c.in_ok-clauses.ensures is_call in
+    ap (λ rs. first_value rs other call) (sym c.as_slice-3.ensures.value)
+    ∙ hidden_adds c.as_slice-3.result.now value other call (clauses_hold c.as_slice-4.result.now call)
+    (λ holds one another. c.is_hidden.ensures c.if-is_hidden.true call one another holds)
+    ∙ ap (λ rs. first_value rs (cond (clauses_hold c.as_slice-4.result.now call) value other) call)
+    c.as_slice-3.ensures.value
+    ∙ ap (λ b. first_value old (cond b value other) call) said
+    ∙ ap (λ b. first_value old (cond (b && all_hold c.args.entry.now call) value other) call) (sym named)
 
 pub returns-clause-holds : goal.returns-clause-holds
 returns-clause-holds c = λ call other is_call.
