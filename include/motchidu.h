@@ -74,7 +74,7 @@ enum motchidu_status {
     MOTCHIDU_SAME = 30,           /* both filters return the same value on every call that was asked about */
     MOTCHIDU_DIFFER = 31,         /* on one of those calls they return different values */
     MOTCHIDU_BUDGET = 32,         /* undecided: it takes more instructions than the budget allows */
-    MOTCHIDU_ARITHMETIC = 33      /* undecided: a filter computes with what it loaded, other than by masks */
+    MOTCHIDU_ARITHMETIC = 33      /* undecided: a filter computes with loaded data, other than by masks */
 };
 
 /*

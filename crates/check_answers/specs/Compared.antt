@@ -30,8 +30,8 @@ difference_text d =
     ++ (value_text d.first ++ (codes ", " ++ value_text d.second))))))))))))))))))))
 
 abbrev pub reason_of : Doubt → List ℕ
-reason_of Budget = codes "there are too many ways through them"
-reason_of Arithmetic = codes "one computes with what it loaded"
+reason_of Budget = codes "they have too many paths"
+reason_of Arithmetic = codes "one of them computes with loaded data"
 
 abbrev pub same_text : Scope → List ℕ
 same_text EveryCall = codes "same on every call\n"

@@ -62,8 +62,8 @@ pub fn reason(doubt: Doubt) -> &'static str
     ensures { result.now ≡ reason_of doubt }
 {
     match doubt {
-        Doubt::Budget => "there are too many ways through them",
-        Doubt::Arithmetic => "one computes with what it loaded",
+        Doubt::Budget => "they have too many paths",
+        Doubt::Arithmetic => "one of them computes with loaded data",
     }
 }
 

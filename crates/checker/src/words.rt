@@ -16,24 +16,26 @@ pub(crate) const PROGRAM: &str = "seccheck";
 pub(crate) fn command<'a>(alloc: Global) -> Result<Command<'a>, AllocError> {
     Command::new(alloc, PROGRAM)
         .version(VERSION)
-        .about("Compiles and explains seccomp profiles, looks at filters, and runs them")
+        .about(
+            "Compile, check and explain seccomp profiles, and verify, compare and run their filters",
+        )
         .subcommand_required(true)
         .subcommand(compile(alloc)?)?
         .subcommand(Command::new(alloc, "default").about(
-            "Prints the profile that RuntimeDefault is, as JSON",
+            "Print the RuntimeDefault profile as JSON",
         ))?
         .subcommand(lint(alloc)?)?
         .subcommand(resolve(alloc)?)?
-        .subcommand(of_filter(alloc, "verify", "Says whether a filter is sound")?)?
+        .subcommand(of_filter(alloc, "verify", "Check whether a filter is sound")?)?
         .subcommand(of_filter(
             alloc,
             "budget",
-            "Says how many instructions a run of a filter takes at most",
+            "Print how many instructions a run of a filter executes at most",
         )?)?
         .subcommand(of_filter(
             alloc,
             "show",
-            "Prints the instructions of a filter, sound or not",
+            "Print the instructions of a filter, sound or not",
         )?)?
         .subcommand(run(alloc)?)?
         .subcommand(explain(alloc)?)?
@@ -44,45 +46,45 @@ pub(crate) fn command<'a>(alloc: Global) -> Result<Command<'a>, AllocError> {
 
 fn compile<'a>(alloc: Global) -> Result<Command<'a>, AllocError> {
     Command::new(alloc, "compile")
-        .about("Compiles a seccomp profile to a filter")
-        .arg(given(
-            alloc,
-            "PROFILE",
-            "a profile, the JSON of OCI's linux.seccomp",
-        ))?
-        .arg(given(alloc, "OUT", "the filter file to write"))?
+        .about("Compile a seccomp profile to a filter")
+        .arg(given(alloc, "PROFILE", "Profile, the JSON of OCI's linux.seccomp"))?
+        .arg(given(alloc, "OUT", "Filter file to write"))?
         .arg(json(alloc))
 }
 
 fn lint<'a>(alloc: Global) -> Result<Command<'a>, AllocError> {
     Command::new(alloc, "lint")
-        .about("Says what of a seccomp profile decides nothing, or may not be meant")
-        .arg(given(alloc, "PROFILE", "a profile"))?
+        .about("Report entries of a profile that have no effect or are probably mistakes")
+        .arg(given(alloc, "PROFILE", "Profile"))?
         .arg(json(alloc))
 }
 
 fn resolve<'a>(alloc: Global) -> Result<Command<'a>, AllocError> {
     Command::new(alloc, "resolve")
-        .about("Prints the plain profile that a template of container engines comes to")
+        .about("Turn a template of Docker or podman into a plain profile")
         .arg(given(
             alloc,
             "TEMPLATE",
-            "a template, as Docker and podman keep theirs",
+            "Template, such as Docker's or podman's default profile",
         ))?
-        .arg(option(alloc, "cap", "CAP", "a capability of the container").action(
-            ArgAction::Append,
-        ))?
+        .arg(option(
+            alloc,
+            "cap",
+            "CAP",
+            "Capability of the container; may be repeated",
+        )
+        .action(ArgAction::Append))?
         .arg(option(
             alloc,
             "arch",
             "ARCH",
-            "its architecture, amd64 where none is named",
+            "Architecture of the container; amd64 if absent",
         ))?
         .arg(option(
             alloc,
             "kernel",
             "V",
-            "the kernel's version, the newest where none is named",
+            "Version of the kernel; the newest if absent",
         ))
 }
 
@@ -94,7 +96,7 @@ fn of_filter<'a>(
 ) -> Result<Command<'a>, AllocError> {
     Command::new(alloc, name)
         .about(about)
-        .arg(given(alloc, "FILTER", "a filter file"))?
+        .arg(given(alloc, "FILTER", "Filter file"))?
         .arg(json(alloc))
 }
 
@@ -102,8 +104,8 @@ fn run<'a>(alloc: Global) -> Result<Command<'a>, AllocError> {
     of_call(
         alloc,
         Command::new(alloc, "run")
-            .about("Runs a filter on a call")
-            .arg(given(alloc, "FILTER", "a filter file"))?,
+            .about("Run a filter on a call")
+            .arg(given(alloc, "FILTER", "Filter file"))?,
     )
 }
 
@@ -111,67 +113,67 @@ fn explain<'a>(alloc: Global) -> Result<Command<'a>, AllocError> {
     of_call(
         alloc,
         Command::new(alloc, "explain")
-            .about("Says which entry of a profile decides a call, and why none before does")
-            .arg(given(alloc, "PROFILE", "a profile"))?,
+            .about("Print the entry of a profile that decides a call, and why no earlier one does")
+            .arg(given(alloc, "PROFILE", "Profile"))?,
     )
 }
 
 /// The words of a call.
 fn of_call<'a>(alloc: Global, command: Command<'a>) -> Result<Command<'a>, AllocError> {
     command
-        .arg(given(alloc, "CALL", "the call's number or name"))?
+        .arg(given(alloc, "CALL", "Number or name of the call"))?
         .arg(
             Arg::new(alloc, "ARG")
                 .num_args(0..=6)
-                .help("its arguments, the rest are 0"),
+                .help("Arguments of the call; missing ones are 0"),
         )?
-        .arg(option(alloc, "arch", "A", "its architecture"))?
-        .arg(option(alloc, "ip", "I", "its instruction pointer"))?
+        .arg(option(alloc, "arch", "A", "Architecture of the call"))?
+        .arg(option(alloc, "ip", "I", "Instruction pointer of the call"))?
         .arg(json(alloc))
 }
 
 fn compare<'a>(alloc: Global) -> Result<Command<'a>, AllocError> {
     Command::new(alloc, "compare")
-        .about("Says whether two filters, or profiles, are the same on every call")
-        .arg(given(alloc, "A", "a filter file or a profile"))?
-        .arg(given(alloc, "B", "another one"))?
+        .about("Check whether two filters or profiles return the same on every call")
+        .arg(given(alloc, "A", "Filter file or profile"))?
+        .arg(given(alloc, "B", "Filter file or profile to compare with"))?
         .arg(
             Arg::new(alloc, "native")
                 .long("native")
                 .action(ArgAction::SetTrue)
-                .help("asks of the calls of x86-64 alone, without those of x32"),
+                .help("Compare the calls of x86-64 only, without those of x32"),
         )?
         .arg(json(alloc))
 }
 
 fn play<'a>(alloc: Global) -> Result<Command<'a>, AllocError> {
     Command::new(alloc, "play")
-        .about("Plays a container's script under filters, and prints its record")
-        .arg(given(alloc, "SCRIPT", "a script file"))?
+        .about("Play a container's script under filters and print its record")
+        .arg(given(alloc, "SCRIPT", "Script file"))?
         .arg(
             Arg::new(alloc, "FILTER")
                 .num_args(0..)
-                .help("filter files, the oldest one first"),
+                .help("Filter files, the oldest first"),
         )?
-        .arg(option(alloc, "attempt", "K", "which attempt it is, from 0"))?
+        .arg(option(alloc, "attempt", "K", "Attempt of the container, from 0"))?
         .arg(
             Arg::new(alloc, "names")
                 .long("names")
                 .action(ArgAction::SetTrue)
-                .help("tells calls by their names"),
+                .help("Print the names of calls, not their numbers"),
         )?
         .arg(json(alloc))
 }
 
 fn pick<'a>(alloc: Global) -> Result<Command<'a>, AllocError> {
     Command::new(alloc, "pick")
-        .about("Says which seccomp profile each container of a pod gets")
-        .arg(given(alloc, "MANIFEST", "a pod's manifest, in JSON"))?
+        .about("Print the seccomp profile of each container of a pod")
+        .arg(given(alloc, "MANIFEST", "Manifest of a pod, as JSON"))?
         .arg(
             Arg::new(alloc, "seccomp-default")
                 .long("seccomp-default")
                 .action(ArgAction::SetTrue)
-                .help("on a node whose seccomp default is on"),
+                .help("Assume a node whose seccomp default is on"),
         )?
         .arg(json(alloc))
 }
@@ -181,7 +183,7 @@ fn json<'a>(alloc: Global) -> Arg<'a> {
     Arg::new(alloc, "json")
         .long("json")
         .action(ArgAction::SetTrue)
-        .help("prints the answer as a JSON object a line")
+        .help("Print the answer as JSON, one object per line")
 }
 
 /// A word that has to be there.

@@ -105,7 +105,7 @@ fn nodeagent<'a>(alloc: Global) -> Result<Command<'a>, AllocError>
     ensures { IfOk result (λ c. app_of c ≡ nodeagent) }
 {
     let command = versioned(alloc, "nodeagent").about(
-        "Runs pods in the containers of a runtime behind a socket, and prints what became of them",
+        "Run pods on a runtime behind a Unix socket, and print their states",
     );
     running(alloc, command)
 }
@@ -132,13 +132,13 @@ fn choosing<'a>(alloc: Global, command: Command<'a>) -> Result<Command<'a>, Allo
         alloc,
         command,
         "with-runtime",
-        "runs the runtime in this process too, with four runners",
+        "Run the runtime in this process too, with four runners",
     )?;
     with_flag(
         alloc,
         command,
         "seccomp-default",
-        "a container that names no profile gets RuntimeDefault",
+        "Use RuntimeDefault for containers that name no profile",
     )
 }
 
@@ -149,9 +149,9 @@ fn naming<'a>(alloc: Global, command: Command<'a>) -> Result<Command<'a>, AllocE
         alloc,
         command,
         "verbose",
-        "tells each event on standard error",
+        "Log each event on standard error",
     )?;
-    with_words(alloc, command, "MANIFEST", "the pods' manifests, in JSON")
+    with_words(alloc, command, "MANIFEST", "Manifests of pods, as JSON")
 }
 
 fn settling<'a>(alloc: Global, command: Command<'a>) -> Result<Command<'a>, AllocError>
@@ -162,20 +162,20 @@ fn settling<'a>(alloc: Global, command: Command<'a>) -> Result<Command<'a>, Allo
         command,
         "workers",
         "N",
-        "how many threads make the pods' requests, 1 to 64 [default: 4]",
+        "Number of threads that make the pods' requests, 1 to 64 [default: 4]",
     )?;
     let command = with_flag(
         alloc,
         command,
         "settle",
-        "uses a virtual clock instead of waiting, and ends once every pod is over",
+        "Use a virtual clock instead of waiting, and end once every pod is over",
     )?;
     with_option(
         alloc,
         command,
         "until",
         "S",
-        "the last moment, in seconds from the start [default with --settle: 3600]",
+        "End after this many seconds [default with --settle: 3600]",
     )
 }
 
@@ -187,14 +187,14 @@ fn speaking<'a>(alloc: Global, command: Command<'a>) -> Result<Command<'a>, Allo
         command,
         "cri",
         "N",
-        "the version of the messages to the runtime, 1 or 2 [default: 2]",
+        "Version of the messages to the runtime, 1 or 2 [default: 2]",
     )?;
     with_option(
         alloc,
         command,
         "history",
         "N",
-        "how many entries a part of the history has, 1024 to 1048576 [default: 65536]",
+        "Number of entries in a part of the history, 1024 to 1048576 [default: 65536]",
     )
 }
 
@@ -206,14 +206,14 @@ fn coming<'a>(alloc: Global, command: Command<'a>) -> Result<Command<'a>, AllocE
         command,
         "pods",
         "DIR",
-        "a folder whose manifests, *.json, come and go with their files",
+        "Run the pods of this folder: manifests, *.json, may come and go while the agent runs",
     )?;
     let command = with_option(
         alloc,
         command,
         "run",
         "NAME",
-        "what the uids end with that no manifest gives, behind a dot",
+        "Suffix of generated pod uids, after a dot",
     )?;
     with_option(
         alloc,
@@ -231,15 +231,20 @@ fn ending<'a>(alloc: Global, command: Command<'a>) -> Result<Command<'a>, AllocE
         alloc,
         command,
         "remove",
-        "with --settle: takes the pods away from the runtime at the end",
+        "Remove the pods from the runtime at the end (with --settle)",
     )?;
     let command = with_flag(
         alloc,
         command,
         "reasons",
-        "with --settle: tells beside each container that is not over why it waits",
+        "Print why each unfinished container waits (with --settle)",
     )?;
-    with_flag(alloc, command, "fail", "Exit with 1 if a pod is Failed")
+    with_flag(
+        alloc,
+        command,
+        "fail",
+        "Exit with 1 if a pod is Failed (with --settle)",
+    )
 }
 
 fn telling<'a>(alloc: Global, command: Command<'a>) -> Result<Command<'a>, AllocError>
@@ -249,13 +254,13 @@ fn telling<'a>(alloc: Global, command: Command<'a>) -> Result<Command<'a>, Alloc
         alloc,
         command,
         "watch",
-        "without --settle: prints each change of a pod or a container",
+        "Print each change of a pod or container (without --settle)",
     )?;
     with_flag(
         alloc,
         command,
         "json",
-        "prints the table, or the changes, as a JSON object a line",
+        "Print the table, or the changes, as JSON, one object per line",
     )
 }
 

@@ -57,7 +57,7 @@ fn scriptd<'a>(alloc: Global) -> Result<Command<'a>, AllocError>
     ensures { IfOk result (λ c. app_of c ≡ scriptd) }
 {
     let command = versioned(alloc, "scriptd").about(
-        "Runs containers, which are scripts, behind a socket that takes CRI calls",
+        "Run a simulated container runtime: serve CRI calls on a Unix socket, and play scripts as containers",
     );
     stepping(alloc, serving(alloc, command)?)
 }
@@ -70,13 +70,13 @@ fn stepping<'a>(alloc: Global, command: Command<'a>) -> Result<Command<'a>, Allo
         command,
         "runners",
         "N",
-        "how many threads step the containers, 1 to 64 [default: 4]",
+        "Number of threads that step containers, 1 to 64 [default: 4]",
     )?;
     with_flag(
         alloc,
         command,
         "verbose",
-        "tells each event on standard error",
+        "Log each event on standard error",
     )
 }
 
@@ -84,14 +84,14 @@ fn stepping<'a>(alloc: Global, command: Command<'a>) -> Result<Command<'a>, Allo
 pub(crate) fn serving<'a>(alloc: Global, command: Command<'a>) -> Result<Command<'a>, AllocError>
     ensures { IfOk result (λ c. app_of c ≡ serving (app_of command.entry)) }
 {
-    let command = with_required(alloc, command, "socket", "PATH", "the path of the socket")?;
+    let command = with_required(alloc, command, "socket", "PATH", "Path of the socket")?;
     let command = folders(alloc, command)?;
     with_option(
         alloc,
         command,
         "baseline",
         "FILTER",
-        "a filter file that confines each container of the node",
+        "Filter file that confines every container of the node",
     )
 }
 
@@ -103,14 +103,14 @@ fn folders<'a>(alloc: Global, command: Command<'a>) -> Result<Command<'a>, Alloc
         command,
         "scripts",
         "DIR",
-        "the folder of the containers' scripts [default: .]",
+        "Folder of the containers' scripts [default: .]",
     )?;
     with_option(
         alloc,
         command,
         "profiles",
         "DIR",
-        "the folder of the seccomp profiles [default: .]",
+        "Folder of the seccomp profiles [default: .]",
     )
 }
 

@@ -45,7 +45,7 @@ kind_of _ = kind.Placed
 
 -- behind the fault of a text that is no JSON
 abbrev pub yaml_text : Bool → List ℕ
-yaml_text true = codes " (JSON is wanted, and no YAML)"
+yaml_text true = codes " (this looks like YAML; only JSON is read)"
 yaml_text false = []
 
 -- where it ceases to be JSON

@@ -70,7 +70,7 @@ pub enum Status {
     Differ = 31,
     /// Comparing them takes more instructions than were to be followed.
     Budget = 32,
-    /// They were not compared to the end: one computes with what it loaded, other than by masks.
+    /// They were not compared to the end: one of them computes with loaded data, other than by masks.
     Arithmetic = 33,
 }
 

@@ -28,7 +28,7 @@ ignored_object place field reason = codes "{\"place\":" ++ (compact_text (string
 abbrev pub told_object : Told → List ℕ
 told_object (Ignored holder key) = ignored_object (holder_text holder ++ key_text key) key (words_of key)
 told_object OtherArchitectures = ignored_object (codes "architectures") (codes "architectures")
-    (codes "x86-64 is none of them, and calls of no other are decided")
+    (codes "x86-64 is not among them, and only its calls are decided")
 told_object (UnknownName entry index name) = name_object (codes "UnknownName") entry index name
 told_object (RepeatedName entry index name) = name_object (codes "RepeatedName") entry index name
 

@@ -57,7 +57,7 @@ words_of key =
 abbrev pub told_text : Told → List ℕ
 told_text (Ignored holder key) = holder_text holder ++ (key_text key ++ (codes ": Ignored: " ++ words_of key))
 told_text OtherArchitectures =
-    codes "architectures: Ignored: x86-64 is none of them, and calls of no other are decided"
+    codes "architectures: Ignored: x86-64 is not among them, and only its calls are decided"
 told_text (UnknownName entry index name) = codes "syscalls[" ++ (decimal entry ++ (codes "].names["
     ++ (decimal index ++ (codes "]: UnknownName: " ++ quoted_text name))))
 told_text (RepeatedName entry index name) = codes "syscalls[" ++ (decimal entry ++ (codes "].names["
@@ -91,9 +91,9 @@ found_text (found.ReadOtherwise place call here there) = codes "syscalls["
     ++ (value_text here ++ (codes " here, " ++ (value_text there ++ codes " by runc")))))))
 found_text (found.Overlap place other call) = codes "syscalls["
     ++ (decimal place ++ (codes "]: Overlap: at " ++ (call_text call ++ (codes " syscalls["
-    ++ (decimal other ++ codes "] decides otherwise, and libseccomp keeps no order")))))
-found_text (found.NewerCalls errno) = codes "defaultAction: NewerCalls: above 439 they return errno "
-    ++ (decimal errno ++ codes ", and programs fall back at 38 (ENOSYS) alone")
+    ++ (decimal other ++ codes "] decides otherwise, and libseccomp does not keep their order")))))
+found_text (found.NewerCalls errno) = codes "defaultAction: NewerCalls: calls newer than 439 return errno "
+    ++ (decimal errno ++ codes ", and programs fall back to older calls only on ENOSYS (38)")
 
 abbrev pub line_of : List ℕ → List ℕ
 line_of text = text ++ codes "\n"

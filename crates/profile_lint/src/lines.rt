@@ -106,7 +106,7 @@ impl fmt::Display for Passed<'_> {
                 write!(f, "{holder}{}: Ignored: {words}", Key(key))
             }
             Passed::OtherArchitectures => f.write_str(
-                "architectures: Ignored: x86-64 is none of them, and calls of no other are decided",
+                "architectures: Ignored: x86-64 is not among them, and only its calls are decided",
             ),
             Passed::UnknownName(entry, index, name) => {
                 write!(
@@ -203,13 +203,13 @@ impl fmt::Display for Finding {
                 write!(
                     f,
                     "syscalls[{place}]: Overlap: at {call} syscalls[{other}] decides otherwise, \
-                     and libseccomp keeps no order"
+                     and libseccomp does not keep their order"
                 )
             }
             Finding::NewerCalls(errno) => write!(
                 f,
-                "defaultAction: NewerCalls: above 439 they return errno {errno}, \
-                 and programs fall back at 38 (ENOSYS) alone"
+                "defaultAction: NewerCalls: calls newer than 439 return errno {errno}, \
+                 and programs fall back to older calls only on ENOSYS (38)"
             ),
         }
     }

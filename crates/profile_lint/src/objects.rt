@@ -67,7 +67,7 @@ fn passed_object(alloc: Global, passed: &Passed<'_>) -> Result<String, AllocErro
         }
         Passed::OtherArchitectures => {
             let place = String::from_str(alloc, "architectures")?;
-            let reason = "x86-64 is none of them, and calls of no other are decided";
+            let reason = "x86-64 is not among them, and only its calls are decided";
             ignored_object(alloc, place, "architectures", reason)
         }
         Passed::UnknownName(entry, index, name) => {

@@ -1,5 +1,6 @@
 pub mod Gathered
 pub mod Readings
+pub mod Desks
 pub mod Connection
 pub mod Steps
 pub mod Shared

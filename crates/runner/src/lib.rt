@@ -7,6 +7,7 @@
 
 mod answering;
 mod connection;
+mod desk;
 mod due;
 mod ending;
 mod gathering;
@@ -14,6 +15,7 @@ mod laws;
 mod lists;
 mod notifier;
 mod reader;
+mod reading;
 mod rounds;
 mod sandbox;
 mod service;

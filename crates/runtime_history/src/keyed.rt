@@ -45,8 +45,8 @@ impl<T> Play<Option<T>, Uid> for Release {
     ghost then = { λ _ _ _ _. Unit {0} };
 }
 
-/// A lock. Threads wait at its mutex, so the table's word is free when one comes to it. Contracts see the
-/// uid, and which lock it is.
+/// A lock for a value that fits a uid. A thread takes the mutex first, so the word of the table is free when
+/// the thread gets to it. Contracts see the uid and the identity of the lock.
 #[derive(Drop)]
 pub struct KeyedLock<T: Keyed> {
     table: Table<Option<T>, Uid, Uid, Guard<T>, Global>,

@@ -6,7 +6,7 @@ use Rattle.cri_msgs.specs.declared.faults.MessageFault.TheVariants.{Memory}
 use Rattle.cri_msgs.specs.Reading.{request_reading}
 use Rattle.runner.specs.Readings.{IsOther}
 use Rattle.runner.proofs.Readings.{is_found, is_other}
-use Rattle.runner.proofs.reader.Outcome.of.Goals as goal
+use Rattle.runner.proofs.reading.Outcome.of.Goals as goal
 
 pub invariant_of-result : goal.invariant_of-result
 invariant_of-result c =

@@ -2,7 +2,7 @@
 use Rattle.std.proofs.Common.{◌≡◌, ℕ, List, rules, subst}
 use Rattle.runner.specs.Readings.{IsReading}
 use Rattle.runner.proofs.Readings.{is_reading}
-use Rattle.runner.proofs.reader.Outcome.given_for.Goals as goal
+use Rattle.runner.proofs.reading.Outcome.given_for.Goals as goal
 
 pub returns : goal.returns
 returns c =
