@@ -75,7 +75,7 @@ pub fn seccheck_run<R: rt::Files + AllocGlobal, O: Write, E: Write>(
     stop.status()
 }
 
-/// Says on standard error why the program ends, and gives its status, also where nobody hears it.
+/// Prints the reason to standard error (best effort), and returns the exit status.
 fn tell<E: Write>(stop: &Stop, err: &mut E) -> u8 {
     let _ = write!(err, "{stop}");
     stop.status()
