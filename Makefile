@@ -65,13 +65,14 @@ copy:
 	ln -sf libmotchidu.so.0 $(DESTDIR)$(PREFIX)/lib/libmotchidu.so
 	install -D -m 644 out/install/motchidu.pc $(DESTDIR)$(PREFIX)/lib/pkgconfig/motchidu.pc
 	install -D -m 644 out/install/motchidu.h $(DESTDIR)$(PREFIX)/include/motchidu.h
+	install -D -m 644 man/motchidu.3 $(DESTDIR)$(PREFIX)/share/man/man3/motchidu.3
 
 # Removes what make copy and make try install.
 uninstall:
 	@rm -f $(foreach program,$(PROGRAMS),$(DESTDIR)$(PREFIX)/bin/$(program) \
 	  $(DESTDIR)$(PREFIX)/share/man/man1/$(program).1) \
 	  $(addprefix $(DESTDIR)$(PREFIX)/,lib/libmotchidu.a lib/libmotchidu.so.0 lib/libmotchidu.so \
-	  lib/pkgconfig/motchidu.pc include/motchidu.h)
+	  lib/pkgconfig/motchidu.pc include/motchidu.h share/man/man3/motchidu.3)
 
 # Says so and goes on where the machine has no libpcap, no libseccomp or no gVisor. The plain interpreter is assembled
 # so that its jumps keep within 32 bytes, or its speed would hang on where the link puts it.

@@ -31,6 +31,10 @@
 #include <stddef.h>
 #include <stdint.h>
 
+/* The version of the library, of the programs and of motchidu.pc. Its first number is that of the shared
+ * library's name, libmotchidu.so.0. */
+#define MOTCHIDU_VERSION "0.1.0"
+
 #ifdef __cplusplus
 extern "C" {
 #endif

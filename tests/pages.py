@@ -126,6 +126,17 @@ class Terminal:
         check(f"README: {self.command}", self.ran.communicate(timeout=60)[0], self.below)
 
 
+def check_version(prefix):
+    """Header, programs and pkg-config file have one version."""
+    version = re.search(r'^#define MOTCHIDU_VERSION "(.*)"$', text_of("include/motchidu.h"), re.M)[1]
+    for program in STATUSES:
+        ran = subprocess.run([f"{prefix}/bin/{program}", "--version"], capture_output=True, text=True)
+        check(f"{program} --version", (ran.stdout + ran.stderr).split()[:2], [program, version])
+    if os.path.isdir(f"{prefix}/lib"):
+        with open(f"{prefix}/lib/pkgconfig/motchidu.pc", encoding="utf-8") as it:
+            check("motchidu.pc has the version", f"Version: {version}" in it.read().splitlines())
+
+
 def check_sessions(readme, prefix, room):
     shutil.copytree(f"{ROOT}/examples", f"{room}/examples")
     how = {"shell": True, "cwd": f"{room}/examples", "env": environment(prefix)}
@@ -224,6 +235,30 @@ def check_page(prefix, program):
     check(f"{program}.1 has each status", told, stated_statuses(crates) | more)
 
 
+def check_library_page(prefix, room):
+    """motchidu(3) has each function and each status of the header, and its example runs."""
+    page, header = text_of("man/motchidu.3"), text_of("include/motchidu.h")
+    functions = set(re.findall(r"^(?:static inline )?[a-z_ ]+ \*?(motchidu_[a-z_]+)\(", header, re.M))
+    named = set(re.findall(r"^\.B (motchidu_[a-z_]+)$", page, re.M))
+    check("motchidu.3 has each function", named, {it for it in functions if not it.endswith("_or_null")})
+    statuses = re.findall(r"^    (MOTCHIDU_[A-Z_]+) = (\d+)", header, re.M)
+    told = re.findall(r'^\.BR (MOTCHIDU_[A-Z_]+) " \(" (\d+) \)$', page, re.M)
+    check("motchidu.3 has each status", told, statuses)
+    placed = set(re.findall(r"(MOTCHIDU_[A-Z_]+) = \d+,? +/\* P: ", header))
+    told = set(re.findall(r"^\.BR (MOTCHIDU_[A-Z_]+) .*\n.*Has a place\.$", page, re.M))
+    check("motchidu.3 has what has a place", told, placed)
+    if not os.path.isdir(f"{prefix}/lib"):
+        return
+    check("motchidu.3 is installed", os.path.exists(f"{prefix}/share/man/man3/motchidu.3"))
+    example = re.search(r"^\.SH EXAMPLES\n\.nf\n(.*?)^\.fi$", page, re.M | re.S)[1]
+    with open(f"{room}/example.c", "w", encoding="utf-8") as it:
+        it.write(example.replace("\\(dq", '"').replace("\\en", "\\n").replace("\\-", "-"))
+    words = "cc example.c -o example $(pkg-config --cflags --libs motchidu) && ./example"
+    how = {"cwd": room, "env": environment(prefix), "capture_output": True, "text": True}
+    ran = subprocess.run(["sh", "-c", words], **how)
+    check("motchidu.3's example", ran.stdout.split(",")[0], "Accepted")
+
+
 # Command lines that are refused once their numbers are read.
 LINES = {
     "scriptd": ["scriptd", "--socket", "none/s"],
@@ -308,8 +343,10 @@ def checked(programs):
         check_quotes()
         check_files(readme)
         check_sessions(readme, prefix, room)
+        check_version(prefix)
         for program in STATUSES:
             check_page(prefix, program)
             check_examples(prefix, program, room)
+        check_library_page(prefix, room)
         check_uninstall(prefix)
     return COUNTS["passed"], COUNTS["failed"]

@@ -1,6 +1,6 @@
 #!/bin/bash
-# Builds the examples in C against the folder of `make lib` and runs them, and the one in Python over the
-# shared library, so that header and library can't part. Says which fail; the last line is their counts.
+# Builds the examples in C against the folder of `make lib` and runs them, and those in Python over the shared
+# library, so that header, module and library can't part. Prints which fail; the last line has their counts.
 set -u
 cd "$(dirname "$0")/.."
 library=out/c out=out/examples cc=${CC:-cc} passed=0 failed=0
@@ -75,9 +75,19 @@ count c/confine $?
 if lacks python3; then
   echo "examples/python: skipped, there is no python3"
 else
-  python3 examples/python/judge.py $library/libmotchidu.so examples/c/confine.json > "$out/judge_py.stdout" \
-    && diff examples/python/judge.stdout "$out/judge_py.stdout"
-  count python/judge $?
+  try_python() { # NAME PROFILE..
+    local name=$1
+    shift
+    python3 -B "examples/python/$name.py" $library/libmotchidu.so "$@" > "$out/${name}_py.stdout" \
+      && diff "examples/python/$name.stdout" "$out/${name}_py.stdout"
+    count "python/$name" $?
+  }
+  try_python judge examples/c/confine.json
+  try_python compare examples/c/confine.json examples/no_ptrace.json
+  # The names of the module are those of the header, in its order.
+  diff <(sed -n -E 's/^    case MOTCHIDU_[A-Z_]+: return "(.*)";/\1/p' include/motchidu.h) \
+    <(PYTHONPATH=examples/python python3 -B -c 'import motchidu; print(*motchidu.NAMES, sep="\n")')
+  count python/motchidu $?
 fi
 echo "$passed passed, $failed failed"
 [ $failed = 0 ]

@@ -22,13 +22,17 @@ else
   echo "$folder: there is no objcopy, so libmotchidu.a shows names beside the header's:" \
     "rattle_alloc and two more"
 fi
+version=$(sed -n -E 's/^#define MOTCHIDU_VERSION "(.*)"$/\1/p' include/motchidu.h)
+name=libmotchidu.so.${version%%.*}
+# The shared library names C's, whose malloc and free it calls, where a compiler says where that is.
+libc=$("${CC:-cc}" -print-file-name=libc.so.6 2> /dev/null || true)
+[ -f "$libc" ] || libc=
 rm -f "$folder"/libmotchidu.*
 "$kit/toolchain/bin/llvm-ar" rcsD "$folder/libmotchidu.a" "$parts/motchidu.o"
 echo '{ global: motchidu_*; local: *; };' > "$parts/exports"
-"$kit/toolchain/bin/ld.lld" -shared -soname libmotchidu.so.0 --version-script "$parts/exports" \
-  -z now -z relro \
-  "$parts/motchidu.o" -o "$folder/libmotchidu.so.0"
-ln -sf libmotchidu.so.0 "$folder/libmotchidu.so"
+"$kit/toolchain/bin/ld.lld" -shared -soname "$name" --version-script "$parts/exports" -z now -z relro \
+  "$parts/motchidu.o" ${libc:+"$libc"} -o "$folder/$name"
+ln -sf "$name" "$folder/libmotchidu.so"
 cp include/motchidu.h "$folder/"
 if [ -n "${3:-}" ]; then
   places="prefix=$3"$'\nlibdir=${prefix}/lib\nincludedir=${prefix}/include'
@@ -40,7 +44,7 @@ $places
 
 Name: motchidu
 Description: Compiles, checks and runs seccomp filters, proved
-Version: 0
+Version: $version
 Cflags: -I\${includedir}
 Libs: -L\${libdir} -lmotchidu
 END
