@@ -1,18 +1,8 @@
 -- Diagrams of rules, and the steps through them.
-use Rattle.std.proofs.Common.{◌≡◌, ℕ, ◌+◌, ◌-◌, ◌^◌, ◌≤◌, ◌<◌, List, refl, ap, subst, ◌∙◌, arith, inl, inr}
-use Rattle.std.proofs.Common.{Bool, true, false}
-use Rattle.std.specs.Prelude.{IsTrue, nat_le}
+use Rattle.compile.proofs.Common.{◌≡◌, ℕ, ◌+◌, ◌-◌, ◌^◌, ◌≤◌, ◌<◌, List, refl, ap, subst, ◌∙◌, arith, inl}
+use Rattle.compile.proofs.Common.{inr, Bool, true, false, IsTrue, nat_le, nat_tests, cases_lt, Insn, NOWHERE}
+use Rattle.compile.proofs.Common.{SysCall, first_value, WayGives, Way, Rule, GivesAlways}
 use Rattle.std.specs.Bool.{OnFalse}
-use Rattle.std.proofs.lemmas.Bool.Decides.{nat_tests}
-use Rattle.std.proofs.lemmas.Bool.{cases_lt}
-use Rattle.bpf_code.specs.declared.insn.Insn.{Insn}
-use Rattle.compile.specs.declared.atom.TheConstants.{NOWHERE}
-use Rattle.call_data.specs.declared.sys_call.SysCall.{SysCall}
-use Rattle.compile.specs.Residuals.{first_value}
-use Rattle.compile.specs.Ways.{WayGives}
-use Rattle.compile.specs.declared.build.Way.{Way}
-use Rattle.compile.specs.declared.residual.Rule.{Rule}
-use Rattle.compile.specs.Backward.{GivesAlways}
 use Rattle.compile.proofs.Building.{gives_more}
 use Rattle.compile.proofs.Weights.{pow_grows}
 

@@ -1,14 +1,6 @@
-use Rattle.std.proofs.Common.{◌≡◌, ℕ, List, ◌-◌, length, take, drop, subst, sym, ◌∙◌}
-use Rattle.bpf_code.specs.declared.insn.Insn.{Insn}
-use Rattle.compile.specs.declared.atom.TheConstants.{NOWHERE}
-use Rattle.call_data.specs.declared.sys_call.SysCall.{SysCall}
-use Rattle.std.specs.Prelude.{cond}
-use Rattle.compile.specs.Residuals.{atom_holds, first_value}
-use Rattle.compile.specs.Ways.{WayGives, told}
-use Rattle.compile.specs.declared.atom.Atom.{Atom}
-use Rattle.compile.specs.declared.atom.Probe.{Probe}
-use Rattle.compile.specs.declared.build.Way.{Way}
-use Rattle.compile.specs.declared.residual.Rule.{Rule}
+use Rattle.compile.proofs.Common.{◌≡◌, ℕ, List, ◌-◌, length, take, drop, subst, sym, ◌∙◌, Insn, NOWHERE}
+use Rattle.compile.proofs.Common.{SysCall, cond, atom_holds, first_value, WayGives, told, Atom, Probe, Way}
+use Rattle.compile.proofs.Common.{Rule}
 use Rattle.compile.proofs.Restricting.{first_parted, left_some}
 use Rattle.compile.proofs.Reaching.{left_way, chosen_way, found_weaker, way_kept}
 use Rattle.compile.proofs.Testing.{told_is}

@@ -1,13 +1,6 @@
-use Rattle.std.proofs.Common.{ℕ, ◌+◌, ◌-◌, Bool, List, cond, refl, subst, sym, arith}
-use Rattle.bpf_code.specs.declared.insn.Insn.{Insn}
-use Rattle.call_data.specs.declared.sys_call.SysCall.{SysCall}
-use Rattle.compile.specs.Residuals.{shown}
-use Rattle.compile.specs.Tests.{holds_of}
-use Rattle.compile.specs.Backward.{Gives}
-use Rattle.compile.specs.Ways.{GivesWith, WayGives, taken}
-use Rattle.compile.specs.declared.atom.Probe.{Probe}
-use Rattle.compile.specs.declared.atom.View.{View}
-use Rattle.compile.specs.declared.build.Way.{Way}
+use Rattle.compile.proofs.Common.{ℕ, ◌+◌, ◌-◌, Bool, List, cond, refl, subst, sym, arith, Insn, SysCall}
+use Rattle.compile.proofs.Common.{shown, holds_of, Gives, GivesWith, WayGives, Probe, View, Way}
+use Rattle.compile.specs.Ways.{taken}
 use Rattle.compile.proofs.Building.{gives_more}
 use Rattle.compile.proofs.Restricting.{left_some}
 use Rattle.compile.proofs.Reaching.{either_nearer}

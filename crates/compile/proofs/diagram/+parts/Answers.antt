@@ -1,12 +1,5 @@
-use Rattle.std.proofs.Common.{◌≡◌, ℕ, ◌-◌, ◌/◌, ◌∙◌, List, length, take, drop, subst, ap, sym, arith}
-use Rattle.std.proofs.lemmas.List.{take_all}
-use Rattle.bpf_code.specs.declared.insn.Insn.{Insn}
-use Rattle.compile.specs.declared.atom.TheConstants.{NOWHERE}
-use Rattle.call_data.specs.declared.sys_call.SysCall.{SysCall}
-use Rattle.compile.specs.Residuals.{first_value}
-use Rattle.compile.specs.Ways.{WayGives}
-use Rattle.compile.specs.declared.build.Way.{Way}
-use Rattle.compile.specs.declared.residual.Rule.{Rule}
+use Rattle.compile.proofs.Common.{◌≡◌, ℕ, ◌-◌, ◌/◌, ◌∙◌, List, length, take, drop, subst, ap, sym, arith}
+use Rattle.compile.proofs.Common.{take_all, Insn, NOWHERE, SysCall, first_value, WayGives, Way, Rule}
 use Rattle.compile.proofs.Restricting.{first_parted, left_some}
 use Rattle.compile.proofs.Reaching.{found_weaker}
 use Rattle.compile.proofs.diagram.+parts.Goals as goal

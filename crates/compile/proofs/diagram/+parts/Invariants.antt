@@ -1,4 +1,4 @@
-use Rattle.std.proofs.Common.{length}
+use Rattle.compile.proofs.Common.{length}
 use Rattle.compile.proofs.diagram.+parts.Given as goal
 
 abbrev pub decreases-parts : goal.decreases-parts

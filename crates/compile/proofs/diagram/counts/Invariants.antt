@@ -1,6 +1,4 @@
-use Rattle.std.proofs.Common.{◌+◌, ◌*◌, ◌≤◌, ◌<◌, drop}
-use Rattle.compile.specs.Bounds.{conditions_at}
-use Rattle.compile.specs.Sizes.{added_of}
+use Rattle.compile.proofs.Common.{◌+◌, ◌*◌, ◌≤◌, ◌<◌, drop, conditions_at, added_of}
 use Rattle.compile.proofs.diagram.counts.Given as goal
 
 abbrev pub invariant-loop-entry : goal.invariant-loop-entry

@@ -1,12 +1,5 @@
-use Rattle.std.proofs.Common.{ℕ, ◌+◌, ◌*◌, refl, ◌∙◌, arith}
-use Rattle.compile.specs.declared.atom.TheConstants.{NOWHERE}
-use Rattle.call_data.specs.declared.sys_call.SysCall.{SysCall}
-use Rattle.oci_profile.specs.Decision.{value_of}
-use Rattle.oci_profile.specs.Meaning.{decision_of}
-use Rattle.compile.specs.Sizes.{AreAsked, steps_at}
-use Rattle.compile.specs.Residuals.{first_value}
-use Rattle.compile.specs.Ways.{WayGives}
-use Rattle.compile.specs.declared.build.Way.{Way}
+use Rattle.compile.proofs.Common.{ℕ, ◌+◌, ◌*◌, refl, ◌∙◌, arith, NOWHERE, SysCall, value_of, decision_of}
+use Rattle.compile.proofs.Common.{AreAsked, steps_at, first_value, WayGives, Way}
 use Rattle.compile.proofs.Diagrams.{surely, told_way}
 use Rattle.compile.proofs.Restricting.{left_some}
 use Rattle.compile.proofs.diagram.diagram.Goals as goal

@@ -1,4 +1,4 @@
-use Rattle.std.proofs.Common.{ℕ, ◌+◌, ◌*◌, ◌^◌, ◌<◌, arith}
+use Rattle.compile.proofs.Common.{ℕ, ◌+◌, ◌*◌, ◌^◌, ◌<◌, arith}
 use Rattle.compile.proofs.Diagrams.{less_power, quick}
 use Rattle.compile.proofs.diagram.is_good.Goals as goal
 

@@ -1,4 +1,4 @@
-use Rattle.std.proofs.Common.{refl}
+use Rattle.compile.proofs.Common.{refl}
 use Rattle.compile.proofs.Leaves.{decided_at}
 use Rattle.compile.proofs.Settling.{settled_more, none_more}
 use Rattle.compile.proofs.leaf.bare_end.Goals as goal

@@ -1,5 +1,4 @@
-use Rattle.std.proofs.Common.{◌≡◌, true, take}
-use Rattle.compile.specs.Sizes.{added_of, settles, NoneDecides}
+use Rattle.compile.proofs.Common.{◌≡◌, true, take, added_of, settles, NoneDecides}
 use Rattle.compile.proofs.leaf.bare_end.Given as goal
 
 abbrev pub invariant-loop-at : goal.invariant-loop-at

@@ -1,25 +1,11 @@
-use Rattle.std.proofs.Common.{ℕ, ◌+◌, ◌-◌, ◌*◌, ◌^◌, ◌<◌, ◌≤◌, List, Option, IfSome, length, sym, subst}
-use Rattle.std.proofs.Common.{arith, ap, ◌∙◌, ◌≡◌}
-use Rattle.std.proofs.lemmas.Result.{IfOk-weaker}
-use Rattle.std.specs.Prelude.{slice_index}
-use Rattle.bpf_code.specs.declared.insn.Insn.{Insn}
-use Rattle.call_data.specs.declared.sys_call.SysCall.{SysCall}
-use Rattle.call_data.specs.CallData.{IsCall}
-use Rattle.oci_profile.specs.declared.decision.Decision.{Decision}
-use Rattle.oci_profile.specs.declared.profile.Entry.{Entry}
-use Rattle.oci_profile.specs.Decision.{value_of}
-use Rattle.oci_profile.specs.Meaning.{decision_of}
-use Rattle.compile.specs.Backward.{GivesAlways}
-use Rattle.compile.specs.Bounds.{conditions_at}
-use Rattle.compile.specs.Points.{IsFound, IsSearched}
+use Rattle.compile.proofs.Common.{ℕ, ◌+◌, ◌-◌, ◌*◌, ◌^◌, ◌<◌, ◌≤◌, List, Option, IfSome, length, sym, subst}
+use Rattle.compile.proofs.Common.{arith, ap, ◌∙◌, ◌≡◌, IfOk-weaker, slice_index, Insn, SysCall, IsCall}
+use Rattle.compile.proofs.Common.{Decision, Entry, value_of, decision_of, GivesAlways, conditions_at, IsFound}
+use Rattle.compile.proofs.Common.{IsSearched, AreAsked, steps_at, first_value, size_of_rules, Rule}
 use Rattle.compile.specs.Points.IsSearched.{balanced}
-use Rattle.compile.specs.Sizes.{AreAsked, steps_at}
 use Rattle.compile.specs.declared.search.Points.{Points}
 use Rattle.compile.proofs.Settling.{chain_steps, search_steps}
 use Rattle.compile.proofs.Words.{GivesAlways-more}
-use Rattle.compile.specs.Residuals.{first_value}
-use Rattle.compile.specs.Rooms.{size_of_rules}
-use Rattle.compile.specs.declared.residual.Rule.{Rule}
 use Rattle.compile.proofs.leaf.entries_leaf.Goals as goal
 
 pub returns-in-Some-2-clause-balanced : goal.returns-in-Some-2-clause-balanced

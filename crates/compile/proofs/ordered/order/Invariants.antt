@@ -1,6 +1,4 @@
-use Rattle.std.proofs.Common.{◌≡◌, ℕ, length}
-use Rattle.call_data.specs.declared.sys_call.SysCall.{SysCall}
-use Rattle.compile.specs.Residuals.{first_value}
+use Rattle.compile.proofs.Common.{◌≡◌, ℕ, length, SysCall, first_value}
 use Rattle.compile.proofs.ordered.order.Given as goal
 
 abbrev pub invariant-loop-at : goal.invariant-loop-at

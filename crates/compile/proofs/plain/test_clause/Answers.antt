@@ -1,15 +1,7 @@
-use Rattle.std.proofs.Common.{◌≡◌, ◌≢◌, ℕ, ◌+◌, ◌≤◌, ap, cond, false, true, refl, List, length, arith}
-use Rattle.std.specs.Prelude.{◌||◌}
-use Rattle.std.proofs.lemmas.Result.{IfOk-weaker}
-use Rattle.bpf_code.specs.declared.insn.Insn.{Insn}
-use Rattle.call_data.specs.declared.sys_call.SysCall.{SysCall}
-use Rattle.compile.specs.Backward.{GivesAlways}
-use Rattle.compile.specs.Residuals.{clause_holds, literal_holds}
-use Rattle.compile.specs.Rooms.{size_of_clause, size_of_literal}
+use Rattle.compile.proofs.Common.{◌≡◌, ◌≢◌, ℕ, ◌+◌, ◌≤◌, ap, cond, false, true, refl, List, length, arith}
+use Rattle.compile.proofs.Common.{◌||◌, IfOk-weaker, Insn, SysCall, GivesAlways, clause_holds, literal_holds}
+use Rattle.compile.proofs.Common.{size_of_clause, size_of_literal, Clause, Literal, Known}
 use Rattle.compile.specs.declared.code.TheConstants.{RECENT}
-use Rattle.compile.specs.declared.clause.Clause.{Clause}
-use Rattle.compile.specs.declared.clause.Literal.{Literal}
-use Rattle.compile.specs.declared.clause.Literal.TheVariants.{Known}
 use Rattle.compile.proofs.Links.{either_gives}
 use Rattle.compile.proofs.Words.{GivesAlways-more, by_test}
 use Rattle.compile.proofs.plain.test_clause.Goals as goal

@@ -1,7 +1,5 @@
-use Rattle.std.proofs.Common.{◌≡◌, ℕ, ◌∷◌, [], List, ◌+◌, ◌∙◌, cond, drop, sym, ap, false, rules}
-use Rattle.call_data.specs.declared.sys_call.SysCall.{SysCall}
-use Rattle.compile.specs.declared.residual.Rule.{Rule}
-use Rattle.compile.specs.Residuals.{atom_holds, clauses_hold, first_value}
+use Rattle.compile.proofs.Common.{◌≡◌, ℕ, ◌∷◌, [], List, ◌+◌, ◌∙◌, cond, drop, sym, ap, false, rules, SysCall}
+use Rattle.compile.proofs.Common.{Rule, atom_holds, clauses_hold, first_value}
 use Rattle.compile.proofs.Restricting.{first_append, first_from, left_some}
 use Rattle.compile.proofs.residual.rules_where.Goals.{in-Some+in_ok-push, in_default}
 use Rattle.compile.proofs.residual.rules_where.Goals as goal

@@ -1,7 +1,5 @@
-use Rattle.std.proofs.Common.{ap, arith, ◌&&◌, ◌∙◌, ◌==◌, ◌%◌, sym}
-use Rattle.std.specs.Prelude.{slice_index}
-use Rattle.std.proofs.lemmas.Result.{on_ok_weaker}
-use Rattle.compile.specs.Residuals.{literal_holds}
+use Rattle.compile.proofs.Common.{ap, arith, ◌&&◌, ◌∙◌, ◌==◌, ◌%◌, sym, slice_index, on_ok_weaker}
+use Rattle.compile.proofs.Common.{literal_holds}
 use Rattle.compile.proofs.Saying.{says_as, equal_both, same_equal}
 use Rattle.compile.proofs.rules.add_equal.Goals as goal
 

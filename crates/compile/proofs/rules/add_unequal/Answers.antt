@@ -1,7 +1,5 @@
-use Rattle.std.proofs.Common.{ap, arith, not, ◌∙◌, ◌==◌, ◌%◌, sym}
-use Rattle.std.specs.Prelude.{◌||◌, slice_index}
-use Rattle.std.proofs.lemmas.Result.{on_ok_weaker}
-use Rattle.compile.specs.Residuals.{literal_holds}
+use Rattle.compile.proofs.Common.{ap, arith, not, ◌∙◌, ◌==◌, ◌%◌, sym, ◌||◌, slice_index, on_ok_weaker}
+use Rattle.compile.proofs.Common.{literal_holds}
 use Rattle.compile.proofs.Saying.{says_as, unequal_either, same_equal}
 use Rattle.compile.proofs.rules.add_unequal.Goals as goal
 

@@ -1,15 +1,6 @@
-use Rattle.std.proofs.Common.{◌≡◌, ℕ, ◌+◌, ◌-◌, ◌*◌, ◌==◌, false, cond, refl, sym, ap, ◌∙◌, List, subst}
-use Rattle.std.proofs.Common.{arith}
-use Rattle.std.proofs.lemmas.Result.{IfOk-weaker}
-use Rattle.std.specs.Prelude.{slice_index}
-use Rattle.bpf_code.specs.declared.insn.Insn.{Insn}
-use Rattle.call_data.specs.declared.sys_call.SysCall.{SysCall}
-use Rattle.call_data.specs.CallData.{IsCall}
-use Rattle.compile.specs.Backward.{GivesAlways}
-use Rattle.compile.specs.Points.{IsFound}
-use Rattle.compile.specs.Residuals.{clauses_hold}
-use Rattle.compile.specs.Rooms.{size_of_clauses}
-use Rattle.compile.specs.declared.clause.Clause.{Clause}
+use Rattle.compile.proofs.Common.{◌≡◌, ℕ, ◌+◌, ◌-◌, ◌*◌, ◌==◌, false, cond, refl, sym, ap, ◌∙◌, List, subst}
+use Rattle.compile.proofs.Common.{arith, IfOk-weaker, slice_index, Insn, SysCall, IsCall, GivesAlways}
+use Rattle.compile.proofs.Common.{IsFound, clauses_hold, size_of_clauses, Clause}
 use Rattle.compile.proofs.Finding.{first_tested, found_next, not_equal}
 use Rattle.compile.proofs.Saying.{says_is, says_size}
 use Rattle.compile.proofs.Words.{GivesAlways-more, by_test}

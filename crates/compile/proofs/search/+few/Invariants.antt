@@ -1,4 +1,4 @@
-use Rattle.std.proofs.Common.{◌-◌}
+use Rattle.compile.proofs.Common.{◌-◌}
 use Rattle.compile.proofs.search.+few.Given as goal
 
 abbrev pub decreases-few : goal.decreases-few

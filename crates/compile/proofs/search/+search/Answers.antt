@@ -1,14 +1,6 @@
-use Rattle.std.proofs.Common.{◌≡◌, ℕ, ◌+◌, ◌-◌, ◌*◌, ◌/◌, false, cond, refl, sym, ap, ◌∙◌, List, arith}
-use Rattle.std.proofs.lemmas.Result.{IfOk-weaker}
-use Rattle.std.specs.Prelude.{nat_le, slice_index}
-use Rattle.bpf_code.specs.declared.insn.Insn.{Insn}
-use Rattle.call_data.specs.declared.sys_call.SysCall.{SysCall}
-use Rattle.call_data.specs.CallData.{IsCall}
-use Rattle.compile.specs.Backward.{GivesAlways}
-use Rattle.compile.specs.Points.{IsFound, IsSearched}
-use Rattle.compile.specs.Residuals.{clauses_hold}
-use Rattle.compile.specs.Rooms.{size_of_clauses}
-use Rattle.compile.specs.declared.clause.Clause.{Clause}
+use Rattle.compile.proofs.Common.{◌≡◌, ℕ, ◌+◌, ◌-◌, ◌*◌, ◌/◌, false, cond, refl, sym, ap, ◌∙◌, List, arith}
+use Rattle.compile.proofs.Common.{IfOk-weaker, nat_le, slice_index, Insn, SysCall, IsCall, GivesAlways}
+use Rattle.compile.proofs.Common.{IsFound, IsSearched, clauses_hold, size_of_clauses, Clause}
 use Rattle.compile.proofs.Finding.{few_steps, found_below, half_steps, half_tested, nearer_gives, not_below}
 use Rattle.compile.proofs.Saying.{says_is, says_size}
 use Rattle.compile.proofs.Words.{GivesAlways-more, by_test}

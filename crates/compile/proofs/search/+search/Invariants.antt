@@ -1,4 +1,4 @@
-use Rattle.std.proofs.Common.{◌-◌}
+use Rattle.compile.proofs.Common.{◌-◌}
 use Rattle.compile.proofs.search.+search.Given as goal
 
 abbrev pub decreases-search : goal.decreases-search

@@ -1,4 +1,4 @@
-use Rattle.std.proofs.Common.{refl, arith}
+use Rattle.compile.proofs.Common.{refl, arith}
 use Rattle.compile.proofs.Gathering.{equal_same}
 use Rattle.compile.proofs.search.equality.Goals as goal
 

@@ -1,5 +1,4 @@
-use Rattle.std.proofs.Common.{length, ◌-◌, ◌≤◌, ◌<◌, ℕ}
-use Rattle.std.specs.Prelude.{slice_index}
+use Rattle.compile.proofs.Common.{length, ◌-◌, ◌≤◌, ◌<◌, ℕ, slice_index}
 use Rattle.compile.proofs.search.place_of.Given as goal
 
 abbrev pub invariant-loop-at : goal.invariant-loop-at

@@ -1,4 +1,4 @@
-use Rattle.std.proofs.Common.{ap, sym, ◌∙◌}
+use Rattle.compile.proofs.Common.{ap, sym, ◌∙◌}
 use Rattle.compile.proofs.Gathering.{none_found, one_found}
 use Rattle.compile.proofs.search.points_for.Goals.{then-names+in-Some+in_ok-add-in-Some, else-names}
 use Rattle.compile.proofs.search.points_for.Goals as goal
