@@ -1,9 +1,6 @@
 ghost use Rattle.std.specs.Prelude.{◌≡◌, ◌≢◌, ◌<◌, ℕ, IfSome, IsTrue, true, false};
-ghost use Rattle.call_data.specs.declared.sys_call.SysCall.{SysCall};
-ghost use Rattle.compile.specs.Residuals.{asks, atom_holds, seen};
-ghost use Rattle.compile.specs.Tests.{holds_of};
+ghost use Rattle.compile.specs.Common.{SysCall, asks, atom_holds, seen, holds_of, WHOLE};
 ghost use Rattle.compile.specs.Ways.{Covers, IsProbe};
-ghost use Rattle.compile.specs.declared.atom.TheConstants.{WHOLE};
 
 use crate::code::Test;
 use bpf_code::DATA_LEN;

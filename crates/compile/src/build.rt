@@ -1,13 +1,9 @@
 ghost use Rattle.std.specs.Prelude.{◌≡◌, ◌≤◌, ◌<◌, ◌+◌, ◌-◌, ◌%◌, ℕ, length, IfOk, IfSome, if◌then◌else◌};
-ghost use Rattle.bpf_code.specs.declared.limits.TheConstants.{DATA_LEN};
-ghost use Rattle.call_data.specs.declared.sys_call.SysCall.{SysCall};
-ghost use Rattle.compile.specs.Backward.{Extends, Gives, Keeps};
-ghost use Rattle.compile.specs.Residuals.{first_value, shown};
-ghost use Rattle.compile.specs.Tests.{holds_of};
-ghost use Rattle.compile.specs.Ways.{GivesWith, WayGives, taken, told};
-ghost use Rattle.compile.specs.declared.atom.TheConstants.{NOWHERE};
+ghost use Rattle.compile.specs.Common.{DATA_LEN, SysCall, Extends, Gives, Keeps, first_value, holds_of};
+ghost use Rattle.compile.specs.Common.{WayGives, NOWHERE, REACH};
+ghost use Rattle.compile.specs.Residuals.{shown};
+ghost use Rattle.compile.specs.Ways.{GivesWith, taken, told};
 ghost use Rattle.compile.specs.declared.atom.View.{View};
-ghost use Rattle.compile.specs.declared.code.TheConstants.{REACH};
 
 use crate::apart::{boundary, certain};
 use crate::atom::{Atom, NOWHERE, Probe, View, WHOLE};

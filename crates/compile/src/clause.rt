@@ -1,14 +1,9 @@
 ghost use Rattle.std.specs.Prelude.{◌≡◌, ◌<◌, ◌+◌, ◌*◌, ◌/◌, ◌%◌, ◌^◌, ◌==◌, ◌||◌, ℕ, IsTrue, true, false};
 ghost use Rattle.std.specs.Prelude.{not, ◌≢◌, bit_and, nat_le, nat_lt, slice_index};
-ghost use Rattle.call_data.specs.declared.sys_call.SysCall.{SysCall};
-ghost use Rattle.call_data.specs.CallData.{IsCall};
-ghost use Rattle.compile.specs.Backward.{data_word};
-ghost use Rattle.compile.specs.Residuals.{asks, atom_holds, clause_holds, literal_holds, seen};
-ghost use Rattle.compile.specs.Rooms.{IsPossible, IsSmall, IsSmallClause};
 ghost use Rattle.std.specs.Bool.{OnFalse};
-ghost use Rattle.compile.specs.declared.atom.TheConstants.{WHOLE};
-ghost use Rattle.compile.specs.declared.clause.Literal.{Literal};
-ghost use Rattle.bpf_code.specs.declared.limits.TheConstants.{DATA_LEN};
+ghost use Rattle.compile.specs.Common.{SysCall, IsCall, data_word, asks, atom_holds, clause_holds};
+ghost use Rattle.compile.specs.Common.{literal_holds, seen, IsPossible, IsSmall, IsSmallClause, WHOLE};
+ghost use Rattle.compile.specs.Common.{Literal, DATA_LEN};
 
 use crate::atom::{Ask, Atom, View, WHOLE};
 use call_data::words_of_fields;

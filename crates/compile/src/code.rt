@@ -1,15 +1,11 @@
 ghost use Rattle.std.specs.Prelude.{◌≡◌, ◌≤◌, ◌<◌, ◌+◌, ◌-◌, ◌%◌, ◌^◌, ℕ, List, [], reverse, Some, slice_get};
 ghost use Rattle.std.specs.Prelude.{take, length, IfOk, OnOk, IsTrue, bit_and, if◌then◌else◌, ◌==◌};
+ghost use Rattle.compile.specs.Common.{DATA_LEN, MAX_INSNS, SysCall, IsSound, Runs, Extends, Gives};
+ghost use Rattle.compile.specs.Common.{GivesAlways, Keeps, data_word, holds_of, REACH, RECENT};
 ghost use Rattle.bpf_code.specs.declared.insn.Insn.{Insn};
-ghost use Rattle.bpf_code.specs.declared.limits.TheConstants.{DATA_LEN, MAX_INSNS};
 ghost use Rattle.bpf_code.specs.declared.operation.Operation.TheVariants.{AndK, LoadData, ReturnK};
-ghost use Rattle.call_data.specs.declared.sys_call.SysCall.{SysCall};
-ghost use Rattle.bpf_verify.specs.Sound.{IsSound};
-ghost use Rattle.bpf_machine.specs.Runs.{Runs};
-ghost use Rattle.compile.specs.Backward.{Extends, Gives, GivesAlways, IsBackward, Keeps, PointsInside, Puts};
-ghost use Rattle.compile.specs.Backward.{data_word};
-ghost use Rattle.compile.specs.Tests.{holds_of, operation_of};
-ghost use Rattle.compile.specs.declared.code.TheConstants.{REACH, RECENT};
+ghost use Rattle.compile.specs.Backward.{IsBackward, PointsInside, Puts};
+ghost use Rattle.compile.specs.Tests.{operation_of};
 
 use bpf_code::{Insn, MAX_INSNS, Operation};
 use bpf_verify::{Filter, verify};

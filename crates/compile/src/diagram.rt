@@ -1,17 +1,9 @@
 ghost use Rattle.std.specs.Prelude.{◌≡◌, ◌≤◌, ◌<◌, ◌+◌, ◌*◌, ◌^◌, ℕ, None, IfOk, IfSome, IsTrue, length};
 ghost use Rattle.std.specs.Prelude.{true};
 ghost use Rattle.std.specs.Bool.{OnFalse};
-ghost use Rattle.call_data.specs.declared.sys_call.SysCall.{SysCall};
-ghost use Rattle.call_data.specs.CallData.{IsCall};
-ghost use Rattle.oci_profile.specs.Decision.{value_of};
-ghost use Rattle.oci_profile.specs.Meaning.{decision_of};
-ghost use Rattle.compile.specs.Backward.{Extends, GivesAlways, Keeps};
-ghost use Rattle.compile.specs.Bounds.{IsEquality, conditions_at};
-ghost use Rattle.compile.specs.Residuals.{first_value};
-ghost use Rattle.compile.specs.Sizes.{AreAsked, added_of, steps_at};
-ghost use Rattle.compile.specs.Ways.{WayGives};
-ghost use Rattle.compile.specs.declared.atom.TheConstants.{NOWHERE};
-ghost use Rattle.compile.specs.declared.code.TheConstants.{RECENT};
+ghost use Rattle.compile.specs.Common.{SysCall, IsCall, value_of, decision_of, Extends, GivesAlways, Keeps};
+ghost use Rattle.compile.specs.Common.{IsEquality, conditions_at, first_value, AreAsked, added_of, steps_at};
+ghost use Rattle.compile.specs.Common.{WayGives, NOWHERE, RECENT};
 
 use crate::atom::NOWHERE;
 use crate::build::{Way, build};

@@ -1,14 +1,10 @@
 ghost use Rattle.std.specs.Bool.{OnFalse};
 ghost use Rattle.std.specs.Prelude.{◌≡◌, ◌≤◌, ◌<◌, ◌+◌, ◌*◌, ◌^◌, ℕ, false, length, take, true, IfOk, IsTrue};
 ghost use Rattle.std.specs.Prelude.{OnOk};
-ghost use Rattle.call_data.specs.declared.sys_call.SysCall.{SysCall};
-ghost use Rattle.call_data.specs.CallData.{IsCall};
-ghost use Rattle.oci_profile.specs.Decision.{value_of};
-ghost use Rattle.oci_profile.specs.Meaning.{chosen, decision_of, names};
-ghost use Rattle.compile.specs.Backward.{GivesAlways, Keeps};
-ghost use Rattle.compile.specs.Bounds.{AreBare, IsBare, conditions_at};
-ghost use Rattle.compile.specs.Sizes.{AreAsked, NoneDecides, Suffices, added_of, settles, steps_at};
-ghost use Rattle.compile.specs.declared.code.TheConstants.{RECENT};
+ghost use Rattle.compile.specs.Common.{SysCall, IsCall, value_of, chosen, decision_of, names, GivesAlways};
+ghost use Rattle.compile.specs.Common.{Keeps, AreBare, IsBare, conditions_at, AreAsked, Suffices, added_of};
+ghost use Rattle.compile.specs.Common.{settles, steps_at, RECENT};
+ghost use Rattle.compile.specs.Sizes.{NoneDecides};
 
 use crate::code::Code;
 use crate::diagram::diagram;

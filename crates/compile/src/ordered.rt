@@ -1,6 +1,5 @@
 ghost use Rattle.std.specs.Prelude.{◌≡◌, ◌<◌, ◌+◌, ℕ, length};
-ghost use Rattle.call_data.specs.declared.sys_call.SysCall.{SysCall};
-ghost use Rattle.compile.specs.Residuals.{first_value};
+ghost use Rattle.compile.specs.Common.{SysCall, first_value};
 
 use crate::apart::{arguments, first_argument};
 use crate::atom::NOWHERE;

@@ -1,14 +1,10 @@
 ghost use Rattle.std.specs.Prelude.{◌≡◌, ◌≢◌, ◌≤◌, ◌<◌, ◌+◌, ◌-◌, ◌*◌, ◌%◌, ◌==◌, ℕ, All, IfOk, OnOk, drop};
 ghost use Rattle.std.specs.Prelude.{false, true, if◌then◌else◌, length};
-ghost use Rattle.bpf_code.specs.declared.limits.TheConstants.{DATA_LEN};
-ghost use Rattle.call_data.specs.declared.sys_call.SysCall.{SysCall};
-ghost use Rattle.compile.specs.Backward.{GivesAlways, Keeps};
-ghost use Rattle.compile.specs.Residuals.{atom_holds, clause_holds, clauses_hold, first_value, literal_holds};
-ghost use Rattle.compile.specs.Rooms.{IsFit, IsPossible, IsWithin, IsWithinLiteral, size_of_clause};
-ghost use Rattle.compile.specs.Rooms.{size_of_clauses, size_of_literal, size_of_rules};
-ghost use Rattle.compile.specs.declared.atom.TheConstants.{WHOLE};
-ghost use Rattle.compile.specs.declared.clause.Literal.{Literal};
-ghost use Rattle.compile.specs.declared.code.TheConstants.{REACH, RECENT};
+ghost use Rattle.compile.specs.Common.{DATA_LEN, SysCall, GivesAlways, Keeps, atom_holds, clause_holds};
+ghost use Rattle.compile.specs.Common.{clauses_hold, first_value, literal_holds, IsFit, IsPossible};
+ghost use Rattle.compile.specs.Common.{size_of_rules, WHOLE, Literal, REACH, RECENT};
+ghost use Rattle.compile.specs.Rooms.{IsWithin, IsWithinLiteral, size_of_clause, size_of_clauses};
+ghost use Rattle.compile.specs.Rooms.{size_of_literal};
 
 use crate::atom::{Atom, WHOLE};
 use crate::clause::{Clause, Literal};

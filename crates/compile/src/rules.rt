@@ -1,17 +1,13 @@
 ghost use Rattle.std.specs.Prelude.{◌≡◌, ◌≤◌, ◌<◌, ◌+◌, ◌*◌, ◌&&◌, ◌||◌, ◌==◌, ◌%◌, ◌^◌, ℕ, All, IfOk, OnOk};
 ghost use Rattle.std.specs.Prelude.{IsTrue, length, not, true, false, bit_and, if◌then◌else◌, slice_index};
 ghost use Rattle.std.specs.Prelude.{[]};
-ghost use Rattle.call_data.specs.declared.sys_call.SysCall.{SysCall};
-ghost use Rattle.call_data.specs.CallData.{IsCall};
-ghost use Rattle.oci_profile.specs.Meaning.{all_hold, all_of, decision_of, holds_on, names};
-ghost use Rattle.compile.specs.Residuals.{clause_holds, clauses_hold, first_value, literal_holds};
 ghost use Rattle.std.specs.Bool.{OnFalse};
-ghost use Rattle.compile.specs.Rooms.{IsFit, IsPossible, IsSmall, IsSmallClause, Says, is_large, ordered};
-ghost use Rattle.compile.specs.Rooms.{size_of_rules};
-ghost use Rattle.compile.specs.Sizes.{added_of};
-ghost use Rattle.compile.specs.Bounds.{conditions_at};
-ghost use Rattle.oci_profile.specs.declared.decision.Decision.{Decision};
-ghost use Rattle.oci_profile.specs.Decision.{value_of};
+ghost use Rattle.compile.specs.Common.{SysCall, IsCall, all_hold, decision_of, names, clause_holds};
+ghost use Rattle.compile.specs.Common.{clauses_hold, first_value, literal_holds, IsFit, IsPossible, IsSmall};
+ghost use Rattle.compile.specs.Common.{IsSmallClause, Says, size_of_rules, added_of, conditions_at, Decision};
+ghost use Rattle.compile.specs.Common.{value_of};
+ghost use Rattle.oci_profile.specs.Meaning.{all_of, holds_on};
+ghost use Rattle.compile.specs.Rooms.{is_large, ordered};
 
 use crate::clause::{Clause, Literal, high, low, words};
 use crate::residual::Rule;

@@ -2,17 +2,10 @@ ghost use Rattle.std.specs.Prelude.{◌≡◌, ◌≢◌, ◌≤◌, ◌<◌, �
 ghost use Rattle.std.specs.Prelude.{slice_index, if◌then◌else◌, [], IfSome, IsSome, IsTrue, None, nat_le};
 ghost use Rattle.std.specs.Prelude.{true};
 ghost use Rattle.std.specs.Bool.{OnFalse};
-ghost use Rattle.call_data.specs.declared.sys_call.SysCall.{SysCall};
-ghost use Rattle.call_data.specs.CallData.{IsCall};
-ghost use Rattle.oci_profile.specs.declared.decision.Decision.{Decision};
-ghost use Rattle.oci_profile.specs.Decision.{value_of};
-ghost use Rattle.oci_profile.specs.Meaning.{all_hold, decision_of, names};
-ghost use Rattle.compile.specs.Backward.{GivesAlways, Keeps};
-ghost use Rattle.compile.specs.Bounds.{IsBare, IsEquality, conditions_at};
+ghost use Rattle.compile.specs.Common.{SysCall, IsCall, Decision, value_of, all_hold, decision_of, names};
+ghost use Rattle.compile.specs.Common.{GivesAlways, Keeps, IsBare, IsEquality, conditions_at, Says, AreAsked};
+ghost use Rattle.compile.specs.Common.{added_of, RECENT};
 ghost use Rattle.compile.specs.Points.{AreSorted, IsFound, IsSearched};
-ghost use Rattle.compile.specs.Rooms.{Says};
-ghost use Rattle.compile.specs.Sizes.{AreAsked, added_of};
-ghost use Rattle.compile.specs.declared.code.TheConstants.{RECENT};
 
 use crate::clause::Clause;
 use crate::code::{Code, RECENT};
