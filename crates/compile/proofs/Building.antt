@@ -7,7 +7,7 @@ use Rattle.compile.proofs.Common.{PointsInside, data_word, bit_and, holds_of, en
 use Rattle.std.proofs.lemmas.Option.{same_Some}
 use Rattle.std.proofs.lemmas.List.{take-append-le, length-take}
 use Rattle.std.proofs.Math.Nat.{min-le_right}
-use Rattle.compile.specs.Backward.{Extends, Puts, BranchesTo}
+use Rattle.compile.specs.Backward.{Builds, Extends, Puts, BranchesTo}
 use Rattle.compile.specs.Tests.{operation_of}
 use Rattle.compile.specs.declared.code.Test.{Test}
 use Rattle.compile.specs.declared.code.Test.TheVariants.{Equal, GreaterOrEqual, AnyBit}
@@ -45,7 +45,7 @@ puts_pushed old insn = record {
       (record { still = λ at other stands. slice_get_front old insn at other stands });
 }
 
-pub extends_pushed : (old : List Insn) (insn : Insn) → Extends old (old ++ insn ∷ [])
+extends_pushed : (old : List Insn) (insn : Insn) → Extends old (old ++ insn ∷ [])
 extends_pushed old insn begin is =
     let inside : length begin ≤ length old = omega (
       arith,
@@ -55,6 +55,11 @@ extends_pushed old insn begin is =
       min-le_right (length begin) (length old),
     ) in
     take-append-le (length begin) old (insn ∷ []) inside ∙ is
+
+pub builds_pushed : (old : List Insn) (insn : Insn) → Builds old (old ++ insn ∷ [])
+builds_pushed old insn =
+    let puts = puts_pushed old insn in
+    record { keeps = puts.keeps; extends = extends_pushed old insn; grows = omega (arith, puts.longer) }
 
 -- what stands in code with one instruction in front
 stands_pushed : (old : List Insn) (insn : Insn) (at : ℕ) (other : Insn)

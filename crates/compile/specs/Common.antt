@@ -9,7 +9,7 @@ pub use Rattle.oci_profile.specs.Entries.{AreEntries}
 pub use Rattle.oci_profile.specs.Meaning.{all_hold, chosen, decision_of, names}
 pub use Rattle.oci_profile.specs.declared.decision.Decision.{Decision}
 pub use Rattle.sys_table.specs.declared.table.TheConstants.{NUMBER_LIMIT}
-pub use Rattle.compile.specs.Backward.{Extends, Gives, GivesAlways, Keeps, data_word}
+pub use Rattle.compile.specs.Backward.{Builds, Gives, GivesAlways, IsRecent, data_word}
 pub use Rattle.compile.specs.Bounds.{AreBare, IsBare, IsEquality, conditions_at, named_below}
 pub use Rattle.compile.specs.Ranges.{AreRanges, IsAlike, IsBetween}
 pub use Rattle.compile.specs.Residuals.{asks, atom_holds, clause_holds, clauses_hold, first_value}

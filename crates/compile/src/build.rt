@@ -1,6 +1,6 @@
 ghost use Rattle.std.specs.Prelude.{◌≡◌, ◌≤◌, ◌<◌, ◌+◌, ◌-◌, ◌%◌, ℕ, length, IfOk, IfSome, if◌then◌else◌};
-ghost use Rattle.compile.specs.Common.{DATA_LEN, SysCall, Extends, Gives, Keeps, first_value, holds_of};
-ghost use Rattle.compile.specs.Common.{WayGives, NOWHERE, REACH};
+ghost use Rattle.compile.specs.Common.{Builds, DATA_LEN, SysCall, Gives, first_value, holds_of, WayGives};
+ghost use Rattle.compile.specs.Common.{NOWHERE, REACH};
 ghost use Rattle.compile.specs.Residuals.{shown};
 ghost use Rattle.compile.specs.Ways.{GivesWith, taken, told};
 ghost use Rattle.compile.specs.declared.atom.View.{View};
@@ -41,9 +41,7 @@ fn nearer(code: &mut Code, way: Way, reach: usize) -> Result<Option<Way>, AllocE
     ensures near { IfOk result (λ found. IfSome found (λ near. length code.new ≤ near.at + 1 + reach)) }
     ensures inside { IfOk result (λ found. IfSome found (λ near. near.at < length code.new)) }
     ensures longer { length code.new ≤ length code.old + 1 }
-    ensures keeps { Keeps code.old code.new }
-    ensures extends { Extends code.old code.new }
-    ensures grows { length code.old ≤ length code.new }
+    ensures builds { Builds code.old code.new }
 {
     if code.len() > MAX_INSNS {
         return Ok(None);
@@ -124,9 +122,7 @@ fn bring(code: &mut Code, base: View, view: View) -> Result<usize, AllocError>
     ensures gives { IfOk result (λ steps. (call : SysCall) (value most : ℕ)
         → Gives code.old call (length code.old - 1) (shown base call) value most
         → GivesWith view code.new call (length code.new - 1) value (most + steps)) }
-    ensures keeps { Keeps code.old code.new }
-    ensures extends { Extends code.old code.new }
-    ensures grows { length code.old ≤ length code.new }
+    ensures builds { Builds code.old code.new }
 {
     if view.is(base) {
         return Ok(0);
@@ -160,9 +156,7 @@ fn branch(
         (if holds_of probe.now.test probe.now.k (shown probe.now.base call) then hit else miss) value
         → WayGives view code.new call way value)) }
     ensures inside { IfOk result (λ found. IfSome found (λ way. way.at < length code.new)) }
-    ensures keeps { Keeps code.old code.new }
-    ensures extends { Extends code.old code.new }
-    ensures grows { length code.old ≤ length code.new }
+    ensures builds { Builds code.old code.new }
 {
     let Some(miss) = nearer(code, miss, REACH - 1)? else {
         return Ok(None);
@@ -224,9 +218,7 @@ pub(crate) fn build(
         → WayGives NOWHERE code.old call last other
         → WayGives view code.new call way (first_value rules.now other call))) }
     ensures inside { IfOk result (λ found. IfSome found (λ way. way.at < length code.new)) }
-    ensures keeps { Keeps code.old code.new }
-    ensures extends { Extends code.old code.new }
-    ensures grows { length code.old ≤ length code.new }
+    ensures builds { Builds code.old code.new }
 {
     if rules.is_empty() {
         return Ok(Some(arrived(code, last, view)));
@@ -290,9 +282,7 @@ fn joined(
         → WayGives probe.now.base code.old call (if told probe.now call then yes else no) value
         → WayGives view code.new call way value)) }
     ensures inside { IfOk result (λ found. IfSome found (λ way. way.at < length code.new)) }
-    ensures keeps { Keeps code.old code.new }
-    ensures extends { Extends code.old code.new }
-    ensures grows { length code.old ≤ length code.new }
+    ensures builds { Builds code.old code.new }
 {
     if yes.at == no.at && code.is_steady(no.at) {
         return Ok(Some(Way {

@@ -1,7 +1,7 @@
 ghost use Rattle.std.specs.Prelude.{◌≡◌, ◌≤◌, ◌<◌, ◌+◌, ◌-◌, ◌%◌, ◌^◌, ℕ, List, [], reverse, Some, slice_get};
 ghost use Rattle.std.specs.Prelude.{take, length, IfOk, OnOk, IsTrue, bit_and, if◌then◌else◌, ◌==◌};
-ghost use Rattle.compile.specs.Common.{DATA_LEN, MAX_INSNS, SysCall, IsSound, Runs, Extends, Gives};
-ghost use Rattle.compile.specs.Common.{GivesAlways, Keeps, data_word, holds_of, REACH, RECENT};
+ghost use Rattle.compile.specs.Common.{Builds, IsRecent, DATA_LEN, MAX_INSNS, SysCall, IsSound, Runs, Gives};
+ghost use Rattle.compile.specs.Common.{GivesAlways, data_word, holds_of, REACH, RECENT};
 ghost use Rattle.bpf_code.specs.declared.insn.Insn.{Insn};
 ghost use Rattle.bpf_code.specs.declared.operation.Operation.TheVariants.{AndK, LoadData, ReturnK};
 ghost use Rattle.compile.specs.Backward.{IsBackward, PointsInside, Puts};
@@ -87,9 +87,7 @@ impl Code {
         ensures puts { OnOk result (Puts insn self.old self.new) }
         ensures at { IfOk result (λ at. at ≡ length self.old) }
         ensures longer { length self.new ≤ length self.old + 1 }
-        ensures keeps { Keeps self.old self.new }
-        ensures extends { Extends self.old self.new }
-        ensures grows { length self.old ≤ length self.new }
+        ensures builds { Builds self.old self.new }
     {
         let at = self.insns.len();
         self.insns.push(insn)?;
@@ -99,12 +97,9 @@ impl Code {
     /// The place of a return of this value: a recent one, or a new one.
     pub(crate) fn value(&mut self, value: u32) -> Result<usize, AllocError>
         ensures gives { IfOk result (λ at. (call : SysCall) (a : ℕ) → Gives self.new call at a value 1) }
-        ensures recent { IfOk result (λ at. length self.new ≤ at + RECENT) }
-        ensures inside { IfOk result (λ at. at < length self.new) }
+        ensures recent { IfOk result (IsRecent self.new) }
         ensures longer { length self.new ≤ length self.old + 1 }
-        ensures keeps { Keeps self.old self.new }
-        ensures extends { Extends self.old self.new }
-        ensures grows { length self.old ≤ length self.new }
+        ensures builds { Builds self.old self.new }
     {
         let len = self.len();
         for back in 0..RECENT.min(len) {
@@ -131,9 +126,7 @@ impl Code {
             → Gives self.new call (length self.new - 1) a value (most + 1)) }
         ensures at { IfOk result (λ at. at + 1 ≡ length self.new) }
         ensures longer { OnOk result (length self.new ≡ length self.old + 1) }
-        ensures keeps { Keeps self.old self.new }
-        ensures extends { Extends self.old self.new }
-        ensures grows { length self.old ≤ length self.new }
+        ensures builds { Builds self.old self.new }
     {
         self.put(Insn {
             op: Operation::LoadData,
@@ -167,9 +160,7 @@ impl Code {
             → Gives self.new call (length self.new - 1) a value (most + 1)) }
         ensures at { IfOk result (λ at. at + 1 ≡ length self.new) }
         ensures longer { OnOk result (length self.new ≡ length self.old + 1) }
-        ensures keeps { Keeps self.old self.new }
-        ensures extends { Extends self.old self.new }
-        ensures grows { length self.old ≤ length self.new }
+        ensures builds { Builds self.old self.new }
     {
         self.put(Insn {
             op: Operation::AndK,
@@ -196,9 +187,7 @@ impl Code {
             → Gives self.new call (length self.new - 1) a value (most + 1)) }
         ensures at { IfOk result (λ at. at + 1 ≡ length self.new) }
         ensures longer { OnOk result (length self.new ≡ length self.old + 1) }
-        ensures keeps { Keeps self.old self.new }
-        ensures extends { Extends self.old self.new }
-        ensures grows { length self.old ≤ length self.new }
+        ensures builds { Builds self.old self.new }
     {
         let at = self.len();
         self.put(Insn {
@@ -223,9 +212,7 @@ impl Code {
             → Gives self.old call place a value most
             → Gives self.new call at a value (most + 1)) }
         ensures longer { length self.new ≤ length self.old + 1 }
-        ensures keeps { Keeps self.old self.new }
-        ensures extends { Extends self.old self.new }
-        ensures grows { length self.old ≤ length self.new }
+        ensures builds { Builds self.old self.new }
     {
         let len = self.len();
         if len <= place + 1 + reach {

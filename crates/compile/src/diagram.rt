@@ -1,7 +1,7 @@
 ghost use Rattle.std.specs.Prelude.{◌≡◌, ◌≤◌, ◌<◌, ◌+◌, ◌*◌, ◌^◌, ℕ, None, IfOk, IfSome, IsTrue, length};
 ghost use Rattle.std.specs.Prelude.{true};
 ghost use Rattle.std.specs.Bool.{OnFalse};
-ghost use Rattle.compile.specs.Common.{SysCall, IsCall, value_of, decision_of, Extends, GivesAlways, Keeps};
+ghost use Rattle.compile.specs.Common.{Builds, IsRecent, SysCall, IsCall, value_of, decision_of, GivesAlways};
 ghost use Rattle.compile.specs.Common.{IsEquality, conditions_at, first_value, AreAsked, added_of, steps_at};
 ghost use Rattle.compile.specs.Common.{WayGives, NOWHERE, RECENT};
 
@@ -50,9 +50,7 @@ fn parts(
         → WayGives NOWHERE code.old call last other
         → WayGives NOWHERE code.new call way (first_value rules.now other call))) }
     ensures inside { IfOk result (λ found. IfSome found (λ way. way.at < length code.new)) }
-    ensures keeps { Keeps code.old code.new }
-    ensures extends { Extends code.old code.new }
-    ensures grows { length code.old ≤ length code.new }
+    ensures builds { Builds code.old code.new }
 {
     let start = code.len();
     let room = room(rules);
@@ -130,12 +128,10 @@ pub(crate) fn diagram(
         → GivesAlways code.new call at (value_of (decision_of entries.now last.now nr call))
         (1 + 12 * digits))) }
     ensures none { IfOk result (λ found. found ≡ None → code.new ≡ code.old) }
-    ensures inside { IfOk result (λ found. IfSome found (λ at. at < length code.new)) }
-    ensures recent { IfOk result (λ found. IfSome found (λ at. length code.new ≤ at + RECENT)) }
+    ensures recent { IfOk result (λ found. IfSome found (IsRecent code.new)) }
     ensures longer { IfOk result (λ found. IfSome found (λ at. length code.new
         ≤ length code.old + 1 + added_of entries.now nr)) }
-    ensures keeps { Keeps code.old code.new }
-    ensures grows { length code.old ≤ length code.new }
+    ensures builds { Builds code.old code.new }
 {
     let start = code.len();
     let named = rules_of(alloc, entries, nr)?;

@@ -1,9 +1,9 @@
 ghost use Rattle.std.specs.Bool.{OnFalse};
 ghost use Rattle.std.specs.Prelude.{◌≡◌, ◌≤◌, ◌<◌, ◌+◌, ◌*◌, ◌^◌, ℕ, false, length, take, true, IfOk, IsTrue};
 ghost use Rattle.std.specs.Prelude.{OnOk};
-ghost use Rattle.compile.specs.Common.{SysCall, IsCall, value_of, chosen, decision_of, names, GivesAlways};
-ghost use Rattle.compile.specs.Common.{Keeps, AreBare, IsBare, conditions_at, AreAsked, Suffices, added_of};
-ghost use Rattle.compile.specs.Common.{settles, steps_at, RECENT};
+ghost use Rattle.compile.specs.Common.{Builds, IsRecent, SysCall, IsCall, value_of, chosen, decision_of};
+ghost use Rattle.compile.specs.Common.{names, GivesAlways, AreBare, IsBare, conditions_at, AreAsked};
+ghost use Rattle.compile.specs.Common.{Suffices, added_of, settles, steps_at};
 ghost use Rattle.compile.specs.Sizes.{NoneDecides};
 
 use crate::code::Code;
@@ -57,11 +57,9 @@ fn entries_leaf(
         → AreAsked index entries.now nr → conditions_at entries.now nr < 2 ^ digits
         → GivesAlways code.new call at (value_of (decision_of entries.now last.now nr call))
         (1 + 12 * digits)) }
-    ensures inside { IfOk result (λ at. at < length code.new) }
-    ensures recent { IfOk result (λ at. length code.new ≤ at + RECENT) }
+    ensures recent { IfOk result (IsRecent code.new) }
     ensures longer { OnOk result (length code.new ≤ length code.old + 1 + added_of entries.now nr) }
-    ensures keeps { Keeps code.old code.new }
-    ensures grows { length code.old ≤ length code.new }
+    ensures builds { Builds code.old code.new }
 {
     if let Some(place) = diagram(code, alloc, entries, last, nr)? {
         return Ok(place);
@@ -89,12 +87,10 @@ pub(crate) fn leaf(
     ensures gives { IfOk result (λ at. (call : SysCall) (most : ℕ) → IsCall call
         → Suffices profile.now.entries nr most
         → GivesAlways code.new call at (chosen profile.now nr call) most) }
-    ensures inside { IfOk result (λ at. at < length code.new) }
-    ensures recent { IfOk result (λ at. length code.new ≤ at + RECENT) }
+    ensures recent { IfOk result (IsRecent code.new) }
     ensures longer { OnOk result (length code.new ≤ length code.old + 1 + added_of profile.now.entries nr) }
     ensures bare { AreBare profile.now.entries → OnOk result (length code.new ≤ length code.old + 1) }
-    ensures keeps { Keeps code.old code.new }
-    ensures grows { length code.old ≤ length code.new }
+    ensures builds { Builds code.old code.new }
 {
     if nr >= X32_BIT {
         return code.value(Decision::KillProcess.value());

@@ -1,8 +1,8 @@
 ghost use Rattle.std.specs.Prelude.{◌≡◌, ◌≢◌, ◌≤◌, ◌<◌, ◌+◌, ◌-◌, ◌*◌, ◌%◌, ◌==◌, ℕ, All, IfOk, OnOk, drop};
 ghost use Rattle.std.specs.Prelude.{false, true, if◌then◌else◌, length};
-ghost use Rattle.compile.specs.Common.{DATA_LEN, SysCall, GivesAlways, Keeps, atom_holds, clause_holds};
-ghost use Rattle.compile.specs.Common.{clauses_hold, first_value, literal_holds, IsFit, IsPossible};
-ghost use Rattle.compile.specs.Common.{size_of_rules, WHOLE, Literal, REACH, RECENT};
+ghost use Rattle.compile.specs.Common.{Builds, IsRecent, DATA_LEN, SysCall, GivesAlways, atom_holds};
+ghost use Rattle.compile.specs.Common.{clause_holds, clauses_hold, first_value, literal_holds, IsFit};
+ghost use Rattle.compile.specs.Common.{IsPossible, size_of_rules, WHOLE, Literal, REACH, RECENT};
 ghost use Rattle.compile.specs.Rooms.{IsWithin, IsWithinLiteral, size_of_clause, size_of_clauses};
 ghost use Rattle.compile.specs.Rooms.{size_of_literal};
 
@@ -27,8 +27,7 @@ fn ask(code: &mut Code, atom: &Atom, hit: usize, miss: usize) -> Result<usize, A
     ensures at { IfOk result (λ at. at + 1 ≡ length code.new) }
     ensures longer { OnOk result (length code.new
         ≡ length code.old + (if atom.now.view.mask == WHOLE then 2 else 3)) }
-    ensures keeps { Keeps code.old code.new }
-    ensures grows { length code.old ≤ length code.new }
+    ensures builds { Builds code.old code.new }
 {
     let (test, k) = atom.ask.test();
     code.jump(test, k, hit, miss)?;
@@ -66,8 +65,7 @@ fn test_literal(
         → length code.old + size_of_literal literal.now + more ≤ miss + 1 + REACH
         → length code.new + more ≤ at + 1 + REACH) }
     ensures longer { OnOk result (length code.new ≤ length code.old + size_of_literal literal.now) }
-    ensures keeps { Keeps code.old code.new }
-    ensures grows { length code.old ≤ length code.new }
+    ensures builds { Builds code.old code.new }
 {
     match *literal {
         Literal::Known(holds) => {
@@ -101,11 +99,9 @@ fn test_clause(
     ensures gives { IfOk result (λ at. (call : SysCall) (value most : ℕ)
         → GivesAlways code.old call (if clause_holds clause.now call then hit else miss) value most
         → GivesAlways code.new call at value (most + size_of_clause clause.now)) }
-    ensures inside { IfOk result (λ at. at < length code.new) }
-    ensures recent { IfOk result (λ at. length code.new ≤ at + RECENT) }
+    ensures recent { IfOk result (IsRecent code.new) }
     ensures longer { OnOk result (length code.new ≤ length code.old + size_of_clause clause.now) }
-    ensures keeps { Keeps code.old code.new }
-    ensures grows { length code.old ≤ length code.new }
+    ensures builds { Builds code.old code.new }
 {
     if clause.one.is_known(true) {
         return Ok(hit);
@@ -137,12 +133,10 @@ pub(crate) fn test_clauses(
         → GivesAlways code.old call (if clauses_hold (drop from clauses.now) call then hit
         else miss) value most
         → GivesAlways code.new call at value (most + size_of_clauses (drop from clauses.now))) }
-    ensures inside { IfOk result (λ at. at < length code.new) }
-    ensures recent { IfOk result (λ at. length code.new ≤ at + RECENT) }
+    ensures recent { IfOk result (IsRecent code.new) }
     ensures longer { OnOk result (length code.new
         ≤ length code.old + size_of_clauses (drop from clauses.now)) }
-    ensures keeps { Keeps code.old code.new }
-    ensures grows { length code.old ≤ length code.new }
+    ensures builds { Builds code.old code.new }
 {
     if from == clauses.len() {
         return Ok(hit);
@@ -166,12 +160,10 @@ pub(crate) fn plain(
         → GivesAlways code.old call last other most
         → GivesAlways code.new call at (first_value (drop from rules.now) other call)
         (most + size_of_rules (drop from rules.now))) }
-    ensures inside { IfOk result (λ at. at < length code.new) }
-    ensures recent { IfOk result (λ at. length code.new ≤ at + RECENT) }
+    ensures recent { IfOk result (IsRecent code.new) }
     ensures longer { OnOk result (length code.new
         ≤ length code.old + (size_of_rules (drop from rules.now) + (length rules.now - from))) }
-    ensures keeps { Keeps code.old code.new }
-    ensures grows { length code.old ≤ length code.new }
+    ensures builds { Builds code.old code.new }
 {
     if from == rules.len() {
         return Ok(last);

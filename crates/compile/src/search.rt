@@ -2,9 +2,9 @@ ghost use Rattle.std.specs.Prelude.{◌≡◌, ◌≢◌, ◌≤◌, ◌<◌, �
 ghost use Rattle.std.specs.Prelude.{slice_index, if◌then◌else◌, [], IfSome, IsSome, IsTrue, None, nat_le};
 ghost use Rattle.std.specs.Prelude.{true};
 ghost use Rattle.std.specs.Bool.{OnFalse};
-ghost use Rattle.compile.specs.Common.{SysCall, IsCall, Decision, value_of, all_hold, decision_of, names};
-ghost use Rattle.compile.specs.Common.{GivesAlways, Keeps, IsBare, IsEquality, conditions_at, Says, AreAsked};
-ghost use Rattle.compile.specs.Common.{added_of, RECENT};
+ghost use Rattle.compile.specs.Common.{Builds, IsRecent, SysCall, IsCall, Decision, value_of, all_hold};
+ghost use Rattle.compile.specs.Common.{decision_of, names, GivesAlways, IsBare, IsEquality, conditions_at};
+ghost use Rattle.compile.specs.Common.{Says, AreAsked, added_of, RECENT};
 ghost use Rattle.compile.specs.Points.{AreSorted, IsFound, IsSearched};
 
 use crate::clause::Clause;
@@ -232,11 +232,9 @@ fn few(
         → IsFound points.now.numbers.items points.now.values.items from to (slice_index call.args index) other
         answer
         → GivesAlways code.new call at answer (1 + 4 * (to - from))) }
-    ensures inside { IfOk result (λ at. at < length code.new) }
-    ensures recent { IfOk result (λ at. length code.new ≤ at + RECENT) }
+    ensures recent { IfOk result (IsRecent code.new) }
     ensures longer { OnOk result (length code.new ≤ length code.old + 1 + 5 * (to - from)) }
-    ensures keeps { Keeps code.old code.new }
-    ensures grows { length code.old ≤ length code.new }
+    ensures builds { Builds code.old code.new }
 {
     if from == to {
         return code.value(other);
@@ -273,12 +271,10 @@ pub(crate) fn search(
         → IsFound points.now.numbers.items points.now.values.items from to (slice_index call.args index) other
         answer
         → IsSearched (to - from) most → GivesAlways code.new call at answer most) }
-    ensures inside { IfOk result (λ at. at < length code.new) }
-    ensures recent { IfOk result (λ at. length code.new ≤ at + RECENT) }
+    ensures recent { IfOk result (IsRecent code.new) }
     ensures longer { OnOk result (length code.new ≤ length code.old + 1 + 7 * (to - from)) }
     ensures shorter { OnOk result (5 ≤ to - from → length code.new + 8 ≤ length code.old + 7 * (to - from)) }
-    ensures keeps { Keeps code.old code.new }
-    ensures grows { length code.old ≤ length code.new }
+    ensures builds { Builds code.old code.new }
 {
     if to - from < MANY {
         return few(code, alloc, index, points, from, to, other);

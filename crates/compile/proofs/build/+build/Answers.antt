@@ -58,9 +58,9 @@ returns-clause-gives t c =
     c.in_ok-left-2.left.items rules other c.as_slice-2.ensures.value
     (c.in_ok-left-2.ensures call other (sym same ∙ holds))
     (left_some c.in_ok-yes.field-0 yes Yes c.in-Some-4.is c.in_ok-yes.ensures.gives call other
-    (way_kept old mid NOWHERE call c.args.last other c.in_ok-no.ensures.keeps last)))
+    (way_kept old mid NOWHERE call c.args.last other c.in_ok-no.ensures.builds.keeps last)))
     (λ fails. way_kept mid both probe.base call no (first_value rules other call)
-    c.in_ok-yes.ensures.keeps (left_way probe.base mid call no c.as_slice.result.now
+    c.in_ok-yes.ensures.builds.keeps (left_way probe.base mid call no c.as_slice.result.now
     c.in_ok-left.left.items rules other c.as_slice.ensures.value
     (c.in_ok-left.ensures call other (sym same ∙ fails))
     (left_some c.in_ok-no.field-0 no No c.in-Some-3.is c.in_ok-no.ensures.gives call other last)))))

@@ -19,7 +19,7 @@ returns-in-Some-checked_add-2-clause-gives c = λ call value gives a has.
     (cond holds c.in-Some-2.hit.at c.in-Some.miss.at) value c.max.result =
     either_nearer c.args.code.now c.nearer.new.code c.nearer-2.new.code probe.base call value
     holds c.args.hit c.args.miss c.in-Some-2.hit c.in-Some.miss c.max.result
-    c.in_ok-miss.ensures.keeps c.in_ok-hit.ensures.keeps
+    c.in_ok-miss.ensures.builds.keeps c.in_ok-hit.ensures.builds.keeps
     (left_some c.in_ok-miss.field-0 c.in-Some.miss NearMiss c.in-Some.is c.in_ok-miss.ensures.gives call
     probe.base value)
     (left_some c.in_ok-hit.field-0 c.in-Some-2.hit NearHit c.in-Some-2.is c.in_ok-hit.ensures.gives call

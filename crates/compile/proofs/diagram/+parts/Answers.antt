@@ -13,7 +13,7 @@ returns-clause-gives t c =
     let at : ℕ = length rules / 2 in
     let back : c.cut.new.self ≡ old =
     c.cut.ensures ∙ ap (λ n. take n c.build.new.code) c.len-start.ensures
-    ∙ c.in_ok-way.ensures.extends old (take_all (length old) old (omega arith)) in
+    ∙ c.in_ok-way.ensures.builds.extends old (take_all (length old) old (omega arith)) in
     let Rest : Way → Type 0 = λ way. (call : SysCall) (other : ℕ)
     → WayGives NOWHERE c.cut.new.self call c.args.last other
     → WayGives NOWHERE mid call way (first_value (take (length rules - at) (drop at rules)) other call) in

@@ -36,7 +36,7 @@ returns-clause-gives t c =
     behind left
     (GivesAlways-more mid call c.in_ok-hit.hit rule.value 1 left (c.in_ok-hit.ensures.gives call)
     (omega (arith, some)))
-    (λ a. c.in_ok-hit.ensures.keeps call c.in_ok-rest.rest a behind left
+    (λ a. c.in_ok-hit.ensures.builds.keeps call c.in_ok-rest.rest a behind left
     (c.in_ok-rest.ensures.gives call other most some gives a)))))
     (omega (arith, sizes_from rules from rule (omega arith) c.index-rules-from.is))))
     c.test_clauses.ensures.gives

@@ -46,7 +46,7 @@ returns-clause-gives t c =
     (most + size_of_clauses (drop from clauses))
     (tests call value (most + rest) (both_give old mid call (clause_holds clause call)
     (clauses_hold (drop (from + 1) clauses) call) c.args.hit c.args.miss c.in_ok-rest.rest value most
-    (most + rest) c.in_ok-rest.ensures.keeps (omega arith) (c.in_ok-rest.ensures.gives call value most)
+    (most + rest) c.in_ok-rest.ensures.builds.keeps (omega arith) (c.in_ok-rest.ensures.gives call value most)
     (by_test old call _ _ c.args.hit c.args.miss value most
     (clauses_from clauses from call (omega arith)) gives)))
     (omega (arith, size_from clauses from (omega arith))))

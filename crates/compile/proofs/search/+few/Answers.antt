@@ -48,7 +48,7 @@ returns-clause-gives t c =
     c.in_ok-rest.rest left (omega arith) found
     (subst Value c.value-2.ensures (GivesAlways-more mid call c.in_ok-hit.hit c.value-2.result 1 left
     (c.in_ok-hit.ensures.gives call) (omega arith)))
-    (λ rest a. c.in_ok-hit.ensures.keeps call c.in_ok-rest.rest a answer left
+    (λ rest a. c.in_ok-hit.ensures.builds.keeps call c.in_ok-rest.rest a answer left
     (c.in_ok-rest.ensures.gives call answer is_call rest a)))))
     (omega (
       arith,

@@ -37,8 +37,8 @@ returns-then-is_void-clause-gives t c = λ call answer most is_call found enough
     let half = half_steps (c.args.to - from) (middle - from) most (omega arith) (omega arith) enough in
     GivesAlways-more c.near-2.new.self call c.in_ok-miss.miss answer (most - 8 + 1) most
     (nearer_gives c.search.new.code c.search-2.new.code c.near.new.self c.near-2.new.self call
-    c.in_ok-below.below c.in_ok-miss.miss answer (most - 8) c.in_ok-above.ensures.keeps
-    c.in_ok-miss.ensures.gives c.in_ok-hit.ensures.keeps (c.in_ok-below.ensures.gives call answer (most - 8)
+    c.in_ok-below.below c.in_ok-miss.miss answer (most - 8) c.in_ok-above.ensures.builds.keeps
+    c.in_ok-miss.ensures.gives c.in_ok-hit.ensures.builds.keeps (c.in_ok-below.ensures.gives call answer (most - 8)
     is_call (found_below numbers values from middle c.args.to arg c.args.other answer c.requires.sorted
     (omega arith) (omega arith) (not_below (slice_index numbers middle) arg never) found) half.1))
     (omega (arith, half.0))
@@ -72,11 +72,11 @@ returns-clause-gives t c =
     (half_tested numbers values mid call from middle to arg c.args.other answer c.in_ok-hit.hit
     c.in_ok-miss.miss (most - 8 + 1) c.requires.sorted (omega arith) (omega arith) (omega arith) found
     (λ below. nearer_gives c.search.new.code c.search-2.new.code c.near.new.self mid call
-    c.in_ok-below.below c.in_ok-miss.miss answer (most - 8) c.in_ok-above.ensures.keeps
-    c.in_ok-miss.ensures.gives c.in_ok-hit.ensures.keeps
+    c.in_ok-below.below c.in_ok-miss.miss answer (most - 8) c.in_ok-above.ensures.builds.keeps
+    c.in_ok-miss.ensures.gives c.in_ok-hit.ensures.builds.keeps
     (c.in_ok-below.ensures.gives call answer (most - 8) is_call below lower.1))
     (λ above. nearer_gives c.search-2.new.code c.near.new.self mid mid call
-    c.in_ok-above.above c.in_ok-hit.hit answer (most - 8) c.in_ok-miss.ensures.keeps
+    c.in_ok-above.above c.in_ok-hit.hit answer (most - 8) c.in_ok-miss.ensures.builds.keeps
     c.in_ok-hit.ensures.gives (λ _ place a v m g. g)
     (c.in_ok-above.ensures.gives call answer (most - 8) is_call above upper.1)))))
     (omega (
