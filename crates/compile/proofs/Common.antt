@@ -1,6 +1,6 @@
 -- The names that most proofs of this crate cite, passed on from one place. Declares nothing.
 pub use Rattle.std.proofs.Common.{All, Bool, Err, Global, IfOk, IfSome, IsSome, IsTrue, List, None, Ok, OnOk}
-pub use Rattle.std.proofs.Common.{Option, Result, Some, Vec, [], add-one, ap, arith, bit_and, cond, drop}
+pub use Rattle.std.proofs.Common.{is_some, Option, Result, Some, Vec, [], add-one, ap, arith, bit_and, cond, drop}
 pub use Rattle.std.proofs.Common.{false, get_or, get_or-drop, get_or-take, inl, inr, length, min, nat_eq}
 pub use Rattle.std.proofs.Common.{nat_le, nat_lt, not, refl, reverse, rules, slice_get, slice_index}
 pub use Rattle.std.proofs.Common.{slice_index_or, slice_range, slice_set, subst, suc, sum_by, sym, take, true}

@@ -1,8 +1,7 @@
 -- Diagrams of rules, and the steps through them.
-use Rattle.compile.proofs.Common.{◌≡◌, ℕ, ◌+◌, ◌-◌, ◌^◌, ◌≤◌, ◌<◌, List, refl, ap, subst, ◌∙◌, arith, inl}
-use Rattle.compile.proofs.Common.{inr, Bool, true, false, IsTrue, nat_le, nat_tests, cases_lt, Insn, NOWHERE}
-use Rattle.compile.proofs.Common.{SysCall, first_value, WayGives, Way, Rule, GivesAlways}
-use Rattle.std.specs.Bool.{OnFalse}
+use Rattle.compile.proofs.Common.{◌≡◌, ℕ, ◌+◌, ◌-◌, ◌^◌, ◌≤◌, ◌<◌, List, ap, subst, ◌∙◌, arith, inl, inr}
+use Rattle.compile.proofs.Common.{IsTrue, nat_le, nat_tests, cases_lt, Insn, NOWHERE, SysCall, first_value}
+use Rattle.compile.proofs.Common.{WayGives, Way, Rule, GivesAlways}
 use Rattle.compile.proofs.Building.{gives_more}
 use Rattle.compile.proofs.Weights.{pow_grows}
 
@@ -26,7 +25,3 @@ told_way code way call slice rules value other told most same is says larger giv
     subst P (ap (λ rs. first_value rs value call) same ∙ ap (λ v. first_value rules v call) is ∙ says)
     (λ a. gives_more code call way.at a _ way.most most (gives a (λ inside. absurd (omega (arith, inside))))
     larger)
-
-pub surely : (b : Bool) (Never : Type 0) → OnFalse b Never → (Never → ⊥) → b ≡ true
-surely true Never never not = refl
-surely false Never never not = absurd (not never)

@@ -1,8 +1,8 @@
 -- Equal clauses hold of the same calls, and a rule that holds makes those behind it needless.
-use Rattle.compile.proofs.Common.{◌≡◌, ℕ, ◌<◌, ◌&&◌, nat_eq, List, [], ◌∷◌, cond, drop, get_or, length, take}
-use Rattle.compile.proofs.Common.{refl, sym, ap, ◌∙◌, Bool, true, false, true≢false, take-append-drop}
-use Rattle.compile.proofs.Common.{SysCall, Ask, Atom, View, Clause, Literal, Known, Asked, Rule, clause_holds}
-use Rattle.compile.proofs.Common.{clauses_hold, first_value}
+use Rattle.compile.proofs.Common.{◌≡◌, ℕ, ◌<◌, ◌&&◌, List, [], ◌∷◌, cond, drop, get_or, length, take, refl}
+use Rattle.compile.proofs.Common.{sym, ap, ◌∙◌, Bool, true, false, true≢false, take-append-drop, SysCall, Ask}
+use Rattle.compile.proofs.Common.{Atom, View, Clause, Literal, Known, Asked, Rule, clause_holds, clauses_hold}
+use Rattle.compile.proofs.Common.{first_value}
 use Rattle.std.proofs.Common.{eqb-true}
 use Rattle.std.specs.Cmp.{booleans_Decides, first_so, second_so}
 use Rattle.std.specs.Cmp.Lexicographic.{pointwise}

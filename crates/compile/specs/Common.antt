@@ -10,12 +10,12 @@ pub use Rattle.oci_profile.specs.Meaning.{all_hold, chosen, decision_of, names}
 pub use Rattle.oci_profile.specs.declared.decision.Decision.{Decision}
 pub use Rattle.sys_table.specs.declared.table.TheConstants.{NUMBER_LIMIT}
 pub use Rattle.compile.specs.Backward.{Builds, Gives, GivesAlways, IsRecent, data_word}
-pub use Rattle.compile.specs.Bounds.{AreBare, IsBare, IsEquality, conditions_at, named_below}
+pub use Rattle.compile.specs.Bounds.{AreBare, IsBare, conditions_at, named_below}
 pub use Rattle.compile.specs.Ranges.{AreRanges, IsAlike, IsBetween}
 pub use Rattle.compile.specs.Residuals.{asks, atom_holds, clause_holds, clauses_hold, first_value}
 pub use Rattle.compile.specs.Residuals.{literal_holds, seen}
 pub use Rattle.compile.specs.Rooms.{IsFit, IsPossible, IsSmall, IsSmallClause, Says, size_of_rules}
-pub use Rattle.compile.specs.Sizes.{AreAsked, IsEnough, Suffices, added_of, settles, steps_at, tree_size}
+pub use Rattle.compile.specs.Sizes.{AreAsked, IsEnough, Suffices, added_of, settles, tree_size}
 pub use Rattle.compile.specs.Tests.{holds_of}
 pub use Rattle.compile.specs.Ways.{WayGives}
 pub use Rattle.compile.specs.declared.atom.TheConstants.{NOWHERE, WHOLE}

@@ -52,6 +52,13 @@ fn seen(mask: u32, word: u32) -> u32
 }
 
 impl Ask {
+    /// The number that it asks about.
+    pub(crate) fn number(self) -> u32 {
+        match self {
+            Ask::Equal(k) | Ask::AtLeast(k) => k,
+        }
+    }
+
     /// The answer for a number.
     fn of(self, number: u32) -> bool
         ensures { result ≡ asks self number }

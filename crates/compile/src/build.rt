@@ -20,6 +20,9 @@ pub(crate) struct Way {
     pub(crate) most: usize,
 }
 
+/// A way through what was put in front; None if that takes too many tests. An error if memory runs out.
+pub(crate) type Built = Result<Option<Way>, AllocError>;
+
 /// The steps that a test takes, given what A holds.
 pub(crate) fn cost(atom: &Atom, view: View) -> usize {
     let base = atom.probe(view).base;
@@ -33,7 +36,7 @@ pub(crate) fn cost(atom: &Atom, view: View) -> usize {
 }
 
 /// A way to the same place that a branch can reach. None if the code is longer than any filter.
-fn nearer(code: &mut Code, way: Way, reach: usize) -> Result<Option<Way>, AllocError>
+fn nearer(code: &mut Code, way: Way, reach: usize) -> Built
     requires inside { way.at < length code.old }
     requires within { reach ≤ REACH }
     ensures gives { IfOk result (λ found. IfSome found (λ near. (call : SysCall) (view : View) (value : ℕ)
@@ -140,13 +143,7 @@ fn bring(code: &mut Code, base: View, view: View) -> Result<usize, AllocError>
 }
 
 /// A way that makes the test and goes on by its outcome, given what A holds.
-fn branch(
-    code: &mut Code,
-    probe: &Probe,
-    hit: Way,
-    miss: Way,
-    view: View,
-) -> Result<Option<Way>, AllocError>
+fn branch(code: &mut Code, probe: &Probe, hit: Way, miss: Way, view: View) -> Built
     requires known { probe.now.base.offset < DATA_LEN }
     requires aligned { probe.now.base.offset % 4 ≡ 0 }
     requires hit_inside { hit.at < length code.old }
@@ -212,7 +209,7 @@ pub(crate) fn build(
     view: View,
     depth: usize,
     fuel: &mut usize,
-) -> Result<Option<Way>, AllocError>
+) -> Built
     requires { last.at < length code.old }
     ensures gives { IfOk result (λ found. IfSome found (λ way. (call : SysCall) (other : ℕ)
         → WayGives NOWHERE code.old call last other
@@ -239,43 +236,20 @@ pub(crate) fn build(
     *fuel = fuel.saturating_sub(rules.len());
     let atom = choose(alloc, rules, view)?;
     let probe = atom.probe(view);
+    let base = probe.base;
     let left = rules_where(alloc, rules, &atom, false)?;
-    let Some(no) = build(
-        code,
-        alloc,
-        left.as_slice(),
-        last,
-        probe.base,
-        depth - 1,
-        fuel,
-    )?
-    else {
+    let Some(no) = build(code, alloc, left.as_slice(), last, base, depth - 1, fuel)? else {
         return Ok(None);
     };
     let left = rules_where(alloc, rules, &atom, true)?;
-    let Some(yes) = build(
-        code,
-        alloc,
-        left.as_slice(),
-        last,
-        probe.base,
-        depth - 1,
-        fuel,
-    )?
-    else {
+    let Some(yes) = build(code, alloc, left.as_slice(), last, base, depth - 1, fuel)? else {
         return Ok(None);
     };
     joined(code, &probe, yes, no, view)
 }
 
 /// A way that goes on by the answer to a question. If both answers lead to one place, nothing is tested.
-fn joined(
-    code: &mut Code,
-    probe: &Probe,
-    yes: Way,
-    no: Way,
-    view: View,
-) -> Result<Option<Way>, AllocError>
+fn joined(code: &mut Code, probe: &Probe, yes: Way, no: Way, view: View) -> Built
     requires yes_inside { yes.at < length code.old }
     requires no_inside { no.at < length code.old }
     ensures gives { IfOk result (λ found. IfSome found (λ way. (call : SysCall) (value : ℕ)

@@ -19,6 +19,9 @@ pub(crate) const REACH: usize = 255;
 /// next still reach it.
 pub(crate) const RECENT: usize = 200;
 
+/// The place of what was put in front, unless memory runs out.
+pub(crate) type Placed = Result<usize, AllocError>;
+
 /// What a branch tests of A.
 #[derive(Clone, Copy)]
 pub(crate) enum Test {
@@ -82,7 +85,7 @@ impl Code {
     }
 
     /// Puts an instruction in front.
-    fn put(&mut self, insn: Insn) -> Result<usize, AllocError>
+    fn put(&mut self, insn: Insn) -> Placed
         requires { PointsInside insn.op insn (length self.old) }
         ensures puts { OnOk result (Puts insn self.old self.new) }
         ensures at { IfOk result (λ at. at ≡ length self.old) }
@@ -95,7 +98,7 @@ impl Code {
     }
 
     /// The place of a return of this value: a recent one, or a new one.
-    pub(crate) fn value(&mut self, value: u32) -> Result<usize, AllocError>
+    pub(crate) fn value(&mut self, value: u32) -> Placed
         ensures gives { IfOk result (λ at. (call : SysCall) (a : ℕ) → Gives self.new call at a value 1) }
         ensures recent { IfOk result (IsRecent self.new) }
         ensures longer { length self.new ≤ length self.old + 1 }
@@ -117,7 +120,7 @@ impl Code {
     }
 
     /// Loads the word of the call's data at this offset, and goes on with the code.
-    pub(crate) fn load(&mut self, offset: u32) -> Result<usize, AllocError>
+    pub(crate) fn load(&mut self, offset: u32) -> Placed
         requires some { 0 < length self.old }
         requires inside { offset < DATA_LEN }
         requires aligned { offset % 4 ≡ 0 }
@@ -153,7 +156,7 @@ impl Code {
     }
 
     /// Keeps only these bits of A, and goes on with the code.
-    pub(crate) fn mask(&mut self, bits: u32) -> Result<usize, AllocError>
+    pub(crate) fn mask(&mut self, bits: u32) -> Placed
         requires some { 0 < length self.old }
         ensures gives { OnOk result ((call : SysCall) (a value most : ℕ)
             → Gives self.old call (length self.old - 1) (bit_and a bits) value most
@@ -171,13 +174,7 @@ impl Code {
     }
 
     /// Branches to one place if the test of A holds, else to the other.
-    pub(crate) fn jump(
-        &mut self,
-        test: Test,
-        k: u32,
-        hit: usize,
-        miss: usize,
-    ) -> Result<usize, AllocError>
+    pub(crate) fn jump(&mut self, test: Test, k: u32, hit: usize, miss: usize) -> Placed
         requires hit_inside { hit < length self.old }
         requires miss_inside { miss < length self.old }
         requires hit_near { length self.old ≤ hit + 1 + REACH }
@@ -200,7 +197,7 @@ impl Code {
 
     /// A place that does the same, with at most `reach` instructions between it and the next one that is put
     /// in front.
-    pub(crate) fn near(&mut self, place: usize, reach: usize) -> Result<usize, AllocError>
+    pub(crate) fn near(&mut self, place: usize, reach: usize) -> Placed
         requires inside { place < length self.old }
         requires within { reach ≤ REACH }
         requires short { length self.old < 2 ^ 32 }

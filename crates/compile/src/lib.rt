@@ -8,7 +8,7 @@
 //! Entries are rules of clauses over words of a call's data (`rules.rt`). A question about a word is asked,
 //! and what is left of the rules for either answer is built in the same way (`build.rt`, `residual.rt`,
 //! `atom.rt`). Any question is right; `choose.rt` looks for one that leads to few steps. What is longer or
-//! slower than promised is cut back (`diagram.rt`). In its place all rules are tested one after another
+//! slower than promised is cut back (`leaf.rt`). In its place all rules are tested one after another
 //! (`plain.rt`), or the numbers that one argument may equal are searched by halves (`search.rt`).
 #![tactic(auto)]
 
@@ -19,7 +19,6 @@ mod choose;
 mod clause;
 mod code;
 mod compiler;
-mod diagram;
 mod fault;
 mod leaf;
 mod order;

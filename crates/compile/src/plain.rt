@@ -8,12 +8,12 @@ ghost use Rattle.compile.specs.Rooms.{size_of_literal};
 
 use crate::atom::{Atom, WHOLE};
 use crate::clause::{Clause, Literal};
-use crate::code::{Code, REACH, RECENT};
+use crate::code::{Code, Placed, REACH, RECENT};
 use crate::residual::Rule;
 use std::alloc::AllocError;
 
 /// Puts a question in front, whatever A holds.
-fn ask(code: &mut Code, atom: &Atom, hit: usize, miss: usize) -> Result<usize, AllocError>
+fn ask(code: &mut Code, atom: &Atom, hit: usize, miss: usize) -> Placed
     requires known { atom.now.view.offset < DATA_LEN }
     requires aligned { atom.now.view.offset % 4 ≡ 0 }
     requires hit_inside { hit < length code.old }
@@ -39,12 +39,7 @@ fn ask(code: &mut Code, atom: &Atom, hit: usize, miss: usize) -> Result<usize, A
 }
 
 /// Puts the test of a literal in front, whatever A holds.
-fn test_literal(
-    code: &mut Code,
-    literal: &Literal,
-    hit: usize,
-    miss: usize,
-) -> Result<usize, AllocError>
+fn test_literal(code: &mut Code, literal: &Literal, hit: usize, miss: usize) -> Placed
     requires within { IsWithinLiteral literal.now }
     requires hit_inside { hit < length code.old }
     requires miss_inside { miss < length code.old }
@@ -84,12 +79,7 @@ fn test_literal(
 }
 
 /// Puts the tests of a clause in front, whatever A holds.
-fn test_clause(
-    code: &mut Code,
-    clause: &Clause,
-    hit: usize,
-    miss: usize,
-) -> Result<usize, AllocError>
+fn test_clause(code: &mut Code, clause: &Clause, hit: usize, miss: usize) -> Placed
     requires within { IsWithin clause.now }
     requires possible { IsPossible clause.now }
     requires hit_inside { hit < length code.old }
@@ -121,7 +111,7 @@ pub(crate) fn test_clauses(
     from: usize,
     hit: usize,
     miss: usize,
-) -> Result<usize, AllocError>
+) -> Placed
     requires within { All IsWithin clauses.now }
     requires possible { All IsPossible clauses.now }
     requires from_in { from ≤ length clauses.now }
@@ -146,12 +136,7 @@ pub(crate) fn test_clauses(
 }
 
 /// Puts the rules from one on in front of what follows them, one after another, the last one first.
-pub(crate) fn plain(
-    code: &mut Code,
-    rules: &[Rule],
-    from: usize,
-    last: usize,
-) -> Result<usize, AllocError>
+pub(crate) fn plain(code: &mut Code, rules: &[Rule], from: usize, last: usize) -> Placed
     requires fit { All IsFit rules.now }
     requires from_in { from ≤ length rules.now }
     requires inside { last < length code.old }

@@ -3,12 +3,13 @@ ghost use Rattle.std.specs.Prelude.{slice_index, if◌then◌else◌, [], IfSome
 ghost use Rattle.std.specs.Prelude.{true};
 ghost use Rattle.std.specs.Bool.{OnFalse};
 ghost use Rattle.compile.specs.Common.{Builds, IsRecent, SysCall, IsCall, Decision, value_of, all_hold};
-ghost use Rattle.compile.specs.Common.{decision_of, names, GivesAlways, IsBare, IsEquality, conditions_at};
-ghost use Rattle.compile.specs.Common.{Says, AreAsked, added_of, RECENT};
+ghost use Rattle.compile.specs.Common.{decision_of, names, GivesAlways, IsBare, conditions_at, Says};
+ghost use Rattle.compile.specs.Common.{AreAsked, added_of, RECENT};
+ghost use Rattle.compile.specs.Bounds.{IsEquality};
 ghost use Rattle.compile.specs.Points.{AreSorted, IsFound, IsSearched};
 
 use crate::clause::Clause;
-use crate::code::{Code, RECENT};
+use crate::code::{Code, Placed, RECENT};
 use crate::plain::test_clauses;
 use crate::rules::{add_equal, add_order, is_void};
 use oci_profile::{Entry, Op};
@@ -140,7 +141,7 @@ fn equality(entry: &Entry, index: u32) -> Option<u64>
 }
 
 /// Whether the operator asks for equality.
-pub(crate) fn is_equal(op: Op) -> bool
+fn is_equal(op: Op) -> bool
     ensures yes { IsTrue result → op ≡ Op.Equal }
     ensures no { OnFalse result (op ≢ Op.Equal) }
 {
@@ -223,7 +224,7 @@ fn few(
     from: usize,
     to: usize,
     other: u32,
-) -> Result<usize, AllocError>
+) -> Placed
     requires index_in { index < 6 }
     requires ordered { from ≤ to }
     requires to_in { to ≤ length points.now.numbers.items }
@@ -261,7 +262,7 @@ pub(crate) fn search(
     from: usize,
     to: usize,
     other: u32,
-) -> Result<usize, AllocError>
+) -> Placed
     requires index_in { index < 6 }
     requires some { from < to }
     requires to_in { to ≤ length points.now.numbers.items }

@@ -1,19 +1,61 @@
 use Rattle.compile.proofs.Common.{ℕ, ◌+◌, ◌-◌, ◌*◌, ◌^◌, ◌<◌, ◌≤◌, List, Option, IfSome, length, sym, subst}
-use Rattle.compile.proofs.Common.{arith, ap, ◌∙◌, ◌≡◌, IfOk-weaker, slice_index, Insn, SysCall, IsCall}
-use Rattle.compile.proofs.Common.{Decision, Entry, value_of, decision_of, GivesAlways, conditions_at, IsFound}
-use Rattle.compile.proofs.Common.{IsSearched, AreAsked, steps_at, first_value, size_of_rules, Rule}
+use Rattle.compile.proofs.Common.{arith, ap, ◌∙◌, ◌≡◌, IfOk-weaker, slice_index, Insn, SysCall, IsCall, Way}
+use Rattle.compile.proofs.Common.{WayGives, NOWHERE, Decision, Entry, value_of, decision_of, GivesAlways}
+use Rattle.compile.proofs.Common.{conditions_at, IsFound, IsSearched, AreAsked, steps_at, first_value}
+use Rattle.compile.proofs.Common.{size_of_rules, Rule, refl, take, take_all}
+use Rattle.compile.specs.Backward.{Builds}
 use Rattle.compile.specs.Points.IsSearched.{balanced}
 use Rattle.compile.specs.declared.search.Points.{Points}
-use Rattle.compile.proofs.Settling.{chain_steps, search_steps}
+use Rattle.compile.proofs.Diagrams.{told_way}
+use Rattle.compile.proofs.Restricting.{left_some}
+use Rattle.compile.proofs.Settling.{chain_steps, kept_steps, search_steps}
 use Rattle.compile.proofs.Words.{GivesAlways-more}
 use Rattle.compile.proofs.leaf.entries_leaf.Goals as goal
 
-pub returns-in-Some-2-clause-balanced : goal.returns-in-Some-2-clause-balanced
-returns-in-Some-2-clause-balanced c =
+told : (c : goal.Joined-points-4) (call : SysCall) → IsCall call → (most : ℕ) → c.in-Some.way.most ≤ most
+    → GivesAlways c.parts.new.code call c.in-Some.way.at
+    (value_of (decision_of c.args.entries.now c.args.last.now c.args.nr call)) most
+told c call is_call most larger =
+    let Found : Way → Type 0 = λ way. (at : SysCall) (other : ℕ)
+    → WayGives NOWHERE c.value-2.new.self at (record { at = c.in_ok-at.at; most = 1 }) other
+    → WayGives NOWHERE c.parts.new.code at way (first_value c.as_slice.result.now other at) in
+    told_way c.parts.new.code c.in-Some.way call c.as_slice.result.now c.ordered-rules.result.items
+    c.value.result (value_of c.args.last.now)
+    (value_of (decision_of c.args.entries.now c.args.last.now c.args.nr call)) most
+    c.as_slice.ensures.value c.value.ensures (c.ordered-rules.ensures call (value_of c.args.last.now)
+    ∙ c.in_ok-named.ensures.same call c.args.last.now is_call) larger
+    (left_some c.in_ok-found.found c.in-Some.way Found c.in-Some.is c.in_ok-found.ensures.gives call
+    c.value.result (λ a _. c.in_ok-at.ensures.gives call a))
+
+pub returns-then-is_good-clause-gives : goal.returns-then-is_good-clause-gives
+returns-then-is_good-clause-gives c = λ call is_call.
+    told c call is_call (steps_at c.args.entries.now c.args.nr)
+    (omega (arith, c.if-is_good.ensures.each refl, c.counts-counts.ensures.conditions))
+
+pub returns-then-is_good-clause-balanced : goal.returns-then-is_good-clause-balanced
+returns-then-is_good-clause-balanced c = λ call index digits is_call asked below.
+    told c call is_call (1 + 12 * digits)
+    (kept_steps c.in_ok-points.points c.is_some.result (conditions_at c.args.entries.now c.args.nr) digits
+    c.in-Some.way.most c.is_some.ensures (λ none. c.in_ok-points.ensures.left none index asked)
+    (omega (arith, c.if-is_good.ensures.each refl, c.counts-counts.ensures.conditions))
+    (λ is. c.if-is_good.ensures.balanced refl is digits
+    (omega (arith, below, c.counts-counts.ensures.conditions))) below)
+
+pub returns-in-Some-points-clause-builds : goal.returns-in-Some-points-clause-builds
+returns-in-Some-points-clause-builds c =
+    let old : List Insn = c.args.code.now in
+    let back : c.cut.new.self ≡ old =
+    c.cut.ensures ∙ ap (λ n. take n c.parts.new.code) c.len-start.ensures
+    ∙ c.in_ok-found.ensures.builds.extends old
+    (c.in_ok-at.ensures.builds.extends old (take_all (length old) old (omega arith))) in
+    subst (λ code. Builds code c.search.new.code) back c.search.ensures.builds
+
+pub returns-in-Some-points-clause-balanced : goal.returns-in-Some-points-clause-balanced
+returns-in-Some-points-clause-balanced c =
     let entries : List Entry = c.args.entries.now in
     let new : List Insn = c.search.new.code in
-    let numbers : List ℕ = c.in-Some-2.points.numbers.items in
-    let values : List ℕ = c.in-Some-2.points.values.items in
+    let numbers : List ℕ = c.in-Some-points.points.numbers.items in
+    let values : List ℕ = c.in-Some-points.points.values.items in
     let count : ℕ = conditions_at entries c.args.nr in
     let Found : Option (ℕ × Points) → Type 0 = λ found. IfSome found (λ it. (last : Decision) (call : SysCall)
     → IsFound it.1.numbers.items it.1.values.items 0 (length it.1.numbers.items) (slice_index call.args it.0)
@@ -21,11 +63,11 @@ returns-in-Some-2-clause-balanced c =
     let Many : Option (ℕ × Points) → Type 0 = λ found.
     IfSome found (λ it. length it.1.numbers.items ≤ count) in
     let More : Option (ℕ × Points) → Type 0 = λ found. IfSome found (λ _. 6 < count) in
-    let found = subst Found c.in-Some-2.is c.in_ok-index.ensures.found in
-    let fewer : length numbers ≤ count = subst Many c.in-Some-2.is c.in_ok-index.ensures.many in
-    let more : 6 < count = subst More c.in-Some-2.is c.in_ok-index.ensures.more in
+    let found = subst Found c.in-Some-points.is c.in_ok-points.ensures.found in
+    let fewer : length numbers ≤ count = subst Many c.in-Some-points.is c.in_ok-points.ensures.many in
+    let more : 6 < count = subst More c.in-Some-points.is c.in_ok-points.ensures.more in
     let Given : ℕ → Type 0 = λ at. (call : SysCall) (answer most : ℕ) → IsCall call
-    → IsFound numbers values 0 c.len.result (slice_index call.args c.in-Some-2.index) c.value.result answer
+    → IsFound numbers values 0 c.len.result (slice_index call.args c.in-Some-points.index) c.value-in-Some-points.result answer
     → IsSearched (c.len.result - 0) most → GivesAlways new call at answer most in
     let Wanted : ℕ → Type 0 = λ at. (call : SysCall) (index digits : ℕ) → IsCall call
     → AreAsked index entries c.args.nr → count < 2 ^ digits
@@ -33,19 +75,19 @@ returns-in-Some-2-clause-balanced c =
     (1 + 12 * digits) in
     IfOk-weaker c.search.result Given Wanted (λ at gives call index digits is_call asked below.
     let Other : ℕ → ℕ → Type 0 = λ long other. IsFound numbers values 0 long
-    (slice_index call.args c.in-Some-2.index) other
+    (slice_index call.args c.in-Some-points.index) other
     (value_of (decision_of entries c.args.last.now c.args.nr call)) in
-    let here : Other c.len.result c.value.result =
-    subst (λ long. Other long c.value.result) (sym c.len.ensures)
-    (subst (λ other. Other (length numbers) other) (sym c.value.ensures) (found c.args.last.now call)) in
+    let here : Other c.len.result c.value-in-Some-points.result =
+    subst (λ long. Other long c.value-in-Some-points.result) (sym c.len.ensures)
+    (subst (λ other. Other (length numbers) other) (sym c.value-in-Some-points.ensures) (found c.args.last.now call)) in
     gives call (value_of (decision_of entries c.args.last.now c.args.nr call)) (1 + 12 * digits) is_call here
     (balanced digits (omega (arith, c.len.ensures, fewer, below)) (search_steps count digits more below)))
     c.search.ensures.gives
 
-pub returns-in_ok-place-in-None-clause-gives : goal.returns-in_ok-place-in-None-clause-gives
-returns-in_ok-place-in-None-clause-gives c =
+pub returns-clause-gives : goal.returns-clause-gives
+returns-clause-gives c =
     let new : List Insn = c.plain.new.code in
-    let slice : List Rule = c.as_slice.result.now in
+    let slice : List Rule = c.as_slice-in-None.result.now in
     let Given : ℕ → Type 0 = λ at. (call : SysCall) (other most : ℕ) → 0 < most
     → GivesAlways c.value-in-None-2.new.self call c.in_ok-place-in-None.place other most
     → GivesAlways new call at (first_value slice other call) (most + size_of_rules slice) in
@@ -55,7 +97,7 @@ returns-in_ok-place-in-None-clause-gives c =
     IfOk-weaker c.plain.result Given Wanted (λ at gives call is_call.
     let same : first_value slice c.value-in-None.result call
     ≡ value_of (decision_of c.args.entries.now c.args.last.now c.args.nr call) =
-    ap (λ rs. first_value rs c.value-in-None.result call) c.as_slice.ensures.value
+    ap (λ rs. first_value rs c.value-in-None.result call) c.as_slice-in-None.ensures.value
     ∙ ap (λ v. first_value c.in_ok-rules-in-None.rules.items v call) c.value-in-None.ensures
     ∙ c.in_ok-rules-in-None.ensures.same call c.args.last.now is_call in
     let P : ℕ → Type 0 = λ value. GivesAlways new call at value (steps_at c.args.entries.now c.args.nr) in
@@ -63,11 +105,11 @@ returns-in_ok-place-in-None-clause-gives c =
     (1 + size_of_rules slice)
     (steps_at c.args.entries.now c.args.nr) (gives call c.value-in-None.result 1 (omega arith)
     (c.in_ok-place-in-None.ensures.gives call))
-    (omega (arith, c.in_ok-rules-in-None.ensures.size, ap size_of_rules c.as_slice.ensures.value))))
+    (omega (arith, c.in_ok-rules-in-None.ensures.size, ap size_of_rules c.as_slice-in-None.ensures.value))))
     c.plain.ensures.gives
 
-pub returns-in_ok-place-in-None-clause-balanced : goal.returns-in_ok-place-in-None-clause-balanced
-returns-in_ok-place-in-None-clause-balanced c =
+pub returns-clause-balanced : goal.returns-clause-balanced
+returns-clause-balanced c =
     let new : List Insn = c.plain.new.code in
     let entries : List Entry = c.args.entries.now in
     let count : ℕ = conditions_at entries c.args.nr in
@@ -81,5 +123,5 @@ returns-in_ok-place-in-None-clause-balanced c =
     IfOk-weaker c.plain.result Chained Wanted (λ at chained call index digits is_call asks below.
     GivesAlways-more new call at (value_of (decision_of entries c.args.last.now c.args.nr call))
     (steps_at entries c.args.nr) (1 + 12 * digits) (chained call is_call)
-    (chain_steps count digits (c.in_ok-index.ensures.left c.in-None.is index asks) below))
-    (returns-in_ok-place-in-None-clause-gives c)
+    (chain_steps count digits (c.in_ok-points.ensures.left c.in-None.is index asks) below))
+    (returns-clause-gives c)

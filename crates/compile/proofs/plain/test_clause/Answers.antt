@@ -1,5 +1,5 @@
-use Rattle.compile.proofs.Common.{◌≡◌, ◌≢◌, ℕ, ◌+◌, ◌≤◌, ap, cond, false, true, refl, List, length, arith}
-use Rattle.compile.proofs.Common.{◌||◌, IfOk-weaker, Insn, SysCall, GivesAlways, clause_holds, literal_holds}
+use Rattle.compile.proofs.Common.{◌≡◌, ◌≢◌, ℕ, ◌+◌, ap, cond, false, true, refl, List, length, arith, ◌||◌}
+use Rattle.compile.proofs.Common.{IfOk-weaker, Insn, SysCall, GivesAlways, clause_holds, literal_holds}
 use Rattle.compile.proofs.Common.{size_of_clause, size_of_literal, Clause, Literal, Known}
 use Rattle.compile.specs.Backward.{IsRecent}
 use Rattle.compile.proofs.Links.{either_gives}
