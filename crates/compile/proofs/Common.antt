@@ -38,7 +38,7 @@ unfoldable pub use Rattle.compile.specs.Backward.{data_word}
 pub use Rattle.compile.specs.Backward.Gives.{ends, leads}
 pub use Rattle.compile.specs.Bounds.{AreBare, IsBare, IsEquality, conditions_at}
 unfoldable pub use Rattle.compile.specs.Bounds.{named, named_below}
-pub use Rattle.compile.specs.Points.{AreSorted, IsFound, IsSearched}
+pub use Rattle.compile.specs.Points.{IsRising, IsSearched, value_for}
 pub use Rattle.compile.specs.Ranges.{IsAlike, IsBetween, IsLike}
 pub use Rattle.compile.specs.Residuals.{asks, atom_holds, clause_holds, clauses_hold, first_value}
 pub use Rattle.compile.specs.Residuals.{literal_holds, seen, shown}

@@ -174,9 +174,7 @@ fn entries_leaf(
     }
     code.cut(start);
     match points {
-        Some((index, points)) => {
-            search(code, alloc, index, &points, 0, points.len(), last.value())
-        }
+        Some((index, points)) => search(code, alloc, index, points.as_slice(), last.value()),
         None => {
             let rules = rules_of(alloc, entries, nr)?;
             let place = code.value(last.value())?;

@@ -1,11 +1,11 @@
-use Rattle.compile.proofs.Common.{ℕ, ◌+◌, ◌-◌, ◌*◌, ◌^◌, ◌<◌, ◌≤◌, List, Option, IfSome, length, sym, subst}
-use Rattle.compile.proofs.Common.{arith, ap, ◌∙◌, ◌≡◌, IfOk-weaker, slice_index, Insn, SysCall, IsCall, Way}
+use Rattle.compile.proofs.Common.{ℕ, ◌+◌, ◌-◌, ◌*◌, ◌^◌, ◌<◌, ◌≤◌, List, Option, IfSome, length, subst, arith}
+use Rattle.compile.proofs.Common.{ap, ◌∙◌, ◌≡◌, IfOk-weaker, slice_index, Insn, SysCall, IsCall, Way}
 use Rattle.compile.proofs.Common.{WayGives, NOWHERE, Decision, Entry, value_of, decision_of, GivesAlways}
-use Rattle.compile.proofs.Common.{conditions_at, IsFound, IsSearched, AreAsked, steps_at, first_value}
-use Rattle.compile.proofs.Common.{size_of_rules, Rule, refl, take, take_all}
+use Rattle.compile.proofs.Common.{conditions_at, IsSearched, value_for, Vec, AreAsked, steps_at, first_value}
+use Rattle.compile.proofs.Common.{size_of_rules, Rule, refl, take, take_all, Global}
 use Rattle.compile.specs.Backward.{Builds}
 use Rattle.compile.specs.Points.IsSearched.{balanced}
-use Rattle.compile.specs.declared.search.Points.{Points}
+use Rattle.compile.specs.declared.search.Point.{Point}
 use Rattle.compile.proofs.Diagrams.{told_way}
 use Rattle.compile.proofs.Restricting.{left_some}
 use Rattle.compile.proofs.Settling.{chain_steps, kept_steps, search_steps}
@@ -54,35 +54,33 @@ pub returns-in-Some-points-clause-balanced : goal.returns-in-Some-points-clause-
 returns-in-Some-points-clause-balanced c =
     let entries : List Entry = c.args.entries.now in
     let new : List Insn = c.search.new.code in
-    let numbers : List ℕ = c.in-Some-points.points.numbers.items in
-    let values : List ℕ = c.in-Some-points.points.values.items in
+    let points : List Point = c.in-Some-points.points.items in
+    let slice : List Point = c.as_slice-in-Some-points.result.now in
+    let index : ℕ = c.in-Some-points.index in
+    let other : ℕ = c.value-in-Some-points.result in
     let count : ℕ = conditions_at entries c.args.nr in
-    let Found : Option (ℕ × Points) → Type 0 = λ found. IfSome found (λ it. (last : Decision) (call : SysCall)
-    → IsFound it.1.numbers.items it.1.values.items 0 (length it.1.numbers.items) (slice_index call.args it.0)
-    (value_of last) (value_of (decision_of entries last c.args.nr call))) in
-    let Many : Option (ℕ × Points) → Type 0 = λ found.
-    IfSome found (λ it. length it.1.numbers.items ≤ count) in
-    let More : Option (ℕ × Points) → Type 0 = λ found. IfSome found (λ _. 6 < count) in
-    let found = subst Found c.in-Some-points.is c.in_ok-points.ensures.found in
-    let fewer : length numbers ≤ count = subst Many c.in-Some-points.is c.in_ok-points.ensures.many in
+    let value : SysCall → ℕ = λ call. value_of (decision_of entries c.args.last.now c.args.nr call) in
+    let Same : Option (ℕ × Vec Point Global) → Type 0 = λ found. IfSome found (λ it. (last : Decision) (call : SysCall)
+    → value_for it.1.items (slice_index call.args it.0) (value_of last)
+    ≡ value_of (decision_of entries last c.args.nr call)) in
+    let Many : Option (ℕ × Vec Point Global) → Type 0 = λ found. IfSome found (λ it. length it.1.items ≤ count) in
+    let More : Option (ℕ × Vec Point Global) → Type 0 = λ found. IfSome found (λ _. 6 < count) in
+    let same = subst Same c.in-Some-points.is c.in_ok-points.ensures.same in
+    let fewer : length points ≤ count = subst Many c.in-Some-points.is c.in_ok-points.ensures.many in
     let more : 6 < count = subst More c.in-Some-points.is c.in_ok-points.ensures.more in
-    let Given : ℕ → Type 0 = λ at. (call : SysCall) (answer most : ℕ) → IsCall call
-    → IsFound numbers values 0 c.len.result (slice_index call.args c.in-Some-points.index) c.value-in-Some-points.result answer
-    → IsSearched (c.len.result - 0) most → GivesAlways new call at answer most in
-    let Wanted : ℕ → Type 0 = λ at. (call : SysCall) (index digits : ℕ) → IsCall call
-    → AreAsked index entries c.args.nr → count < 2 ^ digits
-    → GivesAlways new call at (value_of (decision_of entries c.args.last.now c.args.nr call))
-    (1 + 12 * digits) in
-    IfOk-weaker c.search.result Given Wanted (λ at gives call index digits is_call asked below.
-    let Other : ℕ → ℕ → Type 0 = λ long other. IsFound numbers values 0 long
-    (slice_index call.args c.in-Some-points.index) other
-    (value_of (decision_of entries c.args.last.now c.args.nr call)) in
-    let here : Other c.len.result c.value-in-Some-points.result =
-    subst (λ long. Other long c.value-in-Some-points.result) (sym c.len.ensures)
-    (subst (λ other. Other (length numbers) other) (sym c.value-in-Some-points.ensures) (found c.args.last.now call)) in
-    gives call (value_of (decision_of entries c.args.last.now c.args.nr call)) (1 + 12 * digits) is_call here
-    (balanced digits (omega (arith, c.len.ensures, fewer, below)) (search_steps count digits more below)))
-    c.search.ensures.gives
+    let Given : ℕ → Type 0 = λ at. (call : SysCall) (most : ℕ) → IsCall call → IsSearched (length slice) most
+    → GivesAlways new call at (value_for slice (slice_index call.args index) other) most in
+    let Wanted : ℕ → Type 0 = λ at. (call : SysCall) (one digits : ℕ) → IsCall call
+    → AreAsked one entries c.args.nr → count < 2 ^ digits
+    → GivesAlways new call at (value call) (1 + 12 * digits) in
+    IfOk-weaker c.search.result Given Wanted (λ at gives call one digits is_call asked below.
+    let arg : ℕ = slice_index call.args index in
+    let found : value_for slice arg other ≡ value call =
+    ap (λ ps. value_for ps arg other) c.as_slice-in-Some-points.ensures.value
+    ∙ ap (λ v. value_for points arg v) c.value-in-Some-points.ensures ∙ same c.args.last.now call in
+    subst (λ v. GivesAlways new call at v (1 + 12 * digits)) found (gives call (1 + 12 * digits) is_call
+    (balanced digits (omega (arith, ap length c.as_slice-in-Some-points.ensures.value, fewer, below))
+    (search_steps count digits more below)))) c.search.ensures.gives
 
 pub returns-clause-gives : goal.returns-clause-gives
 returns-clause-gives c =
