@@ -137,15 +137,16 @@ entry_says entry conds clauses n call same says is_call =
     says.same call is_call ∙ ap (λ cs. all_of cs call) same
 
 -- clauses that say something by themselves
-pub says_is : (clauses slice : List Clause) (holds : SysCall → Bool) (n : ℕ) (call : SysCall)
-    → slice ≡ clauses
-    → Says [] clauses holds n → IsCall call → clauses_hold slice call ≡ holds call
-says_is clauses slice holds n call same says is_call =
+pub says_is : (old clauses slice : List Clause) (holds : SysCall → Bool) (n : ℕ) (call : SysCall) → old ≡ []
+    → slice ≡ clauses → Says old clauses holds n → IsCall call → clauses_hold slice call ≡ holds call
+says_is old clauses slice holds n call none same says is_call =
     ap (λ cs. clauses_hold cs call) same ∙ says.same call is_call
+    ∙ ap (λ cs. clauses_hold cs call && holds call) none
 
-pub says_size : (clauses slice : List Clause) (holds : SysCall → Bool) (n : ℕ) → slice ≡ clauses
-    → Says [] clauses holds n → size_of_clauses slice ≤ n
-says_size clauses slice holds n same says = omega (arith, ap size_of_clauses same, says.longer)
+pub says_size : (old clauses slice : List Clause) (holds : SysCall → Bool) (n : ℕ) → old ≡ []
+    → slice ≡ clauses → Says old clauses holds n → size_of_clauses slice ≤ n
+says_size old clauses slice holds n none same says =
+    omega (arith, ap size_of_clauses same, says.longer, ap size_of_clauses none)
 
 pub size_of_pushed : (rules : List Rule) (rule : Rule)
     → size_of_rules (rules ++ rule ∷ []) ≡ size_of_rules rules + size_of_clauses rule.clauses.items

@@ -123,13 +123,11 @@ fn is_good(code: &Code, start: usize, way: &Way, counts: (usize, usize), is_aske
     ensures balanced { IsTrue result → is_asked ≡ true → (digits : ℕ) → counts.0 < 2 ^ digits
         → way.now.most ≤ 1 + 12 * digits }
 {
-    if code.len().saturating_sub(start) > 1 + 6 * counts.0 + counts.1 {
-        return false;
-    }
-    if code.len().saturating_sub(way.at) > RECENT {
-        return false;
-    }
-    if way.most > 1 + 6 * counts.0 {
+    let len = code.len();
+    if len.saturating_sub(start) > 1 + 6 * counts.0 + counts.1
+        || len.saturating_sub(way.at) > RECENT
+        || way.most > 1 + 6 * counts.0
+    {
         return false;
     }
     if !is_asked || way.most <= 1 {

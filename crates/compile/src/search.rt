@@ -1,14 +1,12 @@
-ghost use Rattle.std.specs.Prelude.{◌≡◌, ◌≢◌, ◌≤◌, ◌<◌, ◌+◌, ◌-◌, ◌*◌, ◌^◌, ◌==◌, ℕ, IfOk, OnOk, length};
-ghost use Rattle.std.specs.Prelude.{slice_index, if◌then◌else◌, [], IfSome, IsSome, IsTrue, None, nat_le};
-ghost use Rattle.std.specs.Prelude.{true, IfNone};
+ghost use Rattle.std.specs.Prelude.{◌≡◌, ◌≤◌, ◌<◌, ◌+◌, ◌-◌, ◌*◌, ◌^◌, ◌==◌, ℕ, IfOk, OnOk, length};
+ghost use Rattle.std.specs.Prelude.{slice_index, if◌then◌else◌, IfSome, IsSome, IsTrue, None, true, IfNone};
 ghost use Rattle.std.specs.Bool.{OnFalse};
 ghost use Rattle.compile.specs.Common.{Builds, IsRecent, SysCall, IsCall, Decision, value_of, all_hold};
-ghost use Rattle.compile.specs.Common.{decision_of, names, GivesAlways, IsBare, conditions_at, Says};
-ghost use Rattle.compile.specs.Common.{AreAsked, added_of, RECENT};
+ghost use Rattle.compile.specs.Common.{decision_of, names, GivesAlways, IsBare, conditions_at, AreAsked};
+ghost use Rattle.compile.specs.Common.{added_of, RECENT};
 ghost use Rattle.compile.specs.Bounds.{IsEquality};
 ghost use Rattle.compile.specs.Points.{Fits, IsRising, IsSearched, value_for};
 
-use crate::clause::Clause;
 use crate::code::{Code, Placed, RECENT};
 use crate::plain::test_clauses;
 use crate::rules::{add_equal, add_order, is_void};
@@ -91,18 +89,10 @@ fn equality(entry: &Entry, index: u32) -> Option<u64>
     if u32::from(conds[0].index) != index {
         return None;
     }
-    if !is_equal(conds[0].op) {
-        return None;
+    match conds[0].op {
+        Op::Equal => Some(conds[0].value),
+        _ => None,
     }
-    Some(conds[0].value)
-}
-
-/// Whether the operator asks for equality.
-fn is_equal(op: Op) -> bool
-    ensures yes { IsTrue result → op ≡ Op.Equal }
-    ensures no { OnFalse result (op ≢ Op.Equal) }
-{
-    matches!(op, Op::Equal)
 }
 
 /// Up to this many equalities are tested one after another.
@@ -148,28 +138,6 @@ pub(crate) fn points_for(
     Ok(Some((index, points)))
 }
 
-/// The clauses for an argument that equals a number.
-fn equal_to(alloc: Global, index: u32, number: u64) -> Result<Vec<Clause>, AllocError>
-    requires { index < 6 }
-    ensures { IfOk result (λ clauses. Says [] clauses.items
-        (λ call. slice_index call.args index == number) 4) }
-{
-    let mut clauses = Vec::new(alloc);
-    add_equal(&mut clauses, index, number)?;
-    Ok(clauses)
-}
-
-/// The clauses for an argument that is at least a number.
-fn at_least(alloc: Global, index: u32, number: u64) -> Result<Vec<Clause>, AllocError>
-    requires { index < 6 }
-    ensures { IfOk result (λ clauses. Says [] clauses.items
-        (λ call. nat_le number (slice_index call.args index)) 6) }
-{
-    let mut clauses = Vec::new(alloc);
-    add_order(&mut clauses, index, number, true, true)?;
-    Ok(clauses)
-}
-
 /// Emits the values of numbers, and the value of all others, one test after another.
 fn few(code: &mut Code, alloc: Global, index: u32, points: &[Point], other: u32) -> Placed
     requires { index < 6 }
@@ -185,7 +153,8 @@ fn few(code: &mut Code, alloc: Global, index: u32, points: &[Point], other: u32)
     }
     let (first, later) = points.split_at(1);
     let rest = few(code, alloc, index, later, other)?;
-    let clauses = equal_to(alloc, index, first[0].number)?;
+    let mut clauses = Vec::new(alloc);
+    add_equal(&mut clauses, index, first[0].number)?;
     if is_void(clauses.as_slice()) {
         return Ok(rest);
     }
@@ -224,7 +193,8 @@ pub(crate) fn search(
     let above = search(code, alloc, index, larger, other)?;
     let miss = code.near(below, RECENT - 2)?;
     let hit = code.near(above, RECENT - 2)?;
-    let clauses = at_least(alloc, index, larger[0].number)?;
+    let mut clauses = Vec::new(alloc);
+    add_order(&mut clauses, index, larger[0].number, true, true)?;
     if is_void(clauses.as_slice()) {
         return Ok(miss);
     }

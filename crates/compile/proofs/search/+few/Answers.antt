@@ -31,8 +31,9 @@ returns-then-is_void-clause-gives t c = λ call is_call.
     let arg : ℕ = slice_index call.args c.args.index in
     let behind : ℕ = value_for later arg c.args.other in
     let never : (arg == first.number) ≡ false =
-    sym (says_is c.in_ok-clauses.clauses.items c.as_slice.result.now _ 4 call c.as_slice.ensures.value
-    c.in_ok-clauses.ensures is_call)
+    sym (says_is c.new-clauses.result.items
+    c.add_equal.new.clauses.items c.as_slice.result.now _ 4 call
+    c.new-clauses.ensures.items c.as_slice.ensures.value c.in_ok-add_equal.ensures is_call)
     ∙ c.if-is_void.ensures.yes refl call in
     let same : behind ≡ value_for points arg c.args.other =
     ap (λ b. cond b first.value behind) (sym never)
@@ -62,8 +63,9 @@ returns-clause-gives t c =
     let arg : ℕ = slice_index call.args c.args.index in
     let behind : ℕ = value_for later arg c.args.other in
     let same : cond (clauses_hold slice call) first.value behind ≡ value_for points arg c.args.other =
-    ap (λ b. cond b first.value behind) (says_is c.in_ok-clauses.clauses.items slice _ 4 call
-    c.as_slice-2.ensures.value c.in_ok-clauses.ensures is_call)
+    ap (λ b. cond b first.value behind) (says_is c.new-clauses.result.items
+    c.add_equal.new.clauses.items slice _ 4 call
+    c.new-clauses.ensures.items c.as_slice-2.ensures.value c.in_ok-add_equal.ensures is_call)
     ∙ first_for points c.split_at.result.0.now later arg c.args.other no_point
     c.if-is_empty.ensures c.split_at.ensures.front c.split_at.ensures.back in
     let P : ℕ → Type 0 = λ v. GivesAlways new call at v (1 + 4 * length points) in
@@ -76,7 +78,8 @@ returns-clause-gives t c =
     (omega (
       arith,
       c.split_at.ensures.back_len,
-      says_size c.in_ok-clauses.clauses.items slice _ 4 c.as_slice-2.ensures.value
-          c.in_ok-clauses.ensures,
+      says_size c.new-clauses.result.items
+          c.add_equal.new.clauses.items slice _ 4
+          c.new-clauses.ensures.items c.as_slice-2.ensures.value c.in_ok-add_equal.ensures,
     ))))
     c.test_clauses.ensures.gives

@@ -73,8 +73,9 @@ returns-then-is_void-clause-gives t c = λ call most is_call enough.
     c.in_ok-miss.ensures.gives c.in_ok-hit.ensures.builds.keeps
     (c.in_ok-below.ensures.gives call (most - 8) is_call lower.1)) (omega (arith, lower.0)))
     (λ yes. absurd (true≢false yes))
-    (sym (says_is c.in_ok-clauses.clauses.items c.as_slice.result.now _ 6 call c.as_slice.ensures.value
-    c.in_ok-clauses.ensures is_call)
+    (sym (says_is c.new-clauses.result.items
+    c.add_order.new.clauses.items c.as_slice.result.now _ 6 call
+    c.new-clauses.ensures.items c.as_slice.ensures.value c.in_ok-add_order.ensures is_call)
     ∙ c.if-is_void.ensures.yes refl call)
 
 pub returns-clause-gives : goal.returns-clause-gives
@@ -102,8 +103,9 @@ returns-clause-gives t c =
     GivesAlways-more new call at value (most - 8 + 1 + size_of_clauses slice) most
     (tests call value (most - 8 + 1) (by_test mid call (nat_le (get_or larger 0 no_point).number arg)
     (clauses_hold slice call) c.in_ok-hit.hit c.in_ok-miss.miss value (most - 8 + 1)
-    (sym (says_is c.in_ok-clauses.clauses.items slice _ 6 call c.as_slice-2.ensures.value
-    c.in_ok-clauses.ensures is_call))
+    (sym (says_is c.new-clauses.result.items
+    c.add_order.new.clauses.items slice _ 6 call
+    c.new-clauses.ensures.items c.as_slice-2.ensures.value c.in_ok-add_order.ensures is_call))
     (half_for points smaller larger (length points / 2) arg c.args.other no_point P c.requires.rising
     (omega (arith, c.if-points-lt-MANY.false)) c.split_at.ensures.front c.split_at.ensures.back
     (nearer_gives c.search.new.code c.search-2.new.code c.near.new.self mid call c.in_ok-below.below
@@ -117,7 +119,8 @@ returns-clause-gives t c =
     (omega (
       arith,
       lower.0,
-      says_size c.in_ok-clauses.clauses.items slice _ 6 c.as_slice-2.ensures.value
-          c.in_ok-clauses.ensures,
+      says_size c.new-clauses.result.items
+          c.add_order.new.clauses.items slice _ 6
+          c.new-clauses.ensures.items c.as_slice-2.ensures.value c.in_ok-add_order.ensures,
     )))
     c.test_clauses.ensures.gives
