@@ -57,4 +57,4 @@ pub use Rattle.compile.specs.declared.build.Way.{Way}
 pub use Rattle.compile.specs.declared.clause.Clause.{Clause}
 pub use Rattle.compile.specs.declared.clause.Literal.{Literal}
 pub use Rattle.compile.specs.declared.clause.Literal.TheVariants.{Asked, Known}
-pub use Rattle.compile.specs.declared.residual.Rule.{Rule}
+pub use Rattle.compile.specs.declared.clause.Rule.{Rule}

@@ -8,8 +8,8 @@ ghost use Rattle.compile.specs.declared.atom.View.{View};
 use crate::apart::{boundary, certain};
 use crate::atom::{Atom, NOWHERE, Probe, View, WHOLE};
 use crate::choose::choose;
+use crate::clause::{Rule, rules_where};
 use crate::code::{Code, REACH, RECENT};
-use crate::residual::{Rule, rules_where};
 use bpf_code::{DATA_LEN, MAX_INSNS};
 use std::alloc::{AllocError, Global};
 

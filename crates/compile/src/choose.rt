@@ -2,8 +2,7 @@ ghost use Rattle.std.specs.Prelude.{◌≤◌, ◌<◌, length};
 
 use crate::atom::{Ask, Atom, NOWHERE, View, WHOLE};
 use crate::build::cost;
-use crate::clause::{Clause, Literal};
-use crate::residual::Rule;
+use crate::clause::{Clause, Literal, Rule};
 use std::alloc::{AllocError, Global};
 
 /// If a word is compared with this many numbers, the middle one parts them.

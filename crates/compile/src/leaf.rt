@@ -6,12 +6,12 @@ ghost use Rattle.compile.specs.Common.{names, GivesAlways, AreBare, IsBare, cond
 ghost use Rattle.compile.specs.Common.{Suffices, added_of, settles, first_value, WayGives, NOWHERE, RECENT};
 ghost use Rattle.compile.specs.Sizes.{steps_at, NoneDecides};
 
+use crate::apart::ordered;
 use crate::atom::NOWHERE;
 use crate::build::{Built, Way, build};
+use crate::clause::Rule;
 use crate::code::{Code, Placed, RECENT};
-use crate::ordered::ordered;
 use crate::plain::plain;
-use crate::residual::Rule;
 use crate::rules::rules_of;
 use crate::search::{points_for, search};
 use oci_profile::{Decision, Entry, Profile, X32_BIT};

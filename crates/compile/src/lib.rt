@@ -6,7 +6,7 @@
 //! (`tree.rt`), then the test of the architecture (`compiler.rt`).
 //!
 //! Entries are rules of clauses over words of a call's data (`rules.rt`). A question about a word is asked,
-//! and what is left of the rules for either answer is built in the same way (`build.rt`, `residual.rt`,
+//! and what is left of the rules for either answer is built in the same way (`build.rt`, `clause.rt`,
 //! `atom.rt`). Any question is right; `choose.rt` looks for one that leads to few steps. What is longer or
 //! slower than promised is cut back (`leaf.rt`). In its place all rules are tested one after another
 //! (`plain.rt`), or the numbers that one argument may equal are searched by halves (`search.rt`).
@@ -22,11 +22,9 @@ mod compiler;
 mod fault;
 mod leaf;
 mod order;
-mod ordered;
 mod plain;
 mod ranges;
 mod remaining;
-mod residual;
 mod rules;
 mod search;
 mod shares;

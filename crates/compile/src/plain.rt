@@ -7,9 +7,8 @@ ghost use Rattle.compile.specs.Rooms.{IsWithin, IsWithinLiteral, size_of_clause,
 ghost use Rattle.compile.specs.Rooms.{size_of_literal};
 
 use crate::atom::{Atom, WHOLE};
-use crate::clause::{Clause, Literal};
+use crate::clause::{Clause, Literal, Rule};
 use crate::code::{Code, Placed, REACH, RECENT};
-use crate::residual::Rule;
 use std::alloc::AllocError;
 
 /// Puts a question in front, whatever A holds.

@@ -9,8 +9,7 @@ ghost use Rattle.compile.specs.Common.{value_of};
 ghost use Rattle.compile.specs.Rooms.{Says, is_large, ordered};
 ghost use Rattle.oci_profile.specs.Meaning.{all_of, holds_on};
 
-use crate::clause::{Clause, Literal, high, low, words};
-use crate::residual::Rule;
+use crate::clause::{Clause, Literal, Rule, high, low, words};
 use oci_profile::{Cond, Entry, Op};
 use std::alloc::{AllocError, Global};
 

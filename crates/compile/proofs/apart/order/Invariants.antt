@@ -1,5 +1,5 @@
 use Rattle.compile.proofs.Common.{◌≡◌, ℕ, length, SysCall, first_value}
-use Rattle.compile.proofs.ordered.order.Given as goal
+use Rattle.compile.proofs.apart.order.Given as goal
 
 abbrev pub invariant-loop-at : goal.invariant-loop-at
 invariant-loop-at l = ((call : SysCall) (other : ℕ) → first_value l.rules other call

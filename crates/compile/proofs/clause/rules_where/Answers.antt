@@ -1,8 +1,8 @@
 use Rattle.compile.proofs.Common.{◌≡◌, ℕ, ◌∷◌, [], List, ◌+◌, ◌∙◌, cond, drop, sym, ap, false, rules, SysCall}
 use Rattle.compile.proofs.Common.{Rule, atom_holds, clauses_hold, first_value}
 use Rattle.compile.proofs.Restricting.{first_append, first_from, left_some}
-use Rattle.compile.proofs.residual.rules_where.Goals.{in-Some+in_ok-push, in_default}
-use Rattle.compile.proofs.residual.rules_where.Goals as goal
+use Rattle.compile.proofs.clause.rules_where.Goals.{in-Some+in_ok-push, in_default}
+use Rattle.compile.proofs.clause.rules_where.Goals as goal
 
 pub loop-rule-preserved : goal.loop-rule-preserved
 loop-rule-preserved c = λ call other holds.
