@@ -15,7 +15,7 @@ pub use Rattle.compile.specs.Ranges.{AreRanges, IsAlike, IsBetween}
 pub use Rattle.compile.specs.Residuals.{asks, atom_holds, clause_holds, clauses_hold, first_value}
 pub use Rattle.compile.specs.Residuals.{literal_holds, seen}
 pub use Rattle.compile.specs.Rooms.{IsFit, IsPossible, IsSmall, IsSmallClause, size_of_rules}
-pub use Rattle.compile.specs.Sizes.{AreAsked, IsEnough, Suffices, added_of, settles, tree_size}
+pub use Rattle.compile.specs.Sizes.{AreAsked, IsEnough, added_of, settles, tree_size}
 pub use Rattle.compile.specs.Tests.{holds_of}
 pub use Rattle.compile.specs.Ways.{WayGives}
 pub use Rattle.compile.specs.declared.atom.TheConstants.{NOWHERE, WHOLE}

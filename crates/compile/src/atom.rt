@@ -52,13 +52,6 @@ fn seen(mask: u32, word: u32) -> u32
 }
 
 impl Ask {
-    /// The number that it asks about.
-    pub(crate) fn number(self) -> u32 {
-        match self {
-            Ask::Equal(k) | Ask::AtLeast(k) => k,
-        }
-    }
-
     /// The answer for a number.
     fn of(self, number: u32) -> bool
         ensures { result ≡ asks self number }
@@ -126,16 +119,6 @@ impl Ask {
             (Ask::AtLeast(k), false) => self.below(k),
         }
     }
-
-    /// Whether it asks for 0.
-    fn is_zero(self) -> bool
-        ensures { IsTrue result → self ≡ Ask.Equal 0 }
-    {
-        match self {
-            Ask::Equal(k) => k == 0,
-            Ask::AtLeast(_) => false,
-        }
-    }
 }
 
 /// Whether a word under a mask determines the word under a part of that mask.
@@ -173,7 +156,10 @@ impl Atom {
         ensures zero { IsTrue result → self.now.ask ≡ Ask.Equal 0 }
         ensures masked { IsTrue result → self.now.view.mask ≢ WHOLE }
     {
-        self.view.mask != WHOLE && self.ask.is_zero()
+        match self.ask {
+            Ask::Equal(0) => self.view.mask != WHOLE,
+            _ => false,
+        }
     }
 
     /// The branch that asks this, given what A holds. Whether bits are clear takes no mask: any view that

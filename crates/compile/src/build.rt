@@ -77,10 +77,8 @@ fn brought_at(code: &Code, front: usize, base: View, view: View) -> Option<Way>
         });
     }
     if base.mask == WHOLE {
-        if code.loads(front, base.offset) {
-            return Some(Way { at: front, most: 1 });
-        }
-        return None;
+        let way = Way { at: front, most: 1 };
+        return code.loads(front, base.offset).then_some(way);
     }
     if !code.masks(front, base.mask) {
         return None;

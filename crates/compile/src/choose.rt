@@ -106,15 +106,16 @@ struct Cuts {
 impl Cuts {
     fn add(&mut self, literal: &Literal, view: View) -> Result<(), AllocError> {
         match *literal {
-            Literal::Asked(atom, _) if atom.view == view => {
-                if let Ask::Equal(k) = atom.ask {
+            Literal::Asked(atom, _) if atom.view == view => match atom.ask {
+                Ask::Equal(k) => {
                     self.least = self.least.min(k);
+                    self.numbers.push(k)?;
                 }
-                self.numbers.push(atom.ask.number())?;
-                Ok(())
-            }
-            _ => Ok(()),
+                Ask::AtLeast(k) => self.numbers.push(k)?,
+            },
+            _ => {}
         }
+        Ok(())
     }
 
     /// Asks about the middle number if there are many, else about the smallest that the view may equal.

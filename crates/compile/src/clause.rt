@@ -199,10 +199,9 @@ impl Clause {
         ensures { (call : SysCall) → atom_holds given.now call ≡ answer
             → clause_holds result call ≡ clause_holds self.now call }
     {
-        Clause::either(
-            self.one.where_known(given, answer),
-            self.other.where_known(given, answer),
-        )
+        let one = self.one.where_known(given, answer);
+        let other = self.other.where_known(given, answer);
+        Clause::either(one, other)
     }
 
     /// Whether it is known to hold.

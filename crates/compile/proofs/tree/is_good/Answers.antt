@@ -1,6 +1,6 @@
 use Rattle.compile.proofs.Common.{ℕ, ◌+◌, ◌*◌, ◌^◌, ◌<◌, arith}
 use Rattle.compile.proofs.Diagrams.{less_power, quick}
-use Rattle.compile.proofs.leaf.is_good.Goals as goal
+use Rattle.compile.proofs.tree.is_good.Goals as goal
 
 pub returns-clause-balanced : goal.returns-clause-balanced
 returns-clause-balanced c = λ few _ digits below.

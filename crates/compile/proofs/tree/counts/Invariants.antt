@@ -1,5 +1,5 @@
 use Rattle.compile.proofs.Common.{◌+◌, ◌*◌, ◌≤◌, ◌<◌, drop, conditions_at, added_of}
-use Rattle.compile.proofs.leaf.counts.Given as goal
+use Rattle.compile.proofs.tree.counts.Given as goal
 
 abbrev pub invariant-loop-entry : goal.invariant-loop-entry
 invariant-loop-entry l = (l.conditions + conditions_at (drop l.entry-index l.entries) l.nr

@@ -1,7 +1,7 @@
 use Rattle.compile.proofs.Common.{refl}
 use Rattle.compile.proofs.Leaves.{decided_at}
 use Rattle.compile.proofs.Settling.{settled_more, none_more}
-use Rattle.compile.proofs.leaf.bare_end.Goals as goal
+use Rattle.compile.proofs.tree.bare_end.Goals as goal
 
 pub returns-then-decides-clause-same : goal.returns-then-decides-clause-same
 returns-then-decides-clause-same c = λ call.

@@ -2,7 +2,7 @@ use Rattle.compile.proofs.Common.{◌≡◌, ℕ, ◌-◌, ◌/◌, ◌∙◌, L
 use Rattle.compile.proofs.Common.{take_all, Insn, NOWHERE, SysCall, first_value, WayGives, Way, Rule}
 use Rattle.compile.proofs.Restricting.{first_parted, left_some}
 use Rattle.compile.proofs.Reaching.{found_weaker}
-use Rattle.compile.proofs.leaf.+parts.Goals as goal
+use Rattle.compile.proofs.tree.+parts.Goals as goal
 
 pub returns-clause-gives : goal.returns-clause-gives
 returns-clause-gives t c =
