@@ -1,6 +1,5 @@
 ghost use Rattle.std.specs.Prelude.{◌≡◌, ◌≢◌, ◌<◌, ℕ, IfSome, IsTrue, true, false};
-ghost use Rattle.compile.specs.Common.{SysCall, asks, atom_holds, seen, holds_of, WHOLE};
-ghost use Rattle.compile.specs.Ways.{Covers, IsProbe};
+ghost use Rattle.compile.specs.Common.{SysCall, asks, atom_holds, seen, holds_of, WHOLE, Covers, IsProbe};
 
 use crate::code::Test;
 use bpf_code::DATA_LEN;

@@ -1,9 +1,6 @@
 ghost use Rattle.std.specs.Prelude.{◌≡◌, ◌≤◌, ◌<◌, ◌+◌, ◌-◌, ◌%◌, ℕ, length, IfOk, IfSome, if◌then◌else◌};
 ghost use Rattle.compile.specs.Common.{Builds, DATA_LEN, SysCall, Gives, first_value, holds_of, WayGives};
-ghost use Rattle.compile.specs.Common.{NOWHERE, REACH};
-ghost use Rattle.compile.specs.Residuals.{shown};
-ghost use Rattle.compile.specs.Ways.{GivesWith, taken, told};
-ghost use Rattle.compile.specs.declared.atom.View.{View};
+ghost use Rattle.compile.specs.Common.{NOWHERE, REACH, shown, GivesWith, taken, told, View};
 
 use crate::apart::{boundary, certain};
 use crate::atom::{Atom, NOWHERE, Probe, View, WHOLE};

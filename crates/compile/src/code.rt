@@ -1,11 +1,9 @@
 ghost use Rattle.std.specs.Prelude.{◌≡◌, ◌≤◌, ◌<◌, ◌+◌, ◌-◌, ◌%◌, ◌^◌, ℕ, List, [], reverse, Some, slice_get};
 ghost use Rattle.std.specs.Prelude.{take, length, IfOk, OnOk, IsTrue, bit_and, if◌then◌else◌, ◌==◌};
 ghost use Rattle.compile.specs.Common.{Builds, IsRecent, DATA_LEN, MAX_INSNS, SysCall, IsSound, Runs, Gives};
-ghost use Rattle.compile.specs.Common.{GivesAlways, data_word, holds_of, REACH, RECENT};
-ghost use Rattle.bpf_code.specs.declared.insn.Insn.{Insn};
+ghost use Rattle.compile.specs.Common.{GivesAlways, data_word, holds_of, REACH, RECENT, Insn, IsBackward};
+ghost use Rattle.compile.specs.Common.{PointsInside, Puts, operation_of};
 ghost use Rattle.bpf_code.specs.declared.operation.Operation.TheVariants.{AndK, LoadData, ReturnK};
-ghost use Rattle.compile.specs.Backward.{IsBackward, PointsInside, Puts};
-ghost use Rattle.compile.specs.Tests.{operation_of};
 
 use bpf_code::{Insn, MAX_INSNS, Operation};
 use bpf_verify::{Filter, verify};

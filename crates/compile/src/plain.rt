@@ -2,9 +2,8 @@ ghost use Rattle.std.specs.Prelude.{◌≡◌, ◌≢◌, ◌≤◌, ◌<◌, �
 ghost use Rattle.std.specs.Prelude.{false, true, if◌then◌else◌, length};
 ghost use Rattle.compile.specs.Common.{Builds, IsRecent, DATA_LEN, SysCall, GivesAlways, atom_holds};
 ghost use Rattle.compile.specs.Common.{clause_holds, clauses_hold, first_value, literal_holds, IsFit};
-ghost use Rattle.compile.specs.Common.{IsPossible, size_of_rules, WHOLE, Literal, REACH, RECENT};
-ghost use Rattle.compile.specs.Rooms.{IsWithin, IsWithinLiteral, size_of_clause, size_of_clauses};
-ghost use Rattle.compile.specs.Rooms.{size_of_literal};
+ghost use Rattle.compile.specs.Common.{IsPossible, size_of_rules, WHOLE, Literal, REACH, RECENT, IsWithin};
+ghost use Rattle.compile.specs.Common.{IsWithinLiteral, size_of_clause, size_of_clauses, size_of_literal};
 
 use crate::atom::{Atom, WHOLE};
 use crate::clause::{Clause, Literal, Rule};

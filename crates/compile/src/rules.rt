@@ -5,9 +5,7 @@ ghost use Rattle.std.specs.Bool.{OnFalse};
 ghost use Rattle.compile.specs.Common.{SysCall, IsCall, all_hold, decision_of, names, clause_holds};
 ghost use Rattle.compile.specs.Common.{clauses_hold, first_value, literal_holds, IsFit, IsPossible, IsSmall};
 ghost use Rattle.compile.specs.Common.{IsSmallClause, size_of_rules, added_of, conditions_at, Decision};
-ghost use Rattle.compile.specs.Common.{value_of};
-ghost use Rattle.compile.specs.Rooms.{Says, is_large, ordered};
-ghost use Rattle.oci_profile.specs.Meaning.{all_of, holds_on};
+ghost use Rattle.compile.specs.Common.{value_of, Says, is_large, ordered, all_of, holds_on};
 
 use crate::clause::{Clause, Literal, Rule, high, low, words};
 use oci_profile::{Cond, Entry, Op};

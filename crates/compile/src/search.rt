@@ -3,9 +3,7 @@ ghost use Rattle.std.specs.Prelude.{slice_index, if◌then◌else◌, IfSome, Is
 ghost use Rattle.std.specs.Bool.{OnFalse};
 ghost use Rattle.compile.specs.Common.{Builds, IsRecent, SysCall, IsCall, Decision, value_of, all_hold};
 ghost use Rattle.compile.specs.Common.{decision_of, names, GivesAlways, IsBare, conditions_at, AreAsked};
-ghost use Rattle.compile.specs.Common.{added_of, RECENT};
-ghost use Rattle.compile.specs.Bounds.{IsEquality};
-ghost use Rattle.compile.specs.Points.{Fits, IsRising, IsSearched, value_for};
+ghost use Rattle.compile.specs.Common.{added_of, RECENT, IsEquality, Fits, IsRising, IsSearched, value_for};
 
 use crate::code::{Code, Placed, RECENT};
 use crate::plain::test_clauses;

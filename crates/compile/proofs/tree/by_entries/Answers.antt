@@ -10,7 +10,7 @@ use Rattle.compile.proofs.Diagrams.{told_way}
 use Rattle.compile.proofs.Restricting.{left_some}
 use Rattle.compile.proofs.Settling.{chain_steps, kept_steps, search_steps}
 use Rattle.compile.proofs.Words.{GivesAlways-more}
-use Rattle.compile.proofs.tree.entries_leaf.Goals as goal
+use Rattle.compile.proofs.tree.by_entries.Goals as goal
 
 told : (c : goal.Joined-points-4) (call : SysCall) → IsCall call → (most : ℕ) → c.in-Some.way.most ≤ most
     → GivesAlways c.parts.new.code call c.in-Some.way.at
