@@ -1,8 +1,8 @@
 -- The names that most proofs of this crate cite, passed on from one place. Declares nothing.
 pub use Rattle.std.proofs.Common.{All, Bool, Err, Global, IfOk, IfSome, IsSome, IsTrue, List, None, Ok, OnOk}
-pub use Rattle.std.proofs.Common.{is_some, Option, Result, Some, Vec, [], add-one, ap, arith, bit_and, cond, drop}
-pub use Rattle.std.proofs.Common.{false, get_or, get_or-drop, get_or-take, inl, inr, length, min, nat_eq}
-pub use Rattle.std.proofs.Common.{nat_le, nat_lt, not, refl, reverse, rules, slice_get, slice_index}
+pub use Rattle.std.proofs.Common.{Option, Result, Some, Vec, [], add-one, ap, arith, bit_and, cond, drop}
+pub use Rattle.std.proofs.Common.{false, get_or, get_or-drop, get_or-take, inl, inr, length, min}
+pub use Rattle.std.proofs.Common.{is_some, nat_le, nat_lt, not, refl, reverse, rules, slice_get, slice_index}
 pub use Rattle.std.proofs.Common.{slice_index_or, slice_range, slice_set, subst, suc, sum_by, sym, take, true}
 pub use Rattle.std.proofs.Common.{true≢false, zero, ℕ, ◌%◌, ◌&&◌, ◌*◌, ◌++◌, ◌+◌, ◌-◌, ◌/◌, ◌<◌, ◌==◌, ◌^◌}
 pub use Rattle.std.proofs.Common.{◌||◌, ◌∙◌, ◌∷◌, ◌≡◌, ◌≢◌, ◌≤◌, ◌⊎◌}
@@ -33,7 +33,7 @@ pub use Rattle.oci_profile.specs.declared.decision.Decision.TheVariants.{KillPro
 pub use Rattle.oci_profile.specs.declared.profile.Entry.{Entry}
 pub use Rattle.oci_profile.specs.declared.profile.Profile.{Profile}
 pub use Rattle.sys_table.specs.declared.table.TheConstants.{NUMBER_LIMIT}
-pub use Rattle.compile.specs.Backward.{Gives, GivesAlways, IsBackward, Keeps, LeadsTo, PointsInside}
+pub use Rattle.compile.specs.Backward.{Builds, Gives, GivesAlways, IsBackward, Keeps, LeadsTo, PointsInside}
 unfoldable pub use Rattle.compile.specs.Backward.{data_word}
 pub use Rattle.compile.specs.Backward.Gives.{ends, leads}
 pub use Rattle.compile.specs.Bounds.{AreBare, IsBare, IsEquality, conditions_at}
@@ -58,3 +58,4 @@ pub use Rattle.compile.specs.declared.clause.Clause.{Clause}
 pub use Rattle.compile.specs.declared.clause.Literal.{Literal}
 pub use Rattle.compile.specs.declared.clause.Literal.TheVariants.{Asked, Known}
 pub use Rattle.compile.specs.declared.clause.Rule.{Rule}
+pub use Rattle.compile.specs.declared.search.Point.{Point}

@@ -1,7 +1,7 @@
 -- This project's own: code that is built from its end. A place counts the instructions behind it, so what
 -- is put in front moves no place. Only private functions cite this.
-use Rattle.std.specs.Prelude.{◌≡◌, ℕ, ◌+◌, ◌%◌, ◌<◌, ◌≤◌, ◌==◌, nat_lt, nat_le, Bool, if◌then◌else◌, List, Some}
-use Rattle.std.specs.Prelude.{slice_get, take, length, bit_and, not}
+use Rattle.std.specs.Prelude.{◌≡◌, ℕ, ◌+◌, ◌%◌, ◌<◌, ◌≤◌, ◌==◌, nat_lt, nat_le, Bool, if◌then◌else◌}
+use Rattle.std.specs.Prelude.{List, Some, slice_get, take, length, bit_and, not}
 use Rattle.bpf_code.specs.declared.insn.Insn.{Insn}
 use Rattle.bpf_code.specs.declared.operation.Operation.{Operation}
 use Rattle.bpf_code.specs.declared.operation.Operation.TheVariants.{LoadData, AndK, JumpEqualK, JumpGreaterK}

@@ -59,6 +59,6 @@ returns-clause-recent c =
     let one : Literal = c.args.clause.now.one in
     let Front : ℕ → Type 0 = λ at. one ≢ Known false → one ≢ Known true → at + 1 ≡ length new in
     IfOk-weaker c.test_literal-3.result Front (IsRecent new)
-    (λ at front.
-    let is = front c.if-is_known-2.ensures.no c.if-is_known.ensures.no in (omega (arith, is), omega (arith, is)))
+    (λ at front. let is = front c.if-is_known-2.ensures.no c.if-is_known.ensures.no in
+    (omega (arith, is), omega (arith, is)))
     c.test_literal-3.ensures.front

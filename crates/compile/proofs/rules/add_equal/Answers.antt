@@ -10,8 +10,9 @@ returns c =
     (says 2 (c.equal-lower.ensures.small (omega (arith, c.requires)) (omega (arith, c.requires)))
     (c.equal-upper.ensures.small (omega (arith, c.requires)) (omega (arith, c.requires)))) (omega arith)
     (λ call is_call.
-    ap (λ b. b && literal_holds c.equal-upper.result call) (same_equal (literal_holds c.equal-lower.result call) _ _ _ _
-    (c.equal-lower.ensures.holds call) (c.words.ensures.low call c.args.index is_call c.requires) c.low.ensures)
+    ap (λ b. b && literal_holds c.equal-upper.result call)
+    (same_equal (literal_holds c.equal-lower.result call) _ _ _ _ (c.equal-lower.ensures.holds call)
+    (c.words.ensures.low call c.args.index is_call c.requires) c.low.ensures)
     ∙ ap (λ b. (slice_index call.args c.args.index % 4294967296 == c.args.value % 4294967296) && b)
     (same_equal (literal_holds c.equal-upper.result call) _ _ _ _ (c.equal-upper.ensures.holds call)
     (c.words.ensures.high call c.args.index is_call c.requires) c.high.ensures)

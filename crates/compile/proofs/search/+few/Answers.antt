@@ -1,7 +1,6 @@
 use Rattle.compile.proofs.Common.{◌≡◌, ℕ, ◌+◌, ◌*◌, ◌==◌, false, cond, refl, sym, ap, ◌∙◌, List, subst, arith}
 use Rattle.compile.proofs.Common.{length, get_or, slice_index, IfOk-weaker, Insn, SysCall, IsCall}
-use Rattle.compile.proofs.Common.{GivesAlways, clauses_hold, size_of_clauses, value_for, Clause}
-use Rattle.compile.specs.declared.search.Point.{Point}
+use Rattle.compile.proofs.Common.{GivesAlways, clauses_hold, size_of_clauses, value_for, Clause, Point}
 use Rattle.compile.proofs.Finding.{empty_for, first_for, no_point}
 use Rattle.compile.proofs.Links.{picks}
 use Rattle.compile.proofs.Saying.{says_is, says_size}

@@ -1,8 +1,7 @@
 use Rattle.compile.proofs.Common.{◌≡◌, ℕ, ◌+◌, ◌-◌, ◌*◌, ◌/◌, Bool, true, false, cond, refl, sym, ◌∙◌, List}
 use Rattle.compile.proofs.Common.{arith, true≢false, length, subst, get_or, nat_le, slice_index, IfOk-weaker}
 use Rattle.compile.proofs.Common.{Insn, SysCall, IsCall, GivesAlways, IsRising, IsSearched, value_for}
-use Rattle.compile.proofs.Common.{clauses_hold, size_of_clauses, Clause}
-use Rattle.compile.specs.declared.search.Point.{Point}
+use Rattle.compile.proofs.Common.{clauses_hold, size_of_clauses, Clause, Point}
 use Rattle.compile.proofs.Finding.{few_steps, half_for, half_steps, nearer_gives, no_point, rising_drop}
 use Rattle.compile.proofs.Finding.{rising_take}
 use Rattle.compile.proofs.Saying.{says_is, says_size}
@@ -89,8 +88,9 @@ returns-clause-gives t c =
     let Given : ℕ → Type 0 = λ at. (call : SysCall) (value most : ℕ)
     → GivesAlways mid call (cond (clauses_hold slice call) c.in_ok-hit.hit c.in_ok-miss.miss) value most
     → GivesAlways new call at value (most + size_of_clauses slice) in
-    let Wanted : ℕ → Type 0 = λ at. (call : SysCall) (most : ℕ) → IsCall call → IsSearched (length points) most
-    → GivesAlways new call at (value_for points (slice_index call.args c.args.index) c.args.other) most in
+    let Wanted : ℕ → Type 0 = λ at. (call : SysCall) (most : ℕ) → IsCall call
+    → IsSearched (length points) most → GivesAlways new call at
+    (value_for points (slice_index call.args c.args.index) c.args.other) most in
     IfOk-weaker c.test_clauses.result Given Wanted (λ at tests call most is_call enough.
     let arg : ℕ = slice_index call.args c.args.index in
     let value : ℕ = value_for points arg c.args.other in

@@ -2,10 +2,8 @@ use Rattle.compile.proofs.Common.{ℕ, ◌+◌, ◌-◌, ◌*◌, ◌^◌, ◌<�
 use Rattle.compile.proofs.Common.{ap, ◌∙◌, ◌≡◌, IfOk-weaker, slice_index, Insn, SysCall, IsCall, Way}
 use Rattle.compile.proofs.Common.{WayGives, NOWHERE, Decision, Entry, value_of, decision_of, GivesAlways}
 use Rattle.compile.proofs.Common.{conditions_at, IsSearched, value_for, Vec, AreAsked, steps_at, first_value}
-use Rattle.compile.proofs.Common.{size_of_rules, Rule, refl, take, take_all, Global}
-use Rattle.compile.specs.Backward.{Builds}
+use Rattle.compile.proofs.Common.{size_of_rules, Rule, refl, take, take_all, Global, Point, Builds}
 use Rattle.compile.specs.Points.IsSearched.{balanced}
-use Rattle.compile.specs.declared.search.Point.{Point}
 use Rattle.compile.proofs.Diagrams.{told_way}
 use Rattle.compile.proofs.Restricting.{left_some}
 use Rattle.compile.proofs.Settling.{chain_steps, kept_steps, search_steps}
@@ -60,10 +58,11 @@ returns-in-Some-points-clause-balanced c =
     let other : ℕ = c.value-in-Some-points.result in
     let count : ℕ = conditions_at entries c.args.nr in
     let value : SysCall → ℕ = λ call. value_of (decision_of entries c.args.last.now c.args.nr call) in
-    let Same : Option (ℕ × Vec Point Global) → Type 0 = λ found. IfSome found (λ it. (last : Decision) (call : SysCall)
-    → value_for it.1.items (slice_index call.args it.0) (value_of last)
+    let Same : Option (ℕ × Vec Point Global) → Type 0 = λ found. IfSome found (λ it.
+    (last : Decision) (call : SysCall) → value_for it.1.items (slice_index call.args it.0) (value_of last)
     ≡ value_of (decision_of entries last c.args.nr call)) in
-    let Many : Option (ℕ × Vec Point Global) → Type 0 = λ found. IfSome found (λ it. length it.1.items ≤ count) in
+    let Many : Option (ℕ × Vec Point Global) → Type 0 = λ found.
+    IfSome found (λ it. length it.1.items ≤ count) in
     let More : Option (ℕ × Vec Point Global) → Type 0 = λ found. IfSome found (λ _. 6 < count) in
     let same = subst Same c.in-Some-points.is c.in_ok-points.ensures.same in
     let fewer : length points ≤ count = subst Many c.in-Some-points.is c.in_ok-points.ensures.many in
