@@ -1,15 +1,11 @@
 -- What masks leave of a word.
-use Rattle.std.proofs.Common.{◌≡◌, ◌≢◌, ℕ, zero, suc, ◌⊎◌, inl, inr, ◌<◌, ◌≤◌, ◌==◌, ◌^◌, ◌*◌, ◌+◌, ◌-◌, ◌/◌}
-use Rattle.std.proofs.Common.{◌%◌, Bool, not, true, false, cond, refl, sym, ap, subst, ◌∙◌, arith}
-use Rattle.std.specs.Prelude.{bit_and, nat_le}
-use Rattle.std.proofs.lemmas.Nat.{and_assoc, and_comm, and_le_l, div-add-mod', mod_below, pow_pos}
+use Rattle.compile.proofs.Common.{◌≡◌, ◌≢◌, ℕ, zero, suc, ◌⊎◌, inl, inr, ◌<◌, ◌≤◌, ◌==◌, ◌^◌, ◌*◌, ◌+◌, ◌-◌}
+use Rattle.compile.proofs.Common.{◌/◌, ◌%◌, Bool, not, true, false, cond, refl, sym, ap, subst, ◌∙◌, arith}
+use Rattle.compile.proofs.Common.{bit_and, nat_le, div-add-mod', ne_eqb, nat_tests, seen, WHOLE}
+use Rattle.std.proofs.lemmas.Nat.{and_assoc, and_comm, and_le_l, mod_below, pow_pos}
 use Rattle.std.specs.Int.{bit_at}
 use Rattle.std.specs.Int.Bits.{and_self}
 use Rattle.std.proofs.lemmas.Nat.Bits.{and_high_mask, and_pow, bit_at-lt}
-use Rattle.std.proofs.lemmas.Bool.{ne_eqb}
-use Rattle.std.proofs.lemmas.Bool.Decides.{nat_tests}
-use Rattle.compile.specs.Residuals.{seen}
-use Rattle.compile.specs.declared.atom.TheConstants.{WHOLE}
 
 pub seen_whole : (mask word : ℕ) → mask ≡ WHOLE → seen mask word ≡ word
 seen_whole mask word whole = ap (λ m. seen m word) whole

@@ -1,22 +1,16 @@
 -- Putting an instruction in front of code that is built from its end.
-use Rattle.std.proofs.Common.{◌≡◌, ℕ, zero, suc, ◌+◌, ◌-◌, ◌<◌, ◌≤◌, List, [], ◌∷◌, ◌++◌, ◌⊎◌, Some, length}
-use Rattle.std.proofs.Common.{slice_get, refl, sym, ap, ◌∙◌, arith, inl, inr, subst, Result, Ok, Err, IfOk}
-use Rattle.std.proofs.Common.{OnOk, Bool, true, false, cond}
+use Rattle.compile.proofs.Common.{◌≡◌, ℕ, zero, suc, ◌+◌, ◌-◌, ◌<◌, ◌≤◌, List, [], ◌∷◌, ◌++◌, ◌⊎◌, Some}
+use Rattle.compile.proofs.Common.{length, slice_get, refl, sym, ap, ◌∙◌, arith, inl, inr, subst, Result, Ok}
+use Rattle.compile.proofs.Common.{Err, IfOk, OnOk, Bool, true, false, cond, Insn, AndK, LoadData, ReturnK}
+use Rattle.compile.proofs.Common.{Operation, AllocError, SysCall, LeadsTo, Gives, Keeps, IsBackward}
+use Rattle.compile.proofs.Common.{PointsInside, data_word, bit_and, holds_of, ends, leads}
 use Rattle.std.proofs.lemmas.Option.{same_Some}
 use Rattle.std.proofs.lemmas.List.{take-append-le, length-take}
 use Rattle.std.proofs.Math.Nat.{min-le_right}
-use Rattle.bpf_code.specs.declared.insn.Insn.{Insn}
-use Rattle.bpf_code.specs.declared.operation.Operation.TheVariants.{AndK, LoadData, ReturnK}
-use Rattle.bpf_code.specs.declared.operation.Operation.{Operation}
-use Rattle.std.specs.declared.alloc.AllocError.{AllocError}
-use Rattle.call_data.specs.declared.sys_call.SysCall.{SysCall}
-use Rattle.compile.specs.Backward.{LeadsTo, Extends, Gives, Keeps, Puts, IsBackward, PointsInside, BranchesTo}
-use Rattle.compile.specs.Backward.{data_word}
-use Rattle.std.specs.Prelude.{bit_and}
-use Rattle.compile.specs.Tests.{operation_of, holds_of}
+use Rattle.compile.specs.Backward.{Builds, Extends, Puts, BranchesTo}
+use Rattle.compile.specs.Tests.{operation_of}
 use Rattle.compile.specs.declared.code.Test.{Test}
 use Rattle.compile.specs.declared.code.Test.TheVariants.{Equal, GreaterOrEqual, AnyBit}
-use Rattle.compile.specs.Backward.Gives.{ends, leads}
 
 -- each instruction of the old code stands in the new one at the same place
 pub record StandsStill (old new : List Insn) : Type 0 where
@@ -51,7 +45,7 @@ puts_pushed old insn = record {
       (record { still = λ at other stands. slice_get_front old insn at other stands });
 }
 
-pub extends_pushed : (old : List Insn) (insn : Insn) → Extends old (old ++ insn ∷ [])
+extends_pushed : (old : List Insn) (insn : Insn) → Extends old (old ++ insn ∷ [])
 extends_pushed old insn begin is =
     let inside : length begin ≤ length old = omega (
       arith,
@@ -61,6 +55,11 @@ extends_pushed old insn begin is =
       min-le_right (length begin) (length old),
     ) in
     take-append-le (length begin) old (insn ∷ []) inside ∙ is
+
+pub builds_pushed : (old : List Insn) (insn : Insn) → Builds old (old ++ insn ∷ [])
+builds_pushed old insn =
+    let puts = puts_pushed old insn in
+    record { keeps = puts.keeps; extends = extends_pushed old insn; grows = omega (arith, puts.longer) }
 
 -- what stands in code with one instruction in front
 stands_pushed : (old : List Insn) (insn : Insn) (at : ℕ) (other : Insn)

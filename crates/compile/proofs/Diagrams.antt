@@ -1,18 +1,7 @@
 -- Diagrams of rules, and the steps through them.
-use Rattle.std.proofs.Common.{◌≡◌, ℕ, ◌+◌, ◌-◌, ◌^◌, ◌≤◌, ◌<◌, List, refl, ap, subst, ◌∙◌, arith, inl, inr}
-use Rattle.std.proofs.Common.{Bool, true, false}
-use Rattle.std.specs.Prelude.{IsTrue, nat_le}
-use Rattle.std.specs.Bool.{OnFalse}
-use Rattle.std.proofs.lemmas.Bool.Decides.{nat_tests}
-use Rattle.std.proofs.lemmas.Bool.{cases_lt}
-use Rattle.bpf_code.specs.declared.insn.Insn.{Insn}
-use Rattle.compile.specs.declared.atom.TheConstants.{NOWHERE}
-use Rattle.call_data.specs.declared.sys_call.SysCall.{SysCall}
-use Rattle.compile.specs.Residuals.{first_value}
-use Rattle.compile.specs.Ways.{WayGives}
-use Rattle.compile.specs.declared.build.Way.{Way}
-use Rattle.compile.specs.declared.residual.Rule.{Rule}
-use Rattle.compile.specs.Backward.{GivesAlways}
+use Rattle.compile.proofs.Common.{◌≡◌, ℕ, ◌+◌, ◌-◌, ◌^◌, ◌≤◌, ◌<◌, List, ap, subst, ◌∙◌, arith, inl, inr}
+use Rattle.compile.proofs.Common.{IsTrue, nat_le, nat_tests, cases_lt, Insn, NOWHERE, SysCall, first_value}
+use Rattle.compile.proofs.Common.{WayGives, Way, Rule, GivesAlways}
 use Rattle.compile.proofs.Building.{gives_more}
 use Rattle.compile.proofs.Weights.{pow_grows}
 
@@ -36,7 +25,3 @@ told_way code way call slice rules value other told most same is says larger giv
     subst P (ap (λ rs. first_value rs value call) same ∙ ap (λ v. first_value rules v call) is ∙ says)
     (λ a. gives_more code call way.at a _ way.most most (gives a (λ inside. absurd (omega (arith, inside))))
     larger)
-
-pub surely : (b : Bool) (Never : Type 0) → OnFalse b Never → (Never → ⊥) → b ≡ true
-surely true Never never not = refl
-surely false Never never not = absurd (not never)

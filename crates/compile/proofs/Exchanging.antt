@@ -1,11 +1,8 @@
 -- Neighbours that return the same may be exchanged.
-use Rattle.std.proofs.Common.{◌≡◌, ℕ, zero, suc, ◌+◌, ◌<◌, add-one, subst, Bool, true, false, cond, List, []}
-use Rattle.std.proofs.Common.{◌∷◌, length, refl, sym, ap, arith}
-use Rattle.std.specs.Prelude.{slice_index_or, slice_set}
+use Rattle.compile.proofs.Common.{◌≡◌, ℕ, zero, suc, ◌+◌, ◌<◌, add-one, subst, Bool, true, false, cond, List}
+use Rattle.compile.proofs.Common.{[], ◌∷◌, length, refl, sym, ap, arith, slice_index_or, slice_set, SysCall}
+use Rattle.compile.proofs.Common.{Rule, clauses_hold, first_value}
 use Rattle.std.specs.List.{swap}
-use Rattle.call_data.specs.declared.sys_call.SysCall.{SysCall}
-use Rattle.compile.specs.declared.residual.Rule.{Rule}
-use Rattle.compile.specs.Residuals.{clauses_hold, first_value}
 
 two_alike : (one other : Bool) (x y rest : ℕ) → x ≡ y
     → cond other y (cond one x rest) ≡ cond one x (cond other y rest)

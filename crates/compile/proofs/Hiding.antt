@@ -1,25 +1,18 @@
 -- Equal clauses hold of the same calls, and a rule that holds makes those behind it needless.
-use Rattle.std.proofs.Common.{◌≡◌, ℕ, ◌<◌, ◌&&◌, nat_eq, List, [], ◌∷◌, cond, drop, get_or, length, take, refl}
-use Rattle.std.proofs.Common.{sym, ap, ◌∙◌, Bool, true, false, true≢false, eqb-true}
-use Rattle.std.proofs.lemmas.List.{take-append-drop}
+use Rattle.compile.proofs.Common.{◌≡◌, ℕ, ◌<◌, ◌&&◌, List, [], ◌∷◌, cond, drop, get_or, length, take, refl}
+use Rattle.compile.proofs.Common.{sym, ap, ◌∙◌, Bool, true, false, true≢false, take-append-drop, SysCall, Ask}
+use Rattle.compile.proofs.Common.{Atom, View, Clause, Literal, Known, Asked, Rule, clause_holds, clauses_hold}
+use Rattle.compile.proofs.Common.{first_value}
+use Rattle.std.proofs.Common.{eqb-true}
 use Rattle.std.specs.Cmp.{booleans_Decides, first_so, second_so}
 use Rattle.std.specs.Cmp.Lexicographic.{pointwise}
-use Rattle.call_data.specs.declared.sys_call.SysCall.{SysCall}
-use Rattle.compile.specs.declared.atom.Ask.{Ask}
 use Rattle.compile.specs.declared.atom.Ask.TheVariants.{Equal, AtLeast}
-use Rattle.compile.specs.declared.atom.Atom.{Atom}
-use Rattle.compile.specs.declared.atom.View.{View}
-use Rattle.compile.specs.declared.clause.Clause.{Clause}
-use Rattle.compile.specs.declared.clause.Literal.{Literal}
-use Rattle.compile.specs.declared.clause.Literal.TheVariants.{Known, Asked}
-use Rattle.compile.specs.declared.residual.Rule.{Rule}
-use Rattle.compile.specs.Residuals.{clause_holds, clauses_hold, first_value}
+use Rattle.compile.proofs.Restricting.{certain_here, first_append}
 use Rattle.compile.specs.contracts.atom.AskPartialEq.TheImpl as ask_eq
 use Rattle.compile.specs.contracts.atom.ViewPartialEq.TheImpl as view_eq
 use Rattle.compile.specs.contracts.atom.AtomPartialEq.TheImpl as atom_eq
 use Rattle.compile.specs.contracts.clause.ClausePartialEq.TheImpl as clause_eq
 use Rattle.compile.specs.contracts.clause.LiteralPartialEq.TheImpl as literal_eq
-use Rattle.compile.proofs.Restricting.{certain_here, first_append}
 
 ask_is : (one other : Ask) → ask_eq.eq-value.it one other ≡ true → one ≡ other
 ask_is (Equal k) (Equal m) same = ap Equal (eqb-true k m same)

@@ -1,3 +1,4 @@
+pub mod Common
 pub mod Building
 pub mod Turning
 pub mod Words

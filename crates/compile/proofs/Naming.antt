@@ -1,19 +1,9 @@
 -- The entries that name a number, as rules.
-use Rattle.std.proofs.Common.{◌≡◌, ℕ, ◌+◌, ◌*◌, ◌≤◌, ◌<◌, ◌&&◌, Bool, true, false, cond, List, length, drop}
-use Rattle.std.proofs.Common.{get_or, refl, sym, ap, ◌∙◌, arith}
-use Rattle.std.proofs.lemmas.List.{at_drop_more}
-use Rattle.std.specs.Prelude.{All}
-use Rattle.call_data.specs.declared.sys_call.SysCall.{SysCall}
-use Rattle.call_data.specs.CallData.{IsCall}
-use Rattle.oci_profile.specs.declared.decision.Decision.{Decision}
-use Rattle.oci_profile.specs.declared.profile.Entry.{Entry}
-use Rattle.oci_profile.specs.Decision.{value_of}
-use Rattle.oci_profile.specs.Meaning.{all_hold, decision_of, names}
-use Rattle.compile.specs.declared.residual.Rule.{Rule}
-use Rattle.compile.specs.Bounds.{conditions_at}
-use Rattle.compile.specs.Residuals.{first_value}
-use Rattle.compile.specs.Rooms.{IsFit, size_of_rules}
-use Rattle.compile.specs.Sizes.{added_of}
+use Rattle.compile.proofs.Common.{◌≡◌, ℕ, ◌+◌, ◌*◌, ◌≤◌, ◌<◌, ◌&&◌, Bool, true, false, cond, List, length}
+use Rattle.compile.proofs.Common.{drop, get_or, refl, sym, ap, ◌∙◌, arith, at_drop_more, All, SysCall, IsCall}
+use Rattle.compile.proofs.Common.{Decision, Entry, value_of, all_hold, decision_of, names, Rule}
+use Rattle.compile.proofs.Common.{conditions_at, first_value, size_of_rules, added_of}
+use Rattle.compile.specs.Rooms.{IsFit}
 use Rattle.compile.proofs.Deciding.{decision_from}
 
 -- the rules of some entries, before those that are still to come

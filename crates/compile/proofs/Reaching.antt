@@ -1,16 +1,7 @@
 -- Ways through code that grows.
-use Rattle.std.proofs.Common.{◌≡◌, ℕ, ◌≤◌, Bool, true, false, cond, not, refl, List, Option, Some, None}
-use Rattle.std.proofs.Common.{Result, Ok, Err, IfOk, subst, ap, ◌∙◌}
-use Rattle.std.specs.Prelude.{IfSome}
-use Rattle.std.specs.declared.alloc.AllocError.{AllocError}
-use Rattle.bpf_code.specs.declared.insn.Insn.{Insn}
-use Rattle.call_data.specs.declared.sys_call.SysCall.{SysCall}
-use Rattle.compile.specs.Backward.{Keeps}
-use Rattle.compile.specs.Residuals.{first_value}
-use Rattle.compile.specs.Ways.{GivesWith, WayGives}
-use Rattle.compile.specs.declared.atom.View.{View}
-use Rattle.compile.specs.declared.build.Way.{Way}
-use Rattle.compile.specs.declared.residual.Rule.{Rule}
+use Rattle.compile.proofs.Common.{◌≡◌, ℕ, ◌≤◌, Bool, true, false, cond, not, refl, List, Option, Some, None}
+use Rattle.compile.proofs.Common.{Result, Ok, Err, IfOk, subst, ap, ◌∙◌, IfSome, AllocError, Insn, SysCall}
+use Rattle.compile.proofs.Common.{Keeps, first_value, GivesWith, WayGives, View, Way, Rule}
 use Rattle.compile.proofs.Building.{gives_more}
 
 pub way_kept : (old new : List Insn) (view : View) (call : SysCall) (way : Way) (value : ℕ) → Keeps old new

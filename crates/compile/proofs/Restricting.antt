@@ -1,11 +1,9 @@
 -- Rules, and what is left of them.
-use Rattle.std.proofs.Common.{◌≡◌, ℕ, ◌+◌, ◌-◌, ◌<◌, arith, List, [], ◌∷◌, ◌++◌, cond, drop, get_or, length}
-use Rattle.std.proofs.Common.{take, refl, sym, ap, subst, ◌∙◌, Bool, true, false, Option, Some}
-use Rattle.std.specs.Prelude.{IfSome}
-use Rattle.std.proofs.lemmas.List.{at_drop_more, length-drop, take_all, take-append-drop}
-use Rattle.call_data.specs.declared.sys_call.SysCall.{SysCall}
-use Rattle.compile.specs.declared.residual.Rule.{Rule}
-use Rattle.compile.specs.Residuals.{clauses_hold, first_value}
+use Rattle.compile.proofs.Common.{◌≡◌, ℕ, ◌+◌, ◌-◌, ◌<◌, arith, List, [], ◌∷◌, ◌++◌, cond, drop, get_or}
+use Rattle.compile.proofs.Common.{length, take, refl, sym, ap, subst, ◌∙◌, Bool, true, false, Option, Some}
+use Rattle.compile.proofs.Common.{IfSome, at_drop_more, take_all, take-append-drop, SysCall, Rule}
+use Rattle.compile.proofs.Common.{clauses_hold, first_value}
+use Rattle.std.proofs.lemmas.List.{length-drop}
 
 pub first_append : (rules others : List Rule) (other : ℕ) (call : SysCall)
     → first_value (rules ++ others) other call ≡ first_value rules (first_value others other call) call

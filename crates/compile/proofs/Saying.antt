@@ -1,20 +1,12 @@
 -- Clauses that are added, and what they say.
-use Rattle.std.proofs.Common.{◌≡◌, ℕ, ◌+◌, ◌≤◌, ◌==◌, ◌&&◌, ◌/◌, ◌%◌, Bool, true, false, not, cond, List, []}
-use Rattle.std.proofs.Common.{◌∷◌, ◌++◌, refl, sym, ap, ◌∙◌, arith}
-use Rattle.std.specs.Prelude.{◌||◌, All, bit_and, nat_le, nat_lt}
-use Rattle.std.proofs.lemmas.Bool.Decides.{nat_tests}
+use Rattle.compile.proofs.Common.{◌≡◌, ℕ, ◌+◌, ◌≤◌, ◌==◌, ◌&&◌, ◌/◌, ◌%◌, Bool, true, false, not, cond, List}
+use Rattle.compile.proofs.Common.{[], ◌∷◌, ◌++◌, refl, sym, ap, ◌∙◌, arith, ◌||◌, All, bit_and, nat_le}
+use Rattle.compile.proofs.Common.{nat_lt, nat_tests, SysCall, IsCall, Cond, Entry, all_hold, all_of, Clause}
+use Rattle.compile.proofs.Common.{Rule, clause_holds, clauses_hold, Says, size_of_clause, size_of_clauses}
+use Rattle.compile.proofs.Common.{size_of_rules}
 use Rattle.std.proofs.lemmas.List.Folds.{list_all-append}
 use Rattle.std.proofs.lemmas.List.Elements.{All-append, All-cons}
-use Rattle.call_data.specs.declared.sys_call.SysCall.{SysCall}
-use Rattle.call_data.specs.CallData.{IsCall}
-use Rattle.oci_profile.specs.declared.conditions.Cond.{Cond}
-use Rattle.oci_profile.specs.declared.profile.Entry.{Entry}
-use Rattle.oci_profile.specs.Meaning.{all_hold, all_of}
-use Rattle.compile.specs.declared.clause.Clause.{Clause}
-use Rattle.compile.specs.declared.residual.Rule.{Rule}
-use Rattle.compile.specs.Residuals.{clause_holds, clauses_hold}
-use Rattle.compile.specs.Rooms.{IsSmallClause, IsWithin, Says, is_large, size_of_clause, size_of_clauses}
-use Rattle.compile.specs.Rooms.{size_of_rules}
+use Rattle.compile.specs.Rooms.{IsSmallClause, IsWithin, is_large}
 use Rattle.compile.proofs.Words.{eq_halves, masked_halves, from_halves, above_halves}
 
 and_true : (b : Bool) → (b && true) ≡ b
@@ -145,15 +137,16 @@ entry_says entry conds clauses n call same says is_call =
     says.same call is_call ∙ ap (λ cs. all_of cs call) same
 
 -- clauses that say something by themselves
-pub says_is : (clauses slice : List Clause) (holds : SysCall → Bool) (n : ℕ) (call : SysCall)
-    → slice ≡ clauses
-    → Says [] clauses holds n → IsCall call → clauses_hold slice call ≡ holds call
-says_is clauses slice holds n call same says is_call =
+pub says_is : (old clauses slice : List Clause) (holds : SysCall → Bool) (n : ℕ) (call : SysCall) → old ≡ []
+    → slice ≡ clauses → Says old clauses holds n → IsCall call → clauses_hold slice call ≡ holds call
+says_is old clauses slice holds n call none same says is_call =
     ap (λ cs. clauses_hold cs call) same ∙ says.same call is_call
+    ∙ ap (λ cs. clauses_hold cs call && holds call) none
 
-pub says_size : (clauses slice : List Clause) (holds : SysCall → Bool) (n : ℕ) → slice ≡ clauses
-    → Says [] clauses holds n → size_of_clauses slice ≤ n
-says_size clauses slice holds n same says = omega (arith, ap size_of_clauses same, says.longer)
+pub says_size : (old clauses slice : List Clause) (holds : SysCall → Bool) (n : ℕ) → old ≡ []
+    → slice ≡ clauses → Says old clauses holds n → size_of_clauses slice ≤ n
+says_size old clauses slice holds n none same says =
+    omega (arith, ap size_of_clauses same, says.longer, ap size_of_clauses none)
 
 pub size_of_pushed : (rules : List Rule) (rule : Rule)
     → size_of_rules (rules ++ rule ∷ []) ≡ size_of_rules rules + size_of_clauses rule.clauses.items

@@ -1,16 +1,9 @@
 -- What A comes to hold before a branch.
-use Rattle.std.proofs.Common.{◌≡◌, ◌≢◌, ℕ, ◌+◌, ◌<◌, List, sym, ap, subst, ◌∙◌, arith}
-use Rattle.std.specs.Prelude.{bit_and}
-use Rattle.bpf_code.specs.declared.insn.Insn.{Insn}
+use Rattle.compile.proofs.Common.{◌≡◌, ◌≢◌, ℕ, ◌+◌, ◌<◌, List, sym, ap, subst, ◌∙◌, arith, bit_and, Insn}
+use Rattle.compile.proofs.Common.{SysCall, Gives, data_word, asks, atom_holds, seen, shown, GivesWith, told}
+use Rattle.compile.proofs.Common.{Atom, Probe, WHOLE, View}
 use Rattle.bpf_code.specs.declared.limits.TheConstants.{DATA_LEN}
-use Rattle.call_data.specs.declared.sys_call.SysCall.{SysCall}
-use Rattle.compile.specs.Backward.{Gives, data_word}
-use Rattle.compile.specs.Residuals.{asks, atom_holds, seen, shown}
-use Rattle.compile.specs.Ways.{Covers, GivesWith, HasView, IsProbe, told}
-use Rattle.compile.specs.declared.atom.Atom.{Atom}
-use Rattle.compile.specs.declared.atom.Probe.{Probe}
-use Rattle.compile.specs.declared.atom.TheConstants.{WHOLE}
-use Rattle.compile.specs.declared.atom.View.{View}
+use Rattle.compile.specs.Ways.{Covers, HasView, IsProbe}
 use Rattle.compile.proofs.Bits.{seen_masked, seen_whole}
 
 -- a view that is held is the one that is needed

@@ -1,20 +1,13 @@
 -- A profile that is light enough has a filter that is short enough.
-use Rattle.std.proofs.Common.{◌≡◌, ℕ, zero, suc, ◌+◌, ◌-◌, ◌*◌, ◌^◌, ◌≤◌, ◌<◌, ◌==◌, inl, inr, Bool, true}
-use Rattle.std.proofs.Common.{false, List, [], ◌∷◌, length, refl, ap, ◌∙◌, arith, cond}
-use Rattle.std.specs.Prelude.{◌||◌, sum_by}
-use Rattle.std.specs.List.{list_any}
-use Rattle.std.proofs.Math.Nat.{pow-suc}
-use Rattle.std.proofs.lemmas.Bool.{cases_lt}
-use Rattle.std.proofs.lemmas.Bool.Decides.{nat_tests}
+use Rattle.compile.proofs.Common.{◌≡◌, ℕ, zero, suc, ◌+◌, ◌-◌, ◌*◌, ◌^◌, ◌≤◌, ◌<◌, ◌==◌, inl, inr, Bool, true}
+use Rattle.compile.proofs.Common.{false, List, [], ◌∷◌, length, refl, ap, ◌∙◌, arith, cond, ◌||◌, sum_by}
+use Rattle.compile.proofs.Common.{list_any, pow-suc, cases_lt, nat_tests, All-head, All-tail, Entry, Profile}
+use Rattle.compile.proofs.Common.{AreEntries, names, entry_weight, weight, named, named_below, added_of}
+use Rattle.compile.proofs.Common.{added_below, steps_at}
 use Rattle.std.proofs.lemmas.List.Sums.{sum_by-cons}
-use Rattle.std.proofs.lemmas.List.Elements.{All-head, All-tail}
-use Rattle.oci_profile.specs.declared.profile.Entry.{Entry}
-use Rattle.oci_profile.specs.declared.profile.Profile.{Profile}
-use Rattle.oci_profile.specs.Entries.{AreEntries, IsFit}
-use Rattle.oci_profile.specs.Meaning.{names, entry_weight, weight}
-use Rattle.compile.specs.Bounds.{named, named_below}
+use Rattle.oci_profile.specs.Entries.{IsFit}
 use Rattle.compile.proofs.Leaves.{counted_most}
-use Rattle.compile.specs.Sizes.{IsAsLong, added_of, added_below, steps_at}
+use Rattle.compile.specs.Sizes.{IsAsLong}
 
 -- how many numbers below this one stand in a list, each counted once
 once_in : List ℕ → ℕ → ℕ

@@ -1,7 +1,7 @@
 -- This project's own: code that is built from its end. A place counts the instructions behind it, so what
 -- is put in front moves no place. Only private functions cite this.
-use Rattle.std.specs.Prelude.{◌≡◌, ℕ, ◌+◌, ◌%◌, ◌<◌, ◌==◌, nat_lt, nat_le, Bool, if◌then◌else◌, List, Some}
-use Rattle.std.specs.Prelude.{slice_get, take, length, bit_and, not}
+use Rattle.std.specs.Prelude.{◌≡◌, ℕ, ◌+◌, ◌%◌, ◌<◌, ◌≤◌, ◌==◌, nat_lt, nat_le, Bool, if◌then◌else◌}
+use Rattle.std.specs.Prelude.{List, Some, slice_get, take, length, bit_and, not}
 use Rattle.bpf_code.specs.declared.insn.Insn.{Insn}
 use Rattle.bpf_code.specs.declared.operation.Operation.{Operation}
 use Rattle.bpf_code.specs.declared.operation.Operation.TheVariants.{LoadData, AndK, JumpEqualK, JumpGreaterK}
@@ -10,6 +10,7 @@ use Rattle.bpf_code.specs.declared.operation.Operation.TheVariants.{ReturnK}
 use Rattle.bpf_code.specs.declared.limits.TheConstants.{DATA_LEN}
 use Rattle.call_data.specs.declared.sys_call.SysCall.{SysCall}
 use Rattle.call_data.specs.CallData.{word_at}
+use Rattle.compile.specs.declared.code.TheConstants.{RECENT}
 
 -- an instruction that leads to places behind its own, and reads a word of the call's data
 abbrev pub PointsInside : Operation → Insn → ℕ → Type 0
@@ -66,6 +67,16 @@ Keeps old new = (call : SysCall) (at a value most : ℕ) → Gives old call at a
 -- what the old code begins with the new one does
 abbrev pub Extends : List Insn → List Insn → Type 0
 Extends old new = (begin : List Insn) → take (length begin) old ≡ begin → take (length begin) new ≡ begin
+
+-- more was put in front
+pub record Builds (old new : List Insn) : Type 0 where
+  pub keeps : Keeps old new
+  pub extends : Extends old new
+  pub grows : length old ≤ length new
+
+-- the place is among the latest
+abbrev pub IsRecent : List Insn → ℕ → Type 0
+IsRecent code at = (at < length code) × (length code ≤ at + RECENT)
 
 -- one instruction was put in front
 pub record Puts (insn : Insn) (old new : List Insn) : Type 0 where

@@ -8,3 +8,4 @@ pub mod Ways
 pub mod Rooms
 pub mod Points
 pub mod FaultText
+pub mod Common

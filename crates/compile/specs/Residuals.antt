@@ -12,7 +12,7 @@ use Rattle.compile.specs.declared.atom.View.{View}
 use Rattle.compile.specs.declared.clause.Literal.{Literal}
 use Rattle.compile.specs.declared.clause.Literal.TheVariants.{Known, Asked}
 use Rattle.compile.specs.declared.clause.Clause.{Clause}
-use Rattle.compile.specs.declared.residual.Rule.{Rule}
+use Rattle.compile.specs.declared.clause.Rule.{Rule}
 
 -- what a mask leaves of a word
 abbrev pub seen : ℕ → ℕ → ℕ

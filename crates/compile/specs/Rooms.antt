@@ -5,7 +5,7 @@ use Rattle.bpf_code.specs.declared.limits.TheConstants.{DATA_LEN}
 use Rattle.compile.specs.declared.clause.Literal.{Literal}
 use Rattle.compile.specs.declared.clause.Literal.TheVariants.{Known, Asked}
 use Rattle.compile.specs.declared.clause.Clause.{Clause}
-use Rattle.compile.specs.declared.residual.Rule.{Rule}
+use Rattle.compile.specs.declared.clause.Rule.{Rule}
 use Rattle.call_data.specs.declared.sys_call.SysCall.{SysCall}
 use Rattle.call_data.specs.CallData.{IsCall}
 use Rattle.compile.specs.Residuals.{clauses_hold}

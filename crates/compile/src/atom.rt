@@ -1,9 +1,5 @@
 ghost use Rattle.std.specs.Prelude.{◌≡◌, ◌≢◌, ◌<◌, ℕ, IfSome, IsTrue, true, false};
-ghost use Rattle.call_data.specs.declared.sys_call.SysCall.{SysCall};
-ghost use Rattle.compile.specs.Residuals.{asks, atom_holds, seen};
-ghost use Rattle.compile.specs.Tests.{holds_of};
-ghost use Rattle.compile.specs.Ways.{Covers, IsProbe};
-ghost use Rattle.compile.specs.declared.atom.TheConstants.{WHOLE};
+ghost use Rattle.compile.specs.Common.{SysCall, asks, atom_holds, seen, holds_of, WHOLE, Covers, IsProbe};
 
 use crate::code::Test;
 use bpf_code::DATA_LEN;
@@ -122,16 +118,6 @@ impl Ask {
             (Ask::AtLeast(k), false) => self.below(k),
         }
     }
-
-    /// Whether it asks for 0.
-    fn is_zero(self) -> bool
-        ensures { IsTrue result → self ≡ Ask.Equal 0 }
-    {
-        match self {
-            Ask::Equal(k) => k == 0,
-            Ask::AtLeast(_) => false,
-        }
-    }
 }
 
 /// Whether a word under a mask determines the word under a part of that mask.
@@ -169,7 +155,10 @@ impl Atom {
         ensures zero { IsTrue result → self.now.ask ≡ Ask.Equal 0 }
         ensures masked { IsTrue result → self.now.view.mask ≢ WHOLE }
     {
-        self.view.mask != WHOLE && self.ask.is_zero()
+        match self.ask {
+            Ask::Equal(0) => self.view.mask != WHOLE,
+            _ => false,
+        }
     }
 
     /// The branch that asks this, given what A holds. Whether bits are clear takes no mask: any view that

@@ -1,19 +1,12 @@
 ghost use Rattle.std.specs.Prelude.{◌≡◌, ◌≤◌, ◌<◌, ◌+◌, ◌-◌, ◌%◌, ℕ, length, IfOk, IfSome, if◌then◌else◌};
-ghost use Rattle.bpf_code.specs.declared.limits.TheConstants.{DATA_LEN};
-ghost use Rattle.call_data.specs.declared.sys_call.SysCall.{SysCall};
-ghost use Rattle.compile.specs.Backward.{Extends, Gives, Keeps};
-ghost use Rattle.compile.specs.Residuals.{first_value, shown};
-ghost use Rattle.compile.specs.Tests.{holds_of};
-ghost use Rattle.compile.specs.Ways.{GivesWith, WayGives, taken, told};
-ghost use Rattle.compile.specs.declared.atom.TheConstants.{NOWHERE};
-ghost use Rattle.compile.specs.declared.atom.View.{View};
-ghost use Rattle.compile.specs.declared.code.TheConstants.{REACH};
+ghost use Rattle.compile.specs.Common.{Builds, DATA_LEN, SysCall, Gives, first_value, holds_of, WayGives};
+ghost use Rattle.compile.specs.Common.{NOWHERE, REACH, shown, GivesWith, taken, told, View};
 
 use crate::apart::{boundary, certain};
 use crate::atom::{Atom, NOWHERE, Probe, View, WHOLE};
 use crate::choose::choose;
+use crate::clause::{Rule, rules_where};
 use crate::code::{Code, REACH, RECENT};
-use crate::residual::{Rule, rules_where};
 use bpf_code::{DATA_LEN, MAX_INSNS};
 use std::alloc::{AllocError, Global};
 
@@ -23,6 +16,9 @@ pub(crate) struct Way {
     pub(crate) at: usize,
     pub(crate) most: usize,
 }
+
+/// A way through what was put in front; None if that takes too many tests. An error if memory runs out.
+pub(crate) type Built = Result<Option<Way>, AllocError>;
 
 /// The steps that a test takes, given what A holds.
 pub(crate) fn cost(atom: &Atom, view: View) -> usize {
@@ -37,7 +33,7 @@ pub(crate) fn cost(atom: &Atom, view: View) -> usize {
 }
 
 /// A way to the same place that a branch can reach. None if the code is longer than any filter.
-fn nearer(code: &mut Code, way: Way, reach: usize) -> Result<Option<Way>, AllocError>
+fn nearer(code: &mut Code, way: Way, reach: usize) -> Built
     requires inside { way.at < length code.old }
     requires within { reach ≤ REACH }
     ensures gives { IfOk result (λ found. IfSome found (λ near. (call : SysCall) (view : View) (value : ℕ)
@@ -45,9 +41,7 @@ fn nearer(code: &mut Code, way: Way, reach: usize) -> Result<Option<Way>, AllocE
     ensures near { IfOk result (λ found. IfSome found (λ near. length code.new ≤ near.at + 1 + reach)) }
     ensures inside { IfOk result (λ found. IfSome found (λ near. near.at < length code.new)) }
     ensures longer { length code.new ≤ length code.old + 1 }
-    ensures keeps { Keeps code.old code.new }
-    ensures extends { Extends code.old code.new }
-    ensures grows { length code.old ≤ length code.new }
+    ensures builds { Builds code.old code.new }
 {
     if code.len() > MAX_INSNS {
         return Ok(None);
@@ -80,10 +74,8 @@ fn brought_at(code: &Code, front: usize, base: View, view: View) -> Option<Way>
         });
     }
     if base.mask == WHOLE {
-        if code.loads(front, base.offset) {
-            return Some(Way { at: front, most: 1 });
-        }
-        return None;
+        let way = Way { at: front, most: 1 };
+        return code.loads(front, base.offset).then_some(way);
     }
     if !code.masks(front, base.mask) {
         return None;
@@ -128,9 +120,7 @@ fn bring(code: &mut Code, base: View, view: View) -> Result<usize, AllocError>
     ensures gives { IfOk result (λ steps. (call : SysCall) (value most : ℕ)
         → Gives code.old call (length code.old - 1) (shown base call) value most
         → GivesWith view code.new call (length code.new - 1) value (most + steps)) }
-    ensures keeps { Keeps code.old code.new }
-    ensures extends { Extends code.old code.new }
-    ensures grows { length code.old ≤ length code.new }
+    ensures builds { Builds code.old code.new }
 {
     if view.is(base) {
         return Ok(0);
@@ -148,13 +138,7 @@ fn bring(code: &mut Code, base: View, view: View) -> Result<usize, AllocError>
 }
 
 /// A way that makes the test and goes on by its outcome, given what A holds.
-fn branch(
-    code: &mut Code,
-    probe: &Probe,
-    hit: Way,
-    miss: Way,
-    view: View,
-) -> Result<Option<Way>, AllocError>
+fn branch(code: &mut Code, probe: &Probe, hit: Way, miss: Way, view: View) -> Built
     requires known { probe.now.base.offset < DATA_LEN }
     requires aligned { probe.now.base.offset % 4 ≡ 0 }
     requires hit_inside { hit.at < length code.old }
@@ -164,9 +148,7 @@ fn branch(
         (if holds_of probe.now.test probe.now.k (shown probe.now.base call) then hit else miss) value
         → WayGives view code.new call way value)) }
     ensures inside { IfOk result (λ found. IfSome found (λ way. way.at < length code.new)) }
-    ensures keeps { Keeps code.old code.new }
-    ensures extends { Extends code.old code.new }
-    ensures grows { length code.old ≤ length code.new }
+    ensures builds { Builds code.old code.new }
 {
     let Some(miss) = nearer(code, miss, REACH - 1)? else {
         return Ok(None);
@@ -222,15 +204,13 @@ pub(crate) fn build(
     view: View,
     depth: usize,
     fuel: &mut usize,
-) -> Result<Option<Way>, AllocError>
+) -> Built
     requires { last.at < length code.old }
     ensures gives { IfOk result (λ found. IfSome found (λ way. (call : SysCall) (other : ℕ)
         → WayGives NOWHERE code.old call last other
         → WayGives view code.new call way (first_value rules.now other call))) }
     ensures inside { IfOk result (λ found. IfSome found (λ way. way.at < length code.new)) }
-    ensures keeps { Keeps code.old code.new }
-    ensures extends { Extends code.old code.new }
-    ensures grows { length code.old ≤ length code.new }
+    ensures builds { Builds code.old code.new }
 {
     if rules.is_empty() {
         return Ok(Some(arrived(code, last, view)));
@@ -251,52 +231,27 @@ pub(crate) fn build(
     *fuel = fuel.saturating_sub(rules.len());
     let atom = choose(alloc, rules, view)?;
     let probe = atom.probe(view);
+    let base = probe.base;
     let left = rules_where(alloc, rules, &atom, false)?;
-    let Some(no) = build(
-        code,
-        alloc,
-        left.as_slice(),
-        last,
-        probe.base,
-        depth - 1,
-        fuel,
-    )?
-    else {
+    let Some(no) = build(code, alloc, left.as_slice(), last, base, depth - 1, fuel)? else {
         return Ok(None);
     };
     let left = rules_where(alloc, rules, &atom, true)?;
-    let Some(yes) = build(
-        code,
-        alloc,
-        left.as_slice(),
-        last,
-        probe.base,
-        depth - 1,
-        fuel,
-    )?
-    else {
+    let Some(yes) = build(code, alloc, left.as_slice(), last, base, depth - 1, fuel)? else {
         return Ok(None);
     };
     joined(code, &probe, yes, no, view)
 }
 
 /// A way that goes on by the answer to a question. If both answers lead to one place, nothing is tested.
-fn joined(
-    code: &mut Code,
-    probe: &Probe,
-    yes: Way,
-    no: Way,
-    view: View,
-) -> Result<Option<Way>, AllocError>
+fn joined(code: &mut Code, probe: &Probe, yes: Way, no: Way, view: View) -> Built
     requires yes_inside { yes.at < length code.old }
     requires no_inside { no.at < length code.old }
     ensures gives { IfOk result (λ found. IfSome found (λ way. (call : SysCall) (value : ℕ)
         → WayGives probe.now.base code.old call (if told probe.now call then yes else no) value
         → WayGives view code.new call way value)) }
     ensures inside { IfOk result (λ found. IfSome found (λ way. way.at < length code.new)) }
-    ensures keeps { Keeps code.old code.new }
-    ensures extends { Extends code.old code.new }
-    ensures grows { length code.old ≤ length code.new }
+    ensures builds { Builds code.old code.new }
 {
     if yes.at == no.at && code.is_steady(no.at) {
         return Ok(Some(Way {

@@ -2,8 +2,7 @@ ghost use Rattle.std.specs.Prelude.{◌≤◌, ◌<◌, length};
 
 use crate::atom::{Ask, Atom, NOWHERE, View, WHOLE};
 use crate::build::cost;
-use crate::clause::{Clause, Literal};
-use crate::residual::Rule;
+use crate::clause::{Clause, Literal, Rule};
 use std::alloc::{AllocError, Global};
 
 /// If a word is compared with this many numbers, the middle one parts them.
@@ -97,31 +96,69 @@ fn first_literal(clause: &Clause, view: View) -> Literal {
     }
 }
 
-/// The numbers that a view is compared with, for equality and for order.
+/// The numbers that a view is compared with, and the smallest that it may equal.
 #[derive(Drop)]
 struct Cuts {
-    equal: Vec<u32>,
-    order: Vec<u32>,
+    numbers: Vec<u32>,
+    least: u32,
 }
 
 impl Cuts {
     fn add(&mut self, literal: &Literal, view: View) -> Result<(), AllocError> {
-        if let Literal::Asked(atom, _) = *literal {
-            if atom.view == view {
-                match atom.ask {
-                    Ask::Equal(k) => self.equal.push(k)?,
-                    Ask::AtLeast(k) => self.order.push(k)?,
+        match *literal {
+            Literal::Asked(atom, _) if atom.view == view => match atom.ask {
+                Ask::Equal(k) => {
+                    self.least = self.least.min(k);
+                    self.numbers.push(k)?;
                 }
-            }
+                Ask::AtLeast(k) => self.numbers.push(k)?,
+            },
+            _ => {}
         }
         Ok(())
     }
+
+    /// Asks about the middle number if there are many, else about the smallest that the view may equal.
+    fn ask(self, best: Ask) -> Result<Ask, AllocError> {
+        let mut numbers = self.numbers;
+        numbers.sort()?;
+        numbers.dedup();
+        if numbers.len() >= MANY {
+            return Ok(from(numbers[numbers.len() / 2]));
+        }
+        match best {
+            Ask::Equal(_) => Ok(Ask::Equal(self.least)),
+            Ask::AtLeast(k) => Ok(from(k)),
+        }
+    }
 }
 
-fn cuts_of(alloc: Global, rules: &[Rule], view: View) -> Result<Cuts, AllocError> {
+/// The literal that is best tried first.
+fn first_of(rules: &[Rule], view: View) -> Option<Literal> {
+    let prefix = &rules[..alike(rules)];
+    let rule = prefix.get(best(prefix, view))?;
+    let clause = first_clause(rule, rules, prefix.len() == rules.len(), view)?;
+    Some(first_literal(&clause, view))
+}
+
+/// The next question, given what A holds. Any question is right; this one should lead to few steps and little
+/// code.
+pub(crate) fn choose(alloc: Global, rules: &[Rule], view: View) -> Result<Atom, AllocError> {
+    match first_of(rules, view) {
+        Some(Literal::Asked(best, wanted)) => parted(alloc, rules, best, wanted),
+        _ => Ok(ANY),
+    }
+}
+
+/// A question about the view of the best one.
+fn parted(alloc: Global, rules: &[Rule], best: Atom, wanted: bool) -> Result<Atom, AllocError> {
+    if !wanted && matches!(best.ask, Ask::Equal(_)) {
+        return Ok(best);
+    }
+    let view = best.view;
     let mut cuts = Cuts {
-        equal: Vec::new(alloc),
-        order: Vec::new(alloc),
+        numbers: Vec::new(alloc),
+        least: u32::MAX,
     };
     for rule in rules {
         for clause in rule.clauses.as_slice() {
@@ -129,63 +166,8 @@ fn cuts_of(alloc: Global, rules: &[Rule], view: View) -> Result<Cuts, AllocError
             cuts.add(&clause.other, view)?;
         }
     }
-    Ok(cuts)
-}
-
-/// The middle one of the numbers, each counted once, if there are many.
-fn middle(cuts: Cuts) -> Result<Option<u32>, AllocError> {
-    let mut numbers = cuts.equal;
-    numbers.extend_from_slice(cuts.order.as_slice())?;
-    numbers.sort()?;
-    numbers.dedup();
-    if numbers.len() < MANY {
-        return Ok(None);
-    }
-    Ok(Some(numbers[numbers.len() / 2]))
-}
-
-/// The literal that is best tried first.
-fn first_of(rules: &[Rule], view: View) -> Literal {
-    let prefix = &rules[..alike(rules)];
-    if prefix.is_empty() {
-        return Literal::Known(true);
-    }
-    let is_alike = prefix.len() == rules.len();
-    match first_clause(&prefix[best(prefix, view)], rules, is_alike, view) {
-        Some(clause) => first_literal(&clause, view),
-        None => Literal::Known(true),
-    }
-}
-
-/// The next question, given what A holds. Any question is right; this one should lead to few steps and little
-/// code.
-pub(crate) fn choose(alloc: Global, rules: &[Rule], view: View) -> Result<Atom, AllocError> {
-    match first_of(rules, view) {
-        Literal::Known(_) => Ok(ANY),
-        Literal::Asked(best, wanted) => parted(alloc, rules, best, wanted),
-    }
-}
-
-/// A question about the view of the best one: about its middle number if there are many, else about the
-/// smallest number that it may equal.
-fn parted(alloc: Global, rules: &[Rule], best: Atom, wanted: bool) -> Result<Atom, AllocError> {
-    let ask = match best.ask {
-        Ask::Equal(_) if !wanted => best.ask,
-        Ask::Equal(k) => {
-            let mut cuts = cuts_of(alloc, rules, best.view)?;
-            cuts.equal.sort()?;
-            let first = cuts.equal.as_slice().first().copied();
-            match middle(cuts)? {
-                Some(k) => from(k),
-                None => Ask::Equal(first.unwrap_or(k)),
-            }
-        }
-        Ask::AtLeast(k) => from(middle(cuts_of(alloc, rules, best.view)?)?.unwrap_or(k)),
-    };
-    Ok(Atom {
-        view: best.view,
-        ask,
-    })
+    let ask = cuts.ask(best.ask)?;
+    Ok(Atom { view, ask })
 }
 
 /// Whether a word is at least this number. For 1 that is asked as clauses do: whether it is 0.

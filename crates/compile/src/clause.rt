@@ -1,17 +1,13 @@
 ghost use Rattle.std.specs.Prelude.{◌≡◌, ◌<◌, ◌+◌, ◌*◌, ◌/◌, ◌%◌, ◌^◌, ◌==◌, ◌||◌, ℕ, IsTrue, true, false};
-ghost use Rattle.std.specs.Prelude.{not, ◌≢◌, bit_and, nat_le, nat_lt, slice_index};
-ghost use Rattle.call_data.specs.declared.sys_call.SysCall.{SysCall};
-ghost use Rattle.call_data.specs.CallData.{IsCall};
-ghost use Rattle.compile.specs.Backward.{data_word};
-ghost use Rattle.compile.specs.Residuals.{asks, atom_holds, clause_holds, literal_holds, seen};
-ghost use Rattle.compile.specs.Rooms.{IsPossible, IsSmall, IsSmallClause};
+ghost use Rattle.std.specs.Prelude.{not, ◌≢◌, bit_and, nat_le, nat_lt, slice_index, IfOk, IfSome, IfNone};
 ghost use Rattle.std.specs.Bool.{OnFalse};
-ghost use Rattle.compile.specs.declared.atom.TheConstants.{WHOLE};
-ghost use Rattle.compile.specs.declared.clause.Literal.{Literal};
-ghost use Rattle.bpf_code.specs.declared.limits.TheConstants.{DATA_LEN};
+ghost use Rattle.compile.specs.Common.{SysCall, IsCall, data_word, asks, atom_holds, clause_holds};
+ghost use Rattle.compile.specs.Common.{literal_holds, seen, IsPossible, IsSmall, IsSmallClause, WHOLE};
+ghost use Rattle.compile.specs.Common.{Literal, DATA_LEN, clauses_hold, first_value};
 
 use crate::atom::{Ask, Atom, View, WHOLE};
 use call_data::words_of_fields;
+use std::alloc::{AllocError, Global};
 
 /// A question with the wanted answer, or an answer that is known already.
 #[derive(Clone, Copy, PartialEq, Eq)]
@@ -203,10 +199,9 @@ impl Clause {
         ensures { (call : SysCall) → atom_holds given.now call ≡ answer
             → clause_holds result call ≡ clause_holds self.now call }
     {
-        Clause::either(
-            self.one.where_known(given, answer),
-            self.other.where_known(given, answer),
-        )
+        let one = self.one.where_known(given, answer);
+        let other = self.other.where_known(given, answer);
+        Clause::either(one, other)
     }
 
     /// Whether it is known to hold.
@@ -228,4 +223,59 @@ impl Clause {
     pub(crate) fn is_alone(&self) -> bool {
         self.other.is_known(false)
     }
+}
+
+/// Returns its value if all its clauses hold.
+#[derive(Drop)]
+pub(crate) struct Rule {
+    pub(crate) clauses: Vec<Clause>,
+    pub(crate) value: u32,
+}
+
+/// What is left of clauses on calls where a question has this answer. None if one of them fails.
+fn clauses_where(
+    alloc: Global,
+    clauses: &[Clause],
+    given: &Atom,
+    answer: bool,
+) -> Result<Option<Vec<Clause>>, AllocError>
+    ensures some { IfOk result (λ found. IfSome found (λ left. (call : SysCall)
+        → atom_holds given.now call ≡ answer
+        → clauses_hold left.items call ≡ clauses_hold clauses.now call)) }
+    ensures none { IfOk result (λ found. IfNone found ((call : SysCall)
+        → atom_holds given.now call ≡ answer → clauses_hold clauses.now call ≡ false)) }
+{
+    let mut left = Vec::new(alloc);
+    for clause in clauses {
+        let clause = clause.where_known(given, answer);
+        if clause.is_false() {
+            return Ok(None);
+        }
+        if !clause.is_true() {
+            left.push(clause)?;
+        }
+    }
+    Ok(Some(left))
+}
+
+/// What is left of rules on calls where a question has this answer.
+pub(crate) fn rules_where(
+    alloc: Global,
+    rules: &[Rule],
+    given: &Atom,
+    answer: bool,
+) -> Result<Vec<Rule>, AllocError>
+    ensures { IfOk result (λ left. (call : SysCall) (other : ℕ) → atom_holds given.now call ≡ answer
+        → first_value left.items other call ≡ first_value rules.now other call) }
+{
+    let mut left = Vec::new(alloc);
+    for rule in rules {
+        if let Some(clauses) = clauses_where(alloc, rule.clauses.as_slice(), given, answer)? {
+            left.push(Rule {
+                clauses,
+                value: rule.value,
+            })?;
+        }
+    }
+    Ok(left)
 }

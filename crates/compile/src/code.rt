@@ -1,15 +1,9 @@
 ghost use Rattle.std.specs.Prelude.{◌≡◌, ◌≤◌, ◌<◌, ◌+◌, ◌-◌, ◌%◌, ◌^◌, ℕ, List, [], reverse, Some, slice_get};
 ghost use Rattle.std.specs.Prelude.{take, length, IfOk, OnOk, IsTrue, bit_and, if◌then◌else◌, ◌==◌};
-ghost use Rattle.bpf_code.specs.declared.insn.Insn.{Insn};
-ghost use Rattle.bpf_code.specs.declared.limits.TheConstants.{DATA_LEN, MAX_INSNS};
+ghost use Rattle.compile.specs.Common.{Builds, IsRecent, DATA_LEN, MAX_INSNS, SysCall, IsSound, Runs, Gives};
+ghost use Rattle.compile.specs.Common.{GivesAlways, data_word, holds_of, REACH, RECENT, Insn, IsBackward};
+ghost use Rattle.compile.specs.Common.{PointsInside, Puts, operation_of};
 ghost use Rattle.bpf_code.specs.declared.operation.Operation.TheVariants.{AndK, LoadData, ReturnK};
-ghost use Rattle.call_data.specs.declared.sys_call.SysCall.{SysCall};
-ghost use Rattle.bpf_verify.specs.Sound.{IsSound};
-ghost use Rattle.bpf_machine.specs.Runs.{Runs};
-ghost use Rattle.compile.specs.Backward.{Extends, Gives, GivesAlways, IsBackward, Keeps, PointsInside, Puts};
-ghost use Rattle.compile.specs.Backward.{data_word};
-ghost use Rattle.compile.specs.Tests.{holds_of, operation_of};
-ghost use Rattle.compile.specs.declared.code.TheConstants.{REACH, RECENT};
 
 use bpf_code::{Insn, MAX_INSNS, Operation};
 use bpf_verify::{Filter, verify};
@@ -22,6 +16,9 @@ pub(crate) const REACH: usize = 255;
 /// How many of the latest instructions are searched for a return to share. Branches that are put in front
 /// next still reach it.
 pub(crate) const RECENT: usize = 200;
+
+/// The place of what was put in front, unless memory runs out.
+pub(crate) type Placed = Result<usize, AllocError>;
 
 /// What a branch tests of A.
 #[derive(Clone, Copy)]
@@ -86,14 +83,12 @@ impl Code {
     }
 
     /// Puts an instruction in front.
-    fn put(&mut self, insn: Insn) -> Result<usize, AllocError>
+    fn put(&mut self, insn: Insn) -> Placed
         requires { PointsInside insn.op insn (length self.old) }
         ensures puts { OnOk result (Puts insn self.old self.new) }
         ensures at { IfOk result (λ at. at ≡ length self.old) }
         ensures longer { length self.new ≤ length self.old + 1 }
-        ensures keeps { Keeps self.old self.new }
-        ensures extends { Extends self.old self.new }
-        ensures grows { length self.old ≤ length self.new }
+        ensures builds { Builds self.old self.new }
     {
         let at = self.insns.len();
         self.insns.push(insn)?;
@@ -101,14 +96,11 @@ impl Code {
     }
 
     /// The place of a return of this value: a recent one, or a new one.
-    pub(crate) fn value(&mut self, value: u32) -> Result<usize, AllocError>
+    pub(crate) fn value(&mut self, value: u32) -> Placed
         ensures gives { IfOk result (λ at. (call : SysCall) (a : ℕ) → Gives self.new call at a value 1) }
-        ensures recent { IfOk result (λ at. length self.new ≤ at + RECENT) }
-        ensures inside { IfOk result (λ at. at < length self.new) }
+        ensures recent { IfOk result (IsRecent self.new) }
         ensures longer { length self.new ≤ length self.old + 1 }
-        ensures keeps { Keeps self.old self.new }
-        ensures extends { Extends self.old self.new }
-        ensures grows { length self.old ≤ length self.new }
+        ensures builds { Builds self.old self.new }
     {
         let len = self.len();
         for back in 0..RECENT.min(len) {
@@ -126,7 +118,7 @@ impl Code {
     }
 
     /// Loads the word of the call's data at this offset, and goes on with the code.
-    pub(crate) fn load(&mut self, offset: u32) -> Result<usize, AllocError>
+    pub(crate) fn load(&mut self, offset: u32) -> Placed
         requires some { 0 < length self.old }
         requires inside { offset < DATA_LEN }
         requires aligned { offset % 4 ≡ 0 }
@@ -135,9 +127,7 @@ impl Code {
             → Gives self.new call (length self.new - 1) a value (most + 1)) }
         ensures at { IfOk result (λ at. at + 1 ≡ length self.new) }
         ensures longer { OnOk result (length self.new ≡ length self.old + 1) }
-        ensures keeps { Keeps self.old self.new }
-        ensures extends { Extends self.old self.new }
-        ensures grows { length self.old ≤ length self.new }
+        ensures builds { Builds self.old self.new }
     {
         self.put(Insn {
             op: Operation::LoadData,
@@ -164,16 +154,14 @@ impl Code {
     }
 
     /// Keeps only these bits of A, and goes on with the code.
-    pub(crate) fn mask(&mut self, bits: u32) -> Result<usize, AllocError>
+    pub(crate) fn mask(&mut self, bits: u32) -> Placed
         requires some { 0 < length self.old }
         ensures gives { OnOk result ((call : SysCall) (a value most : ℕ)
             → Gives self.old call (length self.old - 1) (bit_and a bits) value most
             → Gives self.new call (length self.new - 1) a value (most + 1)) }
         ensures at { IfOk result (λ at. at + 1 ≡ length self.new) }
         ensures longer { OnOk result (length self.new ≡ length self.old + 1) }
-        ensures keeps { Keeps self.old self.new }
-        ensures extends { Extends self.old self.new }
-        ensures grows { length self.old ≤ length self.new }
+        ensures builds { Builds self.old self.new }
     {
         self.put(Insn {
             op: Operation::AndK,
@@ -184,13 +172,7 @@ impl Code {
     }
 
     /// Branches to one place if the test of A holds, else to the other.
-    pub(crate) fn jump(
-        &mut self,
-        test: Test,
-        k: u32,
-        hit: usize,
-        miss: usize,
-    ) -> Result<usize, AllocError>
+    pub(crate) fn jump(&mut self, test: Test, k: u32, hit: usize, miss: usize) -> Placed
         requires hit_inside { hit < length self.old }
         requires miss_inside { miss < length self.old }
         requires hit_near { length self.old ≤ hit + 1 + REACH }
@@ -200,9 +182,7 @@ impl Code {
             → Gives self.new call (length self.new - 1) a value (most + 1)) }
         ensures at { IfOk result (λ at. at + 1 ≡ length self.new) }
         ensures longer { OnOk result (length self.new ≡ length self.old + 1) }
-        ensures keeps { Keeps self.old self.new }
-        ensures extends { Extends self.old self.new }
-        ensures grows { length self.old ≤ length self.new }
+        ensures builds { Builds self.old self.new }
     {
         let at = self.len();
         self.put(Insn {
@@ -215,7 +195,7 @@ impl Code {
 
     /// A place that does the same, with at most `reach` instructions between it and the next one that is put
     /// in front.
-    pub(crate) fn near(&mut self, place: usize, reach: usize) -> Result<usize, AllocError>
+    pub(crate) fn near(&mut self, place: usize, reach: usize) -> Placed
         requires inside { place < length self.old }
         requires within { reach ≤ REACH }
         requires short { length self.old < 2 ^ 32 }
@@ -227,9 +207,7 @@ impl Code {
             → Gives self.old call place a value most
             → Gives self.new call at a value (most + 1)) }
         ensures longer { length self.new ≤ length self.old + 1 }
-        ensures keeps { Keeps self.old self.new }
-        ensures extends { Extends self.old self.new }
-        ensures grows { length self.old ≤ length self.new }
+        ensures builds { Builds self.old self.new }
     {
         let len = self.len();
         if len <= place + 1 + reach {

@@ -1,23 +1,17 @@
 ghost use Rattle.std.specs.Prelude.{◌≡◌, ◌≢◌, ◌≤◌, ◌<◌, ◌+◌, ◌-◌, ◌*◌, ◌%◌, ◌==◌, ℕ, All, IfOk, OnOk, drop};
 ghost use Rattle.std.specs.Prelude.{false, true, if◌then◌else◌, length};
-ghost use Rattle.bpf_code.specs.declared.limits.TheConstants.{DATA_LEN};
-ghost use Rattle.call_data.specs.declared.sys_call.SysCall.{SysCall};
-ghost use Rattle.compile.specs.Backward.{GivesAlways, Keeps};
-ghost use Rattle.compile.specs.Residuals.{atom_holds, clause_holds, clauses_hold, first_value, literal_holds};
-ghost use Rattle.compile.specs.Rooms.{IsFit, IsPossible, IsWithin, IsWithinLiteral, size_of_clause};
-ghost use Rattle.compile.specs.Rooms.{size_of_clauses, size_of_literal, size_of_rules};
-ghost use Rattle.compile.specs.declared.atom.TheConstants.{WHOLE};
-ghost use Rattle.compile.specs.declared.clause.Literal.{Literal};
-ghost use Rattle.compile.specs.declared.code.TheConstants.{REACH, RECENT};
+ghost use Rattle.compile.specs.Common.{Builds, IsRecent, DATA_LEN, SysCall, GivesAlways, atom_holds};
+ghost use Rattle.compile.specs.Common.{clause_holds, clauses_hold, first_value, literal_holds, IsFit};
+ghost use Rattle.compile.specs.Common.{IsPossible, size_of_rules, WHOLE, Literal, REACH, RECENT, IsWithin};
+ghost use Rattle.compile.specs.Common.{IsWithinLiteral, size_of_clause, size_of_clauses, size_of_literal};
 
 use crate::atom::{Atom, WHOLE};
-use crate::clause::{Clause, Literal};
-use crate::code::{Code, REACH, RECENT};
-use crate::residual::Rule;
+use crate::clause::{Clause, Literal, Rule};
+use crate::code::{Code, Placed, REACH, RECENT};
 use std::alloc::AllocError;
 
 /// Puts a question in front, whatever A holds.
-fn ask(code: &mut Code, atom: &Atom, hit: usize, miss: usize) -> Result<usize, AllocError>
+fn ask(code: &mut Code, atom: &Atom, hit: usize, miss: usize) -> Placed
     requires known { atom.now.view.offset < DATA_LEN }
     requires aligned { atom.now.view.offset % 4 ≡ 0 }
     requires hit_inside { hit < length code.old }
@@ -31,8 +25,7 @@ fn ask(code: &mut Code, atom: &Atom, hit: usize, miss: usize) -> Result<usize, A
     ensures at { IfOk result (λ at. at + 1 ≡ length code.new) }
     ensures longer { OnOk result (length code.new
         ≡ length code.old + (if atom.now.view.mask == WHOLE then 2 else 3)) }
-    ensures keeps { Keeps code.old code.new }
-    ensures grows { length code.old ≤ length code.new }
+    ensures builds { Builds code.old code.new }
 {
     let (test, k) = atom.ask.test();
     code.jump(test, k, hit, miss)?;
@@ -44,12 +37,7 @@ fn ask(code: &mut Code, atom: &Atom, hit: usize, miss: usize) -> Result<usize, A
 }
 
 /// Puts the test of a literal in front, whatever A holds.
-fn test_literal(
-    code: &mut Code,
-    literal: &Literal,
-    hit: usize,
-    miss: usize,
-) -> Result<usize, AllocError>
+fn test_literal(code: &mut Code, literal: &Literal, hit: usize, miss: usize) -> Placed
     requires within { IsWithinLiteral literal.now }
     requires hit_inside { hit < length code.old }
     requires miss_inside { miss < length code.old }
@@ -70,8 +58,7 @@ fn test_literal(
         → length code.old + size_of_literal literal.now + more ≤ miss + 1 + REACH
         → length code.new + more ≤ at + 1 + REACH) }
     ensures longer { OnOk result (length code.new ≤ length code.old + size_of_literal literal.now) }
-    ensures keeps { Keeps code.old code.new }
-    ensures grows { length code.old ≤ length code.new }
+    ensures builds { Builds code.old code.new }
 {
     match *literal {
         Literal::Known(holds) => {
@@ -90,12 +77,7 @@ fn test_literal(
 }
 
 /// Puts the tests of a clause in front, whatever A holds.
-fn test_clause(
-    code: &mut Code,
-    clause: &Clause,
-    hit: usize,
-    miss: usize,
-) -> Result<usize, AllocError>
+fn test_clause(code: &mut Code, clause: &Clause, hit: usize, miss: usize) -> Placed
     requires within { IsWithin clause.now }
     requires possible { IsPossible clause.now }
     requires hit_inside { hit < length code.old }
@@ -105,11 +87,9 @@ fn test_clause(
     ensures gives { IfOk result (λ at. (call : SysCall) (value most : ℕ)
         → GivesAlways code.old call (if clause_holds clause.now call then hit else miss) value most
         → GivesAlways code.new call at value (most + size_of_clause clause.now)) }
-    ensures inside { IfOk result (λ at. at < length code.new) }
-    ensures recent { IfOk result (λ at. length code.new ≤ at + RECENT) }
+    ensures recent { IfOk result (IsRecent code.new) }
     ensures longer { OnOk result (length code.new ≤ length code.old + size_of_clause clause.now) }
-    ensures keeps { Keeps code.old code.new }
-    ensures grows { length code.old ≤ length code.new }
+    ensures builds { Builds code.old code.new }
 {
     if clause.one.is_known(true) {
         return Ok(hit);
@@ -129,7 +109,7 @@ pub(crate) fn test_clauses(
     from: usize,
     hit: usize,
     miss: usize,
-) -> Result<usize, AllocError>
+) -> Placed
     requires within { All IsWithin clauses.now }
     requires possible { All IsPossible clauses.now }
     requires from_in { from ≤ length clauses.now }
@@ -141,12 +121,10 @@ pub(crate) fn test_clauses(
         → GivesAlways code.old call (if clauses_hold (drop from clauses.now) call then hit
         else miss) value most
         → GivesAlways code.new call at value (most + size_of_clauses (drop from clauses.now))) }
-    ensures inside { IfOk result (λ at. at < length code.new) }
-    ensures recent { IfOk result (λ at. length code.new ≤ at + RECENT) }
+    ensures recent { IfOk result (IsRecent code.new) }
     ensures longer { OnOk result (length code.new
         ≤ length code.old + size_of_clauses (drop from clauses.now)) }
-    ensures keeps { Keeps code.old code.new }
-    ensures grows { length code.old ≤ length code.new }
+    ensures builds { Builds code.old code.new }
 {
     if from == clauses.len() {
         return Ok(hit);
@@ -156,12 +134,7 @@ pub(crate) fn test_clauses(
 }
 
 /// Puts the rules from one on in front of what follows them, one after another, the last one first.
-pub(crate) fn plain(
-    code: &mut Code,
-    rules: &[Rule],
-    from: usize,
-    last: usize,
-) -> Result<usize, AllocError>
+pub(crate) fn plain(code: &mut Code, rules: &[Rule], from: usize, last: usize) -> Placed
     requires fit { All IsFit rules.now }
     requires from_in { from ≤ length rules.now }
     requires inside { last < length code.old }
@@ -170,12 +143,10 @@ pub(crate) fn plain(
         → GivesAlways code.old call last other most
         → GivesAlways code.new call at (first_value (drop from rules.now) other call)
         (most + size_of_rules (drop from rules.now))) }
-    ensures inside { IfOk result (λ at. at < length code.new) }
-    ensures recent { IfOk result (λ at. length code.new ≤ at + RECENT) }
+    ensures recent { IfOk result (IsRecent code.new) }
     ensures longer { OnOk result (length code.new
         ≤ length code.old + (size_of_rules (drop from rules.now) + (length rules.now - from))) }
-    ensures keeps { Keeps code.old code.new }
-    ensures grows { length code.old ≤ length code.new }
+    ensures builds { Builds code.old code.new }
 {
     if from == rules.len() {
         return Ok(last);

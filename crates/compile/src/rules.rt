@@ -1,25 +1,21 @@
 ghost use Rattle.std.specs.Prelude.{◌≡◌, ◌≤◌, ◌<◌, ◌+◌, ◌*◌, ◌&&◌, ◌||◌, ◌==◌, ◌%◌, ◌^◌, ℕ, All, IfOk, OnOk};
 ghost use Rattle.std.specs.Prelude.{IsTrue, length, not, true, false, bit_and, if◌then◌else◌, slice_index};
 ghost use Rattle.std.specs.Prelude.{[]};
-ghost use Rattle.call_data.specs.declared.sys_call.SysCall.{SysCall};
-ghost use Rattle.call_data.specs.CallData.{IsCall};
-ghost use Rattle.oci_profile.specs.Meaning.{all_hold, all_of, decision_of, holds_on, names};
-ghost use Rattle.compile.specs.Residuals.{clause_holds, clauses_hold, first_value, literal_holds};
 ghost use Rattle.std.specs.Bool.{OnFalse};
-ghost use Rattle.compile.specs.Rooms.{IsFit, IsPossible, IsSmall, IsSmallClause, Says, is_large, ordered};
-ghost use Rattle.compile.specs.Rooms.{size_of_rules};
-ghost use Rattle.compile.specs.Sizes.{added_of};
-ghost use Rattle.compile.specs.Bounds.{conditions_at};
-ghost use Rattle.oci_profile.specs.declared.decision.Decision.{Decision};
-ghost use Rattle.oci_profile.specs.Decision.{value_of};
+ghost use Rattle.compile.specs.Common.{SysCall, IsCall, all_hold, decision_of, names, clause_holds};
+ghost use Rattle.compile.specs.Common.{clauses_hold, first_value, literal_holds, IsFit, IsPossible, IsSmall};
+ghost use Rattle.compile.specs.Common.{IsSmallClause, size_of_rules, added_of, conditions_at, Decision};
+ghost use Rattle.compile.specs.Common.{value_of, Says, is_large, ordered, all_of, holds_on};
 
-use crate::clause::{Clause, Literal, high, low, words};
-use crate::residual::Rule;
+use crate::clause::{Clause, Literal, Rule, high, low, words};
 use oci_profile::{Cond, Entry, Op};
 use std::alloc::{AllocError, Global};
 
+/// Nothing, unless memory runs out.
+type Added = Result<(), AllocError>;
+
 /// Adds a clause, unless it always holds.
-fn add(clauses: &mut Vec<Clause>, clause: Clause) -> Result<(), AllocError>
+fn add(clauses: &mut Vec<Clause>, clause: Clause) -> Added
     ensures { OnOk result ((n : ℕ) → IsSmallClause n clause
         → Says clauses.old.items clauses.new.items (λ call. clause_holds clause call) n) }
 {
@@ -30,7 +26,7 @@ fn add(clauses: &mut Vec<Clause>, clause: Clause) -> Result<(), AllocError>
 }
 
 /// Adds that both literals hold.
-fn add_both(clauses: &mut Vec<Clause>, one: Literal, other: Literal) -> Result<(), AllocError>
+fn add_both(clauses: &mut Vec<Clause>, one: Literal, other: Literal) -> Added
     ensures { OnOk result ((n : ℕ) → IsSmall n one → IsSmall n other
         → Says clauses.old.items clauses.new.items
         (λ call. literal_holds one call && literal_holds other call) (n + n)) }
@@ -40,7 +36,7 @@ fn add_both(clauses: &mut Vec<Clause>, one: Literal, other: Literal) -> Result<(
 }
 
 /// Adds that one of the literals holds.
-fn add_either(clauses: &mut Vec<Clause>, one: Literal, other: Literal) -> Result<(), AllocError>
+fn add_either(clauses: &mut Vec<Clause>, one: Literal, other: Literal) -> Added
     ensures { OnOk result ((n : ℕ) → IsSmall n one → IsSmall n other
         → Says clauses.old.items clauses.new.items
         (λ call. literal_holds one call || literal_holds other call) (n + n)) }
@@ -50,12 +46,7 @@ fn add_either(clauses: &mut Vec<Clause>, one: Literal, other: Literal) -> Result
 
 /// Adds that an argument is large: its upper half is large enough (`from`), and either exceeds the bound
 /// (`above`) or its lower half is large too.
-fn add_large(
-    clauses: &mut Vec<Clause>,
-    from: Literal,
-    above: Literal,
-    lower: Literal,
-) -> Result<(), AllocError>
+fn add_large(clauses: &mut Vec<Clause>, from: Literal, above: Literal, lower: Literal) -> Added
     ensures { OnOk result (IsSmall 2 from → IsSmall 2 above → IsSmall 2 lower
         → Says clauses.old.items clauses.new.items
         (λ call. literal_holds from call && (literal_holds above call || literal_holds lower call)) 6) }
@@ -65,12 +56,7 @@ fn add_large(
 }
 
 /// Adds that an argument is not large.
-fn add_small(
-    clauses: &mut Vec<Clause>,
-    from: Literal,
-    above: Literal,
-    lower: Literal,
-) -> Result<(), AllocError>
+fn add_small(clauses: &mut Vec<Clause>, from: Literal, above: Literal, lower: Literal) -> Added
     ensures { OnOk result (IsSmall 2 from → IsSmall 2 above → IsSmall 2 lower
         → ((call : SysCall) → IsCall call → literal_holds above call ≡ true → literal_holds from call ≡ true)
         → Says clauses.old.items clauses.new.items (λ call. not
@@ -106,7 +92,7 @@ pub(crate) fn add_order(
     value: u64,
     includes: bool,
     is_large: bool,
-) -> Result<(), AllocError>
+) -> Added
     requires { index < 6 }
     ensures { OnOk result (Says clauses.old.items clauses.new.items
         (λ call. ordered includes is_large value (slice_index call.args index)) 6) }
@@ -123,7 +109,7 @@ pub(crate) fn add_order(
 }
 
 /// Adds that a condition holds.
-fn add_cond(clauses: &mut Vec<Clause>, cond: &Cond) -> Result<(), AllocError>
+fn add_cond(clauses: &mut Vec<Clause>, cond: &Cond) -> Added
     requires { cond.now.index < 6 }
     ensures { OnOk result (Says clauses.old.items clauses.new.items (λ call. holds_on cond.now call) 6) }
 {
@@ -141,43 +127,37 @@ fn add_cond(clauses: &mut Vec<Clause>, cond: &Cond) -> Result<(), AllocError>
 }
 
 /// Adds that an argument equals a number.
-pub(crate) fn add_equal(clauses: &mut Vec<Clause>, index: u32, value: u64) -> Result<(), AllocError>
+pub(crate) fn add_equal(clauses: &mut Vec<Clause>, index: u32, value: u64) -> Added
     requires { index < 6 }
     ensures { OnOk result (Says clauses.old.items clauses.new.items
         (λ call. slice_index call.args index == value) 4) }
 {
     words();
-    add_both(
-        clauses,
-        Literal::equal(16 + 8 * index, low(value)),
-        Literal::equal(20 + 8 * index, high(value)),
-    )
+    let lower = Literal::equal(16 + 8 * index, low(value));
+    let upper = Literal::equal(20 + 8 * index, high(value));
+    add_both(clauses, lower, upper)
 }
 
-fn add_unequal(clauses: &mut Vec<Clause>, index: u32, value: u64) -> Result<(), AllocError>
+fn add_unequal(clauses: &mut Vec<Clause>, index: u32, value: u64) -> Added
     requires { index < 6 }
     ensures { OnOk result (Says clauses.old.items clauses.new.items
         (λ call. not (slice_index call.args index == value)) 6) }
 {
     words();
-    add_either(
-        clauses,
-        Literal::equal(16 + 8 * index, low(value)).opposite(),
-        Literal::equal(20 + 8 * index, high(value)).opposite(),
-    )
+    let lower = Literal::equal(16 + 8 * index, low(value)).opposite();
+    let upper = Literal::equal(20 + 8 * index, high(value)).opposite();
+    add_either(clauses, lower, upper)
 }
 
-fn add_masked(clauses: &mut Vec<Clause>, index: u32, mask: u64, with: u64) -> Result<(), AllocError>
+fn add_masked(clauses: &mut Vec<Clause>, index: u32, mask: u64, with: u64) -> Added
     requires { index < 6 }
     ensures { OnOk result (Says clauses.old.items clauses.new.items
         (λ call. bit_and (slice_index call.args index) mask == with) 6) }
 {
     words();
-    add_both(
-        clauses,
-        Literal::masked(16 + 8 * index, low(mask), low(with)),
-        Literal::masked(20 + 8 * index, high(mask), high(with)),
-    )
+    let lower = Literal::masked(16 + 8 * index, low(mask), low(with));
+    let upper = Literal::masked(20 + 8 * index, high(mask), high(with));
+    add_both(clauses, lower, upper)
 }
 
 /// The clauses of conditions.
@@ -221,7 +201,7 @@ fn is_hidden(rules: &[Rule], clauses: &[Clause]) -> bool
 
 /// Adds an entry as a rule if it names the number, unless it decides nothing: its conditions never hold, or
 /// an entry before it has the same.
-fn add_named(rules: &mut Vec<Rule>, alloc: Global, entry: &Entry, nr: u32) -> Result<(), AllocError>
+fn add_named(rules: &mut Vec<Rule>, alloc: Global, entry: &Entry, nr: u32) -> Added
     ensures holds { OnOk result ((call : SysCall) (other : ℕ) → IsCall call
         → first_value rules.new.items other call ≡ first_value rules.old.items
         (if names entry.now nr && all_hold entry.now call then value_of entry.now.decision else other) call) }

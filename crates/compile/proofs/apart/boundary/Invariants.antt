@@ -1,5 +1,4 @@
-use Rattle.std.proofs.Common.{◌<◌, length}
-use Rattle.std.specs.Prelude.{IfSome}
+use Rattle.compile.proofs.Common.{◌<◌, length, IfSome}
 use Rattle.compile.proofs.apart.boundary.Given as goal
 
 abbrev pub invariant-loop-at : goal.invariant-loop-at

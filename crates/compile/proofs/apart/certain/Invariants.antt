@@ -1,7 +1,5 @@
 -- What the rules that are still to come return is what all of them do, if it is the value.
-use Rattle.std.proofs.Common.{◌≡◌, ℕ, drop}
-use Rattle.call_data.specs.declared.sys_call.SysCall.{SysCall}
-use Rattle.compile.specs.Residuals.{first_value}
+use Rattle.compile.proofs.Common.{◌≡◌, ℕ, drop, SysCall, first_value}
 use Rattle.compile.proofs.apart.certain.Given as goal
 
 abbrev pub invariant-loop-rule : goal.invariant-loop-rule

@@ -1,4 +1,4 @@
-use Rattle.std.specs.Prelude.{bit_and}
+use Rattle.compile.proofs.Common.{bit_and}
 use Rattle.std.proofs.lemmas.Bool.{eqb-true}
 use Rattle.compile.proofs.Bits.{seen_within}
 use Rattle.compile.proofs.atom.covers.Goals as goal

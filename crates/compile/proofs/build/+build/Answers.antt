@@ -1,14 +1,6 @@
-use Rattle.std.proofs.Common.{◌≡◌, ℕ, List, ◌-◌, length, take, drop, subst, sym, ◌∙◌}
-use Rattle.bpf_code.specs.declared.insn.Insn.{Insn}
-use Rattle.compile.specs.declared.atom.TheConstants.{NOWHERE}
-use Rattle.call_data.specs.declared.sys_call.SysCall.{SysCall}
-use Rattle.std.specs.Prelude.{cond}
-use Rattle.compile.specs.Residuals.{atom_holds, first_value}
-use Rattle.compile.specs.Ways.{WayGives, told}
-use Rattle.compile.specs.declared.atom.Atom.{Atom}
-use Rattle.compile.specs.declared.atom.Probe.{Probe}
-use Rattle.compile.specs.declared.build.Way.{Way}
-use Rattle.compile.specs.declared.residual.Rule.{Rule}
+use Rattle.compile.proofs.Common.{◌≡◌, ℕ, List, ◌-◌, length, take, drop, subst, sym, ◌∙◌, Insn, NOWHERE}
+use Rattle.compile.proofs.Common.{SysCall, cond, atom_holds, first_value, WayGives, told, Atom, Probe, Way}
+use Rattle.compile.proofs.Common.{Rule}
 use Rattle.compile.proofs.Restricting.{first_parted, left_some}
 use Rattle.compile.proofs.Reaching.{left_way, chosen_way, found_weaker, way_kept}
 use Rattle.compile.proofs.Testing.{told_is}
@@ -66,9 +58,9 @@ returns-clause-gives t c =
     c.in_ok-left-2.left.items rules other c.as_slice-2.ensures.value
     (c.in_ok-left-2.ensures call other (sym same ∙ holds))
     (left_some c.in_ok-yes.field-0 yes Yes c.in-Some-4.is c.in_ok-yes.ensures.gives call other
-    (way_kept old mid NOWHERE call c.args.last other c.in_ok-no.ensures.keeps last)))
+    (way_kept old mid NOWHERE call c.args.last other c.in_ok-no.ensures.builds.keeps last)))
     (λ fails. way_kept mid both probe.base call no (first_value rules other call)
-    c.in_ok-yes.ensures.keeps (left_way probe.base mid call no c.as_slice.result.now
+    c.in_ok-yes.ensures.builds.keeps (left_way probe.base mid call no c.as_slice.result.now
     c.in_ok-left.left.items rules other c.as_slice.ensures.value
     (c.in_ok-left.ensures call other (sym same ∙ fails))
     (left_some c.in_ok-no.field-0 no No c.in-Some-3.is c.in_ok-no.ensures.gives call other last)))))

@@ -1,13 +1,6 @@
-use Rattle.std.proofs.Common.{ℕ, ◌+◌, ◌-◌, Bool, List, cond, refl, subst, sym, arith}
-use Rattle.bpf_code.specs.declared.insn.Insn.{Insn}
-use Rattle.call_data.specs.declared.sys_call.SysCall.{SysCall}
-use Rattle.compile.specs.Residuals.{shown}
-use Rattle.compile.specs.Tests.{holds_of}
-use Rattle.compile.specs.Backward.{Gives}
-use Rattle.compile.specs.Ways.{GivesWith, WayGives, taken}
-use Rattle.compile.specs.declared.atom.Probe.{Probe}
-use Rattle.compile.specs.declared.atom.View.{View}
-use Rattle.compile.specs.declared.build.Way.{Way}
+use Rattle.compile.proofs.Common.{ℕ, ◌+◌, ◌-◌, Bool, List, cond, refl, subst, sym, arith, Insn, SysCall}
+use Rattle.compile.proofs.Common.{shown, holds_of, Gives, GivesWith, WayGives, Probe, View, Way}
+use Rattle.compile.specs.Ways.{taken}
 use Rattle.compile.proofs.Building.{gives_more}
 use Rattle.compile.proofs.Restricting.{left_some}
 use Rattle.compile.proofs.Reaching.{either_nearer}
@@ -26,7 +19,7 @@ returns-in-Some-checked_add-2-clause-gives c = λ call value gives a has.
     (cond holds c.in-Some-2.hit.at c.in-Some.miss.at) value c.max.result =
     either_nearer c.args.code.now c.nearer.new.code c.nearer-2.new.code probe.base call value
     holds c.args.hit c.args.miss c.in-Some-2.hit c.in-Some.miss c.max.result
-    c.in_ok-miss.ensures.keeps c.in_ok-hit.ensures.keeps
+    c.in_ok-miss.ensures.builds.keeps c.in_ok-hit.ensures.builds.keeps
     (left_some c.in_ok-miss.field-0 c.in-Some.miss NearMiss c.in-Some.is c.in_ok-miss.ensures.gives call
     probe.base value)
     (left_some c.in_ok-hit.field-0 c.in-Some-2.hit NearHit c.in-Some-2.is c.in_ok-hit.ensures.gives call

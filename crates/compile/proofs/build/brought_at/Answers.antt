@@ -1,5 +1,4 @@
-use Rattle.std.proofs.Common.{◌≡◌, ℕ, ◌+◌, ◌-◌, refl, subst, arith}
-use Rattle.compile.specs.Backward.{Gives, data_word}
+use Rattle.compile.proofs.Common.{◌≡◌, ℕ, ◌+◌, ◌-◌, refl, subst, arith, Gives, data_word}
 use Rattle.compile.proofs.Building.{gives_more}
 use Rattle.compile.proofs.Testing.{masked_of}
 use Rattle.compile.proofs.build.brought_at.Goals as goal

@@ -1,10 +1,4 @@
-use Rattle.std.proofs.Common.{ℕ, cond, refl, arith}
-use Rattle.call_data.specs.declared.sys_call.SysCall.{SysCall}
-use Rattle.compile.specs.Residuals.{shown}
-use Rattle.compile.specs.Tests.{holds_of}
-use Rattle.compile.specs.Ways.{WayGives, told}
-use Rattle.compile.specs.declared.atom.Probe.{Probe}
-use Rattle.compile.specs.declared.build.Way.{Way}
+use Rattle.compile.proofs.Common.{ℕ, cond, refl, arith, SysCall, shown, holds_of, WayGives, told, Probe, Way}
 use Rattle.compile.proofs.Reaching.{found_weaker, joined_way, straight_way, turned_way}
 use Rattle.compile.proofs.build.joined.Goals as goal
 

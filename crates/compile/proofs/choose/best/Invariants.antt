@@ -1,4 +1,4 @@
-use Rattle.std.proofs.Common.{◌≡◌, ◌<◌, ◌⊎◌, length}
+use Rattle.compile.proofs.Common.{◌≡◌, ◌<◌, ◌⊎◌, length}
 use Rattle.compile.proofs.choose.best.Given as goal
 
 abbrev pub invariant-loop-at : goal.invariant-loop-at

@@ -1,9 +1,7 @@
-use Rattle.std.proofs.Common.{ℕ, ◌+◌, ◌-◌, ◌*◌, ◌^◌, ◌≤◌, List, length, ap, inl, inr, arith, rules}
-use Rattle.oci_profile.specs.declared.profile.Profile.{Profile}
-use Rattle.oci_profile.specs.Meaning.{weight}
-use Rattle.sys_table.specs.declared.table.TheConstants.{NUMBER_LIMIT}
-use Rattle.compile.specs.Sizes.{Suffices, added_below, steps_at, tree_size}
-use Rattle.compile.specs.Sizes.Suffices.{for_each, balanced}
+use Rattle.compile.proofs.Common.{ℕ, ◌+◌, ◌-◌, ◌*◌, ◌^◌, ◌≤◌, List, length, ap, inl, inr, arith, rules}
+use Rattle.compile.proofs.Common.{Profile, weight, NUMBER_LIMIT, Suffices, added_below, steps_at, tree_size}
+use Rattle.compile.proofs.Common.{for_each}
+use Rattle.compile.specs.Sizes.Suffices.{balanced}
 use Rattle.compile.proofs.Weights.{light_fits, levels_enough, no_heavier, all_steps, steps_all, two_times}
 use Rattle.compile.proofs.compiler.compile.Goals as goal
 

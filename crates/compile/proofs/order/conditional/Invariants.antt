@@ -1,4 +1,4 @@
-use Rattle.std.proofs.Common.{◌≤◌}
+use Rattle.compile.proofs.Common.{◌≤◌}
 use Rattle.compile.proofs.order.conditional.Given as goal
 
 abbrev pub invariant-loop-at : goal.invariant-loop-at

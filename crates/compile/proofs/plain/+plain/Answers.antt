@@ -1,12 +1,6 @@
-use Rattle.std.proofs.Common.{ℕ, ◌+◌, ◌<◌, cond, drop, List, sym, subst, arith}
-use Rattle.std.proofs.lemmas.Result.{IfOk-weaker}
-use Rattle.bpf_code.specs.declared.insn.Insn.{Insn}
-use Rattle.call_data.specs.declared.sys_call.SysCall.{SysCall}
-use Rattle.compile.specs.Backward.{GivesAlways}
-use Rattle.compile.specs.Residuals.{clauses_hold, first_value}
-use Rattle.compile.specs.Rooms.{size_of_clauses, size_of_rules}
-use Rattle.compile.specs.declared.clause.Clause.{Clause}
-use Rattle.compile.specs.declared.residual.Rule.{Rule}
+use Rattle.compile.proofs.Common.{ℕ, ◌+◌, ◌<◌, cond, drop, List, sym, subst, arith, IfOk-weaker, Insn}
+use Rattle.compile.proofs.Common.{SysCall, GivesAlways, clauses_hold, first_value, size_of_clauses}
+use Rattle.compile.proofs.Common.{size_of_rules, Clause, Rule}
 use Rattle.compile.proofs.Links.{picks, sizes_from}
 use Rattle.compile.proofs.Restricting.{first_from}
 use Rattle.compile.proofs.Words.{GivesAlways-more}
@@ -42,7 +36,7 @@ returns-clause-gives t c =
     behind left
     (GivesAlways-more mid call c.in_ok-hit.hit rule.value 1 left (c.in_ok-hit.ensures.gives call)
     (omega (arith, some)))
-    (λ a. c.in_ok-hit.ensures.keeps call c.in_ok-rest.rest a behind left
+    (λ a. c.in_ok-hit.ensures.builds.keeps call c.in_ok-rest.rest a behind left
     (c.in_ok-rest.ensures.gives call other most some gives a)))))
     (omega (arith, sizes_from rules from rule (omega arith) c.index-rules-from.is))))
     c.test_clauses.ensures.gives

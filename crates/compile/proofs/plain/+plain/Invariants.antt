@@ -1,4 +1,4 @@
-use Rattle.std.proofs.Common.{◌-◌, length}
+use Rattle.compile.proofs.Common.{◌-◌, length}
 use Rattle.compile.proofs.plain.+plain.Given as goal
 
 abbrev pub decreases-plain : goal.decreases-plain

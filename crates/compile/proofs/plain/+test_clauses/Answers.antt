@@ -1,12 +1,7 @@
-use Rattle.std.proofs.Common.{ℕ, ◌+◌, ◌<◌, ap, cond, drop, get_or, List, length, true, arith}
+use Rattle.compile.proofs.Common.{ℕ, ◌+◌, ◌<◌, ap, cond, drop, get_or, List, length, true, arith, IfOk-weaker}
+use Rattle.compile.proofs.Common.{Insn, SysCall, GivesAlways, clause_holds, clauses_hold, size_of_clause}
+use Rattle.compile.proofs.Common.{size_of_clauses, Clause}
 use Rattle.std.proofs.lemmas.List.{drop_all}
-use Rattle.std.proofs.lemmas.Result.{IfOk-weaker}
-use Rattle.bpf_code.specs.declared.insn.Insn.{Insn}
-use Rattle.call_data.specs.declared.sys_call.SysCall.{SysCall}
-use Rattle.compile.specs.Backward.{GivesAlways}
-use Rattle.compile.specs.Residuals.{clause_holds, clauses_hold}
-use Rattle.compile.specs.Rooms.{size_of_clause, size_of_clauses}
-use Rattle.compile.specs.declared.clause.Clause.{Clause}
 use Rattle.compile.proofs.Links.{both_give, clauses_from, no_clause, size_drop, size_from}
 use Rattle.compile.proofs.Words.{GivesAlways-more, by_test}
 use Rattle.compile.proofs.plain.+test_clauses.Goals as goal
@@ -51,7 +46,7 @@ returns-clause-gives t c =
     (most + size_of_clauses (drop from clauses))
     (tests call value (most + rest) (both_give old mid call (clause_holds clause call)
     (clauses_hold (drop (from + 1) clauses) call) c.args.hit c.args.miss c.in_ok-rest.rest value most
-    (most + rest) c.in_ok-rest.ensures.keeps (omega arith) (c.in_ok-rest.ensures.gives call value most)
+    (most + rest) c.in_ok-rest.ensures.builds.keeps (omega arith) (c.in_ok-rest.ensures.gives call value most)
     (by_test old call _ _ c.args.hit c.args.miss value most
     (clauses_from clauses from call (omega arith)) gives)))
     (omega (arith, size_from clauses from (omega arith))))

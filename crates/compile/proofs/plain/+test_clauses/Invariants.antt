@@ -1,4 +1,4 @@
-use Rattle.std.proofs.Common.{◌-◌, length}
+use Rattle.compile.proofs.Common.{◌-◌, length}
 use Rattle.compile.proofs.plain.+test_clauses.Given as goal
 
 abbrev pub decreases-test_clauses : goal.decreases-test_clauses

@@ -1,11 +1,5 @@
-use Rattle.std.proofs.Common.{ℕ, ◌+◌, ◌-◌, ◌==◌, cond, length, sym, ap, arith}
-use Rattle.std.proofs.lemmas.Bool.{eq-eqb, ne_eqb}
-use Rattle.std.proofs.lemmas.Result.{on_ok_weaker}
-use Rattle.std.specs.Prelude.{bit_and}
-use Rattle.compile.specs.Backward.{data_word}
-use Rattle.compile.specs.Tests.{holds_of}
-use Rattle.compile.specs.declared.atom.Atom.{Atom}
-use Rattle.compile.specs.declared.atom.TheConstants.{WHOLE}
+use Rattle.compile.proofs.Common.{ℕ, ◌+◌, ◌-◌, ◌==◌, cond, length, sym, ap, arith, eq-eqb, ne_eqb}
+use Rattle.compile.proofs.Common.{on_ok_weaker, bit_and, data_word, holds_of, Atom, WHOLE}
 use Rattle.compile.proofs.Building.{gives_more}
 use Rattle.compile.proofs.Links.{asked_is}
 use Rattle.compile.proofs.Testing.{masked_of, word_of}

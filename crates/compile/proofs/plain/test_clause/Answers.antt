@@ -1,15 +1,7 @@
-use Rattle.std.proofs.Common.{◌≡◌, ◌≢◌, ℕ, ◌+◌, ◌≤◌, ap, cond, false, true, refl, List, length, arith}
-use Rattle.std.specs.Prelude.{◌||◌}
-use Rattle.std.proofs.lemmas.Result.{IfOk-weaker}
-use Rattle.bpf_code.specs.declared.insn.Insn.{Insn}
-use Rattle.call_data.specs.declared.sys_call.SysCall.{SysCall}
-use Rattle.compile.specs.Backward.{GivesAlways}
-use Rattle.compile.specs.Residuals.{clause_holds, literal_holds}
-use Rattle.compile.specs.Rooms.{size_of_clause, size_of_literal}
-use Rattle.compile.specs.declared.code.TheConstants.{RECENT}
-use Rattle.compile.specs.declared.clause.Clause.{Clause}
-use Rattle.compile.specs.declared.clause.Literal.{Literal}
-use Rattle.compile.specs.declared.clause.Literal.TheVariants.{Known}
+use Rattle.compile.proofs.Common.{◌≡◌, ◌≢◌, ℕ, ◌+◌, ap, cond, false, true, refl, List, length, arith, ◌||◌}
+use Rattle.compile.proofs.Common.{IfOk-weaker, Insn, SysCall, GivesAlways, clause_holds, literal_holds}
+use Rattle.compile.proofs.Common.{size_of_clause, size_of_literal, Clause, Literal, Known}
+use Rattle.compile.specs.Backward.{IsRecent}
 use Rattle.compile.proofs.Links.{either_gives}
 use Rattle.compile.proofs.Words.{GivesAlways-more, by_test}
 use Rattle.compile.proofs.plain.test_clause.Goals as goal
@@ -58,7 +50,7 @@ returns-clause-gives c =
     GivesAlways-more new call at value (most + other + one) (most + size_of_clause clause)
     (tests call value (most + other) (either_gives old mid call (literal_holds clause.one call)
     (literal_holds clause.other call) c.args.hit c.args.miss c.in_ok-rest.rest value most (most + other)
-    c.in_ok-rest.ensures.keeps (omega arith) (c.in_ok-rest.ensures.gives call value most) gives))
+    c.in_ok-rest.ensures.builds.keeps (omega arith) (c.in_ok-rest.ensures.gives call value most) gives))
     (omega arith)) c.test_literal-3.ensures.gives
 
 pub returns-clause-recent : goal.returns-clause-recent
@@ -66,7 +58,7 @@ returns-clause-recent c =
     let new : List Insn = c.test_literal-3.new.code in
     let one : Literal = c.args.clause.now.one in
     let Front : ℕ → Type 0 = λ at. one ≢ Known false → one ≢ Known true → at + 1 ≡ length new in
-    let Recent : ℕ → Type 0 = λ at. length new ≤ at + RECENT in
-    IfOk-weaker c.test_literal-3.result Front Recent
-    (λ at front. omega (arith, front c.if-is_known-2.ensures.no c.if-is_known.ensures.no))
+    IfOk-weaker c.test_literal-3.result Front (IsRecent new)
+    (λ at front. let is = front c.if-is_known-2.ensures.no c.if-is_known.ensures.no in
+    (omega (arith, is), omega (arith, is)))
     c.test_literal-3.ensures.front

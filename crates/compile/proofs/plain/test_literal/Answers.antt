@@ -1,10 +1,5 @@
-use Rattle.std.proofs.Common.{ℕ, ◌+◌, cond, true, false, List}
-use Rattle.std.proofs.lemmas.Result.{on_ok_weaker}
-use Rattle.bpf_code.specs.declared.insn.Insn.{Insn}
-use Rattle.call_data.specs.declared.sys_call.SysCall.{SysCall}
-use Rattle.compile.specs.Backward.{GivesAlways}
-use Rattle.compile.specs.Residuals.{literal_holds}
-use Rattle.compile.specs.Rooms.{size_of_literal}
+use Rattle.compile.proofs.Common.{ℕ, ◌+◌, cond, true, false, List, on_ok_weaker, Insn, SysCall, GivesAlways}
+use Rattle.compile.proofs.Common.{literal_holds, size_of_literal}
 use Rattle.compile.proofs.Building.{front_is}
 use Rattle.compile.proofs.Links.{known_gives, unwanted_gives, wanted_gives}
 use Rattle.compile.proofs.plain.test_literal.Goals as goal

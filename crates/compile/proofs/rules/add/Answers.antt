@@ -1,7 +1,4 @@
-use Rattle.std.proofs.Common.{List, sym, subst}
-use Rattle.compile.specs.declared.clause.Clause.{Clause}
-use Rattle.compile.specs.Residuals.{clause_holds}
-use Rattle.compile.specs.Rooms.{Says}
+use Rattle.compile.proofs.Common.{List, sym, subst, Clause, clause_holds, Says}
 use Rattle.compile.proofs.Saying.{says_one}
 use Rattle.compile.proofs.rules.add.Goals as goal
 

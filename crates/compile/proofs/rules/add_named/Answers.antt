@@ -1,9 +1,6 @@
-use Rattle.std.proofs.Common.{◌≡◌, ℕ, ◌∷◌, ◌&&◌, [], List, ap, sym, ◌∙◌, cond, length, arith, true, false, refl}
-use Rattle.oci_profile.specs.Decision.{value_of}
-use Rattle.oci_profile.specs.Meaning.{all_hold, names}
-use Rattle.compile.specs.declared.residual.Rule.{Rule}
-use Rattle.compile.specs.Residuals.{clauses_hold, first_value}
-use Rattle.compile.specs.Rooms.{size_of_rules}
+use Rattle.compile.proofs.Common.{◌≡◌, ℕ, ◌∷◌, ◌&&◌, [], List, ap, sym, ◌∙◌, cond, length, arith, true, false}
+use Rattle.compile.proofs.Common.{refl, value_of, all_hold, names, Rule, clauses_hold, first_value}
+use Rattle.compile.proofs.Common.{size_of_rules}
 use Rattle.compile.proofs.Hiding.{hidden_adds}
 use Rattle.compile.proofs.Restricting.{first_append}
 use Rattle.compile.proofs.Saying.{entry_says, size_of_pushed}

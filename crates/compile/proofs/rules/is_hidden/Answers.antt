@@ -1,5 +1,4 @@
-use Rattle.std.proofs.Common.{ap, sym, ◌∙◌}
-use Rattle.compile.specs.Residuals.{clauses_hold}
+use Rattle.compile.proofs.Common.{ap, sym, ◌∙◌, clauses_hold}
 use Rattle.compile.proofs.Hiding.{clauses_are, hidden_at}
 use Rattle.compile.proofs.rules.is_hidden.Goals as goal
 

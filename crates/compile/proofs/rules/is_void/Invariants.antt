@@ -1,5 +1,4 @@
-use Rattle.std.proofs.Common.{take}
-use Rattle.std.specs.Prelude.{All}
+use Rattle.compile.proofs.Common.{take, All}
 use Rattle.compile.specs.Rooms.{IsPossible}
 use Rattle.compile.proofs.rules.is_void.Given as goal
 

@@ -1,5 +1,5 @@
-use Rattle.std.proofs.Common.{◌-◌}
+use Rattle.compile.proofs.Common.{length}
 use Rattle.compile.proofs.search.+few.Given as goal
 
 abbrev pub decreases-few : goal.decreases-few
-decreases-few l = l.to - l.from
+decreases-few l = length l.points.now

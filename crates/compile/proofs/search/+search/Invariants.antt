@@ -1,5 +1,5 @@
-use Rattle.std.proofs.Common.{◌-◌}
+use Rattle.compile.proofs.Common.{length}
 use Rattle.compile.proofs.search.+search.Given as goal
 
 abbrev pub decreases-search : goal.decreases-search
-decreases-search l = l.to - l.from
+decreases-search l = length l.points.now

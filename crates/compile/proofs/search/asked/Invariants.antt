@@ -1,5 +1,4 @@
-use Rattle.std.proofs.Common.{◌≡◌, drop}
-use Rattle.compile.specs.Bounds.{conditions_at}
+use Rattle.compile.proofs.Common.{◌≡◌, drop, conditions_at}
 use Rattle.compile.proofs.search.asked.Given as goal
 
 abbrev pub invariant-loop-entry : goal.invariant-loop-entry

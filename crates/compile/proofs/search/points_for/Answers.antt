@@ -1,4 +1,4 @@
-use Rattle.std.proofs.Common.{ap, sym, ◌∙◌}
+use Rattle.compile.proofs.Common.{sym, ◌∙◌}
 use Rattle.compile.proofs.Gathering.{none_found, one_found}
 use Rattle.compile.proofs.search.points_for.Goals.{then-names+in-Some+in_ok-add-in-Some, else-names}
 use Rattle.compile.proofs.search.points_for.Goals as goal
@@ -9,20 +9,14 @@ loop-entry-preserved c =
       | then-names+in-Some+in_ok-add-in-Some w ↦
           rw (w.points-is, w.count-is)
           (one_found c.args.entries.now c.args.nr c.asked-index.result c.loop-entry.entry-index
-          c.loop-entry.count
-          c.entry-item.result w.in-Some.number w.value.result c.loop-entry.points.numbers.items
-          c.loop-entry.points.values.items _ _ c.loop-entry-test.true c.entry-item.is
-          (sym c.names.ensures ∙ w.if-names.true) w.in-Some.ensures.index_in w.in-Some.ensures.one
-          w.in-Some.ensures.same w.value.ensures w.in_ok-add-in-Some.ensures.sorted
-          w.in_ok-add-in-Some.ensures.longer w.in_ok-add-in-Some.ensures.some
-          w.in_ok-add-in-Some.ensures.found
-          c.loop-entry.invariant)
+          c.loop-entry.count c.entry-item.result w.in-Some.number w.value.result c.loop-entry.points.items _
+          c.loop-entry-test.true c.entry-item.is (sym c.names.ensures ∙ w.if-names.true)
+          w.in-Some.ensures.index_in w.in-Some.ensures.one w.in-Some.ensures.same w.value.ensures
+          w.in_ok-add-in-Some.ensures.rising w.in_ok-add-in-Some.ensures.longer
+          w.in_ok-add-in-Some.ensures.same c.loop-entry.invariant)
       | else-names w ↦
-          none_found c.args.entries.now c.args.nr c.asked-index.result c.loop-entry.entry-index
-          c.loop-entry.count
-          c.entry-item.result c.loop-entry.points.numbers.items c.loop-entry.points.values.items
-          c.if-names.points.numbers.items c.if-names.points.values.items c.if-names.count
-          c.loop-entry-test.true c.entry-item.is (sym c.names.ensures ∙ w.if-names.false)
-          (ap (λ p. p.numbers.items) w.points-is) (ap (λ p. p.values.items) w.points-is) w.count-is
-          c.loop-entry.invariant
+          rw (w.points-is, w.count-is)
+          (none_found c.args.entries.now c.args.nr c.asked-index.result c.loop-entry.entry-index
+          c.loop-entry.count c.entry-item.result c.loop-entry.points.items c.loop-entry-test.true
+          c.entry-item.is (sym c.names.ensures ∙ w.if-names.false) c.loop-entry.invariant)
     ]

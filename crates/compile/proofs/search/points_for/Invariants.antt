@@ -2,6 +2,4 @@ use Rattle.compile.proofs.Gathering.{PointsSoFar}
 use Rattle.compile.proofs.search.points_for.Given as goal
 
 abbrev pub invariant-loop-entry : goal.invariant-loop-entry
-invariant-loop-entry l = PointsSoFar l.entries l.nr l.index l.points.numbers.items l.points.values.items
-    l.count
-    l.entry-index
+invariant-loop-entry l = PointsSoFar l.entries l.nr l.index l.points.items l.count l.entry-index

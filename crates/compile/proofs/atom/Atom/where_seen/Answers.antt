@@ -1,7 +1,4 @@
-use Rattle.std.proofs.Common.{◌≡◌, ℕ, false, subst, sym, ap, ◌∙◌}
-use Rattle.std.proofs.lemmas.Bool.{ne_eqb}
-use Rattle.compile.specs.Residuals.{asks, seen}
-use Rattle.compile.specs.declared.atom.Ask.{Ask}
+use Rattle.compile.proofs.Common.{◌≡◌, ℕ, false, subst, sym, ap, ◌∙◌, ne_eqb, asks, seen, Ask}
 use Rattle.compile.proofs.Bits.{seen_turned}
 use Rattle.compile.proofs.atom.Atom.where_seen.Goals as goal
 

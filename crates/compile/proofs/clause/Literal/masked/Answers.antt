@@ -1,6 +1,5 @@
-use Rattle.std.proofs.Common.{◌≡◌, ℕ, ◌+◌, ◌-◌, ◌^◌, ◌==◌, ◌≤◌, not, refl, sym, ap, ◌∙◌, arith}
-use Rattle.std.specs.Prelude.{bit_and, nat_le}
-use Rattle.compile.specs.Backward.{data_word}
+use Rattle.compile.proofs.Common.{◌≡◌, ℕ, ◌+◌, ◌-◌, ◌^◌, ◌==◌, ◌≤◌, not, refl, sym, ap, ◌∙◌, arith, bit_and}
+use Rattle.compile.proofs.Common.{nat_le, data_word}
 use Rattle.compile.proofs.Bits.{never_masked, none_above, power_bit, seen_masked}
 use Rattle.compile.proofs.Diagrams.{less_power}
 use Rattle.compile.proofs.clause.Literal.masked.Goals as goal

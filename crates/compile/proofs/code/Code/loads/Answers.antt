@@ -1,6 +1,5 @@
-use Rattle.std.proofs.Common.{ℕ, ◌-◌, refl, subst, sym, arith}
+use Rattle.compile.proofs.Common.{ℕ, ◌-◌, refl, subst, sym, arith, Gives, data_word}
 use Rattle.std.proofs.lemmas.Bool.{eqb-true}
-use Rattle.compile.specs.Backward.{Gives, data_word}
 use Rattle.compile.proofs.Building.{load_gives}
 use Rattle.compile.proofs.code.Code.loads.Goals as goal
 

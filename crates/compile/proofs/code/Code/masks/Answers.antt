@@ -1,7 +1,5 @@
-use Rattle.std.proofs.Common.{ℕ, ◌-◌, refl, subst, sym, arith}
-use Rattle.std.specs.Prelude.{bit_and}
+use Rattle.compile.proofs.Common.{ℕ, ◌-◌, refl, subst, sym, arith, bit_and, Gives}
 use Rattle.std.proofs.lemmas.Bool.{eqb-true}
-use Rattle.compile.specs.Backward.{Gives}
 use Rattle.compile.proofs.Building.{mask_gives}
 use Rattle.compile.proofs.code.Code.masks.Goals as goal
 

@@ -1,7 +1,0 @@
-use Rattle.std.proofs.Common.{◌≡◌, true, take}
-use Rattle.compile.specs.Sizes.{added_of, settles, NoneDecides}
-use Rattle.compile.proofs.leaf.bare_end.Given as goal
-
-abbrev pub invariant-loop-at : goal.invariant-loop-at
-invariant-loop-at l = (settles l.entries l.nr ≡ true → added_of (take l.at l.entries) l.nr ≡ 0)
-    × NoneDecides (take l.at l.entries) l.nr

@@ -1,8 +1,0 @@
-use Rattle.std.proofs.Common.{◌≡◌, ℕ, length}
-use Rattle.call_data.specs.declared.sys_call.SysCall.{SysCall}
-use Rattle.compile.specs.Residuals.{first_value}
-use Rattle.compile.proofs.ordered.order.Given as goal
-
-abbrev pub invariant-loop-at : goal.invariant-loop-at
-invariant-loop-at l = ((call : SysCall) (other : ℕ) → first_value l.rules other call
-    ≡ first_value l.fn.rules other call) × (length l.rules ≡ length l.fn.rules)
