@@ -2,7 +2,8 @@
 use Rattle.std.proofs.Common.{◌≡◌, ℕ, ◌==◌, Bool, true, false, List, [], ◌∷◌, Option, Some, None, option_map}
 use Rattle.std.proofs.Common.{IsSome, refl, sym, ap, subst, ◌∙◌, rules}
 use mathlib.Core.Bool.{cond}
-use Rattle.std.specs.BTreeMap.{is_at}
+use Rattle.std.specs.BTreeMap as tree
+use Rattle.std.specs.BTreeMap.{BTreeMap, is_at}
 use Rattle.std.specs.Map.{lookup}
 use Rattle.std.specs.Ordering.{is_eq, nat_cmp}
 use Rattle.registry.specs.Kept.{IsNextIn, home_in}
@@ -25,6 +26,22 @@ module _ {X : Type 0} (uid_in : X → List ℕ) where
   found_due id [] = refl
   found_due id (e ∷ entries) = found_step (id == e.0) (is_eq (nat_cmp id e.0)) e.1 _ _
       (sym (same_number id e.0)) (found_due id entries)
+
+  mapped : (b : Bool) (w r : Option X)
+      → option_map uid_in (cond b w r) ≡ cond b (option_map uid_in w) (option_map uid_in r)
+  mapped true w r = refl
+  mapped false w r = refl
+
+  pub due_changes : (id : ℕ) (old new : BTreeMap ℕ X) (w : Option X)
+      → tree.UpdatesBy nat_cmp (nat_cmp id) old new w
+      → (i : ℕ) → home_in (homes_of uid_in new.entries) i ≡ cond (id == i) (option_map uid_in w)
+      (home_in (homes_of uid_in old.entries) i)
+  due_changes id old new w changes i =
+      found_due i new.entries ∙ ap (option_map uid_in) (changes.0 i)
+      ∙ mapped (is_eq (nat_cmp id i)) w (lookup (is_at (nat_cmp i)) old.entries)
+      ∙ ap (λ b. cond b (option_map uid_in w)
+      (option_map uid_in (lookup (is_at (nat_cmp i)) old.entries))) (same_number id i)
+      ∙ ap (cond (id == i) (option_map uid_in w)) (sym (found_due i old.entries))
 
   none_if : (o : Option (X)) → o ≡ None → option_map uid_in o ≡ None
   none_if o none = ap (option_map uid_in) none

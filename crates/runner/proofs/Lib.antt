@@ -3,6 +3,8 @@ pub mod Dues
 pub mod Exits
 pub mod Labels
 pub mod Shares
+pub mod Started
+pub mod Throughout
 pub mod Talks
 pub mod Visits
 pub mod Readings

@@ -1,8 +1,10 @@
 -- Values under the texts that they name themselves, and turns of a round, which private functions cite.
-use Rattle.std.specs.Prelude.{◌≡◌, ◌==◌, ◌%◌, ◌<◌, ◌≤◌, ℕ, Bool, if◌then◌else◌, IsSome, List, map, Option}
-use Rattle.std.specs.Prelude.{None, Some, String, string_bytes}
+use Rattle.std.specs.Prelude.{◌≡◌, ◌==◌, ◌%◌, ◌<◌, ◌≤◌, ℕ, Bool, false, if◌then◌else◌, IsSome, List, map}
+use Rattle.std.specs.Prelude.{Option, None, Some, String, string_bytes}
 use Rattle.std.specs.Map.{lookup}
 use Rattle.std.specs.Str.{bytes_eq}
+use Rattle.registry.specs.Kept.{home_in}
+use Rattle.registry.specs.Runtime.{In}
 
 -- each value is found under its own label
 abbrev pub AreLabelled : {X : Type 0} → (X → List ℕ) → List (List ℕ × X) → Type 0
@@ -25,6 +27,10 @@ pub record Visited : Type 0 where
 -- what rounds visit: the cells that are kept for them, or all that are at home, where one is not kept
 abbrev pub visited : List (ℕ × List ℕ) → Visited → List (ℕ × List ℕ)
 visited homes due = if due.lacks then homes else due.homes
+
+-- each cell that may run is kept for rounds to visit, unless one could not be kept
+abbrev pub AreDue : List ℕ → Visited → Type 0
+AreDue started due = due.lacks ≡ false → (id : ℕ) → In id started → IsSome (home_in due.homes id)
 
 -- what is known of the ids that leave a runner's number on division by how many runners there are
 abbrev pub of_share : {A : Type 0} → ℕ → ℕ → (ℕ → Option A) → ℕ → Option A

@@ -1,17 +1,16 @@
 -- A round of one runner, this project's own: docs/SEMANTICS.md, "Threads".
-use Rattle.std.specs.Prelude.{◌≡◌, ◌||◌, ⊤, ℕ, Bool, true, false, List, [], ◌∷◌, Option, Some, None, IsSome}
-use Rattle.std.specs.Prelude.{option_map}
+use Rattle.std.specs.Prelude.{◌≡◌, ◌⊎◌, ◌||◌, ◌%◌, ◌<◌, ◌≤◌, ⊤, ℕ, Bool, true, false, List, [], ◌∷◌, Option}
+use Rattle.std.specs.Prelude.{Some, None, IsSome, option_map}
 use Rattle.runtime_cell.specs.declared.cell.Did.{Did}
 use Rattle.runtime_cell.specs.declared.cell.Did.TheVariants.{Idle, Performed, Denied, Ended}
 use Rattle.bpf_code.specs.declared.insn.Insn.{Insn}
-use Rattle.registry.specs.Kept.{IsNextIn, home_in}
+use Rattle.runtime_history.specs.declared.event.Event.{Event}
 use Rattle.runtime_history.specs.declared.event.Event.TheVariants.{Stepped}
 use Rattle.runtime_history.specs.declared.event.Seen.{Seen}
-use Rattle.runtime_history.specs.History.{Grows}
-use Rattle.runner.specs.Labelled.{of_share}
+use Rattle.runtime_history.specs.History.{GoesOn, Grows, Looks, RunsAfter}
 use Rattle.runner.specs.declared.rounds.Visit.{Visit}
 
--- above which id a visit was asked for, and what came of it: none where no id of the share was there; and
+-- above which id a visit was asked for, and what came of it: none where no cell of the share was found; and
 -- what the runner had seen of the history before and after
 pub record Asked : Type 0 where
   pub above : ℕ
@@ -42,14 +41,23 @@ WasStepped baseline (Some visit) old new = (did : Option Did) × StepsAt baselin
 abbrev pub id_in : Option Visit → Option ℕ
 id_in visit = option_map (λ (v : Visit). v.id) visit
 
--- The least id of the share above the one that was asked for came, and its cell did one step; or there was
--- none. What was at home where is what the registry's lock found: what other threads do between two locks
--- is not known.
-abbrev pub MayVisit : Option (List Insn) → ℕ → ℕ → Asked → Type 0
-MayVisit baseline runner runners asked =
-    ((homes : List (ℕ × List ℕ)) × IsNextIn (of_share runner runners (home_in homes)) asked.above
-    (id_in asked.visit))
-    × WasStepped baseline asked.visit asked.old asked.new
+-- the visited id is one of the share, above the one that was asked for
+abbrev pub IsOwn : ℕ → ℕ → ℕ → Option ℕ → Type 0
+IsOwn runner runners above None = ⊤
+IsOwn runner runners above (Some visited) = (above < visited) × (visited % runners ≡ runner)
+
+-- an id of the share above the one that was asked for is not below the visited one
+abbrev pub IsNotPassed : ℕ → ℕ → ℕ → Option ℕ → ℕ → Type 0
+IsNotPassed runner runners above None id = above < id → id % runners ≡ runner → ⊥
+IsNotPassed runner runners above (Some visited) id = above < id → id % runners ≡ runner → visited ≤ id
+
+-- Asked for a cell above an id, the runner sees all of the history, and visits one of its share. None of the
+-- share that runs then is passed over, and none runs where none is visited. The visited one does a step.
+pub record MayVisit (baseline : Option (List Insn)) (runner runners : ℕ) (asked : Asked) : Type 0 where
+  pub own : IsOwn runner runners asked.above (id_in asked.visit)
+  pub looked : Seen
+  pub looks : Looks baseline asked.old (IsNotPassed runner runners asked.above (id_in asked.visit)) looked
+  pub steps : WasStepped baseline asked.visit looked asked.new
 
 -- of what was asked, the latest first: the id of the last visit, 0 for none
 abbrev pub id_of : Option Visit → ℕ
@@ -81,8 +89,17 @@ AreVisits baseline runner runners start (asked ∷ earlier) =
     IsSome asked.visit × (asked.above ≡ last_of earlier) × (asked.old ≡ seen_after start earlier)
     × MayVisit baseline runner runners asked × AreVisits baseline runner runners start earlier
 
+-- the cell with the id runs after each event from one time on up to another
+abbrev pub RunsThroughout : Option (List Insn) → List Event → List Event → ℕ → Type 0
+RunsThroughout baseline from to id = (events : List Event) → GoesOn from events → GoesOn events to
+    → RunsAfter baseline events id
+
+abbrev pub IsVisited : ℕ → List Asked → Type 0
+IsVisited id [] = ⊥
+IsVisited id (asked ∷ earlier) = (id_in asked.visit ≡ Some id) ⊎ IsVisited id earlier
+
 -- A round asks for visits until there is none above the last one. The runner adds to the history what they
--- did, and nothing else.
+-- did, and nothing else. Each cell of its share that runs during the whole round is visited.
 pub record IsRound (baseline : Option (List Insn)) (runner runners : ℕ) (start : Seen) (asked : List Asked)
     (told : Bool) (seen : Seen) : Type 0 where
   pub end : Asked
@@ -95,3 +112,5 @@ pub record IsRound (baseline : Option (List Insn)) (runner runners : ℕ) (start
   pub are : AreVisits baseline runner runners start visits
   pub sees : seen ≡ end.new
   pub tells : told ≡ went_on visits
+  pub each : (id : ℕ) → 0 < id → id % runners ≡ runner → RunsThroughout baseline start.all seen.all id
+      → IsVisited id visits

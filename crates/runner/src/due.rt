@@ -1,8 +1,11 @@
 //! The cells that rounds visit.
-ghost use Rattle.std.specs.Prelude.{◌≡◌};
+ghost use Rattle.std.specs.Prelude.{◌≡◌, ◌==◌, ℕ, [], false, if◌then◌else◌, None, OnOk, Some};
+ghost use Rattle.std.specs.Arc.{arc_value};
 ghost use Rattle.std.specs.BTreeMap.{get};
 ghost use Rattle.std.specs.Ordering.{nat_cmp};
 ghost use Rattle.registry.specs.Kept.{IsNextIn, home_in};
+ghost use Rattle.runner.specs.declared.sandbox.SandboxCells.{SandboxCells};
+ghost use Rattle.runner.specs.Labelled.{homes_of};
 
 use crate::sandbox::SandboxCells;
 use runtime_history::Node;
@@ -36,7 +39,9 @@ impl<B: Node> Model for Due<B> {
 }
 
 impl<B: Node> Due<B> {
-    pub(crate) fn new(alloc: Global) -> Due<B> {
+    pub(crate) fn new(alloc: Global) -> Due<B>
+        ensures { result.homes ≡ [] }
+    {
         Due {
             cells: BTreeMap::new(alloc),
             lacks: false,
@@ -44,14 +49,23 @@ impl<B: Node> Due<B> {
     }
 
     /// Adds a cell that was started.
-    pub(crate) fn put(&mut self, id: u64, list: &Arc<SandboxCells<B>, Global>) {
+    pub(crate) fn put(&mut self, id: u64, list: &Arc<SandboxCells<B>, Global>)
+        ensures kept { self.new.lacks ≡ false → (i : ℕ) → home_in self.new.homes i
+            ≡ (if id == i then Some (arc_value {X = SandboxCells _} list.now).uid
+            else home_in self.old.homes i) }
+        ensures lacks { self.new.lacks ≡ false → self.old.lacks ≡ false }
+    {
         if put_in(&mut self.cells, id, list).is_err() {
             self.lacks = true;
         }
     }
 
     /// Removes a cell that has ended.
-    pub(crate) fn remove(&mut self, id: u64) {
+    pub(crate) fn remove(&mut self, id: u64)
+        ensures kept { (i : ℕ) → home_in self.new.homes i
+            ≡ (if id == i then None else home_in self.old.homes i) }
+        ensures lacks { self.new.lacks ≡ self.old.lacks }
+    {
         drop(self.cells.remove(&id));
     }
 
@@ -79,7 +93,11 @@ fn put_in<B: Node>(
     cells: &mut BTreeMap<u64, Arc<SandboxCells<B>, Global>>,
     id: u64,
     list: &Arc<SandboxCells<B>, Global>,
-) -> Result<(), AllocError> {
+) -> Result<(), AllocError>
+    ensures { OnOk result ((i : ℕ) → home_in (homes_of (λ kept. (arc_value {X = SandboxCells _} kept).uid)
+        cells.new.entries) i ≡ (if id == i then Some (arc_value {X = SandboxCells _} list.now).uid
+        else home_in (homes_of (λ kept. (arc_value {X = SandboxCells _} kept).uid) cells.old.entries) i)) }
+{
     let kept = Arc::try_clone(list)?;
     cells.insert(id, kept)?;
     Ok(())

@@ -1,16 +1,20 @@
 //! Runners: each steps the cells of its share, round after round.
-ghost use Rattle.std.specs.Prelude.{◌≡◌, ◌<◌, ◌++◌, ◌∷◌, ℕ, List, Option, None, option_map};
+ghost use Rattle.std.specs.Prelude.{◌≡◌, ◌<◌, ◌++◌, ◌∷◌, ℕ, IsSome, List, Option, None, if◌then◌else◌};
+ghost use Rattle.std.specs.Prelude.{option_map};
 ghost use Rattle.runtime_cell.specs.declared.cell.Did.{Did};
 ghost use Rattle.bpf_code.specs.declared.insn.Insn.{Insn};
 ghost use Rattle.registry.specs.Kept.{IsNextIn, home_in};
 ghost use Rattle.runtime_history.specs.declared.event.Seen.{Seen};
-ghost use Rattle.runner.specs.Labelled.{of_share, visited};
-ghost use Rattle.runner.specs.Rounds.{Asked, IsRound, MayVisit, StepsAt, moves_on};
+ghost use Rattle.runtime_history.specs.History.{Looks};
+ghost use Rattle.runtime_history.specs.Agreed.{without};
+ghost use Rattle.runner.specs.Labelled.{AreDue, of_share, visited};
+ghost use Rattle.runner.specs.Rounds.{Asked, IsNotPassed, IsOwn, IsRound, MayVisit, StepsAt, moves_on};
 
+use crate::due::Due;
 use crate::sandbox::SandboxCells;
 use crate::shared::{Sandboxes, SharedRuntime};
 use runtime_cell::Did;
-use runtime_history::{Client, History, Listed, Node};
+use runtime_history::{Client, History, Listed, Node, Registered};
 use std::alloc::Global;
 use std::mem;
 use std::sync::{Arc, Wait};
@@ -128,21 +132,19 @@ impl<B: Node> SharedRuntime<B> {
     fn next_cell<R: Wait>(
         &self,
         rt: &R,
+        me: &mut Client<B>,
         above: u64,
         runner: u64,
         runners: u64,
         over: Option<u64>,
     ) -> Option<NextCell<B>>
         requires { runner < runners }
-        ensures { (homes : List (ℕ × List ℕ))
-            × IsNextIn (of_share runner runners (home_in homes)) above (option_map
-            (λ next. next.id) result) }
+        ensures own { IsOwn runner runners above (option_map (λ next. next.id) result) }
+        ensures looks { Looks B.filter me.old
+            (IsNotPassed runner runners above (option_map (λ next. next.id) result)) me.new }
     {
         let mut sandboxes = self.sandboxes.lock(rt);
-        if let Some(id) = over {
-            sandboxes.due.remove(id);
-        }
-        sandboxes.next_cell(above, runner, runners)
+        sandboxes.next(&self.history, me, above, runner, runners, over)
     }
 }
 
@@ -170,9 +172,14 @@ impl<'a, B: Node, R: Wait, G: StepGate> Visits for RunnerVisits<'a, B, R, G> {
     ghost seen = { λ v. v.me };
 
     fn visit(&mut self, above: u64) -> Option<Visit> {
-        let next = self
-            .runtime
-            .next_cell(self.rt, above, self.runner, self.runners, self.over)?;
+        let next = self.runtime.next_cell(
+            self.rt,
+            &mut self.me,
+            above,
+            self.runner,
+            self.runners,
+            self.over,
+        )?;
         let id = next.id;
         let is_held = next.list.is_some();
         let did = step(
@@ -195,12 +202,47 @@ impl<'a, B: Node, R: Wait, G: StepGate> Visits for RunnerVisits<'a, B, R, G> {
 }
 
 impl<B: Node> Sandboxes<B> {
+    // The step of the runner's share above this id by which no cell that runs is passed over.
+    fn next(
+        &mut self,
+        history: &History<B>,
+        me: &mut Client<B>,
+        above: u64,
+        runner: u64,
+        runners: u64,
+        over: Option<u64>,
+    ) -> Option<NextCell<B>>
+        requires { runner < runners }
+        ensures own { IsOwn runner runners above (option_map (λ next. next.id) result) }
+        ensures looks { Looks B.filter me.old
+            (IsNotPassed runner runners above (option_map (λ next. next.id) result)) me.new }
+    {
+        if let Some(id) = over {
+            self.forget(history, id);
+        }
+        self.look(history, me);
+        self.next_cell(above, runner, runners)
+    }
+
+    // Rounds visit a cell no longer, if it has ended or is gone.
+    fn forget(&mut self, history: &History<B>, id: u64) {
+        forget(history, &mut self.registered, &mut self.due, id);
+    }
+
+    // Sees all of the history. Rounds visit each cell that runs then.
+    fn look(&mut self, history: &History<B>, me: &mut Client<B>)
+        ensures { Looks B.filter me.old (λ id. IsSome (home_in
+            (visited self.new.registered.0.homes self.new.due) id)) me.new }
+    {
+        self.registered.look(history, me);
+    }
+
     // The step of the least id above this one that is of the share.
     #[tactic(auto, using(crate::proofs::Shares::next_is_own, crate::proofs::Shares::next_is_none, crate::proofs::Shares::next_is_passed))]
     fn next_cell(&self, above: u64, runner: u64, runners: u64) -> Option<NextCell<B>>
         requires { runner < runners }
         ensures { IsNextIn (of_share runner runners (home_in
-            (visited self.now.registered.homes self.now.due)))
+            (visited self.now.registered.0.homes self.now.due)))
             above (option_map (λ next. next.id) result) }
     {
         let mut last = above;
@@ -216,7 +258,7 @@ impl<B: Node> Sandboxes<B> {
 
     // The least id above this one that rounds visit.
     fn next_id(&self, above: u64) -> Option<u64>
-        ensures { IsNextIn (home_in (visited self.now.registered.homes self.now.due)) above result }
+        ensures { IsNextIn (home_in (visited self.now.registered.0.homes self.now.due)) above result }
     {
         if self.due.lacks() {
             self.registered.registry().next_id(above)
@@ -234,6 +276,39 @@ impl<B: Node> Sandboxes<B> {
         let list = self.lists.get(uid)?;
         Arc::try_clone(list).ok()
     }
+}
+
+// A cell that has ended or is gone is not visited again. It stays while another thread has its sandbox's
+// cells, so that nobody waits for these with the registry's lock held.
+fn forget<B: Node>(history: &History<B>, registered: &mut Registered<B>, due: &mut Due<B>, id: u64)
+    requires due { AreDue registered.old.1 due.old }
+    ensures registry { registered.new.0 ≡ registered.old.0 }
+    ensures due { AreDue registered.new.1 due.new }
+{
+    let is_over = forget_in(history, registered, due.get(id), id);
+    if is_over {
+        due.remove(id);
+    }
+}
+
+fn forget_in<B: Node>(
+    history: &History<B>,
+    registered: &mut Registered<B>,
+    list: Option<&Arc<SandboxCells<B>, Global>>,
+    id: u64,
+) -> bool
+    ensures registry { registered.new.0 ≡ registered.old.0 }
+    ensures may_run { registered.new.1 ≡ (if result then without id registered.old.1 else registered.old.1) }
+{
+    let Some(list) = list else {
+        return false;
+    };
+    let Some((mut listed, loan)) = list.lock.try_take() else {
+        return false;
+    };
+    let is_over = registered.forget(history, &mut listed, id);
+    list.lock.put_back(listed, loan);
+    is_over
 }
 
 // Does a step that is owed, and returns its result.

@@ -7,6 +7,7 @@ ghost use Rattle.registry.specs.Stands.{stages_in};
 ghost use Rattle.runtime_history.specs.declared.event.Event.TheVariants.{Served};
 ghost use Rattle.runtime_history.specs.History.{Grows, unseen};
 ghost use Rattle.runtime_history.specs.Sandboxes.{IsLive, Removes, Wakes};
+ghost use Rattle.runner.specs.Labelled.{AreDue};
 ghost use Rattle.runner.specs.Shared.{AreListed, has};
 
 use crate::due::Due;
@@ -14,9 +15,8 @@ use crate::lists::CellLists;
 use crate::sandbox::SandboxCells;
 use crate::service::Host;
 use creation::KeptTexts;
-use cri_msgs::{Answer, Call, Reply, Request};
+use cri_msgs::{Call, Reply, Request};
 use manifest::Uid;
-use runtime_cell::Cell;
 use runtime_core::{Cells, FileAnswers, Registry, Stage, uid_of};
 use runtime_history::{Asked, Begun, Blank, Client, History, Listed, Node, Registered};
 use std::alloc::{AllocError, Global};
@@ -30,7 +30,9 @@ pub(crate) struct Sandboxes<B: Node> {
     pub(crate) lists: CellLists<B>,
     pub(crate) due: Due<B>,
     // The uids of the lists are those of the sandboxes that are there.
-    ghost listed: { AreListed registered lists },
+    ghost listed: { AreListed registered.0 lists },
+    // Rounds visit each cell that may run.
+    ghost kept: { AreDue registered.1 due },
 }
 
 impl<B: Node> Sandboxes<B> {
@@ -312,10 +314,12 @@ fn serve<B: Node, R: Wait, Q: Asked>(
     files: FileAnswers,
 ) -> Reply
     requires asked { (Q.call ≡ request.call) × (Q.files ≡ files) }
-    requires listed { AreListed registered.old lists.old }
+    requires listed { AreListed registered.old.0 lists.old }
+    requires due { AreDue registered.old.1 due.old }
     ensures number { result.id ≡ request.id }
     ensures grows { Grows B.filter me.old (Served request.call files result.answer) me.new }
-    ensures listed { AreListed registered.new lists.new }
+    ensures listed { AreListed registered.new.0 lists.new }
+    ensures due { AreDue registered.new.1 due.new }
 {
     if wakes(registered.registry(), &request.call) {
         return wake::<B, Q>(alloc, history, registered, lists, me, request, files);
@@ -348,34 +352,23 @@ fn serve_there<B: Node, R: Wait, Q: Asked>(
 ) -> Reply
     requires asked { (Q.call ≡ request.call) × (Q.files ≡ files) }
     requires own { (arc_value list.now).uid ≡ uid_of request.call }
-    requires live { IsLive (stages_in registered.old (uid_of request.call)) }
+    requires live { IsLive (stages_in registered.old.0 (uid_of request.call)) }
     requires keeps { Removes request.call → ⊥ }
+    requires due { AreDue registered.old.1 due.old }
     ensures number { result.id ≡ request.id }
     ensures grows { Grows B.filter me.old (Served request.call files result.answer) me.new }
-    ensures stays { IsLive (stages_in registered.new (uid_of request.call)) }
-    ensures others { (u : List ℕ) → u ≢ uid_of request.call → stages_in registered.new u
-        ≡ stages_in registered.old u }
+    ensures stays { IsLive (stages_in registered.new.0 (uid_of request.call)) }
+    ensures others { (u : List ℕ) → u ≢ uid_of request.call → stages_in registered.new.0 u
+        ≡ stages_in registered.old.0 u }
+    ensures due { AreDue registered.new.1 due.new }
 {
     let (mut listed, loan) = list.lock.take(rt);
-    let starts = id_to_start(&request.call, listed.cells());
-    let reply = registered.serve::<Q>(history, &mut listed, gone, me, request, files);
+    let (reply, started) = registered.serve::<Q>(history, &mut listed, gone, me, request, files);
     list.lock.put_back(listed, loan);
-    if let (Some(id), Answer::Done) = (starts, &reply.answer) {
+    if let Some(id) = started {
         due.put(id, list);
     }
     reply
-}
-
-// The id of the cell that a call asks to start, if it is there.
-fn id_to_start(call: &Call, cells: &Cells) -> Option<u64> {
-    let Call::StartContainer { key } = call else {
-        return None;
-    };
-    let is_asked = |cell: &&Cell| {
-        let label = cell.label();
-        label.attempt == key.container.attempt && label.name.as_str() == key.container.name.as_str()
-    };
-    Some(cells.as_slice().iter().find(is_asked)?.label().id)
 }
 
 // Whether a call may make a sandbox of a uid that was never named.
@@ -414,11 +407,12 @@ fn wake<B: Node, Q: Asked>(
     files: FileAnswers,
 ) -> Reply
     requires asked { (Q.call ≡ request.call) × (Q.files ≡ files) }
-    requires wakes { Wakes registered.old request.call }
-    requires listed { AreListed registered.old lists.old }
+    requires wakes { Wakes registered.old.0 request.call }
+    requires listed { AreListed registered.old.0 lists.old }
     ensures number { result.id ≡ request.id }
     ensures grows { Grows B.filter me.old (Served request.call files result.answer) me.new }
-    ensures listed { AreListed registered.new lists.new }
+    ensures listed { AreListed registered.new.0 lists.new }
+    ensures may_run { registered.new.1 ≡ registered.old.1 }
 {
     match lists.put(uid_of(&request.call)) {
         Ok((list, blank)) => {
@@ -468,10 +462,11 @@ fn remove<B: Node, R: Wait, Q: Asked>(
 ) -> Reply
     requires asked { (Q.call ≡ request.call) × (Q.files ≡ files) }
     requires removes { Removes request.call }
-    requires listed { AreListed registered.old lists.old }
+    requires listed { AreListed registered.old.0 lists.old }
     ensures number { result.id ≡ request.id }
     ensures grows { Grows B.filter me.old (Served request.call files result.answer) me.new }
-    ensures listed { AreListed registered.new lists.new }
+    ensures listed { AreListed registered.new.0 lists.new }
+    ensures may_run { registered.new.1 ≡ registered.old.1 }
 {
     match lists.take(uid_of(&request.call).as_str()) {
         Some(list) => {
@@ -494,16 +489,17 @@ fn remove_there<B: Node, R: Wait, Q: Asked>(
 ) -> Reply
     requires asked { (Q.call ≡ request.call) × (Q.files ≡ files) }
     requires own { list.now.uid ≡ uid_of request.call }
-    requires live { IsLive (stages_in registered.old (uid_of request.call)) }
+    requires live { IsLive (stages_in registered.old.0 (uid_of request.call)) }
     requires removes { Removes request.call }
     ensures number { result.id ≡ request.id }
     ensures grows { Grows B.filter me.old (Served request.call files result.answer) me.new }
-    ensures removed { IsLive (stages_in registered.new (uid_of request.call)) → ⊥ }
-    ensures others { (u : List ℕ) → u ≢ uid_of request.call → stages_in registered.new u
-        ≡ stages_in registered.old u }
+    ensures removed { IsLive (stages_in registered.new.0 (uid_of request.call)) → ⊥ }
+    ensures others { (u : List ℕ) → u ≢ uid_of request.call → stages_in registered.new.0 u
+        ≡ stages_in registered.old.0 u }
+    ensures may_run { registered.new.1 ≡ registered.old.1 }
 {
     let (mut listed, loan) = list.lock.take(rt);
-    let reply = registered.serve::<Q>(history, &mut listed, gone, me, request, files);
+    let (reply, _) = registered.serve::<Q>(history, &mut listed, gone, me, request, files);
     list.lock.put_back(listed, loan);
     reply
 }

@@ -1,5 +1,7 @@
 pub mod Totals
 pub mod Known
+pub mod Running
+pub mod Over
 pub mod Serving
 pub mod Stepping
 pub mod Listing

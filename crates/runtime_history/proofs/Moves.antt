@@ -20,7 +20,7 @@ use Rattle.registry.specs.declared.registry.Registry.{Registry}
 use Rattle.registry.specs.declared.stage.Stage.{Stage}
 use Rattle.registry.specs.declared.stage.Stage.TheVariants as stage
 use Rattle.registry.specs.Kept.{MayStepIn}
-use Rattle.registry.specs.Runtime.{IsKnown, Runtime, Sandbox, empty, id_of}
+use Rattle.registry.specs.Runtime.{In, IsKnown, Runtime, Sandbox, empty, id_of}
 use Rattle.registry.specs.Serves.{TellsCells}
 use Rattle.registry.specs.Stands.{Agrees, AreBound, IsEmptyIn, runtime_of, stages_in}
 use Rattle.runtime_core.specs.Stands.{LendsTo}
@@ -29,17 +29,19 @@ use Rattle.runtime_history.specs.declared.event.Event.{Event}
 use Rattle.runtime_history.specs.declared.event.Event.TheVariants.{Served, Stepped}
 use Rattle.runtime_history.specs.declared.event.Seen.{Seen}
 use Rattle.runtime_history.specs.declared.room.View.{View}
-use Rattle.runtime_history.specs.History.{named, unseen}
-use Rattle.runtime_history.specs.Sandboxes.{IsLive}
-use Rattle.runtime_history.specs.Agreed.{Fits, HasCells, HasRegistry, IfCells, IfRegistry, Kept, Told}
-use Rattle.runtime_history.specs.Agreed.{cells_in}
+use Rattle.runtime_history.specs.History.{IsRunning, named, unseen}
+use Rattle.runtime_history.specs.Sandboxes.{IsLive, started_by}
+use Rattle.runtime_history.specs.Agreed.{Fits, HasCells, IfCells, IfRegistry, IsOver, Kept}
+use Rattle.runtime_history.specs.Agreed.{Looked, MayRun, Told, cells_in}
 use Rattle.runtime_history.specs.Agreed.{cells_of, keeper, lists_in, nobody, once, once_of, registries_in}
-use Rattle.runtime_history.specs.Agreed.{registry_of, total, view, with_cells, with_registry, without_cells}
-use Rattle.runtime_history.specs.Agreed.{without_registry}
+use Rattle.runtime_history.specs.Agreed.{registry_of, total, view, with_cells, with_registry, with_started}
+use Rattle.runtime_history.specs.Agreed.{without, without_cells, without_registry}
 use Rattle.runtime_history.proofs.Totals.{alone, fits_set, lists_none, once_apart, once_here}
 use Rattle.runtime_history.proofs.Totals.{total_none, total_set}
 use Rattle.runtime_history.proofs.Totals.{total_snoc}
 use Rattle.registry.proofs.Texts.{text_cases}
+use Rattle.runtime_history.proofs.Over.{at_home, in_without, not_running}
+use Rattle.runtime_history.proofs.Running.{none_started, served_runs}
 use Rattle.runtime_history.proofs.Serving as serving
 use Rattle.runtime_history.proofs.Stepping as stepping
 use Rattle.runtime_history.proofs.Listing as listing
@@ -57,7 +59,7 @@ most uid (Some held) = go (bytes_eq uid held.0)
 
 -- the table with the first token
 pub begins : (r : Registry) → runtime_of r (λ _. []) ≡ empty r.baseline → AreBound r
-    → ((uid : List ℕ) → Agrees r uid []) → Kept r.baseline (keeper r ∷ [])
+    → ((uid : List ℕ) → Agrees r uid []) → Kept r.baseline (keeper r [] ∷ [])
 begins r is bound agrees = record {
   log = [];
   links = [];
@@ -68,39 +70,43 @@ begins r is bound agrees = record {
   each = each;
 }
   where
-    fit : Fits (empty r.baseline) [] (keeper r)
+    fit : Fits (empty r.baseline) [] (keeper r [])
     fit = record {
-      registry = record { whole = sym is; bound = bound; agrees = agrees };
+      registry = (
+        record { whole = sym is; bound = bound; agrees = agrees },
+        λ id runs. absurd runs.there,
+      );
       cells = tt;
       seen = ([], refl);
     }
 
-    each : (by : ℕ) (v : View) → get_elem? (keeper r ∷ []) by ≡ some v → Fits (empty r.baseline) [] v
+    each : (by : ℕ) (v : View) → get_elem? (keeper r [] ∷ []) by ≡ some v → Fits (empty r.baseline) [] v
     each zero v e = subst (Fits (empty r.baseline) []) (some-injective _ _ e) fit
     each (suc by) v e = absurd (some-ne-none v (sym e))
 
 -- What an event does to the runtime, by a token that knows these parts of it before and behind: what others
 -- know stays so.
-pub record Goes (s s' : Runtime) (e : Event) (r r' : Option Registry) (c c' : Option (List ℕ × List Cell))
-    : Type 0 where
+pub record Goes (s s' : Runtime) (e : Event) (r r' : Option (Registry × List ℕ))
+    (c c' : Option (List ℕ × List Cell)) : Type 0 where
   pub happens : Happens s (named e) s'
   pub registry : IfRegistry s' r'
   pub cells : IfCells s' c'
   pub registries : once r' ≤ once r
   pub lists : (uid : List ℕ) → (once_of uid c' ≤ once_of uid c) ⊎ (IsKnown (s.sandbox uid).stage → ⊥)
-  pub others_registry : (x : Registry) → once r ≡ 0 → HasRegistry s x → HasRegistry s' x
+  pub others_registry : (x : Registry × List ℕ) → once r ≡ 0 → IfRegistry s (Some x)
+      → IfRegistry s' (Some x)
   pub others_cells : (uid : List ℕ) (cells : List Cell) → once_of uid c ≡ 0 → HasCells s uid cells
       → HasCells s' uid cells
 
 module _ (baseline : Option (List Insn)) where
   -- another token's view is still so
   module _ (views : List View) (by : ℕ) (log : List Event) (s s' : Runtime) (e : Event)
-      (r r' : Option Registry) (c c' : Option (List ℕ × List Cell)) (seen : Seen)
+      (r r' : Option (Registry × List ℕ)) (c c' : Option (List ℕ × List Cell)) (seen : Seen)
       (goes : Goes s s' e r r' c c') (registries : total registries_in views ≤ 1)
       (lists : (uid : List ℕ) → total (lists_in uid) views ≤ 1)
       (at : get_elem? views by ≡ some (view r c seen)) (j : ℕ) (u : View) (apart : j ≢ by)
       (there : get_elem? views j ≡ some u) where
-    if_registry : (o : Option Registry) → u.registry ≡ o → IfRegistry s o → IfRegistry s' o
+    if_registry : (o : Option (Registry × List ℕ)) → u.registry ≡ o → IfRegistry s o → IfRegistry s' o
     if_registry None is has = tt
     if_registry (Some x) is has = goes.others_registry x
         (alone registries_in views j by u (view r c seen) refl registries there (ap once is)
@@ -128,9 +134,26 @@ module _ (baseline : Option (List Insn)) where
       lists_none uid u.cells (λ held is same. unknown (subst (λ (t : List ℕ). IsKnown (s.sandbox t).stage)
       (sym same) (subst (IfCells s) is (each j u there).cells).known)))
 
+  -- one token knows something else, and nothing happens
+  stays : {views : List View} (kept : Kept baseline views) (by : ℕ) (v w : View)
+      → get_elem? views by ≡ some v → registries_in w ≡ registries_in v → w.cells ≡ v.cells
+      → Fits (now baseline kept.links) kept.log w → Kept baseline (set views by w)
+  stays {views} kept by v w at same cells fit = record {
+    log = kept.log;
+    links = kept.links;
+    run = kept.run;
+    tell = kept.tell;
+    registries = (let x = total_set registries_in views by v w at in let y = kept.registries in omega arith);
+    lists = λ uid. (let x = total_set (lists_in uid) views by v w at in
+        let y = ap (once_of uid) cells in let z = kept.lists uid in omega arith);
+    each = fits_set (λ j u. Fits (now baseline kept.links) kept.log u) views by w
+        (λ j u _ there. kept.each j u there) fit;
+  }
+
   -- an event is added to the history, and one token's view with it
-  pub goes_on : (by slots : ℕ) (r r' : Option Registry) (c c' : Option (List ℕ × List Cell)) (seen : Seen)
-      (e : Event) → ((s : Runtime) → IfRegistry s r → IfCells s c → (s' : Runtime) × Goes s s' e r r' c c')
+  pub goes_on : (by slots : ℕ) (r r' : Option (Registry × List ℕ)) (c c' : Option (List ℕ × List Cell))
+      (seen : Seen) (e : Event)
+      → ((s : Runtime) → IfRegistry s r → IfCells s c → (s' : Runtime) × Goes s s' e r r' c c')
       → Allows (Holds baseline) slots by (view r c seen, []) 0 (λ x. x)
       (λ x m. Told baseline e (view r' c' unseen) (view r c seen, []) m)
   goes_on by slots r r' c c' seen e step t kept len at bound =
@@ -181,6 +204,65 @@ module _ (baseline : Option (List Insn)) where
         },
       )
 
+  -- one token sees all of the history
+  pub sees : (by slots : ℕ) (r : Registry) (ids : List ℕ) (c : Option (List ℕ × List Cell)) (seen : Seen)
+      → Allows (Holds baseline) slots by (view (Some (r, ids)) c seen, []) 0 (λ x. x)
+      (λ x m. Looked baseline (MayRun r ids) (view (Some (r, ids)) c seen, []) m)
+  sees by slots r ids c seen t kept len at bound =
+      let v = view (Some (r, ids)) c seen in
+      let mine = kept.each by v at in
+      let w = view (Some (r, ids)) c (record { all = kept.log; own = seen.own }) in (
+        w,
+        keeps,
+        tt,
+        stays kept by v w at refl refl
+            (record { registry = mine.registry; cells = mine.cells; seen = ([], refl) }),
+        record {
+          knows = refl;
+          looks = record {
+            goes_on = mine.seen;
+            own = refl;
+            links = kept.links;
+            run = kept.run;
+            tell = kept.tell;
+            each = λ id runs. (mine.registry.1 id runs, at_home _ r mine.registry.0 id runs);
+          };
+          holds = refl;
+        },
+      )
+
+  -- one token no longer says that a cell may run
+  pub forgets : (by slots : ℕ) (r : Registry) (ids : List ℕ) (uid : List ℕ) (cells : List Cell) (seen : Seen)
+      (id : ℕ) → IsOver r cells id
+      → Allows (Holds baseline) slots by (view (Some (r, ids)) (Some (uid, cells)) seen, []) 0 (λ x. x)
+      (λ x m. m ≡ (view (Some (r, without id ids)) (Some (uid, cells)) seen, []))
+  forgets by slots r ids uid cells seen id over t kept len at bound =
+      let v = view (Some (r, ids)) (Some (uid, cells)) seen in
+      let mine = kept.each by v at in
+      let w = view (Some (r, without id ids)) (Some (uid, cells)) seen in (
+        w,
+        keeps,
+        tt,
+        stays kept by v w at refl refl (record {
+          registry = (
+            mine.registry.0,
+            λ i runs. in_without id ids i (mine.registry.1 i runs)
+                (λ same. not_running _ r uid cells id mine.registry.0 mine.cells over
+                (subst (IsRunning (now baseline kept.links)) same runs)),
+          );
+          cells = mine.cells;
+          seen = mine.seen;
+        }),
+        refl,
+      )
+
+with_one : (begun : Option ℕ) (ids : List ℕ) (id : ℕ) → In id ids ⊎ (begun ≡ Some id)
+    → In id (with_started begun ids)
+with_one None ids id (inl there) = there
+with_one None ids id (inr is) = absurd cc
+with_one (Some new) ids id (inl there) = inr there
+with_one (Some new) ids id (inr is) = inl (let same : new ≡ id = cc in sym same)
+
 transfers : (s s' : Runtime) (uid : List ℕ) (cells : List Cell) → s'.sandbox uid ≡ s.sandbox uid
     → HasCells s uid cells → HasCells s' uid cells
 transfers s s' uid cells same has = record {
@@ -200,17 +282,26 @@ live_known stage.Removed live = absurd live
 
 -- a request is served, by who has the registry and the cells of its sandbox
 pub served : (s : Runtime) (old new : Registry) (call : Call) (files : FileAnswers) (answer : Answer)
-    (before behind : List Cell) → LendsTo old new call files answer before behind
-    → HasRegistry s old → HasCells s (uid_of call) before
-    → (s' : Runtime) × Goes s s' (Served call files answer) (Some old) (Some new)
-    (Some (uid_of call, before)) (Some (uid_of call, behind))
-served s old new call files answer before behind lent has cells =
+    (before behind : List Cell) (ids : List ℕ) (begun : Option ℕ)
+    → LendsTo old new call files answer before behind
+    → begun ≡ started_by call answer before
+    → IfRegistry s (Some (old, ids)) → HasCells s (uid_of call) before
+    → (s' : Runtime) × Goes s s' (Served call files answer) (Some (old, ids))
+    (Some (new, with_started begun ids)) (Some (uid_of call, before)) (Some (uid_of call, behind))
+served s old new call files answer before behind ids begun lent is known cells =
+    let has = known.0 in
     let s' = serving.later s old new call files answer before behind has cells.are lent in
     let serves = serving.serves s old new call files answer before behind has cells.are lent in (
       s',
       record {
         happens = serves;
-        registry = serving.has_later s old new call files answer before behind has cells.are lent;
+        registry = (
+          serving.has_later s old new call files answer before behind has cells.are lent,
+          λ id runs. with_one begun ids id (elim (served_runs s s' call files answer id serves runs) [
+            | inl ran ↦ inl (known.1 id ran)
+            | inr started ↦ inr (is ∙ ap (started_by call answer) (sym cells.are) ∙ started)
+          ]),
+        );
         cells = record {
           are = serving.behind_there s old new call files answer before behind has cells.are lent;
           known = serving.known_later s old new call files answer before behind has cells.are lent
@@ -226,11 +317,12 @@ served s old new call files answer before behind lent has cells =
 
 -- a request is served that names no sandbox which is there, by who has the registry
 pub served_alone : (s : Runtime) (old new : Registry) (call : Call) (files : FileAnswers) (answer : Answer)
-    (behind : List Cell) → (IsLive (stages_in old (uid_of call)) → ⊥)
+    (behind : List Cell) (ids : List ℕ) → (IsLive (stages_in old (uid_of call)) → ⊥)
     → (IsLive (stages_in new (uid_of call)) → ⊥)
-    → LendsTo old new call files answer [] behind → HasRegistry s old
-    → (s' : Runtime) × Goes s s' (Served call files answer) (Some old) (Some new) None None
-served_alone s old new call files answer behind dead still_dead lent has =
+    → LendsTo old new call files answer [] behind → IfRegistry s (Some (old, ids))
+    → (s' : Runtime) × Goes s s' (Served call files answer) (Some (old, ids)) (Some (new, ids)) None None
+served_alone s old new call files answer behind ids dead still_dead lent known =
+    let has = known.0 in
     let was : cells_in s (uid_of call) ≡ [] = no_cells (stages_in old (uid_of call)) _ dead
     (has.agrees (uid_of call)).empty in
     let s' = serving.later s old new call files answer [] behind has was lent in
@@ -246,7 +338,13 @@ served_alone s old new call files answer behind dead still_dead lent has =
       s',
       record {
         happens = serves;
-        registry = has';
+        registry = (
+          has',
+          λ id runs. elim (served_runs s s' call files answer id serves runs) [
+            | inl ran ↦ known.1 id ran
+            | inr started ↦ absurd (none_started call answer _ id was started)
+          ],
+        );
         cells = tt;
         registries = omega arith;
         lists = λ uid. inl (omega arith);
@@ -261,12 +359,13 @@ served_alone s old new call files answer behind dead still_dead lent has =
 
 -- a sandbox is made, by who has the registry
 pub served_new : (s : Runtime) (old new : Registry) (call : Call) (files : FileAnswers) (answer : Answer)
-    (behind : List Cell) → stages_in old (uid_of call) ≡ stage.Unknown
+    (behind : List Cell) (ids : List ℕ) → stages_in old (uid_of call) ≡ stage.Unknown
     → IsLive (stages_in new (uid_of call))
-    → LendsTo old new call files answer [] behind → HasRegistry s old
-    → (s' : Runtime) × Goes s s' (Served call files answer) (Some old) (Some new) None
+    → LendsTo old new call files answer [] behind → IfRegistry s (Some (old, ids))
+    → (s' : Runtime) × Goes s s' (Served call files answer) (Some (old, ids)) (Some (new, ids)) None
     (Some (uid_of call, behind))
-served_new s old new call files answer behind unknown live lent has =
+served_new s old new call files answer behind ids unknown live lent known =
+    let has = known.0 in
     let was : cells_in s (uid_of call) ≡ [] = no_cells (stages_in old (uid_of call)) _
     (λ live. subst IsLive unknown live) (has.agrees (uid_of call)).empty in
     let s' = serving.later s old new call files answer [] behind has was lent in
@@ -277,7 +376,13 @@ served_new s old new call files answer behind unknown live lent has =
       s',
       record {
         happens = serves;
-        registry = serving.has_later s old new call files answer [] behind has was lent;
+        registry = (
+          serving.has_later s old new call files answer [] behind has was lent,
+          λ id runs. elim (served_runs s s' call files answer id serves runs) [
+            | inl ran ↦ known.1 id ran
+            | inr started ↦ absurd (none_started call answer _ id was started)
+          ],
+        );
         cells = record {
           are = serving.behind_there s old new call files answer [] behind has was lent;
           known = live_known (stages_in new (uid_of call)) live;
@@ -332,7 +437,10 @@ stepped s uid cells behind id did steps ids has =
         cells = stepping.has_behind s uid cells behind id did has steps ids;
         registries = omega arith;
         lists = λ u. inl (omega arith);
-        others_registry = λ x none. stepping.still_registry s uid cells behind id did has steps ids x;
+        others_registry = λ x none known. (
+          stepping.still_registry s uid cells behind id did has steps ids x.0 known.0,
+          λ i runs. known.1 i (stepping.ran s uid cells behind id did has steps ids i runs),
+        );
         others_cells = λ u l none. transfers s s' u l
             (stepping.at_other s uid cells behind id did has steps ids u (once_apart uid u cells none));
       },

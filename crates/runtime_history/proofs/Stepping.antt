@@ -1,9 +1,13 @@
 -- A step of a cell in the list of its sandbox is an event of the runtime.
-use Rattle.std.proofs.Common.{◌≡◌, ◌≢◌, inl, inr, ℕ, if◌then◌else◌, List, [], ◌∷◌, map, Option, Some, refl}
-use Rattle.std.proofs.Common.{sym, ap, ◌∙◌, subst}
+use Rattle.std.proofs.Common.{◌≡◌, ◌≢◌, ◌⊎◌, inl, inr, ℕ, if◌then◌else◌, List, [], ◌∷◌, ◌++◌, map, Option}
+use Rattle.std.proofs.Common.{Some, refl, sym, ap, ◌∙◌, subst}
 use Rattle.std.specs.Str.{bytes_eq}
 use Rattle.runtime_cell.specs.declared.cell.Did.{Did}
-use Rattle.runtime_cell.specs.Cell.{Cell}
+use Rattle.runtime_cell.specs.declared.cell.State.{State}
+use Rattle.runtime_cell.specs.declared.cell.State.TheVariants.{Created, Running, Exited}
+use Rattle.runtime_cell.specs.Cell.{Cell, StepsIn, after}
+use Rattle.runtime_cell.specs.Outcome.{Next}
+use Rattle.runtime_cell.specs.Outcome.Next.{Goes, Stops, Over}
 use Rattle.registry.specs.declared.known.Known.{Known}
 use Rattle.registry.specs.declared.registry.Registry.{Registry}
 use Rattle.registry.specs.declared.stage.Stage.{Stage}
@@ -13,6 +17,8 @@ use Rattle.registry.specs.Runtime.{In, IsKnown, Runtime, Sandbox, id_of}
 use Rattle.registry.specs.Serves.{with_cells}
 use Rattle.registry.specs.Stands.{Agrees, IsEmptyIn, RiseAbove, sandbox_of, used_of}
 use Rattle.runtime_core.specs.Steps.{MayStep}
+use Rattle.runtime_laws.proofs.Lists.{in_split}
+use Rattle.runtime_history.specs.History.{IsRunning}
 use Rattle.runtime_history.specs.Agreed.{HasCells, HasRegistry, cells_in}
 use Rattle.runtime_history.proofs.Serving.{cells_there}
 use Rattle.registry.proofs.Texts.{other_text, same_text, text_cases}
@@ -45,6 +51,34 @@ moved k cells later empty = λ i. record {
   cells = sym (cells_there k later empty) i;
   used = used_of k;
 }
+
+-- the one in the middle, or one that is there whatever stands there
+in_parts : (front : List Cell) (x : Cell) (back : List Cell) (cell : Cell) → In cell (front ++ x ∷ back)
+    → (cell ≡ x) ⊎ ((y : Cell) → In cell (front ++ y ∷ back))
+in_parts [] x back cell (inl here) = inl here
+in_parts [] x back cell (inr there) = inr (λ y. inr there)
+in_parts (z ∷ front) x back cell (inl here) = inr (λ y. inl here)
+in_parts (z ∷ front) x back cell (inr there) = elim (in_parts front x back cell there) [
+  | inl same ↦ inl same
+  | inr other ↦ inr (λ y. inr (other y))
+]
+
+id_after : (cell : Cell) (next : Next) → id_of (after cell next) ≡ id_of cell
+id_after cell (Goes entry more) = refl
+id_after cell (Stops entry code) = refl
+id_after cell (Over code) = refl
+
+id_kept : (state : State) (cell : Cell) (did : Did) (next : Cell) → StepsIn state cell did next
+    → id_of next ≡ id_of cell
+id_kept Created cell did next step = ap id_of step.1
+id_kept Running cell did next step = ap id_of step.3 ∙ id_after cell step.0
+id_kept (Exited code by) cell did next step = ap id_of step.1
+
+ran_before : (state : State) (cell : Cell) (did : Did) (next : Cell) → StepsIn state cell did next
+    → cell.state ≡ state → next.state ≡ Running → cell.state ≡ Running
+ran_before Created cell did next step was runs = sym (ap (λ (c : Cell). c.state) step.1) ∙ runs
+ran_before Running cell did next step was runs = was
+ran_before (Exited code by) cell did next step was runs = sym (ap (λ (c : Cell). c.state) step.1) ∙ runs
 
 module _ (s : Runtime) (uid : List ℕ) (cells behind : List Cell) (id : ℕ) (did : Did)
     (has : HasCells s uid cells) (steps : MayStepIn cells id (Some did) behind)
@@ -123,3 +157,40 @@ module _ (s : Runtime) (uid : List ℕ) (cells behind : List Cell) (id : ℕ) (d
       bound = kept.bound;
       agrees = agree;
     }
+
+  -- a cell that runs behind the step ran before it
+  ran_here : (i : ℕ) (cell : Cell) → In cell behind → id_of cell ≡ i → cell.state ≡ Running → IsRunning s i
+  ran_here i cell at is runs = elim (in_parts steps.front steps.later steps.back cell
+      (subst (λ (l : List Cell). In cell l) steps.comes at)) [
+        | inl same ↦ record {
+          uid = uid;
+          cell = steps.cell;
+          there = subst (λ (l : List Cell). In steps.cell l) (sym (has.are ∙ steps.stands))
+              (in_split steps.front steps.cell steps.back);
+          is = sym (id_kept steps.cell.state steps.cell did steps.later steps.moves)
+              ∙ ap id_of (sym same) ∙ is;
+          runs = ran_before steps.cell.state steps.cell did steps.later steps.moves refl
+              (sym (ap (λ (c : Cell). c.state) same) ∙ runs);
+        }
+        | inr other ↦ record {
+          uid = uid;
+          cell = cell;
+          there = subst (λ (l : List Cell). In cell l) (sym (has.are ∙ steps.stands)) (other steps.cell);
+          is = is;
+          runs = runs;
+        }
+      ]
+
+  pub ran : (i : ℕ) → IsRunning later i → IsRunning s i
+  ran i runs = elim (text_cases runs.uid uid) [
+    | inl same ↦ ran_here i runs.cell
+        (subst (λ (l : List Cell). In runs.cell l) has_behind.are
+        (subst (λ (u : List ℕ). In runs.cell (cells_in later u)) same runs.there)) runs.is runs.runs
+    | inr other ↦ record {
+      uid = runs.uid;
+      cell = runs.cell;
+      there = subst (λ (x : Sandbox). In runs.cell x.cells) (at_other runs.uid other) runs.there;
+      is = runs.is;
+      runs = runs.runs;
+    }
+  ]

@@ -1,20 +1,23 @@
 -- What a token knows, and the rule that all tokens keep: this project's own.
-use Rattle.std.specs.Prelude.{◌≡◌, ⊤, ℕ, ◌+◌, ◌≤◌, if◌then◌else◌, List, [], ◌∷◌, Option, Some, None}
+use Rattle.std.specs.Prelude.{◌≡◌, ◌⊎◌, ⊤, ℕ, ◌+◌, ◌≤◌, ◌==◌, not, filter, if◌then◌else◌, List, [], ◌∷◌}
+use Rattle.std.specs.Prelude.{Option, Some, None, IsSome}
 use Rattle.std.specs.Str.{bytes_eq}
 use mathlib.Core.Option.{some}
 use lib.ListN.{get_elem?}
 use Rattle.atomic_table.specs.Seated.{TableId}
 use Rattle.atomic_table.specs.Table.{Me}
 use Rattle.bpf_code.specs.declared.insn.Insn.{Insn}
+use Rattle.runtime_cell.specs.declared.cell.State.TheVariants.{Running}
 use Rattle.runtime_cell.specs.Cell.{Cell}
 use Rattle.registry.specs.declared.registry.Registry.{Registry}
-use Rattle.registry.specs.Runtime.{IsKnown, Runtime}
+use Rattle.registry.specs.Kept.{home_in}
+use Rattle.registry.specs.Runtime.{In, IsKnown, Runtime, id_of}
 use Rattle.registry.specs.Stands.{Agrees, AreBound, runtime_of}
 use Rattle.runtime_laws.specs.Runs.{IsRun, Link, now}
 use Rattle.runtime_history.specs.declared.event.Event.{Event}
 use Rattle.runtime_history.specs.declared.event.Seen.{Seen}
 use Rattle.runtime_history.specs.declared.room.View.{View}
-use Rattle.runtime_history.specs.History.{GoesOn, Grows, Tell, unseen}
+use Rattle.runtime_history.specs.History.{GoesOn, Grows, IsRunning, Looks, Tell, unseen}
 
 -- the name of no table
 abbrev pub no_table : TableId
@@ -28,15 +31,15 @@ no_table = record {
   slot_names = [];
 }
 
-abbrev pub view : Option Registry → Option (List ℕ × List Cell) → Seen → View
+abbrev pub view : Option (Registry × List ℕ) → Option (List ℕ × List Cell) → Seen → View
 view registry cells seen = record { registry = registry; cells = cells; seen = seen }
 
 abbrev pub nobody : View
 nobody = view None None unseen
 
--- the registry's token
-abbrev pub keeper : Registry → View
-keeper r = view (Some r) None unseen
+-- the registry's token, with the ids of the cells that were started and may still run
+abbrev pub keeper : Registry → List ℕ → View
+keeper r started = view (Some (r, started)) None unseen
 
 -- the token of a sandbox's cells
 abbrev pub holder : List ℕ → List Cell → View
@@ -72,6 +75,36 @@ abbrev pub uid_by : Option (List ℕ × List Cell) → List ℕ
 uid_by None = []
 uid_by (Some held) = held.0
 
+-- the ids of cells that are known beside the registry
+abbrev pub started_in : Option (Registry × List ℕ) → List ℕ
+started_in None = []
+started_in (Some held) = held.1
+
+-- with the cell that a call started, and without one that is over
+abbrev pub with_started : Option ℕ → List ℕ → List ℕ
+with_started None ids = ids
+with_started (Some id) ids = id ∷ ids
+
+abbrev pub without : ℕ → List ℕ → List ℕ
+without id ids = filter (λ i. not (id == i)) ids
+
+abbrev pub forgetting : ℕ → Option (Registry × List ℕ) → Option (Registry × List ℕ)
+forgetting id None = None
+forgetting id (Some held) = Some (held.0, without id held.1)
+
+-- the cell with the id is there and may run, as far as is known under the registry's lock
+abbrev pub MayRun : Registry → List ℕ → ℕ → Type 0
+MayRun registry started id = In id started × IsSome (home_in registry.homes id)
+
+abbrev pub MayRunIn : Option (Registry × List ℕ) → ℕ → Type 0
+MayRunIn None id = ⊤
+MayRunIn (Some held) id = MayRun held.0 held.1 id
+
+-- no cell with the id runs: the one of this sandbox does not, or it is gone
+abbrev pub IsOver : Registry → List Cell → ℕ → Type 0
+IsOver registry cells id = ((cell : Cell) × In cell cells × (id_of cell ≡ id) × (cell.state ≡ Running → ⊥))
+    ⊎ (home_in registry.homes id ≡ None)
+
 -- how often a part is known
 abbrev pub once : {A : Type 0} → Option A → ℕ
 once None = 0
@@ -106,9 +139,13 @@ pub record HasCells (s : Runtime) (uid : List ℕ) (cells : List Cell) : Type 0 
   pub are : cells_in s uid ≡ cells
   pub known : IsKnown (s.sandbox uid).stage
 
-abbrev pub IfRegistry : Runtime → Option Registry → Type 0
+-- each cell that runs is one of these
+abbrev pub AreStarted : Runtime → List ℕ → Type 0
+AreStarted s ids = (id : ℕ) → IsRunning s id → In id ids
+
+abbrev pub IfRegistry : Runtime → Option (Registry × List ℕ) → Type 0
 IfRegistry s None = ⊤
-IfRegistry s (Some r) = HasRegistry s r
+IfRegistry s (Some held) = HasRegistry s held.0 × AreStarted s held.1
 
 abbrev pub IfCells : Runtime → Option (List ℕ × List Cell) → Type 0
 IfCells s None = ⊤
@@ -136,4 +173,11 @@ pub record Told (baseline : Option (List Insn)) (event : Event) (after : View) (
     : Type 0 where
   pub knows : me'.0 ≡ seeing after me'.0.seen
   pub grows : Grows baseline me.0.seen event me'.0.seen
+  pub holds : me'.1 ≡ me.1
+
+-- all of the history was seen, and nothing added
+pub record Looked (baseline : Option (List Insn)) (Holds : ℕ → Type 0) (me me' : Me (Unit {0}) View)
+    : Type 0 where
+  pub knows : me'.0 ≡ seeing me.0 me'.0.seen
+  pub looks : Looks baseline me.0.seen Holds me'.0.seen
   pub holds : me'.1 ≡ me.1

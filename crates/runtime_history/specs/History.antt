@@ -1,15 +1,17 @@
 -- One history of a runtime that threads share, this project's own: docs/SEMANTICS.md, "Threads".
-use Rattle.std.specs.Prelude.{◌≡◌, List, [], ◌∷◌, ◌++◌, map, Option, Some}
+use Rattle.std.specs.Prelude.{◌≡◌, ℕ, List, [], ◌∷◌, ◌++◌, map, Option, Some}
 use Rattle.bpf_code.specs.declared.insn.Insn.{Insn}
 use Rattle.runtime_laws.specs.Runs as runs
 use Rattle.runtime_laws.specs.Runs.{Event as happened}
 use Rattle.cri_msgs.specs.declared.calls.Call.{Call}
 use Rattle.cri_msgs.specs.declared.refusals.Refusal.TheVariants.{Memory}
 use Rattle.cri_msgs.specs.declared.replies.Answer.TheVariants.{Refused}
+use Rattle.runtime_cell.specs.declared.cell.State.TheVariants.{Running}
+use Rattle.runtime_cell.specs.Cell.{Cell}
 use Rattle.creation.specs.declared.files.FileAnswers.{FileAnswers}
-use Rattle.registry.specs.Runtime.{In}
+use Rattle.registry.specs.Runtime.{In, Runtime, id_of}
 use Rattle.runtime_laws.specs.Laws.{LinkLaws, RunLaws}
-use Rattle.runtime_laws.specs.Runs.{IsRun, Link}
+use Rattle.runtime_laws.specs.Runs.{IsRun, Link, now}
 use Rattle.runtime_history.specs.declared.event.Event.{Event}
 use Rattle.runtime_history.specs.declared.event.Event.TheVariants.{Served, Stepped}
 use Rattle.runtime_history.specs.declared.event.Seen.{Seen}
@@ -39,6 +41,29 @@ pub record Grows (baseline : Option (List Insn)) (old : Seen) (event : Event) (n
   pub all : new.all ≡ event ∷ (others ++ old.all)
   pub own : new.own ≡ event ∷ old.own
   pub run : IsRunOf baseline new.all
+
+-- the cell with the id runs
+pub record IsRunning (s : Runtime) (id : ℕ) : Type 0 where
+  pub uid : List ℕ
+  pub cell : Cell
+  pub there : In cell (s.sandbox uid).cells
+  pub is : id_of cell ≡ id
+  pub runs : cell.state ≡ Running
+
+-- after these events the cell with the id runs, in each run that has them
+abbrev pub RunsAfter : Option (List Insn) → List Event → ℕ → Type 0
+RunsAfter baseline events id = (links : List Link) → IsRun baseline links → Tell links events
+    → IsRunning (now baseline links) id
+
+-- A caller sees the history as it is now, and adds nothing to it. What was seen is a run, after which each
+-- cell that runs has an id of which this holds.
+pub record Looks (baseline : Option (List Insn)) (old : Seen) (Holds : ℕ → Type 0) (new : Seen) : Type 0 where
+  pub goes_on : GoesOn old.all new.all
+  pub own : new.own ≡ old.own
+  pub links : List Link
+  pub run : IsRun baseline links
+  pub tell : Tell links new.all
+  pub each : (id : ℕ) → IsRunning (now baseline links) id → Holds id
 
 -- nothing was seen
 abbrev pub unseen : Seen

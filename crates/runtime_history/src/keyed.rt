@@ -46,7 +46,8 @@ impl<T> Play<Option<T>, Uid> for Release {
 }
 
 /// A lock for a value that fits a uid. A thread takes the mutex first, so the word of the table is free when
-/// the thread gets to it. Contracts see the uid and the identity of the lock.
+/// the thread gets to it, except while another thread has the value without the mutex. Contracts see the uid
+/// and the identity of the lock.
 #[derive(Drop)]
 pub struct KeyedLock<T: Keyed> {
     table: Table<Option<T>, Uid, Uid, Guard<T>, Global>,
@@ -85,7 +86,8 @@ impl<T> Model for Blank<T> {
 /// lock's.
 pub struct Loan<'a, T> {
     seat: Seat<Option<T>, Uid>,
-    waits: MutexGuard<'a, ()>,
+    // None if the value was taken without the mutex.
+    waits: Option<MutexGuard<'a, ()>>,
 }
 
 impl<'a, T> Model for Loan<'a, T> {
@@ -132,7 +134,21 @@ impl<T: Keyed + Drop> KeyedLock<T> {
     {
         let waits = self.waits.lock(rt);
         let (value, seat) = take_in(rt, &self.table.shared);
-        (value, Loan { seat, waits })
+        let loan = Loan {
+            seat,
+            waits: Some(waits),
+        };
+        (value, loan)
+    }
+
+    /// Takes the value if no other thread has it. It is to be put back soon: a thread that comes for it
+    /// meanwhile does not sleep.
+    pub fn try_take<'a>(&'a self) -> Option<(T, Loan<'a, T>)>
+        ensures value { IfSome result (λ taken. T.fits self.now.0 taken.0) }
+        ensures loan { IfSome result (λ taken. taken.1 ≡ self.now.1) }
+    {
+        let (value, seat) = try_take_in(&self.table.shared)?;
+        Some((value, Loan { seat, waits: None }))
     }
 
     /// Puts the value back, or another that fits.
@@ -163,14 +179,25 @@ fn take_in<T: Keyed, R: Wait>(rt: &R, shared: &Places<T>) -> (T, Seat<Option<T>,
     ensures seat { (result.1.table_id ≡ shared.now.table_id) × HasOnly result.1.me }
 {
     for _ in rt.forever() {
-        let (found, mut seat) = shared.swap_new_seat::<Guard<T>>(0, 1);
-        if found == 0 {
-            let value = shared.exchange(&mut seat, 0, None).unwrap();
-            return (value, seat);
+        if let Some(taken) = try_take_in(shared) {
+            return taken;
         }
         yield_now();
     }
     unreachable!()
+}
+
+fn try_take_in<T: Keyed>(shared: &Places<T>) -> Option<(T, Seat<Option<T>, Uid>)>
+    requires table { (shared.now.table_id.words ≡ 1) × (shared.now.table_id.slots ≡ 1) }
+    ensures value { IfSome result (λ taken. T.fits shared.now.key taken.0) }
+    ensures seat { IfSome result (λ taken. (taken.1.table_id ≡ shared.now.table_id) × HasOnly taken.1.me) }
+{
+    let (found, mut seat) = shared.swap_new_seat::<Guard<T>>(0, 1);
+    if found == 0 {
+        let value = shared.exchange(&mut seat, 0, None).unwrap();
+        return Some((value, seat));
+    }
+    None
 }
 
 // Takes the slot of a new table. It has no value yet.

@@ -8,6 +8,7 @@ mod keyed;
 mod laws;
 mod parts;
 mod room;
+mod starts;
 mod tokens;
 
 pub use event::{Event, Seen};

@@ -9,11 +9,13 @@ ghost use Rattle.registry.specs.Kept.{MayStepIn};
 ghost use Rattle.registry.specs.Stands.{stages_in};
 ghost use Rattle.runtime_history.specs.declared.event.Event.TheVariants.{Served, Stepped};
 ghost use Rattle.runtime_history.specs.History.{Grows, IsRunOf, unseen};
-ghost use Rattle.runtime_history.specs.Sandboxes.{IsLive, Removes, Wakes};
+ghost use Rattle.runtime_history.specs.Sandboxes.{IsLive, Removes, Wakes, started_by};
+ghost use Rattle.runtime_history.specs.Agreed.{with_started};
 
 use crate::event::Seen;
 use crate::keyed::Keyed;
 use crate::room::{Agreed, Asked, Node, Notes, Token, View};
+use crate::starts::{if_done, to_start};
 use crate::tokens::{
     cells_part, lend_cells, lend_registry, new_caller, note_absent, note_new, note_served,
     note_stepped, note_told, registry_part,
@@ -60,7 +62,7 @@ impl Model for Begun {
     ghost view = { λ b. (b.table.shared.key.baseline, b.table.shared.table_id) };
 
     ghost invariant = { λ b. (b.token.table_id ≡ b.table.shared.table_id)
-        × (b.token.me ≡ (keeper b.registry, [])) × (0 < b.table.shared.table_id.words)
+        × (b.token.me ≡ (keeper b.registry [], [])) × (0 < b.table.shared.table_id.words)
         × (b.registry.baseline ≡ b.table.shared.key.baseline)
         × ((uid : List ℕ) → stages_in b.registry uid ≡ Unknown) };
 }
@@ -68,7 +70,7 @@ impl Model for Begun {
 /// A caller of a runtime. Contracts see what it knows of the history.
 #[derive(Drop)]
 pub struct Client<B: Node> {
-    token: Token,
+    pub(crate) token: Token,
     node: PhantomData<B>,
 }
 
@@ -87,31 +89,33 @@ impl<B: Node> Model for Client<B> {
         × IsRunOf B.filter c.token.me.0.seen.all };
 }
 
-/// What lies under the registry's lock. Contracts see the registry.
+/// What lies under the registry's lock. Contracts see the registry, and ids among which are those of all
+/// cells that run.
 #[derive(Drop)]
 pub struct Registered<B: Node> {
-    token: Token,
-    registry: Registry,
+    pub(crate) token: Token,
+    pub(crate) registry: Registry,
     node: PhantomData<B>,
 }
 
 impl<B: Node> Model for Registered<B> {
-    ghost use Rattle.std.specs.Prelude.{◌≡◌, []};
+    ghost use Rattle.std.specs.Prelude.{◌≡◌, ℕ, List, []};
     ghost use Rattle.registry.specs.declared.registry.Registry.{Registry};
-    ghost use Rattle.runtime_history.specs.Agreed.{keeper};
+    ghost use Rattle.runtime_history.specs.Agreed.{keeper, started_in};
 
-    ghost Value = { Registry };
+    ghost Value = { Registry × List ℕ };
 
-    ghost view = { λ r. r.registry };
+    ghost view = { λ r. (r.registry, started_in r.token.me.0.registry) };
 
-    ghost invariant = { λ r. (r.token.table_id ≡ B.table) × (r.token.me ≡ (keeper r.registry, [])) };
+    ghost invariant = { λ r. (r.token.table_id ≡ B.table)
+        × (r.token.me ≡ (keeper r.registry (started_in r.token.me.0.registry), [])) };
 }
 
 /// What lies under the lock of a sandbox's cells. Contracts see the uid and the cells.
 #[derive(Drop)]
 pub struct Listed<B: Node> {
-    token: Token,
-    cells: Cells,
+    pub(crate) token: Token,
+    pub(crate) cells: Cells,
     node: PhantomData<B>,
 }
 
@@ -153,7 +157,8 @@ impl Begun {
     /// The history, and what lies under the registry's lock.
     pub fn of_node<B: Node>(self) -> (History<B>, Registered<B>)
         requires { self ≡ (B.filter, B.table) }
-        ensures { (uid : List ℕ) → stages_in result.1 uid ≡ Unknown }
+        ensures stages { (uid : List ℕ) → stages_in result.1.0 uid ≡ Unknown }
+        ensures started { result.1.1 ≡ [] }
     {
         let Begun {
             table,
@@ -184,7 +189,7 @@ impl<B: Node> History<B> {
         }
     }
 
-    fn notes(&self) -> &Notes
+    pub(crate) fn notes(&self) -> &Notes
         ensures { (result.now.table_id ≡ B.table) × (0 < result.now.table_id.words)
             × (result.now.key.baseline ≡ B.filter) }
     {
@@ -204,12 +209,13 @@ impl<B: Node> Client<B> {
 impl<B: Node> Registered<B> {
     /// The registry.
     pub fn registry(&self) -> &Registry
-        ensures { result.now ≡ self.now }
+        ensures { result.now ≡ self.now.0 }
     {
         &self.registry
     }
 
-    /// Serves a request with the cells of its sandbox, which is there.
+    /// Serves a request with the cells of its sandbox, which is there. Returns the id of the cell that was
+    /// started too, or that was started before.
     #[tactic(auto, using(crate::proofs::Stages::live_still))]
     pub fn serve<Q: Asked>(
         &mut self,
@@ -219,34 +225,39 @@ impl<B: Node> Registered<B> {
         me: &mut Client<B>,
         request: Request,
         files: FileAnswers,
-    ) -> Reply
+    ) -> (Reply, Option<u64>)
         requires asked { (Q.call ≡ request.call) × (Q.files ≡ files) }
         requires own { listed.old.0 ≡ uid_of request.call }
-        requires live { IsLive (stages_in self.old (uid_of request.call)) }
-        ensures number { result.id ≡ request.id }
-        ensures grows { Grows B.filter me.old (Served request.call files result.answer) me.new }
+        requires live { IsLive (stages_in self.old.0 (uid_of request.call)) }
+        ensures number { result.0.id ≡ request.id }
+        ensures grows { Grows B.filter me.old (Served request.call files result.0.answer) me.new }
+        ensures started { result.1 ≡ started_by request.call result.0.answer listed.old.1 }
+        ensures may_run { self.new.1 ≡ with_started result.1 self.old.1 }
         ensures uid { listed.new.0 ≡ listed.old.0 }
-        ensures removed { Removes request.call → IsLive (stages_in self.new (uid_of request.call)) → ⊥ }
-        ensures stays { (Removes request.call → ⊥) → IsLive (stages_in self.new (uid_of request.call)) }
+        ensures removed { Removes request.call → IsLive (stages_in self.new.0 (uid_of request.call)) → ⊥ }
+        ensures stays { (Removes request.call → ⊥) → IsLive (stages_in self.new.0 (uid_of request.call)) }
         ensures others { (u : List ℕ) → u ≢ uid_of request.call
-            → stages_in self.new u ≡ stages_in self.old u }
+            → stages_in self.new.0 u ≡ stages_in self.old.0 u }
     {
         let notes = history.notes();
         lend_registry(notes, &mut me.token, &mut self.token);
         lend_cells(notes, &mut me.token, &mut listed.token);
+        let to_start = to_start(&request.call, &listed.cells);
         let reply = self
             .registry
             .serve_lent(&mut listed.cells, gone, request, files);
+        let started = if_done(&reply.answer, to_start);
         note_served::<Brand, Q>(
             notes,
             &mut me.token,
             &self.registry,
+            started,
             &listed.cells,
             &reply.answer,
         );
         listed.token = cells_part(notes, &mut me.token);
         self.token = registry_part(notes, &mut me.token);
-        reply
+        (reply, started)
     }
 
     /// Serves a request that names no sandbox which is there, and makes none.
@@ -260,13 +271,14 @@ impl<B: Node> Registered<B> {
         files: FileAnswers,
     ) -> Reply
         requires asked { (Q.call ≡ request.call) × (Q.files ≡ files) }
-        requires dead { IsLive (stages_in self.old (uid_of request.call)) → ⊥ }
-        requires makes_none { Wakes self.old request.call → ⊥ }
+        requires dead { IsLive (stages_in self.old.0 (uid_of request.call)) → ⊥ }
+        requires makes_none { Wakes self.old.0 request.call → ⊥ }
         ensures number { result.id ≡ request.id }
         ensures grows { Grows B.filter me.old (Served request.call files result.answer) me.new }
-        ensures stays { IsLive (stages_in self.new (uid_of request.call)) → ⊥ }
+        ensures stays { IsLive (stages_in self.new.0 (uid_of request.call)) → ⊥ }
         ensures others { (u : List ℕ) → u ≢ uid_of request.call
-            → stages_in self.new u ≡ stages_in self.old u }
+            → stages_in self.new.0 u ≡ stages_in self.old.0 u }
+        ensures may_run { self.new.1 ≡ self.old.1 }
     {
         let notes = history.notes();
         let mut none = Cells::new(alloc);
@@ -290,13 +302,14 @@ impl<B: Node> Registered<B> {
     ) -> (Reply, Option<Listed<B>>)
         requires asked { (Q.call ≡ request.call) × (Q.files ≡ files) }
         requires own { uid.now ≡ uid_of request.call }
-        requires wakes { Wakes self.old request.call }
+        requires wakes { Wakes self.old.0 request.call }
         ensures number { result.0.id ≡ request.id }
         ensures grows { Grows B.filter me.old (Served request.call files result.0.answer) me.new }
         ensures made { IfSome result.1 (λ listed. (listed.0 ≡ uid.now)
-            × IsLive (stages_in self.new uid.now)) }
-        ensures none { IfNone result.1 (IsLive (stages_in self.new uid.now) → ⊥) }
-        ensures others { (u : List ℕ) → u ≢ uid.now → stages_in self.new u ≡ stages_in self.old u }
+            × IsLive (stages_in self.new.0 uid.now)) }
+        ensures none { IfNone result.1 (IsLive (stages_in self.new.0 uid.now) → ⊥) }
+        ensures others { (u : List ℕ) → u ≢ uid.now → stages_in self.new.0 u ≡ stages_in self.old.0 u }
+        ensures may_run { self.new.1 ≡ self.old.1 }
     {
         let notes = history.notes();
         let mut cells = Cells::new(alloc);
@@ -323,7 +336,7 @@ impl<B: Node> Registered<B> {
 
     /// Refuses a request that might have made a sandbox, as memory ran out.
     pub fn refuse<Q: Asked>(&mut self, history: &History<B>, me: &mut Client<B>) -> Answer
-        requires wakes { Wakes self.old Q.call }
+        requires wakes { Wakes self.old.0 Q.call }
         ensures answer { result ≡ Refused Memory }
         ensures grows { Grows B.filter me.old (Served Q.call Q.files result) me.new }
         ensures same { self.new ≡ self.old }

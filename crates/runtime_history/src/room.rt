@@ -5,6 +5,7 @@ use creation::FileAnswers;
 use cri_msgs::Call;
 use manifest::Uid;
 use registry::{Cells, Registry};
+use std::collections::LinkedList;
 use std::marker::{Brand, PhantomData};
 
 /// A node as a type: its own filter, which confines each of its containers, and the table of its history.
@@ -30,10 +31,10 @@ impl Node for Brand {
     ghost table = { no_table };
 }
 
-/// What a token knows: what the registry is, what the cells of one sandbox are, and a beginning of the
-/// history. No value of it is made.
+/// What a token knows: what the registry is, with the ids of the cells that were started and may still run;
+/// what the cells of one sandbox are; and a beginning of the history. No value of it is made.
 pub struct View {
-    pub registry: Option<Registry>,
+    pub registry: Option<(Registry, LinkedList<u64>)>,
     pub cells: Option<(Uid, Cells)>,
     pub seen: Seen,
 }
@@ -42,11 +43,12 @@ pub struct View {
 pub struct Agreed;
 
 impl TableRule<(), View, Registry> for Agreed {
+    ghost use Rattle.std.specs.Prelude.{[]};
     ghost use Rattle.runtime_history.specs.Agreed.{Kept, keeper};
 
     ghost holds = { λ registry s. Kept registry.baseline s.views };
 
-    ghost first = { keeper };
+    ghost first = { λ registry. keeper registry [] };
 }
 
 /// One event, and what its token knows then but for the history. Each call picks it.
@@ -105,6 +107,40 @@ impl<E: Happens> Play<(), View> for Tells<E> {
     ghost use Rattle.runtime_history.specs.Agreed.{Told};
 
     ghost then = { λ _ me _ me'. Told E.baseline E.event E.after me me' };
+}
+
+/// A step at which all of the history is seen, and nothing is added to it.
+pub struct Sees<B> {
+    node: PhantomData<B>,
+}
+
+impl<B: Node> Play<(), View> for Sees<B> {
+    ghost use Rattle.runtime_history.specs.Agreed.{Looked, MayRunIn};
+
+    ghost then = { λ _ me _ me'. Looked B.filter (MayRunIn me.0.registry) me me' };
+}
+
+/// A cell that does not run, by its id. Each call picks it.
+pub trait Over {
+    ghost use Rattle.std.specs.Prelude.{ℕ};
+
+    ghost id: { ℕ };
+}
+
+impl Over for Brand {
+    ghost id = { 0 };
+}
+
+/// A step at which the cell is taken out of those that may still run.
+pub struct Forgets<E> {
+    over: PhantomData<E>,
+}
+
+impl<E: Over> Play<(), View> for Forgets<E> {
+    ghost use Rattle.std.specs.Prelude.{◌≡◌};
+    ghost use Rattle.runtime_history.specs.Agreed.{forgetting, view};
+
+    ghost then = { λ _ me _ me'. me' ≡ (view (forgetting E.id me.0.registry) me.0.cells me.0.seen, me.1) };
 }
 
 /// A step at which a new caller comes, who has seen nothing.

@@ -1,5 +1,5 @@
 //! Steps of tokens: what each lends, what is added to the history, and what goes back.
-ghost use Rattle.std.specs.Prelude.{◌≡◌, ◌<◌, [], List, map, Some, None};
+ghost use Rattle.std.specs.Prelude.{◌≡◌, ◌<◌, ℕ, [], List, map, Some, None};
 ghost use Rattle.runtime_cell.specs.Cell.{Cell};
 ghost use Rattle.cri_msgs.specs.Calls.{uid_of};
 ghost use Rattle.registry.specs.declared.registry.Registry.{Registry};
@@ -11,11 +11,16 @@ ghost use Rattle.registry.specs.Stands.{stages_in};
 ghost use Rattle.runtime_core.specs.Stands.{LendsTo};
 ghost use Rattle.runtime_history.specs.declared.event.Event.TheVariants.{Served, Stepped};
 ghost use Rattle.runtime_history.specs.History.{unseen};
-ghost use Rattle.runtime_history.specs.Sandboxes.{IsLive};
-ghost use Rattle.runtime_history.specs.Agreed.{Told, cells_of, nobody, registry_of, uid_by, view, with_cells};
-ghost use Rattle.runtime_history.specs.Agreed.{with_registry, without_cells, without_registry};
+ghost use Rattle.runtime_history.specs.Sandboxes.{IsLive, started_by};
+ghost use Rattle.runtime_history.specs.Agreed.{IsOver, Looked, MayRunIn, Told, cells_of, forgetting, nobody};
+ghost use Rattle.runtime_history.specs.Agreed.{registry_of, started_in, uid_by, view, with_cells};
+ghost use Rattle.runtime_history.specs.Agreed.{with_registry, with_started, without_cells};
+ghost use Rattle.runtime_history.specs.Agreed.{without_registry};
 
-use crate::room::{Asked, Comes, Happens, Notes, OfCells, OfRegistry, Tells, Token, Whole};
+use crate::room::{
+    Asked, Comes, Forgets, Happens, Node, Notes, OfCells, OfRegistry, Over, Sees, Tells, Token,
+    Whole,
+};
 use cri_msgs::Answer;
 use registry::{Cells, Registry};
 use runtime_cell::Did;
@@ -82,24 +87,28 @@ pub(crate) fn new_caller(notes: &Notes) -> Token
     token
 }
 
-/// Adds that a request was served with the cells of its sandbox.
+/// Adds that a request was served with the cells of its sandbox, and which of them it started.
 pub(crate) fn note_served<E: Happens, Q: Asked>(
     notes: &Notes,
     me: &mut Token,
     registry: &Registry,
+    started: Option<u64>,
     cells: &Cells,
     answer: &Answer,
 )
     requires event { (E.baseline ≡ notes.now.key.baseline) × (E.event ≡ Served Q.call Q.files answer.now)
-        × (E.after ≡ view (Some registry.now) (Some (uid_of Q.call, cells.now)) unseen) }
+        × (E.after ≡ view (Some (registry.now, with_started started (started_in me.old.me.0.registry)))
+        (Some (uid_of Q.call, cells.now)) unseen) }
     requires table { 0 < notes.now.table_id.words }
     requires me { me.old.table_id ≡ notes.now.table_id }
-    requires lent { (old : Registry) × (before : List Cell)
-        × (me.old.me ≡ (view (Some old) (Some (uid_of Q.call, before)) me.old.me.0.seen, []))
-        × LendsTo old registry.now Q.call Q.files answer.now before cells.now }
+    requires lent { (old : Registry) × (ids : List ℕ) × (before : List Cell)
+        × (me.old.me ≡ (view (Some (old, ids)) (Some (uid_of Q.call, before)) me.old.me.0.seen, []))
+        × LendsTo old registry.now Q.call Q.files answer.now before cells.now
+        × (started ≡ started_by Q.call answer.now before) }
     ensures table { me.new.table_id ≡ me.old.table_id }
     ensures told { Told notes.now.key.baseline (Served Q.call Q.files answer.now)
-        (view (Some registry.now) (Some (uid_of Q.call, cells.now)) unseen) me.old.me me.new.me }
+        (view (Some (registry.now, with_started started (started_in me.old.me.0.registry)))
+        (Some (uid_of Q.call, cells.now)) unseen) me.old.me me.new.me }
 {
     notes.load::<Tells<E>>(me, 0);
 }
@@ -112,17 +121,17 @@ pub(crate) fn note_absent<E: Happens, Q: Asked>(
     answer: &Answer,
 )
     requires event { (E.baseline ≡ notes.now.key.baseline) × (E.event ≡ Served Q.call Q.files answer.now)
-        × (E.after ≡ view (Some registry.now) None unseen) }
+        × (E.after ≡ view (Some (registry.now, started_in me.old.me.0.registry)) None unseen) }
     requires table { 0 < notes.now.table_id.words }
     requires me { me.old.table_id ≡ notes.now.table_id }
-    requires lent { (old : Registry) × (behind : List Cell)
-        × (me.old.me ≡ (view (Some old) None me.old.me.0.seen, []))
+    requires lent { (old : Registry) × (ids : List ℕ) × (behind : List Cell)
+        × (me.old.me ≡ (view (Some (old, ids)) None me.old.me.0.seen, []))
         × LendsTo old registry.now Q.call Q.files answer.now [] behind
         × (IsLive (stages_in old (uid_of Q.call)) → ⊥)
         × (IsLive (stages_in registry.now (uid_of Q.call)) → ⊥) }
     ensures table { me.new.table_id ≡ me.old.table_id }
     ensures told { Told notes.now.key.baseline (Served Q.call Q.files answer.now)
-        (view (Some registry.now) None unseen) me.old.me me.new.me }
+        (view (Some (registry.now, started_in me.old.me.0.registry)) None unseen) me.old.me me.new.me }
 {
     notes.load::<Tells<E>>(me, 0);
 }
@@ -136,16 +145,19 @@ pub(crate) fn note_new<E: Happens, Q: Asked>(
     answer: &Answer,
 )
     requires event { (E.baseline ≡ notes.now.key.baseline) × (E.event ≡ Served Q.call Q.files answer.now)
-        × (E.after ≡ view (Some registry.now) (Some (uid_of Q.call, cells.now)) unseen) }
+        × (E.after ≡ view (Some (registry.now, started_in me.old.me.0.registry))
+        (Some (uid_of Q.call, cells.now)) unseen) }
     requires table { 0 < notes.now.table_id.words }
     requires me { me.old.table_id ≡ notes.now.table_id }
-    requires lent { (old : Registry) × (me.old.me ≡ (view (Some old) None me.old.me.0.seen, []))
+    requires lent { (old : Registry) × (ids : List ℕ)
+        × (me.old.me ≡ (view (Some (old, ids)) None me.old.me.0.seen, []))
         × LendsTo old registry.now Q.call Q.files answer.now [] cells.now
         × (stages_in old (uid_of Q.call) ≡ Unknown)
         × IsLive (stages_in registry.now (uid_of Q.call)) }
     ensures table { me.new.table_id ≡ me.old.table_id }
     ensures told { Told notes.now.key.baseline (Served Q.call Q.files answer.now)
-        (view (Some registry.now) (Some (uid_of Q.call, cells.now)) unseen) me.old.me me.new.me }
+        (view (Some (registry.now, started_in me.old.me.0.registry)) (Some (uid_of Q.call, cells.now)) unseen)
+        me.old.me me.new.me }
 {
     notes.load::<Tells<E>>(me, 0);
 }
@@ -190,4 +202,41 @@ pub(crate) fn note_stepped<E: Happens>(
         (view None (Some (uid_by me.old.me.0.cells, cells.now)) unseen) me.old.me me.new.me }
 {
     notes.load::<Tells<E>>(me, 0);
+}
+
+/// Sees all of the history, by who has the registry's part.
+pub(crate) fn see<B: Node>(notes: &Notes, me: &mut Token)
+    requires baseline { B.filter ≡ notes.now.key.baseline }
+    requires table { 0 < notes.now.table_id.words }
+    requires me { me.old.table_id ≡ notes.now.table_id }
+    requires lent { (old : Registry) × (ids : List ℕ)
+        × (me.old.me ≡ (view (Some (old, ids)) None me.old.me.0.seen, [])) }
+    ensures table { me.new.table_id ≡ me.old.table_id }
+    ensures looked { Looked B.filter (MayRunIn me.old.me.0.registry) me.old.me me.new.me }
+{
+    notes.load::<Sees<B>>(me, 0);
+}
+
+/// Takes a cell out of those that may still run, by who has the registry's part and that of its sandbox.
+pub(crate) fn forget<E: Over>(
+    notes: &Notes,
+    me: &mut Token,
+    registry: &Registry,
+    cells: &Cells,
+    id: u64,
+)
+    requires id { E.id ≡ id }
+    requires table { 0 < notes.now.table_id.words }
+    requires me { me.old.table_id ≡ notes.now.table_id }
+    requires lent { (uid : List ℕ) × (ids : List ℕ)
+        × (me.old.me ≡ (view (Some (registry.now, ids)) (Some (uid, cells.now)) me.old.me.0.seen, [])) }
+    requires over { IsOver registry.now cells.now id }
+    ensures table { me.new.table_id ≡ me.old.table_id }
+    ensures forgets { me.new.me ≡ (
+      view (forgetting id me.old.me.0.registry) me.old.me.0.cells
+          me.old.me.0.seen,
+      me.old.me.1,
+    ) }
+{
+    notes.load::<Forgets<E>>(me, 0);
 }

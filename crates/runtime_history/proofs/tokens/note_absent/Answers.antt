@@ -7,6 +7,6 @@ load-requires g c =
     let l = r.lent in (
       r.me,
       r.table,
-      rw (r.event.0, r.event.1, r.event.2, l.2) (goes_on _ _ _ _ _ _ _ _ _
-          (λ s has cells. served_alone s l.0 _ _ _ _ l.1 l.4 l.5 l.3 has)),
+      rw (r.event.0, r.event.1, r.event.2, l.3) (goes_on _ _ _ _ _ _ _ _ _
+          (λ s has cells. served_alone s l.0 _ _ _ _ l.2 l.1 l.5 l.6 l.4 has)),
     )

@@ -7,6 +7,6 @@ load-requires g c =
     let l = r.lent in (
       r.me,
       r.table,
-      rw (r.event.0, r.event.1, r.event.2, l.2) (goes_on _ _ _ _ _ _ _ _ _
-          (λ s has cells. served s l.0 _ _ _ _ l.1 _ l.3 has cells)),
+      rw (r.event.0, r.event.1, r.event.2, l.3) (goes_on _ _ _ _ _ _ _ _ _
+          (λ s has cells. served s l.0 _ _ _ _ l.2 _ l.1 _ l.4 l.5 has cells)),
     )

@@ -6,7 +6,7 @@ use Rattle.runner.proofs.shared.Sandboxes.next_cell.Given as goal
 
 abbrev pub invariant-loop-id : goal.invariant-loop-id
 invariant-loop-id g l = Passed (of_share l.runner l.runners
-    (home_in (visited l.self.registered.homes l.self.due))) l.above l.last
+    (home_in (visited l.self.registered.0.homes l.self.due))) l.above l.last
 
 abbrev pub decreases-loop-id : goal.decreases-loop-id
 decreases-loop-id g l = 2 ^ 64 - l.last

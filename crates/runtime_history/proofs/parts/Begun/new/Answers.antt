@@ -9,7 +9,7 @@ use Rattle.runtime_history.proofs.parts.Begun.new.Goals as goal
 pub of_words-requires : goal.of_words-requires
 of_words-requires c =
     let new = c.new-registry.ensures in
-    subst (λ (r : Registry). Kept r.baseline (keeper r ∷ [])) (sym c.make_ready.ensures)
+    subst (λ (r : Registry). Kept r.baseline (keeper r [] ∷ [])) (sym c.make_ready.ensures)
     (begins c.new-registry.result
     (new.empty ∙ ap empty (sym (ap (λ (x : Runtime). x.baseline) new.empty))) new.bound new.agrees)
 

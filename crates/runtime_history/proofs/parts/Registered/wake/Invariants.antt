@@ -2,19 +2,20 @@ use Rattle.std.proofs.Common.{Some, None}
 use Rattle.cri_msgs.specs.Calls.{uid_of}
 use Rattle.runtime_history.specs.declared.event.Event.TheVariants.{Served}
 use Rattle.runtime_history.specs.History.{unseen}
-use Rattle.runtime_history.specs.Agreed.{view}
+use Rattle.runtime_history.specs.Agreed.{started_in, view}
 use Rattle.runtime_history.proofs.parts.Registered.wake.Given as goal
 
 abbrev pub ghosts-note_absent : goal.ghosts-note_absent
 ghosts-note_absent g a = record {
   baseline = g.B.Node.filter;
   event = Served g.Q.Asked.call g.Q.Asked.files a.answer.now;
-  after = view (Some a.registry.now) None unseen;
+  after = view (Some (a.registry.now, started_in a.me.now.me.0.registry)) None unseen;
 }
 
 abbrev pub ghosts-note_new : goal.ghosts-note_new
 ghosts-note_new g a = record {
   baseline = g.B.Node.filter;
   event = Served g.Q.Asked.call g.Q.Asked.files a.answer.now;
-  after = view (Some a.registry.now) (Some (uid_of g.Q.Asked.call, a.cells.now)) unseen;
+  after = view (Some (a.registry.now, started_in a.me.now.me.0.registry))
+      (Some (uid_of g.Q.Asked.call, a.cells.now)) unseen;
 }

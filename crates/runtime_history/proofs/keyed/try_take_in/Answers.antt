@@ -1,7 +1,7 @@
 use Rattle.std.proofs.Common.{rules, Some, ap, sym, ◌∙◌, ◌∷◌}
 use Rattle.atomic_table.specs.Table.{rest}
 use Rattle.runtime_history.proofs.Locks.{seizes}
-use Rattle.runtime_history.proofs.keyed.take_in.Goals as goal
+use Rattle.runtime_history.proofs.keyed.try_take_in.Goals as goal
 
 pub swap_new_seat-found-requires : goal.swap_new_seat-found-requires
 swap_new_seat-found-requires g c = (search rules, seizes _ _ c.args.shared.now.key)
