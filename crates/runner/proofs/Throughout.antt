@@ -1,6 +1,6 @@
 -- A cell of the share that runs during a whole round is visited.
-use Rattle.std.proofs.Common.{◌≡◌, inl, inr, ℕ, ◌<◌, ◌≤◌, ◌%◌, List, [], ◌∷◌, ◌++◌, Option, None, Some, IsSome}
-use Rattle.std.proofs.Common.{refl, sym, ap, subst, ◌∙◌, arith}
+use Rattle.std.proofs.Common.{◌≡◌, inl, inr, ℕ, ◌<◌, ◌≤◌, ◌%◌, List, [], ◌∷◌, ◌++◌, Option, None, Some}
+use Rattle.std.proofs.Common.{IsSome, refl, sym, ap, subst, ◌∙◌, arith}
 use Rattle.std.proofs.lemmas.List.{append_assoc}
 use Rattle.std.proofs.lemmas.Bool.{cases_lt}
 use Rattle.runtime_cell.specs.declared.cell.Did.{Did}
@@ -17,7 +17,10 @@ still : (events : List Event) → GoesOn events events
 still events = ([], refl)
 
 then : (a b c : List Event) → GoesOn a b → GoesOn b c → GoesOn a c
-then a b c first more = (more.0 ++ first.0, more.1 ∙ ap (λ l. more.0 ++ l) first.1 ∙ sym (append_assoc more.0 first.0 a))
+then a b c first more = (
+  more.0 ++ first.0,
+  more.1 ∙ ap (λ l. more.0 ++ l) first.1 ∙ sym (append_assoc more.0 first.0 a),
+)
 
 step_goes : (b : Option (List Insn)) (id : ℕ) (did : Option Did) (old new : Seen) → StepsAt b id did old new
     → GoesOn old.all new.all

@@ -61,7 +61,7 @@ pub(crate) trait Visits {
     // What was asked so far, the latest first. None if that is not kept.
     ghost asked: { Self → Option (List Asked) } = { λ _. None };
 
-    /// Steps the cell of the runner's share with the least id above this one; `None` if there is none.
+    /// Steps a cell of the runner's share above this id, and passes over none that runs. `None` if none does.
     fn visit(&mut self, above: u64) -> Option<Visit>
         ensures may { MayVisit baseline (runner self.old) (runners self.old)
             (record { above = above; visit = result; old = seen self.old; new = seen self.new }) }
@@ -128,7 +128,7 @@ impl<B: Node> SharedRuntime<B> {
         went_on
     }
 
-    // The runner's next step, after the one of this id. A cell that was found ended is not visited again.
+    // The runner's next step, above this id. A cell that was found ended is not visited again.
     fn next_cell<R: Wait>(
         &self,
         rt: &R,
@@ -202,7 +202,7 @@ impl<'a, B: Node, R: Wait, G: StepGate> Visits for RunnerVisits<'a, B, R, G> {
 }
 
 impl<B: Node> Sandboxes<B> {
-    // The step of the runner's share above this id by which no cell that runs is passed over.
+    // The runner's next step above this id. No cell of its share that runs is passed over.
     fn next(
         &mut self,
         history: &History<B>,

@@ -337,8 +337,7 @@ fn serve<B: Node, R: Wait, Q: Asked>(
     }
 }
 
-// A cell that is started is added to those that rounds visit. That comes after the start, so a visited cell
-// that does nothing has ended.
+// A cell that is started is added to those that rounds visit.
 fn serve_there<B: Node, R: Wait, Q: Asked>(
     rt: &R,
     history: &History<B>,

@@ -75,7 +75,7 @@ abbrev pub uid_by : Option (List ℕ × List Cell) → List ℕ
 uid_by None = []
 uid_by (Some held) = held.0
 
--- the ids of cells that are known beside the registry
+-- the ids of started cells that are known beside the registry
 abbrev pub started_in : Option (Registry × List ℕ) → List ℕ
 started_in None = []
 started_in (Some held) = held.1

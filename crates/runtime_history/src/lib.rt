@@ -1,6 +1,7 @@
 //! One history of a runtime that threads share: its registry lies under one lock, and the cells of each
 //! sandbox under a lock of their own. Each event is added to the history under a lock of what it changes,
-//! and each caller sees a run of the laws of every run.
+//! and each caller sees a run of the laws of every run. Under the registry's lock it is known which cells
+//! may run.
 #![tactic(auto)]
 
 mod event;
