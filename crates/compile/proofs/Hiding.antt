@@ -22,8 +22,10 @@ ask_is (AtLeast k) (AtLeast m) same = ap AtLeast (eqb-true k m same)
 
 view_is : (one other : View) → view_eq.eq-value.it one other ≡ true → one ≡ other
 view_is one other same =
-    ap (λ (n : ℕ). record { offset = n; mask = one.mask }) (eqb-true one.offset other.offset (first_so _ _ same))
-    ∙ ap (λ (n : ℕ). record { offset = other.offset; mask = n }) (eqb-true one.mask other.mask (second_so _ _ same))
+    ap (λ (n : ℕ). record { offset = n; mask = one.mask })
+    (eqb-true one.offset other.offset (first_so _ _ same))
+    ∙ ap (λ (n : ℕ). record { offset = other.offset; mask = n })
+    (eqb-true one.mask other.mask (second_so _ _ same))
 
 atom_is : (one other : Atom) → atom_eq.eq-value.it one other ≡ true → one ≡ other
 atom_is one other same =
@@ -40,7 +42,8 @@ literal_is (Asked one wanted) (Asked other sought) same =
 
 clause_is : (one other : Clause) → clause_eq.eq-value.it one other ≡ true → one ≡ other
 clause_is one other same =
-    ap (λ (l : Literal). record { one = l; other = one.other }) (literal_is one.one other.one (first_so _ _ same))
+    ap (λ (l : Literal). record { one = l; other = one.other })
+    (literal_is one.one other.one (first_so _ _ same))
     ∙ ap (λ (l : Literal). record { one = other.one; other = l })
     (literal_is one.other other.other (second_so _ _ same))
 

@@ -1,4 +1,4 @@
-use Rattle.compile.proofs.Common.{ℕ, ◌+◌, ◌-◌, ◌*◌, ◌^◌, ◌≤◌, List, length, ap, inl, inr, arith, rules}
+use Rattle.compile.proofs.Common.{ℕ, ◌+◌, ◌*◌, ◌^◌, ◌≤◌, List, length, ap, inl, inr, arith, rules}
 use Rattle.compile.proofs.Common.{Profile, weight, NUMBER_LIMIT, Suffices, added_below, steps_at, tree_size}
 use Rattle.compile.proofs.Common.{for_each}
 use Rattle.compile.specs.Sizes.Suffices.{balanced}

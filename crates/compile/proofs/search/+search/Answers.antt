@@ -1,4 +1,4 @@
-use Rattle.compile.proofs.Common.{◌≡◌, ℕ, ◌+◌, ◌-◌, ◌*◌, ◌/◌, Bool, true, false, cond, refl, sym, ◌∙◌, List}
+use Rattle.compile.proofs.Common.{◌≡◌, ℕ, ◌+◌, ◌-◌, ◌*◌, ◌/◌, Bool, false, cond, refl, sym, ◌∙◌, List}
 use Rattle.compile.proofs.Common.{arith, true≢false, length, subst, get_or, nat_le, slice_index, IfOk-weaker}
 use Rattle.compile.proofs.Common.{Insn, SysCall, IsCall, GivesAlways, IsRising, IsSearched, value_for}
 use Rattle.compile.proofs.Common.{clauses_hold, size_of_clauses, Clause, Point}

@@ -1,4 +1,4 @@
-use Rattle.compile.proofs.Common.{ℕ, ◌+◌, ◌-◌, ◌*◌, ◌^◌, ◌<◌, ◌≤◌, List, Option, IfSome, length, subst, arith}
+use Rattle.compile.proofs.Common.{ℕ, ◌+◌, ◌*◌, ◌^◌, ◌<◌, ◌≤◌, List, Option, IfSome, length, subst, arith}
 use Rattle.compile.proofs.Common.{ap, ◌∙◌, ◌≡◌, IfOk-weaker, slice_index, Insn, SysCall, IsCall, Way}
 use Rattle.compile.proofs.Common.{WayGives, NOWHERE, Decision, Entry, value_of, decision_of, GivesAlways}
 use Rattle.compile.proofs.Common.{conditions_at, IsSearched, value_for, Vec, AreAsked, steps_at, first_value}
