@@ -6,13 +6,13 @@ such script, created and ended. The program is crates/scriptd/out/scriptd, or th
 --limits it prints only what is above its limit, and times no lists.
 """
 import json
+import multiprocessing
 import os
 import socket
 import struct
 import subprocess
 import sys
 import tempfile
-import threading
 import time
 
 ROOT = os.path.dirname(os.path.dirname(os.path.abspath(__file__)))
@@ -97,8 +97,9 @@ def lists_beside_creations(folder):
     Client(path).ask(call="RunPodSandbox", uid="quiet")
     alone, longest = waits(path)
     print(f"a list takes {alone:.2f} ms alone, {longest:.2f} ms at most", flush=True)
-    ends = threading.Event()
-    others = [threading.Thread(target=creates, args=(path, f"u{at}", ends)) for at in range(CLIENTS)]
+    # In processes of their own, or they would take turns with the client that is timed.
+    ends = multiprocessing.Event()
+    others = [multiprocessing.Process(target=creates, args=(path, f"u{at}", ends)) for at in range(CLIENTS)]
     for other in others:
         other.start()
     beside, longest = waits(path)
