@@ -252,7 +252,7 @@ def check_library_page(prefix, room):
     check("motchidu.3 is installed", os.path.exists(f"{prefix}/share/man/man3/motchidu.3"))
     example = re.search(r"^\.SH EXAMPLES\n\.nf\n(.*?)^\.fi$", page, re.M | re.S)[1]
     with open(f"{room}/example.c", "w", encoding="utf-8") as it:
-        it.write(example.replace("\\(dq", '"').replace("\\en", "\\n").replace("\\-", "-"))
+        it.write(example.replace("\\(dq", '"').replace("\\e", "\\").replace("\\-", "-"))
     words = "cc example.c -o example $(pkg-config --cflags --libs motchidu) && ./example"
     how = {"cwd": room, "env": environment(prefix), "capture_output": True, "text": True}
     ran = subprocess.run(["sh", "-c", words], **how)
