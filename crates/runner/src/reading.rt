@@ -1,4 +1,4 @@
-//! A large text that is to be read, and what reading it gave.
+//! Large texts: the request to read one, and the result.
 ghost use Rattle.std.specs.Prelude.{◌≡◌, ◌≢◌, IfErr, IfOk, IfSome, IsTrue, Ok};
 ghost use Rattle.std.proofs.Props.{props};
 ghost use Rattle.cri_msgs.specs.Reading.{request_reading};
@@ -8,14 +8,14 @@ ghost use Rattle.runner.specs.Readings.{IsOther, IsReading};
 use cri_msgs::{MessageFault, Request, Version};
 use std::alloc::Global;
 
-/// A text that is to be read.
+/// A text to read, and the version of its frame.
 #[derive(Drop)]
 pub(crate) struct Job {
     pub(crate) version: Version,
     pub(crate) text: Vec<u8>,
 }
 
-/// A text that was read, and what that gave.
+/// The result of reading a text, with the text.
 #[derive(Drop)]
 pub(crate) struct Outcome {
     version: Version,
@@ -36,7 +36,7 @@ impl Outcome {
         }
     }
 
-    /// What reading this text in a frame of this version gave, if that is what was read.
+    /// The result, if it is that of this text in a frame of this version.
     pub(crate) fn given_for(
         self,
         version: Version,

@@ -141,8 +141,7 @@ impl<T: Keyed + Drop> KeyedLock<T> {
         (value, loan)
     }
 
-    /// Takes the value if no other thread has it. It is to be put back soon: a thread that comes for it
-    /// meanwhile does not sleep.
+    /// Takes the value if no other thread has it. Put it back soon: until then, a thread in `take` spins.
     pub fn try_take<'a>(&'a self) -> Option<(T, Loan<'a, T>)>
         ensures value { IfSome result (λ taken. T.fits self.now.0 taken.0) }
         ensures loan { IfSome result (λ taken. taken.1 ≡ self.now.1) }
