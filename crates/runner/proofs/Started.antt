@@ -1,5 +1,5 @@
 -- Rounds visit each cell that may run.
-use Rattle.std.proofs.Common.{◌≡◌, inl, inr, ℕ, ◌==◌, ◌%◌, Bool, true, false, cond, List, ◌∷◌, [], refl}
+use Rattle.std.proofs.Common.{◌≡◌, ◌≢◌, inl, inr, ℕ, ◌==◌, ◌%◌, Bool, true, false, cond, List, ◌∷◌, [], refl}
 use Rattle.std.proofs.Common.{Option, None, Some, IsSome, sym, ap, subst, ◌∙◌, if◌then◌else◌, not}
 use Rattle.std.proofs.lemmas.Bool.{eq-eqb, eqb-true}
 use Rattle.bpf_code.specs.declared.insn.Insn.{Insn}
@@ -52,6 +52,17 @@ in_left : (id : ℕ) (ids : List ℕ) (i : ℕ) → In i (without id ids) → In
 in_left id [] i at = absurd at
 in_left id (x ∷ xs) i at = left_in i x xs (without id xs) id (id == x) refl (in_left id xs i) at
 
+false_true : (b : Bool) → b ≡ false → b ≡ true → ⊥
+false_true b is not = cc
+
+-- what is left of ids without one: some of these, and not this one
+pub still_in : (id : ℕ) (ids left : List ℕ) → left ≡ without id ids → (i : ℕ) → In i left → In i ids
+still_in id ids left is i at = (in_left id ids i (subst (λ (l : List ℕ). In i l) is at)).0
+
+pub not_in : (id : ℕ) (ids left : List ℕ) → left ≡ without id ids → (i : ℕ) → In i left → i ≢ id
+not_in id ids left is i at same = false_true (id == i)
+    (in_left id ids i (subst (λ (l : List ℕ). In i l) is at)).1 (eq-eqb id i (sym same))
+
 not_here : (b : Bool) (o : Option (List ℕ)) → b ≡ false → IsSome o → IsSome (if b then None else o)
 not_here true o is some = absurd cc
 not_here false o is some = some
@@ -73,8 +84,8 @@ visits false homes due id is home kept = kept is
 
 pub may_be_visited : (r : Registry) (started : List ℕ) (due : Visited) → AreDue started due → (id : ℕ)
     → MayRun r started id → IsSome (home_in (visited r.homes due) id)
-may_be_visited r started due kept id may = visits due.lacks r.homes due id refl may.1
-    (λ none. kept none id may.0)
+may_be_visited r started due kept id may = visits due.lacks r.homes due id refl
+    (subst IsSome (sym may.1.1.home) refl) (λ none. kept none id may.0)
 
 pub looks_for : (b : Option (List Insn)) (old new : Seen) (P Q : ℕ → Type 0) → ((id : ℕ) → P id → Q id)
     → Looks b old P new → Looks b old Q new

@@ -1,14 +1,11 @@
 -- A visit more, and what a round tells then.
 use Rattle.std.proofs.Common.{◌≡◌, ◌||◌, ◌++◌, ℕ, Bool, true, false, List, ◌∷◌, Option, None, Some, refl, ◌∙◌}
-use Rattle.std.proofs.Common.{ap, subst, IfNone, IfSome}
+use Rattle.std.proofs.Common.{ap, subst}
 use Rattle.std.specs.Option.{option_map}
 use Rattle.runner.specs.declared.rounds.Visit.{Visit}
-use Rattle.runtime_cell.specs.declared.cell.Did.{Did}
 use Rattle.bpf_code.specs.declared.insn.Insn.{Insn}
-use Rattle.runtime_history.specs.declared.event.Event.TheVariants.{Stepped}
 use Rattle.runtime_history.specs.declared.event.Seen.{Seen}
-use Rattle.runtime_history.specs.History.{Grows}
-use Rattle.runner.specs.Rounds.{Asked, AreVisits, MayVisit, StepsAt, last_of, seen_after}
+use Rattle.runner.specs.Rounds.{Asked, AreVisits, MayVisit, last_of, seen_after}
 
 -- what one of the share came to, whatever the share is called
 pub of_share : (b : Option (List Insn)) (r rs runner runners : ℕ) (asked : Asked) → r ≡ runner → rs ≡ runners
@@ -42,8 +39,3 @@ still was false moves went same = absurd cc
 pub now : (was seen moves : Bool) → was ≡ false → was ≡ seen → moves ≡ (seen || moves)
 now was true moves went same = absurd cc
 now was false moves went same = refl
-
-pub steps_at : (b : Option (List Insn)) (id : ℕ) (did : Option Did) (old new : Seen)
-    → IfSome did (λ d. Grows b old (Stepped id d) new) → IfNone did (new ≡ old) → StepsAt b id did old new
-steps_at b id None old new some none = none
-steps_at b id (Some did) old new some none = some

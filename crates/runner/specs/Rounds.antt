@@ -1,5 +1,5 @@
 -- A round of one runner, this project's own: docs/SEMANTICS.md, "Threads".
-use Rattle.std.specs.Prelude.{◌≡◌, ◌⊎◌, ◌||◌, ◌%◌, ◌<◌, ◌≤◌, ⊤, ℕ, Bool, true, false, List, [], ◌∷◌, Option}
+use Rattle.std.specs.Prelude.{◌≡◌, ◌≢◌, ◌⊎◌, ◌||◌, ◌%◌, ◌<◌, ◌≤◌, ⊤, ℕ, Bool, true, false, List, [], ◌∷◌, Option}
 use Rattle.std.specs.Prelude.{Some, None, IsSome, option_map}
 use Rattle.runtime_cell.specs.declared.cell.Did.{Did}
 use Rattle.runtime_cell.specs.declared.cell.Did.TheVariants.{Idle, Performed, Denied, Ended}
@@ -26,10 +26,10 @@ moves_on (Some Performed) = true
 moves_on (Some (Denied verdict)) = true
 moves_on (Some (Ended code)) = true
 
--- The step of the cell with the id is the next event that the runner adds to the history. Nothing happens
--- where the cell is gone, or where its sandbox could not be held on to.
+-- The step of the cell with the id is the next event that the runner adds to the history. There is none only
+-- where the runner sees all of the history, and no cell with the id runs.
 abbrev pub StepsAt : Option (List Insn) → ℕ → Option Did → Seen → Seen → Type 0
-StepsAt baseline id None old new = new ≡ old
+StepsAt baseline id None old new = Looks baseline old (λ running. running ≢ id) new
 StepsAt baseline id (Some did) old new = Grows baseline old (Stepped id did) new
 
 -- the step of a visit
@@ -94,12 +94,20 @@ abbrev pub RunsThroughout : Option (List Insn) → List Event → List Event →
 RunsThroughout baseline from to id = (events : List Event) → GoesOn from events → GoesOn events to
     → RunsAfter baseline events id
 
-abbrev pub IsVisited : ℕ → List Asked → Type 0
-IsVisited id [] = ⊥
-IsVisited id (asked ∷ earlier) = (id_in asked.visit ≡ Some id) ⊎ IsVisited id earlier
+-- a visit's step of the cell with the id is the runner's next event
+pub record Stepping (baseline : Option (List Insn)) (id : ℕ) (asked : Asked) : Type 0 where
+  pub before : Seen
+  pub sees : GoesOn asked.old.all before.all
+  pub own : before.own ≡ asked.old.own
+  pub did : Did
+  pub grows : Grows baseline before (Stepped id did) asked.new
+
+abbrev pub IsStepped : Option (List Insn) → ℕ → List Asked → Type 0
+IsStepped baseline id [] = ⊥
+IsStepped baseline id (asked ∷ earlier) = Stepping baseline id asked ⊎ IsStepped baseline id earlier
 
 -- A round asks for visits until there is none above the last one. The runner adds to the history what they
--- did, and nothing else. Each cell of its share that runs during the whole round is visited.
+-- did, and nothing else. Each cell of its share that runs during the whole round does a step.
 pub record IsRound (baseline : Option (List Insn)) (runner runners : ℕ) (start : Seen) (asked : List Asked)
     (told : Bool) (seen : Seen) : Type 0 where
   pub end : Asked
@@ -113,4 +121,4 @@ pub record IsRound (baseline : Option (List Insn)) (runner runners : ℕ) (start
   pub sees : seen ≡ end.new
   pub tells : told ≡ went_on visits
   pub each : (id : ℕ) → 0 < id → id % runners ≡ runner → RunsThroughout baseline start.all seen.all id
-      → IsVisited id visits
+      → IsStepped baseline id visits

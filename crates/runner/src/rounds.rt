@@ -1,18 +1,24 @@
 //! Runners: each steps the cells of its share, round after round.
-ghost use Rattle.std.specs.Prelude.{◌≡◌, ◌<◌, ◌++◌, ◌∷◌, ℕ, IsSome, List, Option, None, if◌then◌else◌};
-ghost use Rattle.std.specs.Prelude.{option_map};
+ghost use Rattle.std.specs.Prelude.{◌≡◌, ◌<◌, ◌++◌, ◌∷◌, ℕ, IfNone, IfSome, IsSome, List, Option, None, Some};
+ghost use Rattle.std.specs.Prelude.{if◌then◌else◌, option_map};
+ghost use Rattle.std.specs.Arc.{arc_value};
 ghost use Rattle.runtime_cell.specs.declared.cell.Did.{Did};
 ghost use Rattle.bpf_code.specs.declared.insn.Insn.{Insn};
-ghost use Rattle.registry.specs.Kept.{IsNextIn, home_in};
+ghost use Rattle.registry.specs.Kept.{IsNextIn, MayStepIn, home_in};
+ghost use Rattle.registry.specs.Runtime.{In};
+ghost use Rattle.runtime_history.specs.declared.event.Event.TheVariants.{Stepped};
 ghost use Rattle.runtime_history.specs.declared.event.Seen.{Seen};
-ghost use Rattle.runtime_history.specs.History.{Looks};
-ghost use Rattle.runtime_history.specs.Agreed.{without};
+ghost use Rattle.runtime_history.specs.History.{Grows, Looks};
+ghost use Rattle.runtime_history.specs.Agreed.{IsHome, without};
 ghost use Rattle.runner.specs.Labelled.{AreDue, of_share, visited};
 ghost use Rattle.runner.specs.Rounds.{Asked, IsNotPassed, IsOwn, IsRound, MayVisit, StepsAt, moves_on};
+ghost use Rattle.runner.specs.Shared.{AreListed};
 
 use crate::due::Due;
+use crate::lists::CellLists;
 use crate::sandbox::SandboxCells;
 use crate::shared::{Sandboxes, SharedRuntime};
+use registry::Registry;
 use runtime_cell::Did;
 use runtime_history::{Client, History, Listed, Node, Registered};
 use std::alloc::Global;
@@ -146,6 +152,37 @@ impl<B: Node> SharedRuntime<B> {
         let mut sandboxes = self.sandboxes.lock(rt);
         sandboxes.next(&self.history, me, above, runner, runners, over)
     }
+
+    // Does a step that is owed, and returns its result. `None` if no cell with its id runs.
+    fn step<R: Wait, G: StepGate>(
+        &self,
+        rt: &R,
+        me: &mut Client<B>,
+        next: NextCell<B>,
+        gate: &G,
+    ) -> Option<Did>
+        ensures { StepsAt B.filter next.id result me.old me.new }
+    {
+        let id = next.id;
+        match step_listed(rt, &self.history, me, next, gate) {
+            Some(did) => Some(did),
+            None => self.step_home(rt, me, id, gate),
+        }
+    }
+
+    // The same with the registry's lock held, so that the cell can't be gone from its sandbox meanwhile.
+    fn step_home<R: Wait, G: StepGate>(
+        &self,
+        rt: &R,
+        me: &mut Client<B>,
+        id: u64,
+        gate: &G,
+    ) -> Option<Did>
+        ensures { StepsAt B.filter id result me.old me.new }
+    {
+        let mut sandboxes = self.sandboxes.lock(rt);
+        sandboxes.step(rt, &self.history, me, id, gate)
+    }
 }
 
 // The visits of one of a shared runtime's runners. What was asked is not kept.
@@ -181,19 +218,8 @@ impl<'a, B: Node, R: Wait, G: StepGate> Visits for RunnerVisits<'a, B, R, G> {
             self.over,
         )?;
         let id = next.id;
-        let is_held = next.list.is_some();
-        let did = step(
-            self.rt,
-            &self.runtime.history,
-            &mut self.me,
-            next,
-            self.gate,
-        );
-        self.over = if is_held && is_over(did) {
-            Some(id)
-        } else {
-            None
-        };
+        let did = self.runtime.step(self.rt, &mut self.me, next, self.gate);
+        self.over = if is_over(did) { Some(id) } else { None };
         Some(Visit {
             id,
             went_on: goes_on(did),
@@ -267,6 +293,20 @@ impl<B: Node> Sandboxes<B> {
         }
     }
 
+    fn step<R: Wait, G: StepGate>(
+        &mut self,
+        rt: &R,
+        history: &History<B>,
+        me: &mut Client<B>,
+        id: u64,
+        gate: &G,
+    ) -> Option<Did>
+        ensures { StepsAt B.filter id result me.old me.new }
+    {
+        let (registered, lists) = (&mut self.registered, &self.lists);
+        step_home(rt, history, registered, lists, me, id, gate)
+    }
+
     // The list that has the cell with this id.
     fn list_of(&self, id: u64) -> Option<Arc<SandboxCells<B>, Global>> {
         if let Some(list) = self.due.get(id) {
@@ -311,15 +351,16 @@ fn forget_in<B: Node>(
     is_over
 }
 
-// Does a step that is owed, and returns its result.
-fn step<B: Node, R: Wait, G: StepGate>(
+// Does a step that is owed, under the lock of its list alone. `None` if it has no such cell now.
+fn step_listed<B: Node, R: Wait, G: StepGate>(
     rt: &R,
     history: &History<B>,
     me: &mut Client<B>,
     next: NextCell<B>,
     gate: &G,
 ) -> Option<Did>
-    ensures { StepsAt B.filter next.id result me.old me.new }
+    ensures some { IfSome result (λ did. Grows B.filter me.old (Stepped next.id did) me.new) }
+    ensures none { IfNone result (me.new ≡ me.old) }
 {
     let NextCell { id, list } = next;
     let list = list?;
@@ -329,8 +370,90 @@ fn step<B: Node, R: Wait, G: StepGate>(
     did
 }
 
+// The cell with this id does a step, if it is in a sandbox.
+fn step_home<B: Node, R: Wait, G: StepGate>(
+    rt: &R,
+    history: &History<B>,
+    registered: &mut Registered<B>,
+    lists: &CellLists<B>,
+    me: &mut Client<B>,
+    id: u64,
+    gate: &G,
+) -> Option<Did>
+    requires { AreListed registered.old.0 lists.now }
+    ensures registry { registered.new.0 ≡ registered.old.0 }
+    ensures may_run { (i : ℕ) → In i registered.new.1 → In i registered.old.1 }
+    ensures steps { StepsAt B.filter id result me.old me.new }
+{
+    match home(registered.registry(), lists, id) {
+        Some(list) => step_there(rt, history, registered, list, me, id, gate),
+        None => {
+            registered.look(history, me);
+            None
+        }
+    }
+}
+
+// The list of the sandbox in which the cell with this id is.
+fn home<'l, B: Node>(
+    registry: &Registry,
+    lists: &'l CellLists<B>,
+    id: u64,
+) -> Option<&'l Arc<SandboxCells<B>, Global>>
+    requires { AreListed registry.now lists.now }
+    ensures some { IfSome result (λ list. home_in registry.now.homes id ≡ Some (arc_value list.now).uid) }
+    ensures none { IfNone result ((uid : List ℕ) → IsHome registry.now id uid → ⊥) }
+{
+    let uid = registry.home(id)?;
+    lists.get(uid)
+}
+
+fn step_there<B: Node, R: Wait, G: StepGate>(
+    rt: &R,
+    history: &History<B>,
+    registered: &mut Registered<B>,
+    list: &Arc<SandboxCells<B>, Global>,
+    me: &mut Client<B>,
+    id: u64,
+    gate: &G,
+) -> Option<Did>
+    requires { home_in registered.old.0.homes id ≡ Some (arc_value list.now).uid }
+    ensures registry { registered.new.0 ≡ registered.old.0 }
+    ensures may_run { (i : ℕ) → In i registered.new.1 → In i registered.old.1 }
+    ensures steps { StepsAt B.filter id result me.old me.new }
+{
+    let (mut listed, loan) = list.lock.take(rt);
+    let did = step_known(history, registered, me, &mut listed, id, gate);
+    list.lock.put_back(listed, loan);
+    did
+}
+
+// The step of a cell that can only be in this list.
+fn step_known<B: Node, G: StepGate>(
+    history: &History<B>,
+    registered: &mut Registered<B>,
+    me: &mut Client<B>,
+    listed: &mut Listed<B>,
+    id: u64,
+    gate: &G,
+) -> Option<Did>
+    requires { home_in registered.old.0.homes id ≡ Some listed.old.0 }
+    ensures uid { listed.new.0 ≡ listed.old.0 }
+    ensures registry { registered.new.0 ≡ registered.old.0 }
+    ensures may_run { (i : ℕ) → In i registered.new.1 → In i registered.old.1 }
+    ensures steps { StepsAt B.filter id result me.old me.new }
+{
+    match step_in(history, me, listed, id, gate) {
+        Some(did) => Some(did),
+        None => {
+            registered.lose(history, listed, id);
+            registered.look(history, me);
+            None
+        }
+    }
+}
+
 // The critical section of a step.
-#[tactic(auto, using(crate::proofs::Visits::steps_at))]
 fn step_in<B: Node, G: StepGate>(
     history: &History<B>,
     me: &mut Client<B>,
@@ -339,7 +462,9 @@ fn step_in<B: Node, G: StepGate>(
     gate: &G,
 ) -> Option<Did>
     ensures uid { listed.new.0 ≡ listed.old.0 }
-    ensures steps { StepsAt B.filter id result me.old me.new }
+    ensures some { IfSome result (λ did. Grows B.filter me.old (Stepped id did) me.new) }
+    ensures none { IfNone result (me.new ≡ me.old) }
+    ensures moves { MayStepIn listed.old.1 id result listed.new.1 }
 {
     gate.before(id);
     let did = listed.step(history, me, id);

@@ -225,7 +225,10 @@ module _ (baseline : Option (List Insn)) where
             links = kept.links;
             run = kept.run;
             tell = kept.tell;
-            each = λ id runs. (mine.registry.1 id runs, at_home _ r mine.registry.0 id runs);
+            each = λ id runs. (
+              mine.registry.1 id runs,
+              (runs.uid, at_home _ r mine.registry.0 id runs),
+            );
           };
           holds = refl;
         },
@@ -233,7 +236,7 @@ module _ (baseline : Option (List Insn)) where
 
   -- one token no longer says that a cell may run
   pub forgets : (by slots : ℕ) (r : Registry) (ids : List ℕ) (uid : List ℕ) (cells : List Cell) (seen : Seen)
-      (id : ℕ) → IsOver r cells id
+      (id : ℕ) → IsOver r uid cells id
       → Allows (Holds baseline) slots by (view (Some (r, ids)) (Some (uid, cells)) seen, []) 0 (λ x. x)
       (λ x m. m ≡ (view (Some (r, without id ids)) (Some (uid, cells)) seen, []))
   forgets by slots r ids uid cells seen id over t kept len at bound =

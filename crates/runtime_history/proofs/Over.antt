@@ -7,9 +7,12 @@ use Rattle.runtime_cell.specs.Cell.{Cell}
 use Rattle.registry.specs.declared.registry.Registry.{Registry}
 use Rattle.registry.specs.Kept.{home_in}
 use Rattle.registry.specs.Runtime.{In, Runtime, id_of}
-use Rattle.registry.specs.Stands.{RiseAbove}
+use Rattle.registry.specs.declared.stage.Stage.{Stage}
+use Rattle.registry.specs.declared.stage.Stage.TheVariants as stage
+use Rattle.registry.specs.Stands.{IsEmptyIn, RiseAbove, stages_in}
 use Rattle.runtime_history.specs.History.{IsRunning}
-use Rattle.runtime_history.specs.Agreed.{HasCells, HasRegistry, IsOver, cells_in, without}
+use Rattle.runtime_history.specs.Agreed.{HasCells, HasRegistry, IsHome, IsOver, cells_in, without}
+use Rattle.runtime_history.specs.Sandboxes.{IsLive}
 
 in_ids : (cells : List Cell) (cell : Cell) → In cell cells → In (id_of cell) (map id_of cells)
 in_ids [] cell at = at
@@ -21,10 +24,19 @@ home_of : (s : Runtime) (r : Registry) → HasRegistry s r → (uid : List ℕ) 
     → In cell (cells_in s uid) → home_in r.homes (id_of cell) ≡ Some uid
 home_of s r has uid cell at = ((has.agrees uid).home (id_of cell)).1 (in_ids (cells_in s uid) cell at)
 
-pub at_home : (s : Runtime) (r : Registry) → HasRegistry s r → (id : ℕ) → IsRunning s id
-    → IsSome (home_in r.homes id)
-at_home s r has id runs = subst (λ (i : ℕ). IsSome (home_in r.homes i)) runs.is
-    (subst (λ (o : Option (List ℕ)). IsSome o) (sym (home_of s r has runs.uid runs.cell runs.there)) refl)
+-- where there is a cell there is a sandbox
+live_with : (st : Stage) (cells : List Cell) (cell : Cell) → In cell cells → IsEmptyIn st cells → IsLive st
+live_with stage.Unknown cells cell at none = absurd (subst (λ (l : List Cell). In cell l) none at)
+live_with (stage.Live ready) cells cell at none = tt
+live_with stage.Removed cells cell at none = absurd (subst (λ (l : List Cell). In cell l) none at)
+
+pub at_home : (s : Runtime) (r : Registry) → HasRegistry s r → (id : ℕ) (runs : IsRunning s id)
+    → IsHome r id runs.uid
+at_home s r has id runs = record {
+  home = ap (home_in r.homes) (sym runs.is) ∙ home_of s r has runs.uid runs.cell runs.there;
+  live = live_with (stages_in r runs.uid) (cells_in s runs.uid) runs.cell runs.there
+      (has.agrees runs.uid).empty;
+}
 
 above_all : (low : ℕ) (cells : List Cell) (cell : Cell) → RiseAbove low (map id_of cells) → In cell cells
     → low < id_of cell
@@ -51,26 +63,30 @@ same_cell low (x ∷ xs) a b rise (inr here) (inr there) same =
 same_some : (a b : List ℕ) → Some a ≡ Some b → a ≡ b
 same_some a b is = cc
 
+-- a cell that runs is among those of its home
+in_home : (s : Runtime) (r : Registry) (uid : List ℕ) (id : ℕ) → HasRegistry s r
+    → home_in r.homes id ≡ Some uid → (runs : IsRunning s id) → In runs.cell (cells_in s uid)
+in_home s r uid id has here runs =
+    let same : runs.uid ≡ uid = same_some _ _ (sym (at_home s r has id runs).home ∙ here) in
+    subst (λ (u : List ℕ). In runs.cell (cells_in s u)) same runs.there
+
 pub not_running : (s : Runtime) (r : Registry) (uid : List ℕ) (cells : List Cell) (id : ℕ) → HasRegistry s r
-    → HasCells s uid cells → IsOver r cells id → IsRunning s id → ⊥
+    → HasCells s uid cells → IsOver r uid cells id → IsRunning s id → ⊥
 not_running s r uid cells id has held (inl over) runs =
     let at : In over.0 (cells_in s uid) = subst (λ (l : List Cell). In over.0 l) (sym held.are) over.1 in
     let here : home_in r.homes id ≡ Some uid =
     ap (home_in r.homes) (sym over.2) ∙ home_of s r has uid over.0 at in
-    let there : home_in r.homes id ≡ Some runs.uid =
-    ap (home_in r.homes) (sym runs.is) ∙ home_of s r has runs.uid runs.cell runs.there in
-    let same : runs.uid ≡ uid = same_some _ _ (sym there ∙ here) in
-    let its : In runs.cell (cells_in s uid) =
-    subst (λ (u : List ℕ). In runs.cell (cells_in s u)) same runs.there in
+    let its = in_home s r uid id has here runs in
     let is : runs.cell ≡ over.0 =
     same_cell 0 (cells_in s uid) runs.cell over.0 (has.agrees uid).rise its at (runs.is ∙ sym over.2) in
     over.3 (sym (ap (λ (c : Cell). c.state) is) ∙ runs.runs)
-not_running s r uid cells id has held (inr gone) runs =
-    not_some (home_in r.homes id) gone (at_home s r has id runs)
+not_running s r uid cells id has held (inr (inl gone)) runs =
+    not_both (home_in r.homes id) runs.uid gone (at_home s r has id runs).home
   where
-    not_some : (o : Option (List ℕ)) → o ≡ None → IsSome o → ⊥
-    not_some None none some = cc
-    not_some (Some x) none some = cc
+    not_both : (o : Option (List ℕ)) (u : List ℕ) → o ≡ None → o ≡ Some u → ⊥
+    not_both o u none some = cc
+not_running s r uid cells id has held (inr (inr none)) runs = none.1 runs.cell
+    (subst (λ (l : List Cell). In runs.cell l) held.are (in_home s r uid id has none.0 runs)) runs.is
 
 in_kept : (id x i : ℕ) (xs ys : List ℕ) (test : Bool) → (id == x) ≡ test → i ≢ id → (In i xs → In i ys)
     → In i (x ∷ xs) → In i (cond (not test) (x ∷ ys) ys)

@@ -1,6 +1,6 @@
 -- What a token knows, and the rule that all tokens keep: this project's own.
 use Rattle.std.specs.Prelude.{◌≡◌, ◌⊎◌, ⊤, ℕ, ◌+◌, ◌≤◌, ◌==◌, not, filter, if◌then◌else◌, List, [], ◌∷◌}
-use Rattle.std.specs.Prelude.{Option, Some, None, IsSome}
+use Rattle.std.specs.Prelude.{Option, Some, None}
 use Rattle.std.specs.Str.{bytes_eq}
 use mathlib.Core.Option.{some}
 use lib.ListN.{get_elem?}
@@ -10,14 +10,15 @@ use Rattle.bpf_code.specs.declared.insn.Insn.{Insn}
 use Rattle.runtime_cell.specs.declared.cell.State.TheVariants.{Running}
 use Rattle.runtime_cell.specs.Cell.{Cell}
 use Rattle.registry.specs.declared.registry.Registry.{Registry}
-use Rattle.registry.specs.Kept.{home_in}
+use Rattle.registry.specs.Kept.{HasNoneIn, home_in}
 use Rattle.registry.specs.Runtime.{In, IsKnown, Runtime, id_of}
-use Rattle.registry.specs.Stands.{Agrees, AreBound, runtime_of}
+use Rattle.registry.specs.Stands.{Agrees, AreBound, runtime_of, stages_in}
 use Rattle.runtime_laws.specs.Runs.{IsRun, Link, now}
 use Rattle.runtime_history.specs.declared.event.Event.{Event}
 use Rattle.runtime_history.specs.declared.event.Seen.{Seen}
 use Rattle.runtime_history.specs.declared.room.View.{View}
 use Rattle.runtime_history.specs.History.{GoesOn, Grows, IsRunning, Looks, Tell, unseen}
+use Rattle.runtime_history.specs.Sandboxes.{IsLive}
 
 -- the name of no table
 abbrev pub no_table : TableId
@@ -92,18 +93,24 @@ abbrev pub forgetting : ℕ → Option (Registry × List ℕ) → Option (Regist
 forgetting id None = None
 forgetting id (Some held) = Some (held.0, without id held.1)
 
+-- the cell with the id is in this sandbox, which is there
+pub record IsHome (registry : Registry) (id : ℕ) (uid : List ℕ) : Type 0 where
+  pub home : home_in registry.homes id ≡ Some uid
+  pub live : IsLive (stages_in registry uid)
+
 -- the cell with the id is there and may run, as far as is known under the registry's lock
 abbrev pub MayRun : Registry → List ℕ → ℕ → Type 0
-MayRun registry started id = In id started × IsSome (home_in registry.homes id)
+MayRun registry started id = In id started × ((uid : List ℕ) × IsHome registry id uid)
 
 abbrev pub MayRunIn : Option (Registry × List ℕ) → ℕ → Type 0
 MayRunIn None id = ⊤
 MayRunIn (Some held) id = MayRun held.0 held.1 id
 
--- no cell with the id runs: the one of this sandbox does not, or it is gone
-abbrev pub IsOver : Registry → List Cell → ℕ → Type 0
-IsOver registry cells id = ((cell : Cell) × In cell cells × (id_of cell ≡ id) × (cell.state ≡ Running → ⊥))
-    ⊎ (home_in registry.homes id ≡ None)
+-- no cell with the id runs: the one among these cells does not, it is gone, or it would be one of these
+abbrev pub IsOver : Registry → List ℕ → List Cell → ℕ → Type 0
+IsOver registry uid cells id = ((cell : Cell) × In cell cells × (id_of cell ≡ id)
+    × (cell.state ≡ Running → ⊥))
+    ⊎ ((home_in registry.homes id ≡ None) ⊎ ((home_in registry.homes id ≡ Some uid) × HasNoneIn cells id))
 
 -- how often a part is known
 abbrev pub once : {A : Type 0} → Option A → ℕ

@@ -1,6 +1,7 @@
 //! Which cells may run: those that were started, but for some that were found ended or gone.
-ghost use Rattle.std.specs.Prelude.{◌≡◌, IsTrue, find, if◌then◌else◌, option_map};
+ghost use Rattle.std.specs.Prelude.{◌≡◌, ℕ, IsTrue, List, Some, find, if◌then◌else◌, option_map};
 ghost use Rattle.runtime_cell.specs.declared.cell.State.TheVariants.{Running};
+ghost use Rattle.registry.specs.Kept.{HasNoneIn, home_in};
 ghost use Rattle.registry.specs.Runtime.{id_of, is_of};
 ghost use Rattle.runtime_history.specs.History.{Looks};
 ghost use Rattle.runtime_history.specs.Sandboxes.{if_done, to_start};
@@ -43,11 +44,26 @@ impl<B: Node> Registered<B> {
         listed.token = cells_part(notes, &mut self.token);
         true
     }
+
+    /// Takes the cell with this id out of those that may run: these are the cells of its sandbox, and it is not
+    /// among them.
+    pub fn lose(&mut self, history: &History<B>, listed: &mut Listed<B>, id: u64)
+        requires home { home_in self.old.0.homes id ≡ Some listed.old.0 }
+        requires none { HasNoneIn listed.old.1 id }
+        ensures listed { listed.new ≡ listed.old }
+        ensures registry { self.new.0 ≡ self.old.0 }
+        ensures may_run { self.new.1 ≡ without id self.old.1 }
+    {
+        let notes = history.notes();
+        lend_cells(notes, &mut self.token, &mut listed.token);
+        forget::<Brand>(notes, &mut self.token, &self.registry, &listed.cells, id);
+        listed.token = cells_part(notes, &mut self.token);
+    }
 }
 
 // Whether no cell with this id runs, as far as the cells of one sandbox show.
 fn is_over(registry: &Registry, cells: &Cells, id: u64) -> bool
-    ensures { IsTrue result → IsOver registry.now cells.now id }
+    ensures { (uid : List ℕ) → IsTrue result → IsOver registry.now uid cells.now id }
 {
     match cells.get(id) {
         Some(cell) => !runs(cell),

@@ -229,8 +229,8 @@ pub(crate) fn forget<E: Over>(
     requires table { 0 < notes.now.table_id.words }
     requires me { me.old.table_id ≡ notes.now.table_id }
     requires lent { (uid : List ℕ) × (ids : List ℕ)
-        × (me.old.me ≡ (view (Some (registry.now, ids)) (Some (uid, cells.now)) me.old.me.0.seen, [])) }
-    requires over { IsOver registry.now cells.now id }
+        × (me.old.me ≡ (view (Some (registry.now, ids)) (Some (uid, cells.now)) me.old.me.0.seen, []))
+        × IsOver registry.now uid cells.now id }
     ensures table { me.new.table_id ≡ me.old.table_id }
     ensures forgets { me.new.me ≡ (
       view (forgetting id me.old.me.0.registry) me.old.me.0.cells

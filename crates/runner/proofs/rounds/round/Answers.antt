@@ -1,6 +1,6 @@
 use Rattle.std.proofs.Common.{◌∷◌, Some, refl, ◌∙◌}
 use Rattle.runner.specs.Rounds.{Asked}
-use Rattle.runner.proofs.Throughout.{each_visited}
+use Rattle.runner.proofs.Throughout.{each_steps}
 use Rattle.runner.proofs.Visits.{kept_more, now, of_share, still, visits_more}
 use Rattle.runner.proofs.rounds.round.Goals as goal
 
@@ -73,7 +73,7 @@ returns g c =
         are = so.are;
         sees = refl;
         tells = so.went;
-        each = each_visited _ _ _ _ end so.asked c.in_default.is so.last so.seen
+        each = each_steps _ _ _ _ end so.asked c.in_default.is so.last so.seen
             (of_share _ _ _ _ _ end so.runner so.runners c.visit.ensures.may) so.are;
       },
       kept_more _ _ _ end so.asked c.visit.ensures.asked so.kept,
