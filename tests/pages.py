@@ -88,9 +88,9 @@ def without_moments(printed):
     return re.sub(r"^\d+ (?=default\.)", "", printed, flags=re.M)
 
 
-def check_command(command, below, how):
+def check_command(command, below, how, page="README"):
     ran = subprocess.run(command, stderr=subprocess.STDOUT, timeout=300, **how)
-    check(f"README: {command}", without_moments(ran.stdout), without_moments(below))
+    check(f"{page}: {command}", without_moments(ran.stdout), without_moments(below))
 
 
 def runtimes_of(session):
@@ -155,6 +155,23 @@ def check_sessions(readme, prefix, room):
             other = None
 
 
+def check_tutorial(prefix, room):
+    """Each command of docs/TUTORIAL.md prints what is shown, in a folder with the files that the page says to
+    write: each is in the block below its name."""
+    folder = f"{room}/tutorial"
+    os.mkdir(folder)
+    how = {"shell": True, "cwd": folder, "env": environment(prefix), "stdout": subprocess.PIPE, "text": True}
+    page = text_of("docs/TUTORIAL.md")
+    parts = re.findall(r"`([a-z]+\.json)`:\n\n```json\n(.*?)^```$|^```console\n(.*?)^```$", page, re.M | re.S)
+    check("the tutorial writes four files", sum(1 for name, _, _ in parts if name), 4)
+    for name, text, session in parts:
+        if name:
+            with open(f"{folder}/{name}", "w", encoding="utf-8") as it:
+                it.write(text)
+        for command, below in commands(session):
+            check_command(command, below, how, "TUTORIAL")
+
+
 def check_files(readme):
     """The files that README shows are those that it names in front of them."""
     shown = re.findall(r"`(examples/[a-z_]+\.json)`(?:(?!```).)*?\n```json\n(.*?)^```$", readme, re.M | re.S)
@@ -183,6 +200,33 @@ def check_paths():
         named = set(re.findall(PATHS, text_of(page)))
         lost = [path for path in sorted(named) if not is_there(path)]
         check(f"{page} names files that are there", lost, [])
+
+
+# Whose names the programs print, and which of them have no row of their own.
+FAULTS = (("bpf_code/src/fault.rt", "CodeFault"), ("bpf_verify/src/fault.rt", "Fault"),
+          ("verdict/src/stack.rt", "StackFault"), ("oci_profile/src/faults.rt", "ProfileFault"),
+          ("profile_template/src/faults.rt", "TemplateFault"), ("script/src/faults.rt", "ScriptFault"),
+          ("manifest/src/faults.rt", "PodFault"), ("cri_msgs/src/refusals.rt", "Refusal"),
+          ("cri_frames/src/faults.rt", "FeedFault"), ("cri_frames/src/faults.rt", "Lost"),
+          ("worker_core/src/answers.rt", "NodeRefusal"), ("compile/src/fault.rt", "CompileFault"),
+          ("profile_text/src/faults.rt", "WriteFault"), ("node_io/src/faults.rt", "FileFault"),
+          ("checker/src/bad_words.rt", "WordFault"), ("command_line/src/fault.rt", "Misfit"))
+NO_ROWS = {"Profile"}  # a template's fault that is one of a profile
+
+
+def check_faults():
+    """docs/SEMANTICS.md lists every fault and refusal by its name."""
+    listed = text_of("docs/SEMANTICS.md").partition("\n## Every fault and refusal\n")[2].partition("\n## ")[0]
+    rows = [[cell.strip() for cell in line.split("|")[1:-1]] for line in listed.splitlines() if line[:2] == "| "]
+    # (the names of misfits are in one row)
+    named = [row[0] for row in rows] + [row[2] for row in rows if row[0] == "Misfit"]
+    names = set(re.findall(r"\w+", " ".join(named)))
+    for path, kind in FAULTS:
+        source = text_of(f"crates/{path}")
+        body = re.search(rf"enum {kind}(?:<'a>)? \{{\n(.*?)^\}}", source, re.M | re.S).group(1)
+        variants = set(re.findall(r"^    ([A-Z]\w+)", body, re.M)) - NO_ROWS
+        check(f"SEMANTICS lists each {kind}", sorted(variants - names), [])
+    check("a row of faults has four cells", [row[0] for row in rows if len(row) != 4], [])
 
 
 def check_quotes():
@@ -341,8 +385,10 @@ def checked(programs):
         check_readme(readme)
         check_paths()
         check_quotes()
+        check_faults()
         check_files(readme)
         check_sessions(readme, prefix, room)
+        check_tutorial(prefix, room)
         check_version(prefix)
         for program in STATUSES:
             check_page(prefix, program)
