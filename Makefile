@@ -7,7 +7,7 @@ ENGINES ?= /
 BENCH_FLAGS := -std=gnu11 -O2 -Wall -Wextra
 EXAMPLES := ../../examples
 
-.PHONY: help test quick cases times planted demo try lib install copy uninstall bench kernel table clean
+.PHONY: help test quick cases times planted demo try lib install copy uninstall bench kernel table fleet clean
 
 help:
 	@tools/help.sh
@@ -110,6 +110,10 @@ kernel: lib
 # The call table beside the kernel's header on this machine.
 table:
 	@tools/compare_call_table.sh
+
+# Three nodes behind an etcd of this machine, by the programs that make test built, or those in the folder BIN.
+fleet:
+	@tools/fleet.py
 
 clean:
 	rm -rf out crates/*/out

@@ -24,5 +24,7 @@ make bench    measures the machine and the compiler beside others, the runtime w
               ENGINES=FOLDER: profiles of engines whose packages lie there. A quarter of an hour
 make kernel   compares the running kernel with the library on COUNT drawn calls. A minute
 make table    compares the table of calls with the kernel's header on this machine. At once
+make fleet    runs 60 pods on three nodes behind Debian's etcd, and kills each kind of part once, by what is
+              built, or BIN=FOLDER. A minute
 make clean    removes what is built and proved
 TEXT
