@@ -1,9 +1,11 @@
-ghost use Rattle.std.specs.Prelude.{◌≡◌, IfOk, IfSome, IfNone};
-ghost use Rattle.bpf_compare.specs.Agree.{Says};
+ghost use Rattle.std.specs.Prelude.{◌≡◌, IfOk, IfSome, IfNone, IsTrue};
+ghost use Rattle.call_data.specs.declared.sys_call.SysCall.{SysCall};
+ghost use Rattle.bpf_compare.specs.Agree.{Agree, Says};
 
 use crate::comparison::{Comparison, Doubt};
 use crate::path::{Path, Progress};
 use crate::scope::Scope;
+use bpf_machine::sound_code_runs;
 use bpf_verify::Filter;
 use std::alloc::{AllocError, Global};
 
@@ -20,6 +22,9 @@ pub fn compare(
 ) -> Result<Comparison, AllocError>
     ensures { IfOk result (λ found. Says found scope first.now second.now) }
 {
+    if is_same_code(first, second) {
+        return Ok(Comparison::Same);
+    }
     let mut waiting = Vec::new(alloc);
     let mut path = Path::start(alloc, scope);
     let mut doubt = None;
@@ -41,6 +46,14 @@ pub fn compare(
         }
     }
     Ok(Comparison::Undecided(Doubt::Budget))
+}
+
+/// Whether both filters have the same instructions, and so the same run on every call.
+fn is_same_code(first: &Filter, second: &Filter) -> bool
+    ensures { IsTrue result → (call : SysCall) → Agree first.now second.now call }
+{
+    sound_code_runs();
+    first.insns() == second.insns()
 }
 
 /// The result if no difference was found.

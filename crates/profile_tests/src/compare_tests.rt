@@ -106,18 +106,22 @@ fn bits_of_an_argument_and_arithmetic(rt: HostRuntime) -> Result<(), Fail> {
         }
         _ => assert!(rt; false, "differs"),
     }
-    let sums = filter(
-        &rt,
-        &[
-            insn(Operation::LoadData, 0, 0, 24),
-            insn(Operation::AddK, 0, 0, 1),
-            insn(Operation::JumpEqualK, 1, 0, 0x80),
-            insn(Operation::ReturnK, 0, 0, 1),
-            insn(Operation::ReturnK, 0, 0, 1),
-        ],
-    )?;
+    let mut codes = [
+        insn(Operation::LoadData, 0, 0, 24),
+        insn(Operation::AddK, 0, 0, 1),
+        insn(Operation::JumpEqualK, 1, 0, 0x80),
+        insn(Operation::ReturnK, 0, 0, 1),
+        insn(Operation::ReturnK, 0, 0, 1),
+    ];
+    let sums = filter(&rt, &codes)?;
     assert_eq!(rt;
-        compare(rt.alloc(), &sums, &sums, Scope::EveryCall, BUDGET)?,
+        compare(rt.alloc(), &sums, &sums, Scope::EveryCall, 0)?,
+        Comparison::Same
+    );
+    codes[2].k = 0x81;
+    let others = filter(&rt, &codes)?;
+    assert_eq!(rt;
+        compare(rt.alloc(), &sums, &others, Scope::EveryCall, BUDGET)?,
         Comparison::Undecided(Doubt::Arithmetic)
     );
     Ok(())
