@@ -1,9 +1,11 @@
 -- Numbers of which some bits are known.
 use Rattle.std.proofs.Common.{◌≡◌, ◌≢◌, ℕ, zero, suc, ◌-◌, ◌*◌, ◌^◌, ◌<◌, ◌≤◌, min, max, bit_and, bit_or, sym}
-use Rattle.std.proofs.Common.{ap, ◌∙◌, arith}
+use Rattle.std.proofs.Common.{ap, ◌∙◌, arith, ◌/◌, ◌%◌}
 use Rattle.std.specs.Int.{bit_at}
-use Rattle.std.proofs.lemmas.Nat.{and_le_l, and_comm, and_assoc, and-not}
+use Rattle.std.proofs.Math.Nat.{div-mul-le_self}
+use Rattle.std.proofs.lemmas.Nat.{and_le_l, and_comm, and_assoc, and-not, le-div, pow_pos}
 use Rattle.std.proofs.lemmas.Nat.Bits.{bit_at_and, bit_at_or, bit_at-lt, same_from_bits, and_pow}
+use Rattle.std.proofs.lemmas.Nat.Bits.{and_high_mask, ones_shl}
 
 -- what is known under one mask and under another agrees where they meet
 pub bits_meet : (n m k a b : ℕ) → bit_and n m ≡ a → bit_and n k ≡ b → bit_and a k ≡ bit_and b m
@@ -95,3 +97,23 @@ bits_greatest n m k a small narrow known =
           (omega (arith, and_le_l n k)),
       and_le_l (bit_and k rest) n,
     )
+
+quotient_grows : (n m p : ℕ) → 0 < p → n ≤ m → n / p ≤ m / p
+quotient_grows n m p some below = le-div (n / p) m p some (omega (arith, div-mul-le_self n p))
+
+-- numbers between two bounds have the high bits that the bounds share
+pub bits_between : (n low high k : ℕ) → k < 32 → n < 2 ^ 32 → low ≤ n → n ≤ high
+    → low / 2 ^ k ≡ high / 2 ^ k
+    → bit_and n ((2 ^ 32 - 1) * 2 ^ k % 2 ^ 32) ≡ bit_and low ((2 ^ 32 - 1) * 2 ^ k % 2 ^ 32)
+bits_between n low high k short small from to shared =
+    let p : ℕ = 2 ^ k in
+    let some : 0 < p = pow_pos k in
+    let within : k ≤ 32 = omega arith in
+    let same : n / p ≡ low / p = omega (
+      arith,
+      shared,
+      quotient_grows low n p some from,
+      quotient_grows n high p some to,
+    ) in
+    rw (ones_shl 32 k within) (and_high_mask 32 k within n small ∙ ap (λ q. q * p) same
+    ∙ sym (and_high_mask 32 k within low (omega arith)))

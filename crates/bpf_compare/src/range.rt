@@ -39,25 +39,53 @@ impl Range {
         bits: NATIVE_ARCH,
     };
 
-    /// The same numbers, if the bounds leave one. Of a single number all bits are known.
+    /// The same numbers, if there is one, with what the bounds and the known bits tell of each other.
     fn settled(self) -> Option<Range>
         ensures { (n : ℕ) → IsIn self n → IsSomeAnd result (λ range. IsIn range n) }
     {
-        if self.low > self.high {
-            return None;
+        self.within_bits()?.with_shared_bits()?.within_bits()
+    }
+
+    /// The same numbers, if there is one: none is below the known bits, or above them and all others.
+    fn within_bits(self) -> Option<Range>
+        ensures { (n : ℕ) → IsIn self n → IsSomeAnd result (λ range. IsIn range n) }
+    {
+        let low = self.low.max(self.bits);
+        let high = self
+            .high
+            .min(u32::MAX - self.mask.saturating_sub(self.bits));
+        if low > high {
+            None
+        } else {
+            Some(Range { low, high, ..self })
         }
-        if self.low < self.high {
-            return Some(self);
+    }
+
+    /// The same numbers, if there is one: all have the bits that both bounds share.
+    fn with_shared_bits(self) -> Option<Range>
+        ensures { (n : ℕ) → IsIn self n → IsSomeAnd result (λ range. IsIn range n) }
+    {
+        let shared = shared_bits(self.low, self.high);
+        let bits = self.low & shared;
+        if self.bits & shared == bits & self.mask {
+            Some(Range {
+                mask: self.mask | shared,
+                bits: self.bits | bits,
+                ..self
+            })
+        } else {
+            None
         }
-        if self.low & self.mask != self.bits {
-            return None;
-        }
-        Some(Range {
-            low: self.low,
-            high: self.high,
-            mask: u32::MAX,
-            bits: self.low,
-        })
+    }
+
+    /// Whether the number is within the bounds and has the bits.
+    pub(crate) fn has(self, number: u32) -> bool {
+        self.low <= number && number <= self.high && number & self.mask == self.bits
+    }
+
+    /// Whether all bits under the mask are known.
+    pub(crate) fn knows(self, mask: u32) -> bool {
+        mask & !self.mask == 0
     }
 
     /// Its numbers that are at least this one.
@@ -97,8 +125,8 @@ impl Range {
             return None;
         }
         let range = Range {
-            low: self.low.max(bits),
-            high: self.high.min(u32::MAX - (mask - bits)),
+            low: self.low,
+            high: self.high,
             mask: self.mask | mask,
             bits: self.bits | bits,
         };
@@ -183,6 +211,22 @@ impl Range {
         } else {
             Some(self)
         }
+    }
+}
+
+/// A mask of the bits that all numbers between two bounds share: those above the highest in which the bounds
+/// differ.
+fn shared_bits(low: u32, high: u32) -> u32
+    ensures { (n : ℕ) → n < 2 ^ 32 → low ≤ n → n ≤ high → bit_and n result ≡ bit_and low result }
+{
+    if low == high {
+        return u32::MAX;
+    }
+    let count = 32 - (low ^ high).leading_zeros();
+    if count < 32 && low >> count == high >> count {
+        u32::MAX << count
+    } else {
+        0
     }
 }
 

@@ -1,5 +1,4 @@
-use Rattle.std.proofs.Common.{arith}
-use Rattle.bpf_compare.proofs.Bits.{bits_meet, bits_stand, bits_joined, bits_below, bits_above}
+use Rattle.bpf_compare.proofs.Bits.{bits_meet, bits_stand, bits_joined}
 use Rattle.bpf_compare.proofs.range.Range.with_bits.Goals as goal
 
 pub returns-then-bits-mask : goal.returns-then-bits-mask
@@ -12,12 +11,7 @@ returns-then-self-mask c = λ n in_range has.
 pub returns : goal.returns
 returns c = λ n in_range has.
     c.settled.ensures n (record {
-      low = omega (arith, in_range.low, bits_below n _ _ has);
-      high = omega (
-        arith,
-        in_range.high,
-        bits_above n c.args.mask c.args.bits (omega (arith, in_range.high))
-            (omega arith) has,
-      );
+      low = in_range.low;
+      high = in_range.high;
       bits = bits_joined n _ _ _ _ in_range.bits has;
     })
