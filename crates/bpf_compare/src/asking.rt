@@ -6,6 +6,7 @@ use crate::question::{Question, Test};
 use crate::range::Range;
 use crate::value::Value;
 use crate::word::Word;
+use call_data::SysCall;
 
 /// A question about a bit under the mask that the range leaves open. `None` if all of them are known.
 fn bit_question(word: Word, range: Range, mask: u32) -> Option<Question> {
@@ -25,29 +26,45 @@ pub(crate) fn value_question(known: &Known, value: Value) -> Option<Question> {
     }
 }
 
-/// A question about a bit that is not known of the calls of the set: of a word of which more is known than
-/// its range can tell, or else of any word. `None` if each word is known whole, so that at most one call is
-/// left.
-pub(crate) fn open_question(known: &Known) -> Option<Question>
-    ensures { IfNone result (IsSettled known.now) }
-{
+/// A question about a bit of a word that breaks a rule of the set in this call, which was meant to be of it.
+///
+/// The words are independent: a set is empty only if one of them has no number left. The call has that one
+/// wrong, so a bit of a word that it has right would not help.
+pub(crate) fn wrong_word_question(known: &Known, call: SysCall) -> Option<Question> {
+    let data = call.to_bytes();
     for it in known.excluded.as_slice() {
-        let question = bit_question(it.word, known.ranges[it.word.place], it.mask);
-        if question.is_some() {
-            return question;
+        if it.has(it.word.of(&data)) {
+            let question = bit_question(it.word, known.ranges[it.word.place], it.mask);
+            if question.is_some() {
+                return question;
+            }
         }
     }
     for it in known.bounded.as_slice() {
-        let question = bit_question(it.word, known.ranges[it.word.place], it.mask);
-        if question.is_some() {
-            return question;
+        if !it.has(it.word.of(&data)) {
+            let question = bit_question(it.word, known.ranges[it.word.place], it.mask);
+            if question.is_some() {
+                return question;
+            }
         }
     }
-    any_open_bit(known)
+    wrong_range_question(known, &data)
 }
 
-/// A question about a bit of any word.
-fn any_open_bit(known: &Known) -> Option<Question>
+/// A question about a bit of a word that is not in its range in this call's data.
+fn wrong_range_question(known: &Known, data: &[u8; 64]) -> Option<Question> {
+    for place in 0..16 {
+        let word = Word { place };
+        let range = known.ranges[place];
+        if !range.has(word.of(data)) {
+            return bit_question(word, range, u32::MAX);
+        }
+    }
+    None
+}
+
+/// A question about a bit of any word. `None` if each word is known whole, so that at most one call is left.
+pub(crate) fn any_question(known: &Known) -> Option<Question>
     ensures { IfNone result (IsSettled known.now) }
 {
     for place in 0..16 {

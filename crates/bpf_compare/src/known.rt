@@ -63,12 +63,27 @@ impl Known {
         }
     }
 
-    /// Whether the word at this place may be this number, as far as a single rule can tell.
-    pub(crate) fn allows(&self, place: usize, number: u32) -> bool {
-        let mut excluded = self.excluded.as_slice().iter();
-        let mut bounded = self.bounded.as_slice().iter();
-        !excluded.any(|it| it.word.place == place && number & it.mask == it.bits)
-            && bounded.all(|it| it.word.place != place || it.has(number))
+    /// How many numbers are tried for a word: some for each rule, of which most rule out a single run.
+    pub(crate) fn tries(&self) -> usize {
+        (self.excluded.len() + self.bounded.len())
+            .saturating_mul(4)
+            .saturating_add(64)
+    }
+
+    /// Why the word at this place is not this number, if a rule tells: free low bits, of the numbers that the
+    /// rule excludes with it.
+    pub(crate) fn run_without(&self, place: usize, number: u32) -> Option<u32> {
+        for it in self.excluded.as_slice() {
+            if it.word.place == place && it.has(number) {
+                return Some(free_low_bits(it.mask));
+            }
+        }
+        for it in self.bounded.as_slice() {
+            if it.word.place == place && !it.has(number) {
+                return Some(free_low_bits(it.mask));
+            }
+        }
+        None
     }
 
     /// The same value, as a constant where all its bits are known.
@@ -162,8 +177,8 @@ impl Known {
     {
         self.narrow_word(question, range, holds)?;
         match question.bounds(holds) {
-            Some(bounds) => self.bound(bounds),
-            None => Ok(()),
+            Some(bounds) if !range.knows(bounds.mask) => self.bound(bounds),
+            _ => Ok(()),
         }
     }
 
@@ -194,6 +209,11 @@ impl Known {
         self.bounded.push(bounds)?;
         Ok(())
     }
+}
+
+/// The bits below the lowest one of a mask.
+fn free_low_bits(mask: u32) -> u32 {
+    mask.wrapping_sub(1) & !mask
 }
 
 /// Whether all numbers of the range are excluded for this word, as far as a quick check can tell.

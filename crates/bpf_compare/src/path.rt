@@ -7,7 +7,7 @@ ghost use Rattle.bpf_compare.specs.declared.value.Value.{Value};
 ghost use Rattle.bpf_compare.specs.Known.{IsAmong};
 ghost use Rattle.bpf_compare.specs.Paths.{Becomes, Meets, ReturnsAs, Takes, Tells};
 
-use crate::asking::{open_question, value_question};
+use crate::asking::{any_question, value_question, wrong_word_question};
 use crate::comparison::Comparison;
 use crate::difference::difference;
 use crate::known::{Known, Left};
@@ -16,6 +16,7 @@ use crate::scope::Scope;
 use crate::step::Registers;
 use crate::value::Value;
 use crate::walk::{Turn, Walk};
+use crate::witness::witness;
 use bpf_verify::Filter;
 use std::alloc::{AllocError, Global};
 
@@ -118,14 +119,17 @@ impl Path {
         if one.is_same(other) {
             return Ok(Progress::Agrees);
         }
-        if let Some(found) = difference(first, second, scope, known) {
+        let call = witness(known);
+        if let Some(found) = difference(first, second, scope, call) {
             return Ok(Progress::Differs(found));
         }
         if matches!(one, Value::Unknown) || matches!(other, Value::Unknown) {
             return Ok(Progress::Unclear);
         }
-        let asked = value_question(known, one).or(value_question(known, other));
-        match asked.or(open_question(known)) {
+        let asked = wrong_word_question(known, call)
+            .or(value_question(known, one))
+            .or(value_question(known, other));
+        match asked.or(any_question(known)) {
             Some(question) => self.restart_with(alloc, question),
             None => Ok(Progress::Agrees),
         }

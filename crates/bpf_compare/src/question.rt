@@ -95,6 +95,11 @@ impl Question {
 }
 
 impl Excluded {
+    /// Whether this number has these bits.
+    pub(crate) fn has(&self, number: u32) -> bool {
+        number & self.mask == self.bits
+    }
+
     /// Whether all numbers of the range have these bits.
     pub(crate) fn covers(&self, range: Range) -> bool
         ensures { IsTrue result → (n : ℕ) → IsIn range n → bit_and n self.now.mask ≡ self.now.bits }

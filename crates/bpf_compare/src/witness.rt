@@ -8,9 +8,6 @@ use crate::laws::words_fit;
 use crate::range::Range;
 use call_data::{SysCall, words_of_fields};
 
-/// How many numbers are tried for a word: more than two filters have instructions.
-const TRIES: u32 = 8_192;
-
 /// A call that is likely in the set. That is not guaranteed, so the caller runs both filters on it, but no
 /// other call is in a set whose words are all known.
 pub(crate) fn witness(known: &Known) -> SysCall
@@ -53,14 +50,33 @@ fn number(known: &Known, place: usize) -> u32
     if range.mask == u32::MAX {
         return range.bits;
     }
-    let mut number = range.low & !range.mask | range.bits;
-    for _ in 0..TRIES {
-        if range.low <= number && number <= range.high && known.allows(place, number) {
-            return number;
+    let mut number = least(range);
+    for _ in 0..known.tries() {
+        if !range.has(number) {
+            break;
         }
-        number = following(range, number);
+        match known.run_without(place, number) {
+            None => return number,
+            Some(run) => number = following(range, number | run),
+        }
     }
     number
+}
+
+/// The least number of the range, if it has one.
+fn least(range: Range) -> u32 {
+    let wrong = (range.low ^ range.bits) & range.mask;
+    if wrong == 0 {
+        return range.low;
+    }
+    // The highest bit that the bound has wrong, and all below it.
+    let below = u32::MAX >> (wrong.leading_zeros() % 32);
+    let number = range.low & !below & !range.mask | range.bits;
+    if number >= range.low {
+        number
+    } else {
+        following(range, range.low | below)
+    }
 }
 
 /// The next number with the range's bits.

@@ -2,6 +2,8 @@ ghost use Rattle.std.specs.Prelude.{◌≡◌, ◌<◌, ◌%◌};
 ghost use Rattle.call_data.specs.declared.sys_call.SysCall.{SysCall};
 ghost use Rattle.call_data.specs.CallData.{word_at};
 
+use call_data::word_of;
+
 /// One of the sixteen words of a call's data.
 #[derive(Clone, Copy, PartialEq, Eq)]
 pub(crate) struct Word {
@@ -22,5 +24,10 @@ impl Word {
         Word {
             place: offset as usize / 4,
         }
+    }
+
+    /// The word in this data of a call.
+    pub(crate) fn of(self, data: &[u8; 64]) -> u32 {
+        word_of(data, 4 * self.place as u32)
     }
 }

@@ -1,6 +1,6 @@
 use Rattle.std.proofs.Common.{◌≡◌, ◌<◌, ◌-◌, ◌^◌, ℕ, slice_index_or}
 use Rattle.bpf_compare.specs.declared.range.Range.{Range}
-use Rattle.bpf_compare.proofs.asking.any_open_bit.Given as goal
+use Rattle.bpf_compare.proofs.asking.any_question.Given as goal
 
 abbrev pub invariant-loop-place : goal.invariant-loop-place
 invariant-loop-place l = (place : ℕ) (range : Range) → place < l.place
