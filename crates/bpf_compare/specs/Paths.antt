@@ -36,6 +36,7 @@ abbrev pub TurnsTo : Turn → List Insn → SysCall → Walk → Type 0
 TurnsTo turn.Goes code call walk = Follows code call walk
 TurnsTo (turn.Splits other) code call walk = Follows code call walk ⊎ Follows code call other
 TurnsTo (turn.Ends value) code call walk = ReturnsAs code call value × IsAmong walk.known call
+TurnsTo turn.Narrows code call walk = Unit {0}
 TurnsTo turn.Empty code call walk = ⊥
 TurnsTo turn.Unclear code call walk = Unit {0}
 
@@ -52,6 +53,7 @@ abbrev pub Becomes : Progress → List Insn → List Insn → SysCall → Path �
 Becomes progress.Goes first second call path = Takes first second call path
 Becomes (progress.Splits other) first second call path =
     Takes first second call path ⊎ Takes first second call other
+Becomes progress.Narrows first second call path = Unit {0}
 Becomes progress.Agrees first second call path = Agree first second call
 Becomes (progress.Differs found) first second call path = Unit {0}
 Becomes progress.Unclear first second call path = Unit {0}
@@ -68,6 +70,7 @@ abbrev pub Tells : Progress → Scope → List Insn → List Insn → Type 0
 Tells (progress.Differs found) scope first second = Says found scope first second
 Tells progress.Goes scope first second = Unit {0}
 Tells (progress.Splits other) scope first second = Unit {0}
+Tells progress.Narrows scope first second = Unit {0}
 Tells progress.Agrees scope first second = Unit {0}
 Tells progress.Unclear scope first second = Unit {0}
 

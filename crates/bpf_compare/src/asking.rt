@@ -5,6 +5,7 @@ use crate::known::Known;
 use crate::question::{Question, Test};
 use crate::range::Range;
 use crate::value::Value;
+use crate::witness::number;
 use crate::word::Word;
 use call_data::SysCall;
 
@@ -23,6 +24,43 @@ pub(crate) fn value_question(known: &Known, value: Value) -> Option<Question> {
     match value {
         Value::Data(word, mask) => bit_question(word, known.ranges[word.place], mask),
         Value::Constant(_) | Value::Unknown => None,
+    }
+}
+
+/// A question about a value whose number an instruction needs: about a bit of it, or whether it is a single
+/// number where a path for each would be too many.
+pub(crate) fn number_question(known: &Known, value: Value) -> Option<Question> {
+    if let Value::Data(word, mask) = value
+        && is_wide(mask & !known.ranges[word.place].mask)
+        && let Some(number) = guess(known, word, mask)
+    {
+        return Some(Question {
+            word,
+            mask,
+            test: Test::Equal,
+            against: number & mask,
+        });
+    }
+    value_question(known, value)
+}
+
+/// Whether these bits have too many numbers for a path each.
+fn is_wide(open: u32) -> bool {
+    open.count_ones() > 8
+}
+
+/// A number that the word may be, if one is found. It is rather not 0 under the mask, as a test of any bit, or
+/// of whether A is at least X, has one answer then.
+fn guess(known: &Known, word: Word, mask: u32) -> Option<u32> {
+    let least = number(known, word.place);
+    let open = mask & !known.ranges[word.place].mask;
+    let next = least | open & open.wrapping_neg();
+    if known.allows(word.place, next) {
+        Some(next)
+    } else if known.allows(word.place, least) {
+        Some(least)
+    } else {
+        None
     }
 }
 

@@ -35,6 +35,10 @@ pub fn compare(
                 waiting.push(other)?;
                 continue;
             }
+            Progress::Narrows => {
+                doubt = Some(Doubt::Arithmetic);
+                continue;
+            }
             Progress::Agrees => None,
             Progress::Differs(found) => return Ok(found),
             Progress::Unclear => Some(Doubt::Arithmetic),

@@ -70,6 +70,13 @@ impl Known {
             .saturating_add(64)
     }
 
+    /// Whether the word at this place may be this number.
+    pub(crate) fn allows(&self, place: usize, number: u32) -> bool
+        requires { place < 16 }
+    {
+        self.ranges[place].has(number) && self.run_without(place, number).is_none()
+    }
+
     /// Why the word at this place is not this number, if a rule tells: free low bits, of the numbers that the
     /// rule excludes with it.
     pub(crate) fn run_without(&self, place: usize, number: u32) -> Option<u32> {

@@ -36,6 +36,8 @@ pub(crate) enum Progress {
     Goes,
     /// It goes on with some of its calls, and this new path with the others.
     Splits(Path),
+    /// It goes on with some of its calls, and the others are left out.
+    Narrows,
     /// Both filters return the same value on all its calls, if it has any.
     Agrees,
     /// They return different values on a call that this tells.
@@ -82,6 +84,7 @@ impl Path {
                     self.walk.restart();
                     Ok(Progress::Goes)
                 }
+                Turn::Narrows => Ok(Progress::Narrows),
                 Turn::Empty => Ok(Progress::Agrees),
                 Turn::Unclear => Ok(Progress::Unclear),
             },
@@ -92,6 +95,7 @@ impl Path {
                     walk,
                 })),
                 Turn::Ends(other) => self.meet(alloc, first, second, scope, value, other),
+                Turn::Narrows => Ok(Progress::Narrows),
                 Turn::Empty => Ok(Progress::Agrees),
                 Turn::Unclear => Ok(Progress::Unclear),
             },

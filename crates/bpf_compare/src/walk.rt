@@ -5,9 +5,9 @@ ghost use Rattle.call_data.specs.CallData.{IsCall};
 ghost use Rattle.bpf_compare.specs.Known.{IsAmong};
 ghost use Rattle.bpf_compare.specs.Paths.{Follows, TurnsTo};
 
-use crate::asking::value_question;
+use crate::asking::number_question;
 use crate::known::{Known, Left, Split};
-use crate::question::Question;
+use crate::question::{Question, Test};
 use crate::step::{After, Registers, step, wanted};
 use crate::value::Value;
 use bpf_code::Insn;
@@ -30,6 +30,8 @@ pub(crate) enum Turn {
     Goes,
     /// It goes on with some of its calls, and this new walk with the others.
     Splits(Walk),
+    /// It goes on with some of its calls, and the others are left out.
+    Narrows,
     /// The filter returned this value.
     Ends(Value),
     /// It has no calls.
@@ -76,13 +78,14 @@ impl Walk {
         }
     }
 
-    /// A question about a bit that has to be known before the next instruction can be followed.
+    /// A question whose answer has to be known before the next instruction can be followed.
     fn wanted(&self, code: &[Insn]) -> Option<Question> {
         let insn = code.get(self.registers.place)?;
-        value_question(&self.known, wanted(self.registers, insn.op))
+        number_question(&self.known, wanted(self.registers, insn.op))
     }
 
-    /// Learns the answer to a question at the same place.
+    /// Learns the answer to a question at the same place. Only calls with a certain number of a value that may
+    /// have many go on.
     fn learn(&mut self, alloc: Global, question: Question) -> Result<Turn, AllocError>
         ensures { IfOk result (λ turn. (code : List Insn) (call : SysCall) → Follows code call self.old
             → TurnsTo turn code call self.new) }
@@ -90,7 +93,10 @@ impl Walk {
         match self.known.ask(alloc, question)? {
             Left::None => Ok(Turn::Empty),
             Left::All => Ok(Turn::Goes),
-            Left::Both(known) => Ok(Turn::Splits(self.with(known))),
+            Left::Both(known) => match question.test {
+                Test::Greater => Ok(Turn::Splits(self.with(known))),
+                Test::Equal => Ok(Turn::Narrows),
+            },
         }
     }
 

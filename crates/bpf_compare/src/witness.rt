@@ -40,7 +40,7 @@ fn double(known: &Known, place: usize) -> u64
 }
 
 /// A number for the word at this place: mostly the lowest that is left.
-fn number(known: &Known, place: usize) -> u32
+pub(crate) fn number(known: &Known, place: usize) -> u32
     requires { place < 16 }
     ensures { (call : SysCall) → IsCall call → IsSettled known.now → IsAmong known.now call
         → result ≡ number_at call place }
