@@ -27,8 +27,8 @@ pub(crate) fn value_question(known: &Known, value: Value) -> Option<Question> {
     }
 }
 
-/// A question about a value whose number an instruction needs: about a bit of it, or whether it is a single
-/// number where a path for each would be too many.
+/// A question about a value whose number an instruction needs: about a bit of it, or, if a path for each
+/// number would be too many, whether it is a certain one.
 pub(crate) fn number_question(known: &Known, value: Value) -> Option<Question> {
     if let Value::Data(word, mask) = value
         && is_wide(mask & !known.ranges[word.place].mask)
@@ -49,8 +49,8 @@ fn is_wide(open: u32) -> bool {
     open.count_ones() > 8
 }
 
-/// A number that the word may be, if one is found. It is rather not 0 under the mask, as a test of any bit, or
-/// of whether A is at least X, has one answer then.
+/// A number that the word may be, if one is found. It is rather not 0 under the mask: with an X of 0 some
+/// tests have a single answer.
 fn guess(known: &Known, word: Word, mask: u32) -> Option<u32> {
     let least = number(known, word.place);
     let open = mask & !known.ranges[word.place].mask;

@@ -51,9 +51,8 @@ impl Range {
         ensures { (n : ℕ) → IsIn self n → IsSomeAnd result (λ range. IsIn range n) }
     {
         let low = self.low.max(self.bits);
-        let high = self
-            .high
-            .min(u32::MAX - self.mask.saturating_sub(self.bits));
+        let greatest = u32::MAX - self.mask.saturating_sub(self.bits);
+        let high = self.high.min(greatest);
         if low > high {
             None
         } else {

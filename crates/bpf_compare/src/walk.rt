@@ -84,8 +84,8 @@ impl Walk {
         number_question(&self.known, wanted(self.registers, insn.op))
     }
 
-    /// Learns the answer to a question at the same place. Only calls with a certain number of a value that may
-    /// have many go on.
+    /// Learns the answer to a question at the same place. If it was about a certain number, only the calls
+    /// with this number go on.
     fn learn(&mut self, alloc: Global, question: Question) -> Result<Turn, AllocError>
         ensures { IfOk result (λ turn. (code : List Insn) (call : SysCall) → Follows code call self.old
             → TurnsTo turn code call self.new) }
