@@ -16,3 +16,5 @@ mod drawn_profiles;
 mod drawn_tests;
 #[cfg(test)]
 mod figure_tests;
+#[cfg(test)]
+mod slow_pairs;
