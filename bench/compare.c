@@ -1,6 +1,6 @@
 /* How long comparisons of two filters take: RuntimeDefault beside the same profile by libseccomp's list, by
- * its binary tree and by gVisor, on native calls, and two lists of compares of 4,000 instructions in
- * different orders, on every call. */
+ * its binary tree and by gVisor, on native calls; two lists of compares of 4,000 instructions in different
+ * orders, on every call; and pairs of small filters that have many paths. */
 #include "rules.h"
 #include "times.h"
 #include <linux/filter.h>
@@ -48,6 +48,46 @@ static void long_lists(void) {
     row("two lists, in different orders", first, sizeof first, second, sizeof second, 0);
 }
 
+/* A test for each number of a part of an argument beside none at all, a mask beside its range, and a test of
+ * two words beside itself turned around, which is undecided. */
+static void small_filters(void) {
+    enum { PARTS = 16 };
+    static struct sock_filter parts[6 * PARTS + 1];
+    struct sock_filter *at = parts;
+    for (int i = 0; i < PARTS; i++) {
+        *at++ = (struct sock_filter)BPF_STMT(BPF_LD | BPF_W | BPF_ABS, 16);
+        *at++ = (struct sock_filter)BPF_JUMP(BPF_JMP | BPF_JEQ | BPF_K, 7, 4, 0);
+        *at++ = (struct sock_filter)BPF_STMT(BPF_LD | BPF_W | BPF_ABS, 24);
+        *at++ = (struct sock_filter)BPF_STMT(BPF_ALU | BPF_AND | BPF_K, PARTS - 1);
+        *at++ = (struct sock_filter)BPF_JUMP(BPF_JMP | BPF_JEQ | BPF_K, i, 0, 1);
+        *at++ = (struct sock_filter)BPF_STMT(BPF_RET | BPF_K, SECCOMP_RET_ERRNO | 1);
+    }
+    *at = (struct sock_filter)BPF_STMT(BPF_RET | BPF_K, SECCOMP_RET_ALLOW);
+    static const struct sock_filter whole[] = {
+        BPF_STMT(BPF_LD | BPF_W | BPF_ABS, 16), BPF_JUMP(BPF_JMP | BPF_JEQ | BPF_K, 7, 1, 0),
+        BPF_STMT(BPF_RET | BPF_K, SECCOMP_RET_ERRNO | 1), BPF_STMT(BPF_RET | BPF_K, SECCOMP_RET_ALLOW)};
+    static const struct sock_filter mask[] = {
+        BPF_STMT(BPF_LD | BPF_W | BPF_ABS, 24), BPF_STMT(BPF_ALU | BPF_AND | BPF_K, 0xffffff00),
+        BPF_JUMP(BPF_JMP | BPF_JEQ | BPF_K, 0x5400, 0, 1),
+        BPF_STMT(BPF_RET | BPF_K, SECCOMP_RET_ERRNO | 1), BPF_STMT(BPF_RET | BPF_K, SECCOMP_RET_ALLOW)};
+    static const struct sock_filter range[] = {
+        BPF_STMT(BPF_LD | BPF_W | BPF_ABS, 24), BPF_JUMP(BPF_JMP | BPF_JGE | BPF_K, 0x5400, 0, 2),
+        BPF_JUMP(BPF_JMP | BPF_JGT | BPF_K, 0x54ff, 1, 0),
+        BPF_STMT(BPF_RET | BPF_K, SECCOMP_RET_ERRNO | 1), BPF_STMT(BPF_RET | BPF_K, SECCOMP_RET_ALLOW)};
+    static const struct sock_filter greater[] = {
+        BPF_STMT(BPF_LD | BPF_W | BPF_ABS, 16), BPF_STMT(BPF_MISC | BPF_TAX, 0),
+        BPF_STMT(BPF_LD | BPF_W | BPF_ABS, 24), BPF_JUMP(BPF_JMP | BPF_JGT | BPF_X, 0, 0, 1),
+        BPF_STMT(BPF_RET | BPF_K, SECCOMP_RET_ERRNO | 1), BPF_STMT(BPF_RET | BPF_K, SECCOMP_RET_ALLOW)};
+    static const struct sock_filter turned[] = {
+        BPF_STMT(BPF_LD | BPF_W | BPF_ABS, 24), BPF_STMT(BPF_MISC | BPF_TAX, 0),
+        BPF_STMT(BPF_LD | BPF_W | BPF_ABS, 16), BPF_JUMP(BPF_JMP | BPF_JGE | BPF_X, 0, 1, 0),
+        BPF_STMT(BPF_RET | BPF_K, SECCOMP_RET_ERRNO | 1), BPF_STMT(BPF_RET | BPF_K, SECCOMP_RET_ALLOW)};
+    row("each number of a part, and none", parts, sizeof parts, whole, sizeof whole, 0);
+    row("no number of a part, and each", whole, sizeof whole, parts, sizeof parts, 0);
+    row("a mask and its range", mask, sizeof mask, range, sizeof range, 0);
+    row("a test of two words, turned", greater, sizeof greater, turned, sizeof turned, 0);
+}
+
 static void drawn_lists(void) {
     static uint8_t ours[32768], theirs[32768];
     int same = 0;
@@ -80,6 +120,7 @@ int main(void) {
             row(what, ours, length, theirs, their_length, compiler != MOTCHIDU);
     }
     long_lists();
+    small_filters();
     drawn_lists();
     return 0;
 }

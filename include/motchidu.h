@@ -78,7 +78,7 @@ enum motchidu_status {
     MOTCHIDU_SAME = 30,           /* both filters return the same value on every call that was asked about */
     MOTCHIDU_DIFFER = 31,         /* on one of those calls they return different values */
     MOTCHIDU_BUDGET = 32,         /* undecided: it takes more instructions than the budget allows */
-    MOTCHIDU_ARITHMETIC = 33      /* undecided: a filter computes with loaded data, other than by masks */
+    MOTCHIDU_ARITHMETIC = 33      /* undecided: a filter computes with loaded data, or compares two words */
 };
 
 /*
@@ -89,7 +89,7 @@ enum motchidu_status {
  * With MOTCHIDU_SAME both return the same value on each of those calls. With MOTCHIDU_DIFFER the 64 bytes at
  * call become one of those calls, on which they do not, values[0] becomes the value that the first filter
  * returns on it, and values[1] that of the second. With MOTCHIDU_BUDGET and MOTCHIDU_ARITHMETIC both are
- * sound, and it is unknown whether they differ; even a filter compared with itself may give these. Any other
+ * sound, and it is unknown whether they differ. Equal code is MOTCHIDU_SAME with any budget. Any other
  * answer is one of motchidu_verify, for the first filter, or for the second if the first is sound. Only with
  * MOTCHIDU_DIFFER is anything written.
  *

@@ -16,6 +16,7 @@ pub enum Comparison {
 pub enum Doubt {
     /// The comparison takes more instructions than the budget.
     Budget,
-    /// A filter computes with what it loaded, other than by masks.
+    /// A filter computes with what it loaded, other than by masks, or compares it with an X that may be many
+    /// numbers.
     Arithmetic,
 }

@@ -4,7 +4,8 @@
 //! `specs/Agree.antt` defines what a result says about two filters. `compare` follows paths through both,
 //! each for a set of calls (`path.rt`, `walk.rt`, `step.rt`), of which it knows bounds and bits word by word
 //! (`known.rt`, `range.rt`, `question.rt`, `bounded.rt`). Where that is too little to go on, it learns a bit
-//! of the calls at a time (`asking.rt`), so that only arithmetic and the budget leave a doubt.
+//! of the calls at a time (`asking.rt`), so that only arithmetic, an X that may be many numbers and the
+//! budget leave a doubt.
 #![tactic(auto)]
 
 mod asking;
