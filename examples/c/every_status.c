@@ -172,6 +172,8 @@ static const struct code {
   no_ptrace = {32, {LOAD_NR, TEST(BPF_JEQ, 101, 0, 1), KILL, ALLOW}},
   no_x32 = {32, {LOAD_NR, TEST(BPF_JGE, 0x40000000, 0, 1), KILL, ALLOW}},
   adds = {24, {LOAD_NR, BPF_STMT(BPF_ALU | BPF_ADD | BPF_K, 1), BPF_STMT(BPF_RET | BPF_A, 0)}},
+  keeps_and_adds = {32, {LOAD_NR, BPF_STMT(BPF_ST, 0), BPF_STMT(BPF_ALU | BPF_ADD | BPF_K, 1),
+                         BPF_STMT(BPF_RET | BPF_A, 0)}},
   orders_a_part = {40, {LOAD_NR, BPF_STMT(BPF_ALU | BPF_AND | BPF_K, 0xff), TEST(BPF_JGT, 0x10, 0, 1), KILL,
                         ALLOW}};
 
@@ -193,7 +195,8 @@ static const struct {
     {"a budget of 1", &loads, &allows, false, 1, MOTCHIDU_BUDGET},
     {"two of three instructions", &loads, &allows, false, 2, MOTCHIDU_BUDGET},
     {"three of three", &loads, &allows, false, 3, MOTCHIDU_SAME},
-    {"a sum is returned", &adds, &adds, false, 100, MOTCHIDU_ARITHMETIC},
+    {"a sum is returned", &adds, &keeps_and_adds, false, 100, MOTCHIDU_ARITHMETIC},
+    {"a sum and its copy, without a budget", &adds, &adds, false, 0, MOTCHIDU_SAME},
     {"a part of the number is ordered", &orders_a_part, &orders_a_part, false, 100, MOTCHIDU_SAME},
 };
 

@@ -69,8 +69,13 @@ static void *check_and_run(void *unused) {
         motchidu_compare(bytes, sizeof code, other_bytes, sizeof other, true, BUDGET, differing, values);
     expect("compare with another", status, MOTCHIDU_DIFFER);
     expect("what the other returns", values[1], SECCOMP_RET_LOG);
-    status = motchidu_compare(bytes, sizeof code, bytes, sizeof code, false, BUDGET, differing, values);
-    expect("compare with itself", status, MOTCHIDU_BUDGET);
+    other[LONGEST_FILTER - 1] = code[LONGEST_FILTER - 1];
+    other[1].k = LONGEST_FILTER;
+    status =
+        motchidu_compare(bytes, sizeof code, other_bytes, sizeof other, false, BUDGET, differing, values);
+    expect("compare with the same by another test", status, MOTCHIDU_BUDGET);
+    status = motchidu_compare(bytes, sizeof code, bytes, sizeof code, false, 0, differing, values);
+    expect("compare with itself", status, MOTCHIDU_SAME);
     return unused;
 }
 
