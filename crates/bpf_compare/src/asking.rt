@@ -31,7 +31,7 @@ pub(crate) fn value_question(known: &Known, value: Value) -> Option<Question> {
 /// number would be too many, whether it is a certain one.
 pub(crate) fn number_question(known: &Known, value: Value) -> Option<Question> {
     if let Value::Data(word, mask) = value
-        && is_wide(mask & !known.ranges[word.place].mask)
+        && is_wide(known, mask & !known.ranges[word.place].mask)
         && let Some(number) = guess(known, word, mask)
     {
         return Some(Question {
@@ -44,9 +44,9 @@ pub(crate) fn number_question(known: &Known, value: Value) -> Option<Question> {
     value_question(known, value)
 }
 
-/// Whether these bits have too many numbers for a path each.
-fn is_wide(open: u32) -> bool {
-    open.count_ones() > 8
+/// Whether these bits have too many numbers for a path each, with those that there are already.
+fn is_wide(known: &Known, open: u32) -> bool {
+    open.count_ones().saturating_add(known.splits) > 12
 }
 
 /// A number that the word may be, if one is found. It is rather not 0 under the mask: with an X of 0 some

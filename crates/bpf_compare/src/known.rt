@@ -21,6 +21,8 @@ pub(crate) struct Known {
     pub(crate) ranges: [Range; 16],
     pub(crate) excluded: Vec<Excluded>,
     pub(crate) bounded: Vec<Bounded>,
+    /// How many questions split the calls, other than tests of the filters: twice as many paths for each.
+    pub(crate) splits: u32,
 }
 
 /// How a question splits a set of calls.
@@ -60,6 +62,7 @@ impl Known {
             ranges,
             excluded: Vec::new(alloc),
             bounded: Vec::new(alloc),
+            splits: 0,
         }
     }
 
@@ -115,6 +118,7 @@ impl Known {
             ranges: self.ranges,
             excluded: Vec::from_slice(alloc, self.excluded.as_slice())?,
             bounded: Vec::from_slice(alloc, self.bounded.as_slice())?,
+            splits: self.splits,
         })
     }
 
@@ -151,10 +155,17 @@ impl Known {
             self.narrow(question, held, true)?;
             return Ok(Left::All);
         };
+        self.count_split();
         let mut other = self.try_clone(alloc)?;
         other.narrow(question, failed, false)?;
         self.narrow(question, held, true)?;
         Ok(Left::Both(other))
+    }
+
+    fn count_split(&mut self)
+        ensures { (call : SysCall) → IsAmong self.old call → IsAmong self.new call }
+    {
+        self.splits = self.splits.saturating_add(1);
     }
 
     /// The numbers that the question's word may have if this is the answer. `None` if there are none.

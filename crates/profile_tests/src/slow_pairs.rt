@@ -87,8 +87,8 @@ fn each_number_of_a_part(rt: HostRuntime) -> Result<(), Fail> {
         let fewer = parts(&rt, mask, last)?;
         match compare(rt.alloc(), &whole, &fewer, Scope::EveryCall, 3_000)? {
             Comparison::Differs(call, 1, 2) => {
-                assert!(rt; call.args[0] as u32 != 7, "{count}");
-                assert_eq!(rt; call.args[1] as u32 & mask, last);
+                assert!(rt; call.word(16) != 7, "{count}");
+                assert_eq!(rt; call.word(24) & mask, last);
             }
             _ => assert!(rt; false, "{count} parts but one"),
         }
@@ -125,7 +125,7 @@ fn a_mask_and_its_range(rt: HostRuntime) -> Result<(), Fail> {
                 Comparison::Same => assert!(rt; is_same, "{last}"),
                 Comparison::Differs(call, _, _) => {
                     assert!(rt; !is_same, "{last}");
-                    assert_eq!(rt; call.args[1] as u32, last.max(0x54ff));
+                    assert_eq!(rt; call.word(24), last.max(0x54ff));
                 }
                 Comparison::Undecided(_) => assert!(rt; false, "{last}"),
             }

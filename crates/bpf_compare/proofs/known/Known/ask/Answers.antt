@@ -10,8 +10,10 @@ returns-in_default-failed c = λ call among. elim (true_or_false (answer_on call
 ]
 
 pub returns : goal.returns
-returns c = λ call among. elim (true_or_false (answer_on call c.args.question)) [
-  | inl holds ↦ inl (c.in_ok-narrow-4.ensures call among holds (c.in-Some.ensures call among holds))
-  | inr fails ↦ inr (c.in_ok-narrow-3.ensures call (c.in_ok-other.ensures call among) fails
-      (c.in-Some-failed-2.ensures call among fails))
-]
+returns c = λ call among.
+    let counted = c.count_split.ensures call among in
+    elim (true_or_false (answer_on call c.args.question)) [
+      | inl holds ↦ inl (c.in_ok-narrow-4.ensures call counted holds (c.in-Some.ensures call among holds))
+      | inr fails ↦ inr (c.in_ok-narrow-3.ensures call (c.in_ok-other.ensures call counted) fails
+          (c.in-Some-failed-2.ensures call among fails))
+    ]
