@@ -44,9 +44,12 @@ pub(crate) fn number_question(known: &Known, value: Value) -> Option<Question> {
     value_question(known, value)
 }
 
+/// How many bits are split at most: a path for each of their numbers takes a small part of a second.
+const MOST_SPLITS: u32 = 12;
+
 /// Whether these bits have too many numbers for a path each, with those that there are already.
 fn is_wide(known: &Known, open: u32) -> bool {
-    open.count_ones().saturating_add(known.splits) > 12
+    open.count_ones().saturating_add(known.splits) > MOST_SPLITS
 }
 
 /// A number that the word may be, if one is found. It is rather not 0 under the mask: with an X of 0 some
