@@ -9,4 +9,5 @@ pub mod Pasts
 pub mod Dues
 pub mod Uids
 pub mod Silent
+pub mod Begun
 pub mod Numbers

@@ -1,7 +1,7 @@
 -- What the end of a claim makes of a pod's containers: this project's own. docs/SEMANTICS.md, "The agent:
 -- one pod".
-use Rattle.std.specs.Prelude.{ℕ, ◌≤◌, ◌==◌, Bool, false, ◌||◌, if◌then◌else◌, List, [], ◌∷◌, ◌++◌, Option}
-use Rattle.std.specs.Prelude.{Some, None}
+use Rattle.std.specs.Prelude.{ℕ, ◌+◌, ◌≤◌, ◌==◌, Bool, false, ◌||◌, if◌then◌else◌, List, [], ◌∷◌, ◌++◌}
+use Rattle.std.specs.Prelude.{length, Option, Some, None}
 use Rattle.std.specs.List.{AllByRecursion}
 use Rattle.std.specs.Option.{is_some}
 use Rattle.std.specs.Str.{bytes_eq}
@@ -147,3 +147,11 @@ StartedBy now s = Unit {0}
 
 unfoldable pub AllStartedBy : ℕ → List Track → Type 0
 AllStartedBy now tracks = AllByRecursion (λ (track : Track). StartedBy now track.stage) tracks
+
+-- how many runs of the container began: those that are recorded, and the one that is going on
+abbrev pub begun_of : Track → ℕ
+begun_of track = length track.runs + (if is_some (running_in track.stage) then 1 else 0)
+
+-- of each of them at most so many
+unfoldable pub AllWithin : ℕ → List Track → Type 0
+AllWithin most tracks = AllByRecursion (λ (track : Track). begun_of track ≤ most) tracks

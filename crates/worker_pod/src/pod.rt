@@ -1,10 +1,12 @@
-ghost use Rattle.std.specs.Prelude.{◌≡◌, ◌≤◌, IfOk, Ok, OnOk, OnErr, IsOk, Some, None, true, false};
-ghost use Rattle.std.specs.Prelude.{option_map};
+ghost use Rattle.std.specs.Prelude.{◌≡◌, ℕ, ◌+◌, ◌<◌, ◌≤◌, IfOk, Ok, OnOk, OnErr, IsOk, Some, None, true};
+ghost use Rattle.std.specs.Prelude.{false, option_map};
+ghost use Rattle.lifecycle.specs.declared.runs.TheConstants.{MAX_RUNS};
 ghost use Rattle.worker_pod.specs.News.{told};
 ghost use Rattle.worker_pod.specs.Next.{due_by, due_of, duty_of, is_gone, next_by, next_of, numbered};
 ghost use Rattle.worker_pod.specs.Next.{phase_in};
 ghost use Rattle.worker_pod.specs.Past.{Past, StandsFor, admitted, after, as_deleted, records_exit, rest_at};
 ghost use Rattle.worker_pod.specs.Past.{start, with_claim, with_deleted};
+ghost use Rattle.worker_pod.specs.Tracks.{AllWithin};
 ghost use Rattle.worker_pod.specs.Wants.{chosen};
 
 use crate::calls::call_by;
@@ -77,10 +79,11 @@ impl Model for PodState {
 
 impl PodState {
     /// A pod that was just admitted.
-    #[tactic(auto, using(crate::proofs::Fresh::fresh_started))]
+    #[tactic(auto, using(crate::proofs::Fresh::fresh_started, crate::proofs::Begun::fresh_within))]
     pub fn new(alloc: Global, pod: Pod, settings: Settings) -> Result<PodState, AllocError>
         ensures start { IfOk result (λ state. state ≡ start pod settings) }
         ensures past { IfOk result (λ state. StandsFor state (admitted pod)) }
+        ensures begun { IfOk result (λ state. AllWithin 0 state.tracks) }
     {
         let tracks = fresh_tracks(alloc, &pod.containers)?;
         let begun = phase(tracks.as_slice(), pod.policy, false);
@@ -242,6 +245,13 @@ impl PodState {
         // Only a record of an exit can be refused.
         ensures free { OnErr result (records_exit now request.now outcome self.old ≡ true) }
         ensures abandoned { outcome ≡ Outcome.Abandoned → IsOk result }
+
+        // Of each container at most one more run began.
+        ensures begun { OnOk result ((most : ℕ) → AllWithin most self.old.tracks
+            → AllWithin (most + 1) self.new.tracks) }
+
+        // It is refused only where more runs of a container began than can be counted.
+        ensures full { OnErr result ((most : ℕ) → AllWithin most self.old.tracks → MAX_RUNS < most) }
     {
         tracks_ended(
             self.pod.containers.as_slice(),

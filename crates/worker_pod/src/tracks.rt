@@ -1,9 +1,10 @@
-ghost use Rattle.std.specs.Prelude.{◌≡◌, ◌<◌, ◌≤◌, ◌++◌, ◌∷◌, [], IfOk, OnOk, OnErr, true, length, map};
-ghost use Rattle.std.specs.Prelude.{option_map};
+ghost use Rattle.std.specs.Prelude.{◌≡◌, ℕ, ◌+◌, ◌<◌, ◌≤◌, ◌++◌, ◌∷◌, [], IfOk, OnOk, OnErr, true, length};
+ghost use Rattle.std.specs.Prelude.{map, option_map};
 ghost use Rattle.lifecycle.specs.declared.runs.TheConstants.{MAX_RUNS};
 ghost use Rattle.std.specs.Option.{option_copied};
 ghost use Rattle.worker_pod.specs.Past.{fresh_tracks};
-ghost use Rattle.worker_pod.specs.Tracks.{AllStartedBy, StartedBy, fresh, named_in, number_after, records_in};
+ghost use Rattle.worker_pod.specs.Tracks.{AllStartedBy, AllWithin, StartedBy, fresh, named_in, number_after};
+ghost use Rattle.worker_pod.specs.Tracks.{records_in};
 ghost use Rattle.worker_pod.specs.Tracks.{run_after, run_at, running_in, stage_after, stage_at, tracks_after};
 ghost use Rattle.worker_pod.specs.Tracks.{worked_in};
 
@@ -167,7 +168,7 @@ fn put(runs: &mut Runs, run: PastRun)
 
 // What the end of the request's claim makes of the containers. Only a record of an exit can be refused, where
 // no further run can be counted: that is asked of all containers before anything changes.
-#[tactic(auto, unfolding(crate::specs::Tracks::AllStartedBy))]
+#[tactic(auto, unfolding(crate::specs::Tracks::AllStartedBy), using(crate::proofs::Begun::beyond_first))]
 pub(crate) fn tracks_ended(
     containers: &[Container],
     tracks: &mut [Track],
@@ -181,6 +182,7 @@ pub(crate) fn tracks_ended(
     ensures err { OnErr result (tracks.new ≡ tracks.old) }
     ensures started { OnOk result (AllStartedBy now tracks.new) }
     ensures free { OnErr result (records_in now request.now outcome.now containers.now tracks.old ≡ true) }
+    ensures full { OnErr result ((most : ℕ) → AllWithin most tracks.old → MAX_RUNS < most) }
 {
     let Some((container, containers)) = containers.split_first() else {
         return Ok(());
