@@ -35,7 +35,7 @@ pub record IsGrant (kept : KeptNode) (grant : Grant) : Type 0 where
   pub uid : grant.uid ≡ slot.state.pod.uid
   pub request : grant.request ≡ numbered (kept.number + 1) call
 
-grant_is : (kept : KeptNode) (grant : Grant) → grant_of kept ≡ Some grant → IsGrant kept grant
+pub grant_is : (kept : KeptNode) (grant : Grant) → grant_of kept ≡ Some grant → IsGrant kept grant
 grant_is kept grant e = by_number (nat_lt kept.number LAST_NUMBER) e where
   by_next : (turn : Turn) → longest kept.moment kept.slots ≡ Some turn → (slot : Slot)
       → slice_get kept.slots turn.place ≡ Some slot

@@ -15,3 +15,4 @@ pub mod Orders
 pub mod Rooms
 pub mod Closings
 pub mod Firsts
+pub mod Counts

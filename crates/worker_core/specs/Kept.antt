@@ -23,7 +23,7 @@ use Rattle.worker_core.specs.declared.slots.Slot.{Slot}
 use Rattle.worker_core.specs.declared.turns.Turn.{Turn}
 use Rattle.worker_core.specs.Known.{is_known, with_uid}
 use Rattle.worker_core.specs.Slots.{changed, claimed_by, deleted, ended_at, fresh_slot, holder_of, outcome_of}
-use Rattle.worker_core.specs.Slots.{place_of, records_at}
+use Rattle.worker_core.specs.Slots.{place_of}
 use Rattle.worker_core.specs.Turns.{longest}
 
 pub record KeptNode : Type 0 where
@@ -180,16 +180,10 @@ changes (Claimed uid number request) = true
 changes Nothing = false
 changes (Refused refusal) = false
 
--- whether the end of the claim of the pod at this place records an exit
-abbrev pub records : KeptNode → Outcome → Option ℕ → Bool
-records kept how None = false
-records kept how (Some place) = records_at kept.moment how kept.slots place
-
--- what may take memory: of what a worker tells, that by which an exit is recorded
+-- what may take memory
 abbrev pub takes_memory : KeptNode → AgentEvent → Bool
 takes_memory kept (Admit pod) = true
 takes_memory kept (Claim worker) = true
-takes_memory kept (Report worker reported) = records kept (outcome_of reported) (holder_of worker kept.slots)
 takes_memory kept event = false
 
 -- want of memory is told last, and changes nothing

@@ -12,7 +12,8 @@ use Rattle.worker_pod.specs.declared.settings.Outcome.{Outcome}
 use Rattle.worker_pod.specs.declared.settings.Outcome.TheVariants as outcome
 use Rattle.worker_pod.specs.declared.settings.Settings.{Settings}
 use Rattle.worker_pod.specs.Next.{due_of, is_gone, phase_in}
-use Rattle.worker_pod.specs.Past.{Kept, after, records_exit, start, with_deleted}
+use Rattle.worker_pod.specs.Past.{Kept, after, start, with_deleted}
+use Rattle.worker_pod.specs.Tracks.{AllWithin}
 use Rattle.worker_core.specs.declared.events.Reported.{Reported}
 use Rattle.worker_core.specs.declared.events.Reported.TheVariants.{Replied, Lost}
 use Rattle.worker_core.specs.declared.slots.Held.{Held}
@@ -134,18 +135,16 @@ left slots place = if is_gone_slot (slice_get slots place) then remove slots pla
 abbrev pub ended_at : ℕ → Outcome → List Slot → ℕ → List Slot
 ended_at now how slots place = left (changed (ended now how) slots place) place
 
--- whether the end of the pod's claim records an exit
-abbrev pub records_held : ℕ → Outcome → Kept → Option Held → Bool
-records_held now how kept None = false
-records_held now how kept (Some held) = records_exit now held.request how kept
-
-abbrev pub records_in : ℕ → Outcome → Option Slot → Bool
-records_in now how None = false
-records_in now how (Some slot) = records_held now how slot.state slot.held
-
-abbrev pub records_at : ℕ → Outcome → List Slot → ℕ → Bool
-records_at now how slots place = records_in now how (slice_get slots place)
-
 -- no claim ended later
 abbrev pub AllEndedBy : ℕ → List Slot → Type 0
 AllEndedBy now slots = (at : ℕ) (slot : Slot) → slice_get slots at ≡ Some slot → slot.state.latest ≤ now
+
+-- At most so many runs of each of its containers began, or may yet begin by the claim of the pod.
+pub record IsCounted (number : ℕ) (slot : Slot) : Type 0 where
+  pub most : ℕ
+  pub begun : AllWithin most slot.state.tracks
+  pub few : most + (if is_free slot.held then 0 else 1) ≤ number
+
+-- of each pod, where so many claims were given: each begins at most one run of a container
+abbrev pub AllCounted : ℕ → List Slot → Type 0
+AllCounted number slots = (at : ℕ) (slot : Slot) → slice_get slots at ≡ Some slot → IsCounted number slot

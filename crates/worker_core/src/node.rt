@@ -1,20 +1,20 @@
-ghost use Rattle.std.specs.Prelude.{◌≡◌, ◌<◌, ◌≤◌, Some, None, length, nat_lt, true, false, is_some};
-ghost use Rattle.std.specs.Prelude.{slice_get, map, IfSome, IfOk, OnOk, OnErr, option_copied, option_map, IsOk};
+ghost use Rattle.std.specs.Prelude.{◌≡◌, ◌+◌, ◌<◌, ◌≤◌, Some, None, length, nat_lt, true, false, is_some};
+ghost use Rattle.std.specs.Prelude.{slice_get, map, IfSome, IfOk, OnOk, OnErr, option_copied, option_map};
 ghost use Rattle.worker_core.specs.declared.limits.TheConstants.{LAST_NUMBER, MAX_PODS, MAX_UIDS};
-ghost use Rattle.worker_core.specs.Kept.{Foresees, KeptStep, Takes, admit_answer, after_admit, after_claim};
+ghost use Rattle.worker_core.specs.Kept.{Foresees, KeptStep, admit_answer, after_admit, after_claim};
 ghost use Rattle.worker_core.specs.Kept.{after_delete, after_end, after_tick, claim_answer, delete_answer};
 ghost use Rattle.worker_core.specs.Kept.{end_answer, fresh_node, grant_of, grant_of_turn, is_full, changes};
-ghost use Rattle.worker_core.specs.Kept.{records, refusal_of, tick_answer, with_grant, with_pod};
+ghost use Rattle.worker_core.specs.Kept.{refusal_of, tick_answer, with_grant, with_pod};
 ghost use Rattle.worker_pod.specs.Next.{phase_in};
 ghost use Rattle.worker_core.specs.Turns.{soonest};
 ghost use Rattle.worker_core.specs.Laws.{IsClaimOf};
 ghost use Rattle.worker_core.specs.Nodes.{Comes, IsNextDue, NodeState, StandsFor, empty_node, kept_of};
-ghost use Rattle.worker_core.specs.Slots.{claim_of, has_failed, held_in, holder_of, is_settled, outcome_of};
+ghost use Rattle.worker_core.specs.Slots.{claim_of, has_failed, held_in, holder_of, is_settled};
 ghost use Rattle.worker_core.specs.Slots.{place_of, slot_of};
 
 use crate::answers::{Answer, NodeRefusal};
 use crate::claims::{Grant, granted};
-use crate::events::{AgentEvent, Reported};
+use crate::events::AgentEvent;
 use crate::known::KnownUids;
 use crate::limits::{LAST_NUMBER, MAX_PODS, MAX_UIDS};
 use crate::pods::Pods;
@@ -43,7 +43,7 @@ impl Model for Node {
     ghost use Rattle.std.specs.Prelude.{◌≤◌, length};
     ghost use Rattle.worker_core.specs.declared.limits.TheConstants.{MAX_PODS};
     ghost use Rattle.worker_core.specs.Kept.{KeptNode};
-    ghost use Rattle.worker_core.specs.Slots.{AllEndedBy};
+    ghost use Rattle.worker_core.specs.Slots.{AllCounted, AllEndedBy};
 
     ghost Value = { KeptNode };
 
@@ -55,10 +55,12 @@ impl Model for Node {
       slots = n.pods;
     } };
 
-    // No claim ended later than now, and the pods are few enough to be counted.
+    // No claim ended later than now, the pods are few enough to be counted, and no more runs of a container
+    // began than numbers were given.
     ghost invariant = { λ n. record {
       ended : AllEndedBy n.moment n.pods;
       few : length n.pods ≤ MAX_PODS;
+      counted : AllCounted n.number n.pods;
     } };
 }
 
@@ -211,6 +213,7 @@ impl Node {
     }
 
     fn give(&mut self, worker: u32, grant: Grant)
+        requires { grant.request.id ≡ self.old.number + 1 }
         ensures { self.new ≡ with_grant self.old worker grant }
     {
         let Grant { place, request, .. } = grant;
@@ -262,42 +265,17 @@ impl Node {
         }
     }
 
-    fn end(&mut self, worker: u32, outcome: Outcome) -> Result<Answer, AllocError>
-        ensures answer { IfOk result (λ answer. answer ≡ end_answer (holder_of worker self.old.slots)) }
-        ensures node { OnOk result (self.new ≡ after_end self.old outcome (holder_of worker self.old.slots)) }
-        ensures err { OnErr result (self.new ≡ self.old) }
-        ensures only { OnErr result (changes (end_answer (holder_of worker self.old.slots)) ≡ true) }
-        ensures records { OnErr result (records self.old outcome (holder_of worker self.old.slots) ≡ true) }
-        ensures abandoned { outcome ≡ Outcome.Abandoned → IsOk result }
+    // A worker's claim ends so.
+    fn end(&mut self, worker: u32, outcome: Outcome) -> Answer
+        ensures answer { result ≡ end_answer (holder_of worker self.old.slots) }
+        ensures node { self.new ≡ after_end self.old outcome (holder_of worker self.old.slots) }
     {
         let place = holder_of(worker, self.pods.as_slice());
         match place {
-            Some(place) => self.pods.end(place, self.moment, outcome)?,
+            Some(place) => self.pods.end(place, self.moment, outcome),
             None => drop(outcome),
         }
-        Ok(end_answer(place))
-    }
-
-    fn report(&mut self, worker: u32, reported: Reported) -> Answer
-        ensures { Takes (end_answer (holder_of worker self.old.slots))
-            (after_end self.old (outcome_of reported) (holder_of worker self.old.slots))
-            (records self.old (outcome_of reported) (holder_of worker self.old.slots)) self.old result
-            self.new }
-    {
-        match self.end(worker, reported.outcome()) {
-            Ok(answer) => answer,
-            Err(_) => Answer::Refused(NodeRefusal::Memory),
-        }
-    }
-
-    fn abandon(&mut self, worker: u32) -> Answer
-        ensures answer { result ≡ end_answer (holder_of worker self.old.slots) }
-        ensures node { self.new ≡ after_end self.old Outcome.Abandoned (holder_of worker self.old.slots) }
-    {
-        match self.end(worker, Outcome::Abandoned) {
-            Ok(answer) => answer,
-            Err(_) => Answer::Refused(NodeRefusal::Memory),
-        }
+        end_answer(place)
     }
 
     fn take(&mut self, event: AgentEvent) -> Answer
@@ -313,9 +291,9 @@ impl Node {
                 Ok(answer) => answer,
                 Err(_) => Answer::Refused(NodeRefusal::Memory),
             },
-            AgentEvent::Report(worker, reported) => self.report(worker, reported),
+            AgentEvent::Report(worker, reported) => self.end(worker, reported.outcome()),
             AgentEvent::Tick(now) => self.tick(now),
-            AgentEvent::Abandon(worker) => self.abandon(worker),
+            AgentEvent::Abandon(worker) => self.end(worker, Outcome::Abandoned),
         }
     }
 

@@ -1,8 +1,9 @@
-ghost use Rattle.std.specs.Prelude.{◌≡◌, ℕ, ◌+◌, ◌≤◌, [], ◌∷◌, ◌++◌, length, true, OnOk, OnErr, IsOk};
+ghost use Rattle.std.specs.Prelude.{◌≡◌, ℕ, ◌+◌, ◌≤◌, [], ◌∷◌, ◌++◌, length, OnOk, OnErr};
 ghost use Rattle.std.specs.String.{string_bytes};
+ghost use Rattle.worker_core.specs.declared.limits.TheConstants.{LAST_NUMBER};
 ghost use Rattle.worker_core.specs.Known.{with_uid};
-ghost use Rattle.worker_core.specs.Slots.{AllEndedBy, changed, claimed_by, deleted, ended_at, left};
-ghost use Rattle.worker_core.specs.Slots.{records_at};
+ghost use Rattle.worker_core.specs.Slots.{AllCounted, AllEndedBy, IsCounted, changed, claimed_by, deleted};
+ghost use Rattle.worker_core.specs.Slots.{ended_at, left};
 ghost use Rattle.worker_core.specs.Turns.{longest, soonest};
 
 use crate::known::KnownUids;
@@ -81,12 +82,14 @@ impl Pods {
         text: String,
         slot: Slot,
     ) -> Result<(), AllocError>
-        requires { slot.state.latest ≡ 0 }
+        requires fresh { slot.state.latest ≡ 0 }
+        requires counted { IsCounted 0 slot }
         ensures slots { OnOk result (self.new ≡ self.old ++ slot ∷ []) }
         ensures known { OnOk result (known.new ≡ with_uid (string_bytes text) known.old) }
         ensures same_slots { OnErr result (self.new ≡ self.old) }
         ensures same_known { OnErr result (known.new ≡ known.old) }
         ensures by { (now : ℕ) → AllEndedBy now self.old → AllEndedBy now self.new }
+        ensures counted { (number : ℕ) → AllCounted number self.old → AllCounted number self.new }
         ensures more { length self.new ≤ length self.old + 1 }
     {
         let place = self.slots.len();
@@ -99,6 +102,7 @@ impl Pods {
     pub(crate) fn delete(&mut self, place: usize)
         ensures slots { self.new ≡ changed deleted self.old place }
         ensures by { (now : ℕ) → AllEndedBy now self.old → AllEndedBy now self.new }
+        ensures counted { (number : ℕ) → AllCounted number self.old → AllCounted number self.new }
         ensures same { length self.new ≡ length self.old }
     {
         deleted_at(&mut self.slots, place);
@@ -108,6 +112,7 @@ impl Pods {
     pub(crate) fn claim(&mut self, place: usize, held: Held)
         ensures slots { self.new ≡ changed (claimed_by held) self.old place }
         ensures by { (now : ℕ) → AllEndedBy now self.old → AllEndedBy now self.new }
+        ensures counted { (number : ℕ) → AllCounted number self.old → AllCounted (number + 1) self.new }
         ensures same { length self.new ≡ length self.old }
     {
         claimed_at(&mut self.slots, place, held);
@@ -115,25 +120,24 @@ impl Pods {
     }
 
     // Ends the claim of the pod at this place, and removes the pod if its removal was answered.
-    pub(crate) fn end(&mut self, place: usize, now: u64, outcome: Outcome) -> Result<(), AllocError>
-        requires { AllEndedBy now self.old }
-        ensures ok { OnOk result (self.new ≡ ended_at now outcome self.old place) }
-        ensures err { OnErr result (self.new ≡ self.old) }
-        ensures by { OnOk result (AllEndedBy now self.new) }
+    pub(crate) fn end(&mut self, place: usize, now: u64, outcome: Outcome)
+        requires by { AllEndedBy now self.old }
+        requires counted { AllCounted LAST_NUMBER self.old }
+        ensures slots { self.new ≡ ended_at now outcome self.old place }
+        ensures by { AllEndedBy now self.new }
+        ensures counted { (number : ℕ) → AllCounted number self.old → AllCounted number self.new }
         ensures fewer { length self.new ≤ length self.old }
-        ensures records { OnErr result (records_at now outcome self.old place ≡ true) }
-        ensures abandoned { outcome ≡ Outcome.Abandoned → IsOk result }
     {
-        claim_ended(&mut self.slots, place, now, outcome)?;
+        claim_ended(&mut self.slots, place, now, outcome);
         refresh(&mut self.order, place, self.slots.as_slice());
         self.leave(place);
-        Ok(())
     }
 
     // Removes a pod whose removal was answered.
     fn leave(&mut self, place: usize)
         ensures slots { self.new ≡ left self.old place }
         ensures by { (now : ℕ) → AllEndedBy now self.old → AllEndedBy now self.new }
+        ensures counted { (number : ℕ) → AllCounted number self.old → AllCounted number self.new }
         ensures fewer { length self.new ≤ length self.old }
     {
         if is_gone_at(self.slots.as_slice(), place) {

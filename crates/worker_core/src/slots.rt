@@ -1,11 +1,13 @@
 ghost use Rattle.std.specs.Prelude.{◌≡◌, ℕ, ◌+◌, ◌<◌, ◌≤◌, [], ◌∷◌, ◌++◌, Some, None, true, false, length};
-ghost use Rattle.std.specs.Prelude.{slice_get, vec_len, vec_capacity, IfOk, OnOk, OnErr, option_copied, IsOk};
+ghost use Rattle.std.specs.Prelude.{slice_get, vec_len, vec_capacity, IfOk, OnOk, OnErr, option_copied};
 ghost use Rattle.std.specs.String.{string_bytes};
+ghost use Rattle.worker_core.specs.declared.limits.TheConstants.{LAST_NUMBER};
 ghost use Rattle.worker_core.specs.Known.{with_uid};
-ghost use Rattle.worker_core.specs.Slots.{AllEndedBy, changed, claimed_by, deleted, ended, free_due};
+ghost use Rattle.worker_core.specs.Slots.{AllCounted, AllEndedBy, IsCounted, changed, claimed_by, deleted};
+ghost use Rattle.worker_core.specs.Slots.{ended, free_due};
 ghost use Rattle.worker_core.specs.Slots.{fresh_slot, held_in, holder_of, is_free, is_gone_slot, is_held_by};
-ghost use Rattle.worker_core.specs.Slots.{place_of, claim_of, request_at, request_of, records_at};
-ghost use Rattle.worker_core.specs.Slots.{has_failed, is_failed, is_final, is_settled, records_held};
+ghost use Rattle.worker_core.specs.Slots.{place_of, claim_of, request_at, request_of};
+ghost use Rattle.worker_core.specs.Slots.{has_failed, is_failed, is_final, is_settled};
 ghost use Rattle.worker_pod.specs.Next.{phase_in};
 
 use crate::known::KnownUids;
@@ -104,7 +106,8 @@ pub(crate) fn has_failed(slots: &[Slot]) -> bool
 }
 
 pub(crate) fn fresh_slot(alloc: Global, pod: Pod, settings: Settings) -> Result<Slot, AllocError>
-    ensures { IfOk result (λ slot. slot ≡ fresh_slot pod settings) }
+    ensures slot { IfOk result (λ slot. slot ≡ fresh_slot pod settings) }
+    ensures counted { IfOk result (λ slot. IsCounted 0 slot) }
 {
     let state = PodState::new(alloc, pod, settings)?;
     Ok(Slot { state, held: None })
@@ -240,20 +243,22 @@ pub(crate) fn claimed_at(slots: &mut Vec<Slot>, place: usize, held: Held)
     }
 }
 
-// Ends the claim of the pod. Only the record of an exit can be refused.
-fn ended(slot: &mut Slot, now: u64, outcome: Outcome) -> Result<(), AllocError>
-    requires { slot.old.state.latest ≤ now }
-    ensures ok { OnOk result (slot.new ≡ ended now outcome slot.old) }
-    ensures err { OnErr result (slot.new ≡ slot.old) }
-    ensures records { OnErr result (records_held now outcome slot.old.state slot.old.held ≡ true) }
-    ensures abandoned { outcome ≡ Outcome.Abandoned → IsOk result }
+// Ends the claim of the pod. That is never refused: since fewer runs of each container began than claims were
+// given, one more can be recorded.
+fn ended(slot: &mut Slot, now: u64, outcome: Outcome)
+    requires by { slot.old.state.latest ≤ now }
+    requires counted { IsCounted LAST_NUMBER slot.old }
+    ensures slot { slot.new ≡ ended now outcome slot.old }
+    ensures counted { (number : ℕ) → IsCounted number slot.old → IsCounted number slot.new }
 {
     let Some(held) = &slot.held else {
-        return Ok(());
+        return;
     };
-    slot.state.ended(now, &held.request, outcome)?;
+    let ended = slot.state.ended(now, &held.request, outcome);
+    let done = ended.is_ok();
+    prove!(done);
+    drop(ended);
     slot.held = None;
-    Ok(())
 }
 
 pub(crate) fn is_gone_at(slots: &[Slot], place: usize) -> bool
@@ -267,22 +272,15 @@ pub(crate) fn is_gone_at(slots: &[Slot], place: usize) -> bool
 }
 
 // Ends the claim of the pod at this place.
-pub(crate) fn claim_ended(
-    slots: &mut Vec<Slot>,
-    place: usize,
-    now: u64,
-    outcome: Outcome,
-) -> Result<(), AllocError>
-    requires { AllEndedBy now slots.old.items }
-    ensures ok { OnOk result (slots.new.items ≡ changed (ended now outcome) slots.old.items place) }
-    ensures err { OnErr result (slots.new.items ≡ slots.old.items) }
-    ensures by { OnOk result (AllEndedBy now slots.new.items) }
+pub(crate) fn claim_ended(slots: &mut Vec<Slot>, place: usize, now: u64, outcome: Outcome)
+    requires by { AllEndedBy now slots.old.items }
+    requires counted { AllCounted LAST_NUMBER slots.old.items }
+    ensures slots { slots.new.items ≡ changed (ended now outcome) slots.old.items place }
+    ensures by { AllEndedBy now slots.new.items }
+    ensures counted { (number : ℕ) → AllCounted number slots.old.items → AllCounted number slots.new.items }
     ensures same { length slots.new.items ≡ length slots.old.items }
-    ensures records { OnErr result (records_at now outcome slots.old.items place ≡ true) }
-    ensures abandoned { outcome ≡ Outcome.Abandoned → IsOk result }
 {
     if place < slots.len() {
-        ended(&mut slots[place], now, outcome)?;
+        ended(&mut slots[place], now, outcome);
     }
-    Ok(())
 }

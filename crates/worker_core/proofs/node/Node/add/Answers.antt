@@ -42,6 +42,7 @@ invariant_of-self c = record {
   ended = c.admit.ensures.by c.self.inside.moment c.self.invariant.ended;
   few = few_still (length c.self.inside.pods) _ MAX_PODS c.args.self.now
       (ap (λ (k : KeptNode). length k.slots) (sym c.self.view_is)) c.requires c.admit.ensures.more;
+  counted = c.admit.ensures.counted c.self.inside.number c.self.invariant.counted;
 }
 
 pub invariant_of-self-2 : goal.invariant_of-self-2
@@ -49,11 +50,12 @@ invariant_of-self-2 c = record {
   ended = c.admit.ensures.by c.self.inside.moment c.self.invariant.ended;
   few = few_still (length c.self.inside.pods) _ MAX_PODS c.args.self.now
       (ap (λ (k : KeptNode). length k.slots) (sym c.self.view_is)) c.requires c.admit.ensures.more;
+  counted = c.admit.ensures.counted c.self.inside.number c.self.invariant.counted;
 }
 
 pub returns-clause-ok : goal.returns-clause-ok
 returns-clause-ok c =
     with_both (the_view c.self.inside) c.args.pod _ _ _ _
-    (c.in_ok-text.ensures.ok ∙ c.as_str.ensures.value) c.in_ok-admit.ensures.known c.in_ok-slot.ensures
+    (c.in_ok-text.ensures.ok ∙ c.as_str.ensures.value) c.in_ok-admit.ensures.known c.in_ok-slot.ensures.slot
     c.in_ok-admit.ensures.slots
     ∙ ap (λ (k : KeptNode). with_pod k c.args.pod) c.self.view_is

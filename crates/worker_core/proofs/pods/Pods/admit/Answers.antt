@@ -2,7 +2,8 @@ use Rattle.std.proofs.Common.{List, length, ap, subst, sym, ◌∙◌, arith, ru
 use Rattle.worker_core.specs.declared.order.Due.{Due}
 use Rattle.worker_core.specs.declared.slots.Slot.{Slot}
 use Rattle.worker_core.specs.Order.{refreshed}
-use Rattle.worker_core.specs.Slots.{AllEndedBy}
+use Rattle.worker_core.specs.Slots.{AllCounted, AllEndedBy}
+use Rattle.worker_core.proofs.Counts.{counted_by_push}
 use Rattle.worker_core.proofs.Rooms.{length_order, order_grown, room_pushed}
 use Rattle.worker_core.proofs.pods.Pods.admit.Goals as goal
 
@@ -41,3 +42,8 @@ invariant_of-self-2 c = record {
 
 pub returns-clause-by : goal.returns-clause-by
 returns-clause-by c = λ now by. c.admitted.ensures.by now (subst (AllEndedBy now) (sym c.self.view_is) by)
+
+pub returns-clause-counted : goal.returns-clause-counted
+returns-clause-counted c = λ number all.
+    counted_by_push number c.self.inside.slots.items c.admitted.new.slots.items c.args.slot
+    c.in_ok-admitted.ensures.slots c.requires.counted (subst (AllCounted number) (sym c.self.view_is) all)

@@ -1,7 +1,8 @@
 use Rattle.std.proofs.Common.{List, length, ap, subst, sym, ◌∙◌, arith}
 use Rattle.worker_core.specs.declared.slots.Slot.{Slot}
 use Rattle.worker_core.specs.Order.{refreshed}
-use Rattle.worker_core.specs.Slots.{AllEndedBy, claimed_by}
+use Rattle.worker_core.specs.Slots.{AllCounted, AllEndedBy, claimed_by}
+use Rattle.worker_core.proofs.Counts.{counted_by_claim}
 use Rattle.worker_core.proofs.Rooms.{order_refreshed, room_changed}
 use Rattle.worker_core.proofs.pods.Pods.claim.Goals as goal
 
@@ -23,3 +24,8 @@ invariant_of-self c = record {
 
 pub returns-clause-by : goal.returns-clause-by
 returns-clause-by c = λ now by. c.claimed_at.ensures.by now (subst (AllEndedBy now) (sym c.self.view_is) by)
+
+pub returns-clause-counted : goal.returns-clause-counted
+returns-clause-counted c = λ number all.
+    counted_by_claim c.args.held number c.self.inside.slots.items c.claimed_at.new.slots.items c.args.place
+    c.claimed_at.ensures.slots (subst (AllCounted number) (sym c.self.view_is) all)

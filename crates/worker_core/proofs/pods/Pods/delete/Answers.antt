@@ -1,7 +1,8 @@
 use Rattle.std.proofs.Common.{List, length, ap, subst, sym, ◌∙◌, arith}
 use Rattle.worker_core.specs.declared.slots.Slot.{Slot}
 use Rattle.worker_core.specs.Order.{refreshed}
-use Rattle.worker_core.specs.Slots.{AllEndedBy, deleted}
+use Rattle.worker_core.specs.Slots.{AllCounted, AllEndedBy, deleted}
+use Rattle.worker_core.proofs.Counts.{counted_by_delete}
 use Rattle.worker_core.proofs.Rooms.{order_refreshed, room_changed}
 use Rattle.worker_core.proofs.pods.Pods.delete.Goals as goal
 
@@ -22,3 +23,8 @@ invariant_of-self c = record {
 
 pub returns-clause-by : goal.returns-clause-by
 returns-clause-by c = λ now by. c.deleted_at.ensures.by now (subst (AllEndedBy now) (sym c.self.view_is) by)
+
+pub returns-clause-counted : goal.returns-clause-counted
+returns-clause-counted c = λ number all.
+    counted_by_delete number c.self.inside.slots.items c.deleted_at.new.slots.items c.args.place
+    c.deleted_at.ensures.slots (subst (AllCounted number) (sym c.self.view_is) all)

@@ -1,7 +1,8 @@
 use Rattle.std.proofs.Common.{◌<◌, List, length, subst, sym, arith}
 use Rattle.worker_core.specs.declared.slots.Slot.{Slot}
-use Rattle.worker_core.specs.Slots.{AllEndedBy}
+use Rattle.worker_core.specs.Slots.{AllCounted, AllEndedBy}
 use Rattle.worker_core.proofs.Closings.{order_closed}
+use Rattle.worker_core.proofs.Counts.{counted_by_remove}
 use Rattle.worker_core.proofs.Lists.{ended_by_remove}
 use Rattle.worker_core.proofs.pods.Pods.leave.Goals as goal
 
@@ -19,3 +20,9 @@ returns-then-is_gone_at-clause-by c = λ now by.
     subst (AllEndedBy now) (sym c.remove.ensures.items)
     (ended_by_remove now c.self.inside.slots.items c.args.place
     (subst (AllEndedBy now) (sym c.self.view_is) by))
+
+pub returns-then-is_gone_at-clause-counted : goal.returns-then-is_gone_at-clause-counted
+returns-then-is_gone_at-clause-counted c = λ number all.
+    subst (AllCounted number) (sym c.remove.ensures.items)
+    (counted_by_remove number c.self.inside.slots.items c.args.place
+    (subst (AllCounted number) (sym c.self.view_is) all))
