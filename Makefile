@@ -66,11 +66,13 @@ copy:
 	install -D -m 644 out/install/motchidu.pc $(DESTDIR)$(PREFIX)/lib/pkgconfig/motchidu.pc
 	install -D -m 644 out/install/motchidu.h $(DESTDIR)$(PREFIX)/include/motchidu.h
 	install -D -m 644 man/motchidu.3 $(DESTDIR)$(PREFIX)/share/man/man3/motchidu.3
+	@tools/completions.py $(DESTDIR)$(PREFIX)
 
 # Removes what make copy and make try install.
 uninstall:
-	@rm -f $(foreach program,$(PROGRAMS),$(DESTDIR)$(PREFIX)/bin/$(program) \
-	  $(DESTDIR)$(PREFIX)/share/man/man1/$(program).1) \
+	@rm -f $(foreach program,$(PROGRAMS),$(addprefix $(DESTDIR)$(PREFIX)/,bin/$(program) \
+	  share/man/man1/$(program).1 share/bash-completion/completions/$(program) \
+	  share/zsh/site-functions/_$(program) share/fish/vendor_completions.d/$(program).fish)) \
 	  $(addprefix $(DESTDIR)$(PREFIX)/,lib/libmotchidu.a lib/libmotchidu.so.0 lib/libmotchidu.so \
 	  lib/pkgconfig/motchidu.pc include/motchidu.h share/man/man3/motchidu.3)
 

@@ -4,7 +4,7 @@ has to print what stands below it, each line that is quoted stands where it is s
 file that is named leads somewhere; each manual page names each command and option that --help prints, and
 each status, and its examples run; where --help tells a range or a default of an option, the page tells the
 same, a case of tests/ tries both ends of the range, and the program takes these and refuses what is next to
-them. tests/run calls it. With programs of another folder (BIN) there is no library, and the session in C is
+them; the shells complete each option. tests/run calls it. With programs of another folder (BIN) there is no library, and the session in C is
 left out.
 """
 import json
@@ -124,6 +124,25 @@ class Terminal:
         for pid in runtimes_of(self.ran.pid):
             os.kill(pid, signal.SIGINT)
         check(f"README: {self.command}", self.ran.communicate(timeout=60)[0], self.below)
+
+
+def check_completions(prefix):
+    """What the shells complete: each option of --help, and on a line of bash what fits what was typed."""
+    if os.environ.get("BIN"):
+        subprocess.run([f"{ROOT}/tools/completions.py", prefix], check=True)
+    for program in STATUSES:
+        options = set(re.findall(r"^ +(?:-\w, )?(--[a-z-]+)", help_of(prefix, program), re.M))
+        for place in ("bash-completion/completions/{}", "zsh/site-functions/_{}", "fish/vendor_completions.d/{}.fish"):
+            with open(f"{prefix}/share/{place.format(program)}", encoding="utf-8") as it:
+                words = set(re.findall(r"[a-z-]+", it.read().replace("-l ", "--")))
+            check(f"{place.format(program)} has each option", sorted(options - words), [])
+    for typed, wanted in (("seccheck com", "compile compare"), ("seccheck lint --", "--json --help"),
+                          ("nodeagent --w", "--with-runtime --workers --watch"), ("scriptd --scripts bi", "bin")):
+        name, last = typed.split()[0], len(typed.split()) - 1
+        script = (f". share/bash-completion/completions/{name}; COMP_WORDS=({typed}); COMP_CWORD={last}; _{name}; "
+                  'echo "${COMPREPLY[*]}"')
+        ran = subprocess.run(["bash", "-c", script], cwd=prefix, capture_output=True, text=True)
+        check(f"bash completes {typed}", ran.stdout + ran.stderr, f"{wanted}\n")
 
 
 def check_version(prefix):
@@ -390,6 +409,7 @@ def checked(programs):
         check_sessions(readme, prefix, room)
         check_tutorial(prefix, room)
         check_version(prefix)
+        check_completions(prefix)
         for program in STATUSES:
             check_page(prefix, program)
             check_examples(prefix, program, room)

@@ -13,9 +13,9 @@ make cases    runs the cases of tests/ with the programs that make test built, o
               CASES=FILE.. runs some of them. A minute or two
 make demo     compiles a profile, judges a call with a verified filter, plays scripts, settles pods over a socket,
               and runs the pods of a folder, before any proof. Three minutes
-make try      installs the programs and their manual pages to PREFIX (/usr/local), compiled with checks at run time
-              in place of proofs; their --version says unproved. Two minutes on four cores
-make install  proves the programs and the library for C, and installs them with their manual pages to PREFIX
+make try      installs the programs, their manual pages and completions to PREFIX (/usr/local), compiled with
+              checks at run time in place of proofs; their --version says unproved. Two minutes on four cores
+make install  proves the programs and the library for C, and installs them with pages and completions to PREFIX
               (/usr/local). An hour of one core; make copy installs what is already built, and
               make uninstall removes it. At once
 make lib      builds the library for C and its header, proved, in out/c. Ten minutes of one core

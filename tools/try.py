@@ -1,6 +1,6 @@
 #!/usr/bin/env python3
 """try.py PREFIX: compiles the three programs side by side, with checks at run time in the place of proofs, and
-installs them with their manual pages below PREFIX. Their `--version` says `unproved`.
+installs them with their manual pages and the shells' completions below PREFIX. Their `--version` says `unproved`.
 """
 import os
 import shutil
@@ -61,6 +61,8 @@ def main():
         copy_into(folder)
         with ThreadPoolExecutor(len(PROGRAMS)) as pool:
             found = [*pool.map(lambda name: installed(name, folder, prefix), PROGRAMS)]
+    if all(found):
+        subprocess.run([f"{ROOT}/tools/completions.py", prefix], check=True)
     return not all(found)
 
 
