@@ -4,8 +4,8 @@ has to print what stands below it, each line that is quoted stands where it is s
 file that is named leads somewhere; each manual page names each command and option that --help prints, and
 each status, and its examples run; where --help tells a range or a default of an option, the page tells the
 same, a case of tests/ tries both ends of the range, and the program takes these and refuses what is next to
-them; the shells complete each option. tests/run calls it. With programs of another folder (BIN) there is no library, and the session in C is
-left out.
+them; the shells complete each option. tests/run calls it. With programs of another folder (BIN) there is no
+library, and the session in C is left out.
 """
 import json
 import os
@@ -130,9 +130,10 @@ def check_completions(prefix):
     """What the shells complete: each option of --help, and on a line of bash what fits what was typed."""
     if os.environ.get("BIN"):
         subprocess.run([f"{ROOT}/tools/completions.py", prefix], check=True)
+    places = ("bash-completion/completions/{}", "zsh/site-functions/_{}", "fish/vendor_completions.d/{}.fish")
     for program in STATUSES:
         options = set(re.findall(r"^ +(?:-\w, )?(--[a-z-]+)", help_of(prefix, program), re.M))
-        for place in ("bash-completion/completions/{}", "zsh/site-functions/_{}", "fish/vendor_completions.d/{}.fish"):
+        for place in places:
             with open(f"{prefix}/share/{place.format(program)}", encoding="utf-8") as it:
                 words = set(re.findall(r"[a-z-]+", it.read().replace("-l ", "--")))
             check(f"{place.format(program)} has each option", sorted(options - words), [])

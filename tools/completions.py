@@ -1,6 +1,7 @@
 #!/usr/bin/env python3
-"""completions.py PREFIX: writes what bash, zsh and fish complete on the command lines of the programs below PREFIX/bin,
-to the places below PREFIX where these shells look. It is all read off what the programs print for --help.
+"""completions.py PREFIX: writes what bash, zsh and fish complete on the command lines of the programs below
+PREFIX/bin, to the places below PREFIX where these shells look. All of it is read off what the programs print for
+--help.
 """
 import os
 import re
@@ -25,7 +26,7 @@ class Line:
     def __init__(self, program, *command):
         ran = subprocess.run([program, *command, "--help"], capture_output=True, text=True)
         said = ran.stdout + ran.stderr
-        self.commands = {} if command else {name: about for name, about in section(said, "Commands") if name != "help"}
+        self.commands = {} if command else {it: about for it, about in section(said, "Commands") if it != "help"}
         self.options = {}
         for words, about in section(said, "Options"):
             value = re.search(r"<(\w+)>", words)
