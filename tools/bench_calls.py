@@ -1,8 +1,9 @@
 #!/usr/bin/env python3
 """bench_calls.py ECHO: times scriptd and nodeagent. Calls a second over a Unix socket (connect, request,
-reply) beside those of the plain server ECHO with the same frames, how long nodes of 10, 50 and 110 pods take
-to settle, and with how many requests a full node does, by either version of the messages. The programs are
-crates/NAME/out/NAME, or those in the folder BIN names.
+reply) beside those of the plain server ECHO with the same frames, by one client and by several at a time; how
+long nodes of 10, 50 and 110 pods take to settle, by how many workers; and with how many requests a full node
+does, by either version of the messages. The programs are crates/NAME/out/NAME, or those in the folder BIN
+names.
 """
 import json
 import os
@@ -15,6 +16,7 @@ import time
 ROOT = os.path.dirname(os.path.dirname(os.path.abspath(__file__)))
 CALLS, ROUNDS = "5000", 7
 CONTAINERS = 4
+CLIENTS, WORKERS = (1, 2, 4, 8), (1, 2, 4, 8)
 UNTIL = "10"
 
 
@@ -35,10 +37,22 @@ def rate(echo, path):
     return int(subprocess.run([echo, "call", path, CALLS], check=True, capture_output=True, text=True).stdout)
 
 
+def rate_of(echo, path, clients):
+    """Calls a second of so many clients at a time, each a process of its own."""
+    how = {"stdout": subprocess.PIPE, "text": True}
+    ran = [subprocess.Popen([echo, "call", path, CALLS], **how) for _ in range(clients)]
+    return sum(int(it.communicate()[0]) for it in ran)
+
+
 def calls(echo, folder):
     ours, plain = f"{folder}/ours", f"{folder}/plain"
     servers = [served([program("scriptd"), "--socket", ours], ours), served([echo, "serve", plain], plain)]
     rates = [(rate(echo, ours), rate(echo, plain)) for _ in range(ROUNDS)]
+    print("| clients | scriptd | plain C |\n|---|---|---|")
+    for clients in CLIENTS:
+        found = [(rate_of(echo, ours, clients), rate_of(echo, plain, clients)) for _ in range(ROUNDS)]
+        medians = [str(statistics.median(column)) for column in zip(*found)]
+        print(f"| {clients} | {' | '.join(medians)} |", flush=True)
     for server in servers:
         server.kill()
         server.wait()
@@ -80,6 +94,14 @@ def settle(folder, pods):
     print(f"{pods} pods of {CONTAINERS} containers settle in {took:.3f} s, {a_pod:.2f} ms a pod", flush=True)
 
 
+def settle_by_workers(folder):
+    manifests = pods_of(folder, 110, CONTAINERS, 1)
+    print("| workers | 110 pods settle in |\n|---|---|")
+    for workers in WORKERS:
+        took = seconds(agent(folder, "--workers", str(workers), "--settle", *manifests))
+        print(f"| {workers} | {took:.3f} s |", flush=True)
+
+
 def requests(words):
     """How many requests were made: each is a line on standard error."""
     how = {"stdout": subprocess.DEVNULL, "stderr": subprocess.PIPE}
@@ -105,6 +127,7 @@ def main():
         calls(os.path.abspath(sys.argv[1]), folder)
         for pods in (10, 50, 110):
             settle(folder, pods)
+        settle_by_workers(folder)
         versions(folder)
 
 
