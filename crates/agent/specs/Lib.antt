@@ -1,11 +1,2 @@
-pub mod Table
-pub mod Stops
-pub mod StopText
 pub mod Lines
-pub mod NodeEnds
-pub mod LostText
-pub mod Repeats
 pub mod Looks
-pub mod Troubles
-pub mod Reach
-pub mod State

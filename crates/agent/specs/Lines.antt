@@ -19,9 +19,9 @@ use Rattle.worker_crew.specs.declared.pace.Ended.TheVariants as ended
 use Rattle.worker_crew.specs.declared.pace.Pace.{Pace}
 use Rattle.worker_crew.specs.declared.pace.Pace.TheVariants.{Counted, Machine}
 use Rattle.worker_pod.specs.declared.settings.Settings.{Settings}
-use Rattle.agent.specs.declared.stops.AgentStop.{AgentStop}
-use Rattle.agent.specs.declared.stops.AgentStop.TheVariants.{Server, HistoryFull}
-use Rattle.agent.specs.Table.{told_table}
+use Rattle.agent_parts.specs.declared.stops.AgentStop.{AgentStop}
+use Rattle.agent_parts.specs.declared.stops.AgentStop.TheVariants.{Server, HistoryFull}
+use Rattle.agent_parts.specs.Table.{told_table}
 
 -- the version of its requests
 abbrev pub version_for : NodeagentLine → Version

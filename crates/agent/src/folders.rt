@@ -4,10 +4,8 @@ ghost use Rattle.agent.specs.Looks.{IsManifest, rest_after};
 ghost use Rattle.node_lock.specs.Books.{worker_of};
 ghost use Rattle.pod_folder.specs.Looking.{ReadsAs};
 
-use crate::inputs::pod_of;
 use crate::limits::{LONGEST_REST, LOOK_SHARE, SHORTEST_REST, SLICE};
-use crate::repeats::Repeats;
-use crate::stops::AgentStop;
+use agent_parts::{AgentStop, Repeats, pod_of};
 use fault_notes::ShownPath;
 use manifest::{PodFault, Uid};
 use node_io::CausedFault;

@@ -1,6 +1,6 @@
 ghost use Rattle.std.specs.Prelude.{◌≡◌};
 ghost use Rattle.agent.specs.declared.limits.TheConstants.{LAST_CALLS, LOOKS, MAX_WORKERS, PATIENCE, POLL};
-ghost use Rattle.agent.specs.declared.limits.TheConstants.{LONGEST_REST, LOOK_SHARE, REPORT_REST};
+ghost use Rattle.agent.specs.declared.limits.TheConstants.{LONGEST_REST, LOOK_SHARE};
 ghost use Rattle.agent.specs.declared.limits.TheConstants.{RUNNERS, SETTLE_UNTIL, SHORTEST_REST};
 ghost use Rattle.agent.specs.declared.dialing.TheConstants.{QUEUE_REST};
 
@@ -21,8 +21,6 @@ pub fn constants_are_as_stated()
     // milliseconds
     ensures shortest_rest { SHORTEST_REST ≡ 1000 }
     ensures longest_rest { LONGEST_REST ≡ 10000 }
-    // a minute
-    ensures report_rest { REPORT_REST ≡ 60 }
     // milliseconds
     ensures queue_rest { QUEUE_REST ≡ 10 }
 {}

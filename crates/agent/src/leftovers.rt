@@ -1,7 +1,6 @@
 //! The pods that a former start of the agent left in the runtime, by the file of `--state`.
 
-use crate::state::{KeptUids, Store};
-use crate::stops::AgentStop;
+use agent_parts::{AgentStop, KeptUids, Store};
 use cri_msgs::{Answer, Call, Request};
 use host_io::replace;
 use manifest::Uid;

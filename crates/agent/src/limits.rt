@@ -36,8 +36,5 @@ pub(crate) const SHORTEST_REST: u64 = 1_000;
 /// The longest such time, in milliseconds.
 pub(crate) const LONGEST_REST: u64 = 10_000;
 
-/// How many seconds pass at least between two reports of what happens again and again.
-pub(crate) const REPORT_REST: u64 = 60;
-
 /// How many seconds of the virtual clock an agent has at its end to remove its pods.
 pub(crate) const REMOVAL: u64 = 60;

@@ -1,7 +1,7 @@
 //! How an agent that ends by itself removes its pods.
 
 use crate::limits::REMOVAL;
-use crate::node_ends::{TableEnd, TableTeller};
+use agent_parts::{TableEnd, TableTeller};
 use manifest::Uid;
 use std::alloc::{AllocError, Global};
 use std::sync::Wait;

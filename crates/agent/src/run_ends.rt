@@ -1,12 +1,11 @@
 //! With what a run of `nodeagent` ends: its status, and what is printed then.
 ghost use Rattle.std.specs.Prelude.{◌≡◌, [], IfErr, IfOk, IfSome, None, Some, false, string_bytes, true};
 ghost use Rattle.agent.specs.Lines.{form_for, reasons_for, status_at, stop_at};
-ghost use Rattle.agent.specs.NodeEnds.{end_of, settled_status, status_of_end};
-ghost use Rattle.agent.specs.Table.{told_table};
+ghost use Rattle.agent_parts.specs.NodeEnds.{end_of, settled_status, status_of_end};
+ghost use Rattle.agent_parts.specs.Table.{told_table};
 
-use crate::node_ends::{TableEnd, table_end};
 use crate::settings::form_of;
-use crate::stops::AgentStop;
+use agent_parts::{AgentStop, TableEnd, table_end};
 use command_line::NodeagentLine;
 use node_lock::Book;
 use node_watch::Reasons;

@@ -3,7 +3,7 @@
 ghost use Rattle.std.specs.Prelude.{◌≡◌, IfOk, string_bytes};
 ghost use Rattle.agent.specs.Lines.{working_text};
 
-use crate::lost::LostCall;
+use agent_parts::LostCall;
 use cri_msgs::{Reply, Request};
 use runtime_server::{answered, asked};
 use std::alloc::{AllocError, Global};

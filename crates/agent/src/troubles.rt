@@ -1,9 +1,8 @@
 //! What goes wrong with an agent's calls, as it is reported: each thing once, or once a minute.
 
-use crate::losses::{Loss, loss_of};
-use crate::lost::LostCall;
-use crate::reach::{ReachReport, is_unreached, reach_of, report_of};
-use crate::repeats::Repeats;
+use agent_parts::{
+    Loss, LostCall, ReachReport, Repeats, is_unreached, loss_of, reach_of, report_of,
+};
 use cri_msgs::{Answer, Reply, Request};
 use fault_notes::ShownPath;
 use manifest::Uid;

@@ -1,9 +1,0 @@
--- The lines of the uids so far.
-use Rattle.std.proofs.Common.{◌≡◌, ◌++◌, drop}
-use Rattle.std.specs.String.{string_bytes}
-use Rattle.agent.specs.State.{lines_of}
-use Rattle.agent.proofs.state.add_lines.Given as goal
-
-abbrev pub invariant-loop-uid : goal.invariant-loop-uid
-invariant-loop-uid l = string_bytes l.text ++ lines_of (drop l.uid-index l.uids)
-    ≡ string_bytes l.initial.text ++ lines_of l.uids

@@ -1,0 +1,9 @@
+pub mod Table
+pub mod Stops
+pub mod StopText
+pub mod NodeEnds
+pub mod LostText
+pub mod Repeats
+pub mod Troubles
+pub mod Reach
+pub mod State

@@ -1,0 +1,46 @@
+//! The manifests that the command line names, and those of a folder.
+
+ghost use Rattle.std.specs.Prelude.{IfErr, IfOk};
+ghost use Rattle.manifest.specs.Pod.{ReadsPod};
+ghost use Rattle.agent_parts.specs.Stops.{IsOfText};
+
+use crate::stops::AgentStop;
+use fault_notes::manifest_note;
+use manifest::{Pod, PodFault};
+use pod_folder::{gives_uid, uid_for};
+use runtime_server::{ServerStop, bytes_at};
+use std::alloc::Global;
+use std::rt;
+
+/// The pod of a manifest's bytes.
+pub fn pod_of<'a>(alloc: Global, path: &'a str, bytes: &[u8]) -> Result<Pod, AgentStop<'a>>
+    ensures read { IfOk result (ReadsPod bytes.now) }
+    ensures fault { IfErr result (IsOfText path.now bytes.now) }
+{
+    match manifest::read_placed(alloc, bytes) {
+        Ok(pod) => Ok(pod),
+        Err(found) => match found.fault {
+            PodFault::Memory => Err(AgentStop::Server(ServerStop::Memory)),
+            _ => Err(AgentStop::Text(path, manifest_note(alloc, bytes, &found)?)),
+        },
+    }
+}
+
+/// The pod of a manifest, and whether the manifest gives its uid. A uid that it does not give ends with the
+/// name of the run.
+pub fn pod_at<'a, R: rt::Files + AllocGlobal>(
+    rt: &R,
+    path: &'a str,
+    run: Option<&str>,
+) -> Result<(Pod, bool), AgentStop<'a>> {
+    let bytes = bytes_at(rt, path)?;
+    let mut pod = pod_of(rt.alloc(), path, bytes.as_slice())?;
+    let gives_uid = gives_uid(rt.alloc(), bytes.as_slice())?;
+    if !gives_uid {
+        match uid_for(rt.alloc(), &pod, 1, run)? {
+            Some(uid) => pod.uid = uid,
+            None => return Err(AgentStop::Manifest(path, PodFault::BadName)),
+        }
+    }
+    Ok((pod, gives_uid))
+}

@@ -1,0 +1,88 @@
+//! How the pods of a node stand at the end of a run, and the table that shows them.
+ghost use Rattle.std.specs.Prelude.{◌≡◌, IfOk};
+ghost use Rattle.std.specs.String.{string_bytes};
+ghost use Rattle.agent_parts.specs.NodeEnds.{end_of, status_of_end};
+ghost use Rattle.agent_parts.specs.Table.{told_table};
+
+use crate::tables::told_table;
+use node_watch::{Form, Reasons};
+use std::alloc::{AllocError, Global};
+use worker_core::Node;
+use worker_crew::NodeTeller;
+
+/// How the pods of a node stand.
+#[derive(Clone, Copy, Debug, PartialEq, Eq)]
+pub enum NodeEnd {
+    /// One is neither Succeeded nor Failed.
+    Open,
+    /// Each is Succeeded or Failed, and one is Failed.
+    Failed,
+    /// Each is Succeeded.
+    Succeeded,
+}
+
+/// How the pods of this node stand.
+fn end_of(node: &Node) -> NodeEnd
+    ensures { result ≡ end_of node.now }
+{
+    if !node.is_settled() {
+        NodeEnd::Open
+    } else if node.has_failed() {
+        NodeEnd::Failed
+    } else {
+        NodeEnd::Succeeded
+    }
+}
+
+impl NodeEnd {
+    /// The status of `--settle`: 0 if each pod is Succeeded or Failed, but 1 if one is Failed and that
+    /// counts; else 5.
+    pub fn status(self, failures_count: bool) -> u8
+        ensures { result ≡ status_of_end failures_count self }
+    {
+        match self {
+            NodeEnd::Open => 5,
+            NodeEnd::Failed if failures_count => 1,
+            NodeEnd::Failed | NodeEnd::Succeeded => 0,
+        }
+    }
+}
+
+/// The table of a node, and how the pods in it stand. Only `table_end` makes one.
+#[derive(Drop)]
+pub struct TableEnd {
+    pub text: String,
+    pub end: NodeEnd,
+}
+
+/// The table of this node, and how its pods stand.
+pub fn table_end(
+    alloc: Global,
+    node: &Node,
+    form: Form,
+    reasons: &Reasons,
+) -> Result<TableEnd, AllocError>
+    ensures text { IfOk result (λ table. string_bytes table.text ≡ told_table form reasons.now node.now) }
+    ensures end { IfOk result (λ table. table.end ≡ end_of node.now) }
+{
+    let text = told_table(alloc, node, form, reasons)?;
+    Ok(TableEnd {
+        text,
+        end: end_of(node),
+    })
+}
+
+/// Writes the table of a node.
+#[derive(Clone, Copy)]
+pub struct TableTeller {
+    pub alloc: Global,
+    pub form: Form,
+}
+
+impl NodeTeller for TableTeller {
+    type Told = TableEnd;
+
+    fn tell(&self, node: &Node, reasons: &Reasons) -> Result<TableEnd, AllocError> {
+        table_end(self.alloc, node, self.form, reasons)
+    }
+}
