@@ -274,7 +274,7 @@ def stated_statuses(crates):
 STATUSES = {
     "seccheck": (["checker"], {0}),
     "scriptd": (["runtime_server"], set()),
-    "nodeagent": (["runtime_server", "agent"], {0, 5}),
+    "nodeagent": (["runtime_server", "agent_parts"], {0, 5}),
 }
 
 
