@@ -1,6 +1,6 @@
 -- Which cells do not run, by what is known under the locks of the registry and of a sandbox.
 use Rattle.std.proofs.Common.{◌≡◌, ◌≢◌, inl, inr, ℕ, Bool, true, false, List, [], ◌∷◌, map, refl, sym, ap}
-use Rattle.std.proofs.Common.{subst, ◌∙◌, Option, Some, None, IsSome, cond, arith}
+use Rattle.std.proofs.Common.{subst, ◌∙◌, Option, Some, None, cond, arith}
 use Rattle.std.specs.Prelude.{◌==◌, ◌<◌, not}
 use Rattle.std.proofs.lemmas.Bool.{eqb-true}
 use Rattle.runtime_cell.specs.Cell.{Cell}
