@@ -7,7 +7,8 @@ ENGINES ?= /
 BENCH_FLAGS := -std=gnu11 -O2 -Wall -Wextra
 EXAMPLES := ../../examples
 
-.PHONY: help test quick cases times planted demo try lib install copy uninstall bench kernel table fleet clean
+.PHONY: help test quick cases times planted demo try lib install copy uninstall bench kernel table fleet real \
+  clean
 
 help:
 	@tools/help.sh
@@ -116,6 +117,10 @@ table:
 # Three nodes behind an etcd of this machine, by the programs that make test built, or those in the folder BIN.
 fleet:
 	@tools/fleet.py
+
+# Real programs under filters, by the seccheck that make test built, or that in the folder BIN.
+real:
+	@tools/real.py
 
 clean:
 	rm -rf out crates/*/out
