@@ -1,11 +1,14 @@
 #!/usr/bin/env python3
-"""real.py: runs the scripts of examples/real/, each of which holds a real program to a filter or a profile, and tries
-profile_of_strace.py on odd lines. seccheck is crates/seccheck/out/seccheck, or that in the folder BIN; the library
-for C is that of out/c, or the one that pkg-config knows. A script that this machine can't run is left out, and the
-last lines say why. Status 0 if all that could run passed.
+"""real.py: runs the scripts of examples/real/, each of which holds a real program to a filter or a profile, the
+commands of docs/REAL.md, and profile_of_strace.py on odd lines. seccheck is crates/seccheck/out/seccheck, or that
+in the folder BIN; the library for C is that of out/c, or the one that pkg-config knows. What this machine can't run
+is left out, and the last lines say why. Status 0 if all that could run passed.
 """
 import json
 import os
+import re
+import shlex
+import signal
 import subprocess
 import sys
 import tempfile
@@ -52,18 +55,44 @@ def takes_odd_lines():
         profile = json.loads(ran.stdout or "{}")
         found = {name for entry in profile.get("syscalls", []) for name in entry["names"]}
         wanted = {name for _, name in LINES if name}
-        told = [int(line.split(":")[1]) for line in ran.stderr.splitlines()]
+        told = [int(it) for it in re.findall(r":(\d+): left out: ", ran.stderr)]
         odd = [at for at, (_, name) in enumerate(LINES, 1) if name is None]
         return wanted <= found and not any(it.startswith("syscall_") for it in found) and told == odd
 
 
-def status_of(script):
+def status_of(words, **more):
+    how = {"stdin": subprocess.DEVNULL, "stdout": subprocess.PIPE, "stderr": subprocess.STDOUT, "text": True}
+    ran = subprocess.Popen(words, cwd=ROOT, env=environment() | more, start_new_session=True, errors="replace", **how)
     try:
-        ran = subprocess.run([f"{REAL}/{script}"], env=environment(), timeout=SECONDS, stdin=subprocess.DEVNULL,
-                             stdout=subprocess.PIPE, stderr=subprocess.STDOUT, text=True, errors="replace")
+        said, _ = ran.communicate(timeout=SECONDS)
     except subprocess.TimeoutExpired:
-        return 1, f"{script}: FAILED: more than {SECONDS} s\n"
-    return ran.returncode, ran.stdout
+        os.killpg(ran.pid, signal.SIGKILL)  # the script and what it started
+        said, _ = ran.communicate()
+        said += f"{os.path.basename(words[0])}: FAILED: more than {SECONDS} s\n"
+    return ran.returncode, said
+
+
+def page():
+    """docs/REAL.md as a script that ends at the first command which fails or prints another text than is shown."""
+    with open(f"{ROOT}/docs/REAL.md", encoding="utf-8") as it:
+        blocks = re.findall(r"^```(sh|console)\n(.*?)^```$", it.read(), re.M | re.S)
+    lines = []
+    for kind, block in blocks:
+        if kind == "sh":
+            lines += [line for line in block.splitlines() if not line.startswith("apt-get ")]
+            continue
+        parts = re.split(r"^\$ (.*)\n", block, flags=re.M)
+        lines += [f'[ "$({command} 2>&1)" = {shlex.quote(below.rstrip())} ]'
+                  for command, below in zip(parts[1::2], parts[2::2])]
+    return "\n".join(lines)
+
+
+def follows_page():
+    with tempfile.TemporaryDirectory() as room:
+        status, said = status_of(["sh", "-exc", page()], TMPDIR=room, LC_ALL="C")
+    if status:
+        print("".join(f"    {line}\n" for line in said.splitlines()[-5:]), end="")
+    return status == 0
 
 
 def main():
@@ -72,18 +101,24 @@ def main():
     passed, failed, left_out = 0, [], []
     scripts = sorted(it for it in os.listdir(REAL) if it.endswith(".sh") and it != "common.sh")
     for script in scripts:
-        status, said = status_of(script)
+        status, said = status_of([f"{REAL}/{script}"])
         if status == LEFT_OUT:
             left_out.append(said)
             continue
         print(said, end="", flush=True)
         passed += status == 0
         failed += [script] if status else []
-    if takes_odd_lines():
-        print("profile_of_strace: each call is in the profile, and each broken line is reported")
-        passed += 1
+    others = [("profile_of_strace.py: each call is in the profile, each broken line is reported", takes_odd_lines)]
+    if any(it.startswith("strace: ") for it in left_out):
+        left_out.append("docs/REAL.md: left out: it needs what strace.sh needs\n")
     else:
-        failed.append("profile_of_strace.py")
+        others.append(("docs/REAL.md: each command prints what is shown", follows_page))
+    for what, holds in others:
+        if holds():
+            print(what, flush=True)
+            passed += 1
+        else:
+            failed.append(what.partition(":")[0])
     print("".join(left_out), end="")
     print(f"real: {passed} passed, {len(failed)} failed, {len(left_out)} left out")
     sys.exit(f"real: FAILED: {', '.join(failed)}" if failed else 0)
