@@ -249,6 +249,14 @@ def check_faults():
     check("a row of faults has four cells", [row[0] for row in rows if len(row) != 4], [])
 
 
+def check_plots():
+    """The plots are drawn from today's tables of docs/BENCHMARKS.md, which shows them all."""
+    ran = subprocess.run([f"{ROOT}/tools/plots.py", "--check"], capture_output=True, text=True)
+    check("tools/plots.py --check", ran.stdout + ran.stderr, "")
+    shown = re.findall(r"^!\[.+\]\((plots/\w+\.svg)\)$", text_of("docs/BENCHMARKS.md"), re.M)
+    check("BENCHMARKS shows each plot", sorted(shown), sorted(f"plots/{it}" for it in os.listdir(f"{ROOT}/docs/plots")))
+
+
 def check_quotes():
     """The lines that docs/PROOFS.md quotes stand in the files that it names above them."""
     for block in blocks(text_of("docs/PROOFS.md"), "antt"):
@@ -405,6 +413,7 @@ def checked(programs):
         check_readme(readme)
         check_paths()
         check_quotes()
+        check_plots()
         check_faults()
         check_files(readme)
         check_sessions(readme, prefix, room)
