@@ -170,6 +170,7 @@ static const struct code {
     struct sock_filter code[5];
 } allows = {8, {ALLOW}}, loads = {16, {LOAD_NR, ALLOW}},
   no_ptrace = {32, {LOAD_NR, TEST(BPF_JEQ, 101, 0, 1), KILL, ALLOW}},
+  turned_around = {32, {LOAD_NR, TEST(BPF_JEQ, 101, 1, 0), ALLOW, KILL}},
   no_x32 = {32, {LOAD_NR, TEST(BPF_JGE, 0x40000000, 0, 1), KILL, ALLOW}},
   adds = {24, {LOAD_NR, BPF_STMT(BPF_ALU | BPF_ADD | BPF_K, 1), BPF_STMT(BPF_RET | BPF_A, 0)}},
   keeps_and_adds = {32, {LOAD_NR, BPF_STMT(BPF_ST, 0), BPF_STMT(BPF_ALU | BPF_ADD | BPF_K, 1),
@@ -261,10 +262,10 @@ static void expect_pairs_without_memory(void) {
     enum { MOST_REQUESTS = 4 };
     for (int requests = 0; requests < MOST_REQUESTS; requests++) {
         served = requests;
-        expect_compared("a request is refused", &no_ptrace, &no_ptrace, false, 100, MOTCHIDU_MEMORY);
+        expect_compared("a request is refused", &no_ptrace, &turned_around, false, 100, MOTCHIDU_MEMORY);
     }
     served = MOST_REQUESTS;
-    expect_compared("all are served", &no_ptrace, &no_ptrace, false, 100, MOTCHIDU_SAME);
+    expect_compared("all are served", &no_ptrace, &turned_around, false, 100, MOTCHIDU_SAME);
     served = ALL;
 }
 
