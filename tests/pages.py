@@ -215,7 +215,8 @@ def is_there(path):
 
 def check_paths():
     """The files that the pages name are there."""
-    for page in ["README.md", *(f"docs/{name}" for name in sorted(os.listdir(f"{ROOT}/docs")))]:
+    pages = sorted(name for name in os.listdir(f"{ROOT}/docs") if name.endswith(".md"))
+    for page in ["README.md", *(f"docs/{name}" for name in pages)]:
         # (what begins with src or the like is said of the crate that the text speaks of)
         named = set(re.findall(PATHS, text_of(page)))
         lost = [path for path in sorted(named) if not is_there(path)]
