@@ -99,6 +99,9 @@ PLOTS = {
     "steps.svg": steps,
     "calls.svg": lambda: by_number(("clients", "scriptd", "plain C"), "Calls a second, by clients at a time",
                                    ("scriptd", "plain C"), 1, lambda value: f"{value:,.0f}"),
+    "settle.svg": lambda: by_number(("workers", "110 pods settle in"),
+                                    "Milliseconds until 110 pods are settled, by workers",
+                                    ("nodeagent --with-runtime",), 1000, lambda value: f"{value:,.0f}"),
 }
 
 
