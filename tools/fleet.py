@@ -117,8 +117,10 @@ def wait(what, holds, limit):
     FAILED.append(what)
 
 
-def settled(fleet, what):
+def settled(fleet, what, rest=0):
+    """Waits for the files, and for the pods once every status from before has expired."""
     wait(f"{what}: the files are those of the keys", fleet.has_files, LIMIT)
+    time.sleep(rest)
     wait(f"{what}: every pod runs where its key says", fleet.runs, PATIENCE)
 
 
@@ -172,7 +174,7 @@ def main():
                 if {node: fleet.files(node) for node in NODES} != files:
                     FAILED.append(f"without {name} the files stay")
                 fleet.parts[name].start()
-                settled(fleet, f"{name} killed and started again")
+                settled(fleet, f"{name} killed and started again", LIMIT + 1)
         finally:
             fleet.end()
     sys.exit(f"fleet: {len(FAILED)} FAILED" if FAILED else 0)

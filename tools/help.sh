@@ -25,7 +25,7 @@ make bench    measures the machine and the compiler beside others, the runtime w
 make kernel   compares the running kernel with the library on COUNT drawn calls. A minute
 make table    compares the table of calls with the kernel's header on this machine. At once
 make fleet    runs 60 pods on three nodes behind Debian's etcd, and kills each kind of part once, by what is
-              built, or BIN=FOLDER. A minute
+              built, or BIN=FOLDER. Two minutes
 make real     holds real programs to filters, by bwrap, crun, runc, systemd and a program in C, and says which
               packages are missing; by what is built, or BIN=FOLDER. A few seconds
 make clean    removes what is built and proved
