@@ -1,7 +1,7 @@
 -- What each call does, by cases, this project's own: docs/SEMANTICS.md, "The runtime". Which states there
 -- are, and that calls which stop or remove may be sent again, is CRI v1's.
 use Rattle.std.specs.Prelude.{◌≡◌, ◌≢◌, ◌⊎◌, ◌+◌, ◌==◌, if◌then◌else◌, ℕ, ◌≤◌, not, count_by, IsPermutation}
-use Rattle.std.specs.Prelude.{Bool, true, false, List, [], ◌∷◌, ◌++◌, length, map, Option}
+use Rattle.std.specs.Prelude.{Bool, true, false, List, [], ◌∷◌, ◌++◌, length, map, Option, None, Some, find}
 use Rattle.std.specs.List.Sorted.{IsSortedByKey}
 use Rattle.std.specs.BTreeSet.{insert_key}
 use Rattle.bpf_code.specs.declared.insn.Insn.{Insn}
@@ -257,7 +257,14 @@ gone_with Unknown cells others = others
 gone_with (Live ready) cells others = cells
 gone_with Removed cells others = others
 
--- what is handed out: the cells of a sandbox that is removed take the place of the others
+-- the cell that went by itself, where it was in a sandbox that is there
+abbrev pub gone_of : Stage → Option Cell → List Cell → List Cell
+gone_of Unknown cell others = others
+gone_of (Live ready) None others = others
+gone_of (Live ready) (Some cell) others = cell ∷ []
+gone_of Removed cell others = others
+
+-- what is handed out: the cells that are removed take the place of the others
 abbrev pub handed_out : Call → Stage → List Cell → List Cell → List Cell
 handed_out (RunPodSandbox uid) stage cells others = others
 handed_out (StopPodSandbox uid grace) stage cells others = others
@@ -265,7 +272,8 @@ handed_out (RemovePodSandbox uid) stage cells others = gone_with stage cells oth
 handed_out (CreateContainer key image choice) stage cells others = others
 handed_out (StartContainer key) stage cells others = others
 handed_out (StopContainer key grace) stage cells others = others
-handed_out (RemoveContainer key) stage cells others = others
+handed_out (RemoveContainer key) stage cells others =
+    gone_of stage (find (is_of key.container) cells) others
 handed_out (ContainerStatus key) stage cells others = others
 handed_out (ListContainers uid) stage cells others = others
 handed_out (ContainerStatuses uid) stage cells others = others

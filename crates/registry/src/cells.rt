@@ -13,7 +13,6 @@ use cri_msgs::ContainerMetadata;
 use runtime_cell::{Cell, Did, State};
 use std::alloc::{AllocError, Global};
 use std::marker::Model;
-use std::mem;
 
 /// The cells of a sandbox, at most [`MAX_CELLS`], in the order in which they were made. Contracts see the
 /// list.
@@ -95,11 +94,11 @@ impl Cells {
         kill_each(&mut self.cells, code);
     }
 
-    /// Removes the cell of a container, and returns its id.
+    /// Takes the cell of a container out.
     #[tactic(auto, using(crate::proofs::Firsts::length_dropped, crate::proofs::Named::named_dropped))]
-    pub(crate) fn remove(&mut self, container: &ContainerMetadata) -> Option<u64>
+    pub(crate) fn remove(&mut self, container: &ContainerMetadata) -> Option<Cell>
         ensures cells { self.new ≡ drop_first (is_of container.now) self.old }
-        ensures id { result ≡ option_map id_of (find (is_of container.now) self.old) }
+        ensures cell { result ≡ find (is_of container.now) self.old }
         ensures none { IfNone result (self.new ≡ self.old) }
     {
         remove_in(&mut self.cells, container)
@@ -145,15 +144,6 @@ impl Cells {
         ensures { ReadsIn self.now id (option_copied result) }
     {
         get_in(self.cells.as_slice(), id)
-    }
-
-    /// Moves all cells into another list, in place of those that it had.
-    pub(crate) fn hand_over(&mut self, gone: &mut Cells)
-        ensures here { self.new ≡ [] }
-        ensures there { gone.new ≡ self.old }
-    {
-        gone.clear();
-        mem::swap(self, gone);
     }
 
     /// Removes all cells.
@@ -205,19 +195,14 @@ fn kill_in(cells: &mut Vec<Cell>, container: &ContainerMetadata, code: u8)
     }
 }
 
-fn remove_in(cells: &mut Vec<Cell>, container: &ContainerMetadata) -> Option<u64>
+fn remove_in(cells: &mut Vec<Cell>, container: &ContainerMetadata) -> Option<Cell>
     ensures cells { cells.new.items ≡ drop_first (is_of container.now) cells.old.items }
-    ensures id { result ≡ option_map id_of (find (is_of container.now) cells.old.items) }
+    ensures cell { result ≡ find (is_of container.now) cells.old.items }
     ensures none { IfNone result (cells.new.items ≡ cells.old.items) }
 {
     match place_of(cells.as_slice(), container) {
         None => None,
-        Some(at) => {
-            let cell = cells.remove(at);
-            let id = cell.label().id;
-            drop(cell);
-            Some(id)
-        }
+        Some(at) => Some(cells.remove(at)),
     }
 }
 

@@ -1,18 +1,18 @@
 //! What a runtime knows of all uids, except for their cells.
 ghost use Rattle.std.specs.Prelude.{◌≡◌, ◌↔◌, ◌<◌, ◌++◌, ◌∷◌, IsTrue, OnOk, OnErr, ℕ, List, [], true, length};
-ghost use Rattle.std.specs.Prelude.{Option, IfSome, IfNone, option_copied};
+ghost use Rattle.std.specs.Prelude.{Option, IfSome, IfNone, find, option_copied};
 ghost use Rattle.creation.specs.declared.files.FileAnswers.{FileAnswers};
 ghost use Rattle.registry.specs.declared.limits.TheConstants.{MAX_CELLS};
 ghost use Rattle.manifest.specs.Texts.{is_label};
 ghost use Rattle.runtime_cell.specs.Cell.{Cell};
 ghost use Rattle.registry.specs.declared.stage.Stage.{Stage};
 ghost use Rattle.registry.specs.Kept.{IsNextIn, home_in};
-ghost use Rattle.registry.specs.Runtime.{empty, fresh_sandbox, removed, slot_in};
+ghost use Rattle.registry.specs.Runtime.{empty, fresh_sandbox, is_of, removed, slot_in};
 ghost use Rattle.registry.specs.Runtime.Slot.{Free};
 ghost use Rattle.cri_msgs.specs.Calls.{uid_of};
 ghost use Rattle.registry.specs.Serves.{Creates, Enters, IsCrowded, IsFull, Lists, ListsStatuses, MakesFrom};
 ghost use Rattle.registry.specs.Serves.{Removes, RemovesPod, RunsPod, ServesIn, Shows, Starts, Stops};
-ghost use Rattle.registry.specs.Serves.{StopsPod, gone_with, handed_out};
+ghost use Rattle.registry.specs.Serves.{StopsPod, gone_of, gone_with, handed_out};
 ghost use Rattle.registry.specs.Stands.{Agrees, AreBound, IsPlaced, IsUnplaced, Keeps, Spares, around_in};
 ghost use Rattle.registry.specs.Stands.{part_in, runtime_of, stages_in};
 
@@ -21,6 +21,7 @@ use crate::containers::{code_of_grace, made_before, start, status, stop};
 use crate::homes::Homes;
 use crate::known::{Known, Live};
 use crate::listing::{listing, statuses};
+use crate::removed::RemovedCells;
 use crate::stage::Stage;
 use crate::uids::Uids;
 use crate::used::Used;
@@ -101,12 +102,12 @@ impl Registry {
     }
 
     /// Serves a request, given the results of reading its files. `cells` is the list of the request's uid, or
-    /// an empty one if that uid has no sandbox. `gone` receives the cells of a sandbox that is removed, so
-    /// that a caller that holds locks can drop them later.
+    /// an empty one if that uid has no sandbox. `gone` receives the cells that are removed, so that a caller
+    /// that holds locks can drop them later.
     pub fn serve_lent(
         &mut self,
         cells: &mut Cells,
-        gone: &mut Cells,
+        gone: &mut RemovedCells,
         request: Request,
         files: FileAnswers,
     ) -> Reply
@@ -123,7 +124,7 @@ impl Registry {
         // The invariant between registry and list is kept.
         ensures keeps { Keeps self.old self.new (uid_of request.call) cells.old cells.new }
 
-        // The cells of a sandbox that is removed are handed out, and no others.
+        // The cells that are removed are handed out, and no others.
         ensures gone { gone.new ≡ handed_out request.call (stages_in self.old (uid_of request.call)) cells.old
             gone.old }
     {
@@ -135,7 +136,7 @@ impl Registry {
     fn answer(
         &mut self,
         cells: &mut Cells,
-        gone: &mut Cells,
+        gone: &mut RemovedCells,
         call: Call,
         files: FileAnswers,
     ) -> Answer
@@ -156,7 +157,7 @@ impl Registry {
             } => self.create(cells, key, &image, &profile, files),
             Call::StartContainer { key } => self.start(cells, &key),
             Call::StopContainer { key, grace } => self.stop(cells, &key, grace),
-            Call::RemoveContainer { key } => self.remove(cells, &key),
+            Call::RemoveContainer { key } => self.remove(cells, gone, &key),
             Call::ContainerStatus { key } => self.status(cells, &key),
             Call::ListContainers { uid } => self.list(cells, &uid),
             Call::ContainerStatuses { uid } => self.statuses(cells, &uid),
@@ -218,7 +219,12 @@ impl Registry {
         }
     }
 
-    pub(crate) fn remove_pod(&mut self, cells: &mut Cells, gone: &mut Cells, uid: &Uid) -> Answer
+    pub(crate) fn remove_pod(
+        &mut self,
+        cells: &mut Cells,
+        gone: &mut RemovedCells,
+        uid: &Uid,
+    ) -> Answer
         ensures row { RemovesPod (stages_in self.old uid.now) (IsFull (stages_in self.old))
             (part_in self.old uid.now cells.old) result (part_in self.new uid.now cells.new) }
         ensures spares { Spares self.old self.new uid.now cells.old }
@@ -230,7 +236,7 @@ impl Registry {
             Stage::Live { .. } => {
                 self.uids.end(uid.as_str());
                 self.homes.forget(cells.as_slice());
-                cells.hand_over(gone);
+                gone.put_all(cells);
                 Answer::Done
             }
             Stage::Removed => Answer::Done,
@@ -317,18 +323,21 @@ impl Registry {
         }
     }
 
-    pub(crate) fn remove(&mut self, cells: &mut Cells, key: &Key) -> Answer
+    pub(crate) fn remove(&mut self, cells: &mut Cells, gone: &mut RemovedCells, key: &Key) -> Answer
         ensures row { Removes (slot_in (part_in self.old key.now.uid cells.old).sandbox key.now.container)
             key.now.container
             (part_in self.old key.now.uid cells.old) result (part_in self.new key.now.uid cells.new) }
         ensures spares { Spares self.old self.new key.now.uid cells.old }
         ensures keeps { Keeps self.old self.new key.now.uid cells.old cells.new }
+        ensures gone { gone.new ≡ gone_of (stages_in self.old key.now.uid)
+            (find (is_of key.now.container) cells.old) gone.old }
     {
         match self.stage(key.uid.as_str()) {
             Stage::Live { .. } => {
                 match cells.remove(&key.container) {
-                    Some(id) => {
-                        self.homes.remove(id);
+                    Some(cell) => {
+                        self.homes.remove(cell.label().id);
+                        gone.put(cell);
                         Answer::Done
                     }
                     None => Answer::Done,

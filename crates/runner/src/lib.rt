@@ -28,6 +28,6 @@ pub use laws::constants_are_as_stated;
 pub use notifier::Notifier;
 pub use reader::{LARGE_TEXT, Reader};
 pub use rounds::{Open, StepGate};
-pub use runtime_history::{Begun, Client, Node, laws_of};
+pub use runtime_history::{Begun, Callers, Client, Node, laws_of};
 pub use service::{Host, Service};
 pub use shared::{SharedHost, SharedRuntime};

@@ -3,11 +3,9 @@ ghost use Rattle.std.specs.Prelude.{◌≡◌, ◌<◌, ◌++◌, ◌∷◌, ℕ
 ghost use Rattle.std.specs.Prelude.{if◌then◌else◌, option_map};
 ghost use Rattle.std.specs.Arc.{arc_value};
 ghost use Rattle.runtime_cell.specs.declared.cell.Did.{Did};
-ghost use Rattle.bpf_code.specs.declared.insn.Insn.{Insn};
 ghost use Rattle.registry.specs.Kept.{IsNextIn, MayStepIn, home_in};
 ghost use Rattle.registry.specs.Runtime.{In};
 ghost use Rattle.runtime_history.specs.declared.event.Event.TheVariants.{Stepped};
-ghost use Rattle.runtime_history.specs.declared.event.Seen.{Seen};
 ghost use Rattle.runtime_history.specs.History.{Grows, Looks};
 ghost use Rattle.runtime_history.specs.Agreed.{IsHome, without};
 ghost use Rattle.runner.specs.Labelled.{AreDue, of_share, visited};
@@ -19,20 +17,22 @@ use crate::lists::CellLists;
 use crate::sandbox::SandboxCells;
 use crate::shared::{Sandboxes, SharedRuntime};
 use registry::Registry;
-use runtime_cell::Did;
+use runtime_cell::{Cell, Did};
 use runtime_history::{Client, History, Listed, Node, Registered};
 use std::alloc::Global;
-use std::mem;
 use std::sync::{Arc, Wait};
 
 /// Hooks around each step of a cell, called with the lock of the cell's sandbox held. Tests hold a step up
-/// there.
+/// there, and a runtime that writes records reads the cells that ended.
 pub trait StepGate {
     /// Called before the step of the cell with this id.
     fn before(&self, id: u64);
 
     /// Called after it.
     fn after(&self, id: u64);
+
+    /// Called after a step that ended a cell of the sandbox with this uid.
+    fn ended(&self, uid: &str, cell: &Cell);
 }
 
 /// Holds up no step.
@@ -43,6 +43,8 @@ impl StepGate for Open {
     fn before(&self, _id: u64) {}
 
     fn after(&self, _id: u64) {}
+
+    fn ended(&self, _uid: &str, _cell: &Cell) {}
 }
 
 /// The result of a visit: the id of the cell that was to do a step, and whether it went on.
@@ -53,45 +55,39 @@ pub(crate) struct Visit {
 }
 
 /// Picks the next cell of a round, and steps it.
-pub(crate) trait Visits {
+pub(crate) trait Visits<B: Node> {
     // The runner's number, and how many there are.
     ghost runner: { Self → ℕ };
 
     ghost runners: { Self → ℕ };
 
-    // The filter of the node, and what the runner has seen of its history.
-    ghost baseline: { Option (List Insn) };
-
-    ghost seen: { Self → Seen };
-
     // What was asked so far, the latest first. None if that is not kept.
     ghost asked: { Self → Option (List Asked) } = { λ _. None };
 
     /// Steps a cell of the runner's share above this id, and passes over none that runs. `None` if none does.
-    fn visit(&mut self, above: u64) -> Option<Visit>
-        ensures may { MayVisit baseline (runner self.old) (runners self.old)
-            (record { above = above; visit = result; old = seen self.old; new = seen self.new }) }
+    fn visit(&mut self, me: &mut Client<B>, above: u64) -> Option<Visit>
+        ensures may { MayVisit B.filter (runner self.old) (runners self.old)
+            (record { above = above; visit = result; old = me.old; new = me.new }) }
         ensures runner { runner self.new ≡ runner self.old }
         ensures runners { runners self.new ≡ runners self.old }
         ensures asked { asked self.new ≡ option_map (λ before. record {
           above = above;
           visit = result;
-          old = seen self.old;
-          new = seen self.new;
+          old = me.old;
+          new = me.new;
         } ∷ before) (asked self.old) };
 }
 
 // A round: each visit is asked for above the id of the one before, until there is none. Returns whether a
 // cell went on.
-fn round<V: Visits>(visits: &mut V) -> bool
+fn round<B: Node, V: Visits<B>>(visits: &mut V, me: &mut Client<B>) -> bool
     ensures { (asked : List Asked)
-        × IsRound V.baseline (V.runner visits.old) (V.runners visits.old) (V.seen visits.old) asked result
-        (V.seen visits.new)
+        × IsRound B.filter (V.runner visits.old) (V.runners visits.old) me.old asked result me.new
         × (V.asked visits.new ≡ option_map (λ before. asked ++ before) (V.asked visits.old)) }
 {
     let mut last = 0;
     let mut went_on = false;
-    while let Some(visit) = visits.visit(last) {
+    while let Some(visit) = visits.visit(me, last) {
         last = visit.id;
         went_on = went_on || visit.went_on;
     }
@@ -123,15 +119,12 @@ impl<B: Node> SharedRuntime<B> {
         let mut visits = RunnerVisits {
             rt,
             runtime: self,
-            me: mem::replace(me, self.client()),
             gate,
             runner,
             runners,
             over: None,
         };
-        let went_on = round(&mut visits);
-        mem::swap(me, &mut visits.me);
-        went_on
+        round(&mut visits, me)
     }
 
     // The runner's next step, above this id. A cell that was found ended is not visited again.
@@ -190,7 +183,6 @@ impl<B: Node> SharedRuntime<B> {
 struct RunnerVisits<'a, B: Node, R: Wait, G: StepGate> {
     rt: &'a R,
     runtime: &'a SharedRuntime<B>,
-    me: Client<B>,
     gate: &'a G,
     runner: u64,
     runners: u64,
@@ -199,26 +191,17 @@ struct RunnerVisits<'a, B: Node, R: Wait, G: StepGate> {
     ghost fit: { runner < runners },
 }
 
-impl<'a, B: Node, R: Wait, G: StepGate> Visits for RunnerVisits<'a, B, R, G> {
+impl<'a, B: Node, R: Wait, G: StepGate> Visits<B> for RunnerVisits<'a, B, R, G> {
     ghost runner = { λ v. v.runner };
 
     ghost runners = { λ v. v.runners };
 
-    ghost baseline = { B.filter };
-
-    ghost seen = { λ v. v.me };
-
-    fn visit(&mut self, above: u64) -> Option<Visit> {
-        let next = self.runtime.next_cell(
-            self.rt,
-            &mut self.me,
-            above,
-            self.runner,
-            self.runners,
-            self.over,
-        )?;
+    fn visit(&mut self, me: &mut Client<B>, above: u64) -> Option<Visit> {
+        let next = self
+            .runtime
+            .next_cell(self.rt, me, above, self.runner, self.runners, self.over)?;
         let id = next.id;
-        let did = self.runtime.step(self.rt, &mut self.me, next, self.gate);
+        let did = self.runtime.step(self.rt, me, next, self.gate);
         self.over = if is_over(did) { Some(id) } else { None };
         Some(Visit {
             id,
@@ -365,7 +348,7 @@ fn step_listed<B: Node, R: Wait, G: StepGate>(
     let NextCell { id, list } = next;
     let list = list?;
     let (mut listed, loan) = list.lock.take(rt);
-    let did = step_in(history, me, &mut listed, id, gate);
+    let did = step_in(history, me, &mut listed, id, list.uid.as_str(), gate);
     list.lock.put_back(listed, loan);
     did
 }
@@ -423,7 +406,8 @@ fn step_there<B: Node, R: Wait, G: StepGate>(
     ensures steps { StepsAt B.filter id result me.old me.new }
 {
     let (mut listed, loan) = list.lock.take(rt);
-    let did = step_known(history, registered, me, &mut listed, id, gate);
+    let uid = list.uid.as_str();
+    let did = step_known(history, registered, me, &mut listed, id, uid, gate);
     list.lock.put_back(listed, loan);
     did
 }
@@ -435,6 +419,7 @@ fn step_known<B: Node, G: StepGate>(
     me: &mut Client<B>,
     listed: &mut Listed<B>,
     id: u64,
+    uid: &str,
     gate: &G,
 ) -> Option<Did>
     requires { home_in registered.old.0.homes id ≡ Some listed.old.0 }
@@ -443,7 +428,7 @@ fn step_known<B: Node, G: StepGate>(
     ensures may_run { (i : ℕ) → In i registered.new.1 → In i registered.old.1 }
     ensures steps { StepsAt B.filter id result me.old me.new }
 {
-    match step_in(history, me, listed, id, gate) {
+    match step_in(history, me, listed, id, uid, gate) {
         Some(did) => Some(did),
         None => {
             registered.lose(history, listed, id);
@@ -459,6 +444,7 @@ fn step_in<B: Node, G: StepGate>(
     me: &mut Client<B>,
     listed: &mut Listed<B>,
     id: u64,
+    uid: &str,
     gate: &G,
 ) -> Option<Did>
     ensures uid { listed.new.0 ≡ listed.old.0 }
@@ -469,7 +455,17 @@ fn step_in<B: Node, G: StepGate>(
     gate.before(id);
     let did = listed.step(history, me, id);
     gate.after(id);
+    if let Some(Did::Ended(_)) = did {
+        show_end(listed, id, uid, gate);
+    }
     did
+}
+
+// Shows the cell that a step ended.
+fn show_end<B: Node, G: StepGate>(listed: &Listed<B>, id: u64, uid: &str, gate: &G) {
+    if let Some(cell) = listed.cells().get(id) {
+        gate.ended(uid, cell);
+    }
 }
 
 // Whether a cell that was started has ended, or is gone.

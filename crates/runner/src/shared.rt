@@ -8,7 +8,7 @@ ghost use Rattle.runtime_history.specs.declared.event.Event.TheVariants.{Served}
 ghost use Rattle.runtime_history.specs.History.{Grows, unseen};
 ghost use Rattle.runtime_history.specs.Sandboxes.{IsLive, Removes, Wakes};
 ghost use Rattle.runner.specs.Labelled.{AreDue};
-ghost use Rattle.runner.specs.Shared.{AreListed, has};
+ghost use Rattle.runner.specs.Shared.{AreListed, MayServe, has};
 
 use crate::due::Due;
 use crate::lists::CellLists;
@@ -17,8 +17,9 @@ use crate::service::Host;
 use creation::KeptTexts;
 use cri_msgs::{Call, Reply, Request};
 use manifest::Uid;
-use runtime_core::{Cells, FileAnswers, Registry, Stage, uid_of};
-use runtime_history::{Asked, Begun, Blank, Client, History, Listed, Node, Registered};
+use registry::RemovedCells;
+use runtime_core::{FileAnswers, Registry, Stage, uid_of};
+use runtime_history::{Asked, Begun, Blank, Callers, Client, History, Listed, Node, Registered};
 use std::alloc::{AllocError, Global};
 use std::marker::{Brand, Model};
 use std::sync::{Arc, Mutex, Wait};
@@ -48,7 +49,7 @@ impl<B: Node> Sandboxes<B> {
         rt: &R,
         alloc: Global,
         history: &History<B>,
-        gone: &mut Cells,
+        gone: &mut RemovedCells,
         me: &mut Client<B>,
         request: Request,
         files: FileAnswers,
@@ -83,36 +84,37 @@ pub struct SharedRuntime<B: Node> {
 }
 
 impl<B: Node> SharedRuntime<B> {
-    /// A runtime that has served nothing.
-    pub fn new(alloc: Global, begun: Begun) -> SharedRuntime<B>
+    /// A runtime that has served nothing, and the one who makes its callers.
+    pub fn new(alloc: Global, begun: Begun) -> (SharedRuntime<B>, Callers<B>)
         requires { begun ≡ (B.filter, B.table) }
     {
-        let (history, registered) = begun.of_node::<B>();
+        let (history, registered, callers) = begun.of_node::<B>();
         let sandboxes = Sandboxes {
             registered,
             lists: CellLists::new(alloc),
             due: Due::new(alloc),
         };
-        SharedRuntime {
+        let runtime = SharedRuntime {
             history,
             sandboxes: Mutex::new(sandboxes),
             texts: Mutex::new(KeptTexts::new(alloc)),
             alloc,
-        }
+        };
+        (runtime, callers)
     }
 
     /// A caller who has seen nothing of its history.
-    pub fn client(&self) -> Client<B>
+    pub fn client(&self, callers: &Callers<B>) -> Client<B>
         ensures { result ≡ unseen }
     {
-        self.history.client()
+        callers.client(&self.history)
     }
 
     /// Serves a request, given the results of reading its files. The caller sees the history up to that
     /// event. The request's script and profile are read, and the profile is compiled, before any lock is
     /// taken. The registry's lock, and then that of the sandbox's cells, are held until the reply is made;
-    /// cells are listed under the cells' lock alone. The cells of a sandbox that is removed are dropped
-    /// once neither lock is held.
+    /// cells are listed under the cells' lock alone. The cells that are removed are dropped once neither lock
+    /// is held.
     pub fn serve<R: Wait>(
         &self,
         rt: &R,
@@ -123,12 +125,31 @@ impl<B: Node> SharedRuntime<B> {
         ensures number { result.id ≡ request.id }
         ensures grows { Grows B.filter me.old (Served request.call files result.answer) me.new }
     {
-        self.serve_asked::<R, Brand>(rt, me, request, files)
+        let mut gone = RemovedCells::new(self.alloc);
+        let reply = self.serve_keeping(rt, &mut gone, me, request, files);
+        drop(gone);
+        reply
+    }
+
+    /// Serves a request as `serve` does, and hands out the cells that it removes.
+    pub fn serve_keeping<R: Wait>(
+        &self,
+        rt: &R,
+        gone: &mut RemovedCells,
+        me: &mut Client<B>,
+        request: Request,
+        files: FileAnswers,
+    ) -> Reply
+        ensures number { result.id ≡ request.id }
+        ensures grows { Grows B.filter me.old (Served request.call files result.answer) me.new }
+    {
+        self.serve_asked::<R, Brand>(rt, gone, me, request, files)
     }
 
     fn serve_asked<R: Wait, Q: Asked>(
         &self,
         rt: &R,
+        gone: &mut RemovedCells,
         me: &mut Client<B>,
         request: Request,
         files: FileAnswers,
@@ -141,7 +162,7 @@ impl<B: Node> SharedRuntime<B> {
             Some(reply) => reply,
             None => {
                 let files = self.prepared(rt, files);
-                self.serve_held::<R, Q>(rt, me, request, files)
+                self.serve_locked::<R, Q>(rt, gone, me, request, files)
             }
         }
     }
@@ -196,27 +217,10 @@ impl<B: Node> SharedRuntime<B> {
         sandboxes.there(uid)
     }
 
-    fn serve_held<R: Wait, Q: Asked>(
-        &self,
-        rt: &R,
-        me: &mut Client<B>,
-        request: Request,
-        files: FileAnswers,
-    ) -> Reply
-        requires { (Q.call ≡ request.call) × (Q.files ≡ files) }
-        ensures number { result.id ≡ request.id }
-        ensures grows { Grows B.filter me.old (Served request.call files result.answer) me.new }
-    {
-        let mut gone = Cells::new(self.alloc);
-        let reply = self.serve_locked::<R, Q>(rt, &mut gone, me, request, files);
-        drop(gone);
-        reply
-    }
-
     fn serve_locked<R: Wait, Q: Asked>(
         &self,
         rt: &R,
-        gone: &mut Cells,
+        gone: &mut RemovedCells,
         me: &mut Client<B>,
         request: Request,
         files: FileAnswers,
@@ -249,13 +253,17 @@ impl<'a, B: Node, R: Wait> Model for SharedHost<'a, B, R> {
 
 impl<'a, B: Node, R: Wait> SharedHost<'a, B, R> {
     /// A host of this runtime, which has seen nothing of its history.
-    pub fn new(rt: &'a R, runtime: &'a SharedRuntime<B>) -> SharedHost<'a, B, R>
+    pub fn new(
+        rt: &'a R,
+        runtime: &'a SharedRuntime<B>,
+        callers: &Callers<B>,
+    ) -> SharedHost<'a, B, R>
         ensures { result ≡ unseen }
     {
         SharedHost {
             rt,
             runtime,
-            client: runtime.client(),
+            client: runtime.client(callers),
         }
     }
 
@@ -264,6 +272,19 @@ impl<'a, B: Node, R: Wait> SharedHost<'a, B, R> {
         ensures { result.now ≡ self.now }
     {
         &self.client
+    }
+
+    /// Serves a request, and hands out the cells that it removes.
+    pub fn serve_keeping(
+        &mut self,
+        gone: &mut RemovedCells,
+        request: Request,
+        files: FileAnswers,
+    ) -> Reply
+        ensures { MayServe B.filter self.old request files result self.new }
+    {
+        self.runtime
+            .serve_keeping(self.rt, gone, &mut self.client, request, files)
     }
 }
 
@@ -308,7 +329,7 @@ fn serve<B: Node, R: Wait, Q: Asked>(
     registered: &mut Registered<B>,
     lists: &mut CellLists<B>,
     due: &mut Due<B>,
-    gone: &mut Cells,
+    gone: &mut RemovedCells,
     me: &mut Client<B>,
     request: Request,
     files: FileAnswers,
@@ -344,7 +365,7 @@ fn serve_there<B: Node, R: Wait, Q: Asked>(
     registered: &mut Registered<B>,
     list: &Arc<SandboxCells<B>, Global>,
     due: &mut Due<B>,
-    gone: &mut Cells,
+    gone: &mut RemovedCells,
     me: &mut Client<B>,
     request: Request,
     files: FileAnswers,
@@ -454,7 +475,7 @@ fn remove<B: Node, R: Wait, Q: Asked>(
     history: &History<B>,
     registered: &mut Registered<B>,
     lists: &mut CellLists<B>,
-    gone: &mut Cells,
+    gone: &mut RemovedCells,
     me: &mut Client<B>,
     request: Request,
     files: FileAnswers,
@@ -481,7 +502,7 @@ fn remove_there<B: Node, R: Wait, Q: Asked>(
     history: &History<B>,
     registered: &mut Registered<B>,
     list: &SandboxCells<B>,
-    gone: &mut Cells,
+    gone: &mut RemovedCells,
     me: &mut Client<B>,
     request: Request,
     files: FileAnswers,

@@ -1,7 +1,7 @@
 ghost use Rattle.std.specs.Prelude.{◌≡◌};
 
-use crate::wires::{add, service, wire};
-use runner::{Begun, Ending, Host, Node, SharedHost, SharedRuntime, serve_wire};
+use crate::wires::{Shared, add, service, wire};
+use runner::{Begun, Ending, Host, Node, serve_wire};
 use runtime_core::Runtime;
 use std::alloc::{AllocError, Global};
 use std::marker::Brand;
@@ -78,8 +78,8 @@ fn served_by<B: Node, R: Wait>(
 ) -> Result<(Ending, Vec<u8>), AllocError>
     requires { begun ≡ (B.filter, B.table) }
 {
-    let runtime = SharedRuntime::<B>::new(alloc, begun);
-    served(alloc, SharedHost::new(rt, &runtime), input, piece, 0)
+    let runtime = Shared::<B>::new(alloc, begun);
+    served(alloc, runtime.host(rt), input, piece, 0)
 }
 
 // The replies are the same whatever the pieces, also those of a runtime that threads share.
@@ -191,10 +191,10 @@ fn streams_end(rt: HostRuntime) -> Result<(), Fail> {
 fn failing_at<B: Node, R: Wait>(
     rt: &R,
     alloc: Global,
-    runtime: &SharedRuntime<B>,
+    runtime: &Shared<B>,
     failing: u64,
 ) -> Result<(Ending, bool), AllocError> {
-    let host = SharedHost::new(rt, runtime);
+    let host = runtime.host(rt);
     let found = served(alloc, host, HELLO.as_bytes(), 20, failing)?;
     Ok((found.0, DONE.as_bytes().starts_with(found.1.as_slice())))
 }
@@ -216,7 +216,7 @@ fn first_not_alone<B: Node, R: Wait>(
 ) -> Result<Option<u64>, AllocError>
     requires { begun ≡ (B.filter, B.table) }
 {
-    let runtime = SharedRuntime::<B>::new(alloc, begun);
+    let runtime = Shared::<B>::new(alloc, begun);
     for failing in 1..=7u64 {
         let first = failing_at(rt, alloc, &runtime, failing)?;
         let want = if failing == 7 {

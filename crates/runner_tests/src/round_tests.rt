@@ -1,8 +1,9 @@
 ghost use Rattle.std.specs.Prelude.{◌≡◌};
 
-use crate::wires::asks;
+use crate::wires::{Shared, asks};
 use cri_msgs::{Answer, Reply, Request, Version};
-use runner::{Begun, Client, Node, SharedRuntime, StepGate};
+use runner::{Begun, Client, Node, StepGate};
+use runtime_cell::Cell;
 use runtime_core::FileAnswers;
 use std::alloc::Global;
 use std::marker::Brand;
@@ -45,6 +46,8 @@ impl StepGate for Counted {
         self.steps.fetch_add(1, Ordering::SeqCst);
     }
 
+    fn ended(&self, _uid: &str, _cell: &Cell) {}
+
     fn after(&self, _id: u64) {}
 }
 
@@ -52,7 +55,7 @@ impl StepGate for Counted {
 fn performed<B: Node, R: Wait>(
     rt: &R,
     alloc: Global,
-    runtime: &SharedRuntime<B>,
+    runtime: &Shared<B>,
     me: &mut Client<B>,
     uid: &str,
     name: &str,
@@ -65,7 +68,7 @@ fn performed<B: Node, R: Wait>(
         script: None,
         profile: None,
     };
-    let Reply { answer, .. } = runtime.serve(rt, me, request, files);
+    let Reply { answer, .. } = runtime.shared.serve(rt, me, request, files);
     match answer {
         Answer::Status(status) => Ok(status.performed),
         _ => Err("a status")?,
@@ -84,7 +87,7 @@ fn rounds_step_their_shares(rt: HostRuntime) -> Result<(), Fail> {
 fn first_wrong<B: Node, R: Wait>(rt: &R, alloc: Global, begun: Begun) -> Result<Option<usize>, Fail>
     requires { begun ≡ (B.filter, B.table) }
 {
-    let runtime = SharedRuntime::<B>::new(alloc, begun);
+    let runtime = Shared::<B>::new(alloc, begun);
     let mut me = runtime.client();
     asks(rt, alloc, &runtime, PODS)?;
     for (place, (runner, runners, visits, goes_on, counts)) in ROUNDS.into_iter().enumerate() {
@@ -94,7 +97,9 @@ fn first_wrong<B: Node, R: Wait>(rt: &R, alloc: Global, begun: Begun) -> Result<
         if runner >= runners {
             return Ok(Some(place));
         }
-        let went_on = runtime.step_round(rt, &mut me, runner, runners, &gate);
+        let went_on = runtime
+            .shared
+            .step_round(rt, &mut me, runner, runners, &gate);
         let steps = gate.steps.load(Ordering::SeqCst);
         let found = [
             performed(rt, alloc, &runtime, &mut me, "u1", "a")?,

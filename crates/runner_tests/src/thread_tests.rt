@@ -1,8 +1,9 @@
 ghost use Rattle.std.specs.Prelude.{◌≡◌};
 
-use crate::wires::{PROFILES, SCRIPTS, add, asks, files, wire};
+use crate::wires::{PROFILES, SCRIPTS, Shared, add, asks, files, wire};
 use node_io::{FileFault, Files, MemoryFiles};
-use runner::{Begun, Ending, Node, Service, SharedHost, SharedRuntime, StepGate, serve_wire};
+use runner::{Begun, Ending, Node, Service, StepGate, serve_wire};
+use runtime_cell::Cell;
 use std::alloc::{AllocError, Global};
 use std::marker::Brand;
 use std::sync::Wait;
@@ -45,6 +46,8 @@ impl<'a, R: Clock> StepGate for Hold<'a, R> {
         }
     }
 
+    fn ended(&self, _uid: &str, _cell: &Cell) {}
+
     fn after(&self, id: u64) {
         if id == 2 {
             self.stepped.store(true, Ordering::SeqCst);
@@ -71,14 +74,14 @@ const STEPPED: &str =
 fn goes_by<B: Node, R: Wait + Clock>(
     rt: &R,
     alloc: Global,
-    runtime: &SharedRuntime<B>,
+    runtime: &Shared<B>,
     gate: &Hold<'_, R>,
 ) -> Result<bool, AllocError> {
     if !waits(rt, &gate.held) {
         return Ok(false);
     }
     let mut me = runtime.client();
-    runtime.step_round(rt, &mut me, 0, 2, gate);
+    runtime.shared.step_round(rt, &mut me, 0, 2, gate);
     let told = asks(rt, alloc, runtime, STATUS)?;
     gate.answered.store(true, Ordering::SeqCst);
     let mut want = Vec::new(alloc);
@@ -94,7 +97,7 @@ fn held_up<B: Node + Send + Sync, R: Threads + Wait + Clock + Sync>(
 ) -> Result<(bool, bool), AllocError>
     requires { begun ≡ (B.filter, B.table) }
 {
-    let runtime = SharedRuntime::<B>::new(alloc, begun);
+    let runtime = Shared::<B>::new(alloc, begun);
     asks(rt, alloc, &runtime, PODS)?;
     let gate = Hold {
         rt,
@@ -106,7 +109,7 @@ fn held_up<B: Node + Send + Sync, R: Threads + Wait + Clock + Sync>(
     let mut me = runtime.client();
     let (_, other) = join(
         rt,
-        || runtime.step_round(rt, &mut me, 1, 2, &gate),
+        || runtime.shared.step_round(rt, &mut me, 1, 2, &gate),
         || goes_by(rt, alloc, &runtime, &gate),
     );
     Ok((gate.passed.load(Ordering::SeqCst), other?))
@@ -151,7 +154,7 @@ const CREATE: &str =
 fn creates_slowly<B: Node, R: Wait + Clock>(
     rt: &R,
     alloc: Global,
-    runtime: &SharedRuntime<B>,
+    runtime: &Shared<B>,
     answered: &AtomicBool,
 ) -> Result<bool, AllocError> {
     let mut input = Vec::new(alloc);
@@ -167,7 +170,7 @@ fn creates_slowly<B: Node, R: Wait + Clock>(
     let mut service = Service {
         scripts,
         profiles,
-        host: SharedHost::new(rt, runtime),
+        host: runtime.host(rt),
     };
     let ending = serve_wire(alloc, &mut wire, &mut service);
     let Service { scripts, .. } = service;
@@ -178,7 +181,7 @@ fn creates_slowly<B: Node, R: Wait + Clock>(
 fn asks_meanwhile<B: Node, R: Wait>(
     rt: &R,
     alloc: Global,
-    runtime: &SharedRuntime<B>,
+    runtime: &Shared<B>,
     answered: &AtomicBool,
 ) -> Result<bool, AllocError> {
     let told = asks(rt, alloc, runtime, RUN_OTHER)?;
@@ -200,7 +203,7 @@ fn read_slowly<B: Node + Send + Sync, R: Threads + Wait + Clock + Sync>(
 ) -> Result<(bool, bool), AllocError>
     requires { begun ≡ (B.filter, B.table) }
 {
-    let runtime = SharedRuntime::<B>::new(alloc, begun);
+    let runtime = Shared::<B>::new(alloc, begun);
     asks(rt, alloc, &runtime, PODS)?;
     let answered = AtomicBool::new(false);
     let (slow, other) = join(
@@ -266,7 +269,7 @@ fn long_script(alloc: Global) -> Result<String, AllocError> {
 fn creates_long<B: Node, R: Wait>(
     rt: &R,
     alloc: Global,
-    runtime: &SharedRuntime<B>,
+    runtime: &Shared<B>,
     script: &str,
     attempt: u32,
     flags: (&AtomicBool, &AtomicBool),
@@ -286,7 +289,7 @@ fn creates_long<B: Node, R: Wait>(
     let mut service = Service {
         scripts,
         profiles,
-        host: SharedHost::new(rt, runtime),
+        host: runtime.host(rt),
     };
     let ending = serve_wire(alloc, &mut wire, &mut service);
     answered.store(true, Ordering::SeqCst);
@@ -297,7 +300,7 @@ fn creates_long<B: Node, R: Wait>(
 fn answers_meanwhile<B: Node, R: Wait + Clock>(
     rt: &R,
     alloc: Global,
-    runtime: &SharedRuntime<B>,
+    runtime: &Shared<B>,
     flags: (&AtomicBool, &AtomicBool),
 ) -> Result<u32, AllocError> {
     let (was_read, answered) = flags;
@@ -315,7 +318,7 @@ fn answers_meanwhile<B: Node, R: Wait + Clock>(
 fn created_meanwhile<B: Node + Send + Sync, R: Threads + Wait + Clock + Sync>(
     rt: &R,
     alloc: Global,
-    runtime: &SharedRuntime<B>,
+    runtime: &Shared<B>,
     script: &str,
     attempt: u32,
 ) -> Result<u32, AllocError> {
@@ -338,7 +341,7 @@ fn most_answered<B: Node + Send + Sync, R: Threads + Wait + Clock + Sync>(
 ) -> Result<u32, AllocError>
     requires { begun ≡ (B.filter, B.table) }
 {
-    let runtime = SharedRuntime::<B>::new(alloc, begun);
+    let runtime = Shared::<B>::new(alloc, begun);
     asks(rt, alloc, &runtime, PODS)?;
     let script = long_script(alloc)?;
     let mut most = 0;

@@ -1,9 +1,35 @@
+ghost use Rattle.std.specs.Prelude.{◌≡◌};
+
 use cri_frames::frame_of;
 use cri_msgs::{MAX_TEXT, Version};
 use node_io::{MemoryFiles, MemoryWire, StoredFile};
-use runner::{Node, Service, SharedHost, SharedRuntime, serve_wire};
+use runner::{Begun, Callers, Client, Node, Service, SharedHost, SharedRuntime, serve_wire};
 use std::alloc::{AllocError, Global};
 use std::sync::Wait;
+
+/// A runtime that threads share, with the one who makes its callers.
+#[derive(Drop)]
+pub(crate) struct Shared<B: Node> {
+    pub(crate) shared: SharedRuntime<B>,
+    callers: Callers<B>,
+}
+
+impl<B: Node> Shared<B> {
+    pub(crate) fn new(alloc: Global, begun: Begun) -> Shared<B>
+        requires { begun ≡ (B.filter, B.table) }
+    {
+        let (shared, callers) = SharedRuntime::new(alloc, begun);
+        Shared { shared, callers }
+    }
+
+    pub(crate) fn client(&self) -> Client<B> {
+        self.shared.client(&self.callers)
+    }
+
+    pub(crate) fn host<'a, R: Wait>(&'a self, rt: &'a R) -> SharedHost<'a, B, R> {
+        SharedHost::new(rt, &self.shared, &self.callers)
+    }
+}
 
 pub(crate) const CALLS: &str =
     "{\"steps\":[{\"call\":\"getpid\"},{\"call\":\"ptrace\"},{\"exit\":3}]}";
@@ -78,7 +104,7 @@ pub(crate) fn wire(
 pub(crate) fn asks<B: Node, R: Wait>(
     rt: &R,
     alloc: Global,
-    runtime: &SharedRuntime<B>,
+    runtime: &Shared<B>,
     texts: &str,
 ) -> Result<Vec<u8>, AllocError> {
     let mut input = Vec::new(alloc);
@@ -86,7 +112,7 @@ pub(crate) fn asks<B: Node, R: Wait>(
         add(&mut input, alloc, text)?;
     }
     let mut wire = wire(alloc, input.as_slice(), 20, 0)?;
-    let mut service = service(alloc, SharedHost::new(rt, runtime))?;
+    let mut service = service(alloc, runtime.host(rt))?;
     serve_wire(alloc, &mut wire, &mut service);
     Vec::from_slice(alloc, wire.written())
 }

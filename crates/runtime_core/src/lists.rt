@@ -7,7 +7,7 @@ ghost use Rattle.runtime_core.specs.Stands.{cells_in, ids_in, list_in, Lends};
 use crate::calls::uid_of;
 use creation::FileAnswers;
 use cri_msgs::{Reply, Request};
-use registry::{Cells, Registry};
+use registry::{Cells, Registry, RemovedCells};
 use runtime_cell::{Cell, Did};
 use std::alloc::{AllocError, Global};
 use std::collections::BTreeMap;
@@ -72,7 +72,7 @@ impl Lists {
             (list_in self.old (uid_of request.call)) (list_in self.new (uid_of request.call)) }
         ensures others { (u : List ℕ) → u ≢ uid_of request.call → list_in self.new u ≡ list_in self.old u }
     {
-        let mut gone = Cells::new(self.alloc);
+        let mut gone = RemovedCells::new(self.alloc);
         lend_in(
             self.alloc,
             &mut self.map,
@@ -132,7 +132,7 @@ fn take_in(alloc: Global, map: &mut BTreeMap<String, Cells>, uid: &str) -> Cells
 fn lend_in(
     alloc: Global,
     map: &mut BTreeMap<String, Cells>,
-    gone: &mut Cells,
+    gone: &mut RemovedCells,
     registry: &mut Registry,
     request: Request,
     files: FileAnswers,

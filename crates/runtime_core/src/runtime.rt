@@ -17,7 +17,7 @@ use bpf_verify::Filter;
 use creation::FileAnswers;
 use cri_msgs::{Answer, Refusal, Reply, Request};
 use manifest::Uid;
-use registry::{Cells, Registry, Stage};
+use registry::{Cells, Registry, RemovedCells, Stage};
 use runtime_cell::{Cell, Did};
 use std::alloc::{AllocError, Global};
 use std::marker::Model;
@@ -238,7 +238,7 @@ fn remove_pod(
     ensures whole { IsWhole registry.new lists.new }
 {
     let mut cells = lists.take(uid_of(&request.call).as_str());
-    let mut gone = Cells::new(lists.alloc);
+    let mut gone = RemovedCells::new(lists.alloc);
     registry.serve_lent(&mut cells, &mut gone, request, files)
 }
 

@@ -4,6 +4,7 @@
 //! may run.
 #![tactic(auto)]
 
+mod callers;
 mod event;
 mod keyed;
 mod laws;
@@ -12,8 +13,9 @@ mod room;
 mod starts;
 mod tokens;
 
+pub use callers::{Begun, Callers};
 pub use event::{Event, Seen};
 pub use keyed::{Blank, Keyed, KeyedLock, Loan};
 pub use laws::laws_of;
-pub use parts::{Begun, Client, History, Listed, Registered};
+pub use parts::{Client, History, Listed, Registered};
 pub use room::{Asked, Node};

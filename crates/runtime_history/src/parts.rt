@@ -17,15 +17,15 @@ use crate::keyed::Keyed;
 use crate::room::{Agreed, Asked, Node, Notes, Token, View};
 use crate::starts::{if_done, to_start};
 use crate::tokens::{
-    cells_part, lend_cells, lend_registry, new_caller, note_absent, note_new, note_served,
-    note_stepped, note_told, registry_part,
+    cells_part, lend_cells, lend_registry, note_absent, note_new, note_served, note_stepped,
+    note_told, registry_part,
 };
 use atomic_table::Table;
 use bpf_verify::Filter;
 use creation::FileAnswers;
 use cri_msgs::{Answer, Refusal, Reply, Request};
 use manifest::Uid;
-use registry::{Cells, Registry, Stage, tell_cells};
+use registry::{Cells, Registry, RemovedCells, Stage, tell_cells};
 use runtime_cell::Did;
 use std::alloc::{AllocError, Global};
 use std::marker::{Brand, Model, PhantomData};
@@ -33,45 +33,18 @@ use std::marker::{Brand, Model, PhantomData};
 /// The table of a runtime's history.
 #[derive(Drop)]
 pub struct History<B: Node> {
-    table: Table<(), View, Registry, Agreed, Global>,
-    node: PhantomData<B>,
+    pub(crate) table: Table<(), View, Registry, Agreed, Global>,
+    pub(crate) node: PhantomData<B>,
     ghost named: { table.shared.table_id ≡ B.table },
     ghost words: { 0 < table.shared.table_id.words },
     ghost filter: { table.shared.key.baseline ≡ B.filter },
-}
-
-/// A runtime that has served nothing, on a node with a filter of its own. Contracts see the filter, and
-/// which table the history has.
-#[derive(Drop)]
-pub struct Begun {
-    table: Table<(), View, Registry, Agreed, Global>,
-    token: Token,
-    registry: Registry,
-}
-
-impl Model for Begun {
-    ghost use Rattle.std.specs.Prelude.{◌≡◌, ◌<◌, ℕ, List, [], Option};
-    ghost use Rattle.atomic_table.specs.Seated.{TableId};
-    ghost use Rattle.bpf_code.specs.declared.insn.Insn.{Insn};
-    ghost use Rattle.registry.specs.declared.stage.Stage.TheVariants.{Unknown};
-    ghost use Rattle.registry.specs.Stands.{stages_in};
-    ghost use Rattle.runtime_history.specs.Agreed.{keeper};
-
-    ghost Value = { Option (List Insn) × TableId };
-
-    ghost view = { λ b. (b.table.shared.key.baseline, b.table.shared.table_id) };
-
-    ghost invariant = { λ b. (b.token.table_id ≡ b.table.shared.table_id)
-        × (b.token.me ≡ (keeper b.registry [], [])) × (0 < b.table.shared.table_id.words)
-        × (b.registry.baseline ≡ b.table.shared.key.baseline)
-        × ((uid : List ℕ) → stages_in b.registry uid ≡ Unknown) };
 }
 
 /// A caller of a runtime. Contracts see what it knows of the history.
 #[derive(Drop)]
 pub struct Client<B: Node> {
     pub(crate) token: Token,
-    node: PhantomData<B>,
+    pub(crate) node: PhantomData<B>,
 }
 
 impl<B: Node> Model for Client<B> {
@@ -95,7 +68,7 @@ impl<B: Node> Model for Client<B> {
 pub struct Registered<B: Node> {
     pub(crate) token: Token,
     pub(crate) registry: Registry,
-    node: PhantomData<B>,
+    pub(crate) node: PhantomData<B>,
 }
 
 impl<B: Node> Model for Registered<B> {
@@ -139,56 +112,7 @@ impl<B: Node> Keyed for Listed<B> {
     ghost fits = { λ uid listed. listed.0 ≡ uid };
 }
 
-impl Begun {
-    /// A runtime of a node with this filter. RuntimeDefault is compiled once.
-    pub fn new(alloc: Global, baseline: Option<Filter>) -> Result<Begun, AllocError>
-        ensures { IfOk result (λ begun. begun.0 ≡ baseline) }
-    {
-        let mut registry = Registry::new(alloc, baseline);
-        registry.make_ready();
-        let (table, token) = Table::of_words(alloc, &[0], &registry)?;
-        Ok(Begun {
-            table,
-            token,
-            registry,
-        })
-    }
-
-    /// The history, and what lies under the registry's lock.
-    pub fn of_node<B: Node>(self) -> (History<B>, Registered<B>)
-        requires { self ≡ (B.filter, B.table) }
-        ensures stages { (uid : List ℕ) → stages_in result.1.0 uid ≡ Unknown }
-        ensures started { result.1.1 ≡ [] }
-    {
-        let Begun {
-            table,
-            token,
-            registry,
-        } = self;
-        let history = History {
-            table,
-            node: PhantomData,
-        };
-        let registered = Registered {
-            token,
-            registry,
-            node: PhantomData,
-        };
-        (history, registered)
-    }
-}
-
 impl<B: Node> History<B> {
-    /// A caller who has seen nothing.
-    pub fn client(&self) -> Client<B>
-        ensures { result ≡ unseen }
-    {
-        Client {
-            token: new_caller(self.notes()),
-            node: PhantomData,
-        }
-    }
-
     pub(crate) fn notes(&self) -> &Notes
         ensures { (result.now.table_id ≡ B.table) × (0 < result.now.table_id.words)
             × (result.now.key.baseline ≡ B.filter) }
@@ -221,7 +145,7 @@ impl<B: Node> Registered<B> {
         &mut self,
         history: &History<B>,
         listed: &mut Listed<B>,
-        gone: &mut Cells,
+        gone: &mut RemovedCells,
         me: &mut Client<B>,
         request: Request,
         files: FileAnswers,
@@ -265,7 +189,7 @@ impl<B: Node> Registered<B> {
         &mut self,
         alloc: Global,
         history: &History<B>,
-        gone: &mut Cells,
+        gone: &mut RemovedCells,
         me: &mut Client<B>,
         request: Request,
         files: FileAnswers,
@@ -313,7 +237,7 @@ impl<B: Node> Registered<B> {
     {
         let notes = history.notes();
         let mut cells = Cells::new(alloc);
-        let mut gone = Cells::new(alloc);
+        let mut gone = RemovedCells::new(alloc);
         lend_registry(notes, &mut me.token, &mut self.token);
         let reply = self
             .registry

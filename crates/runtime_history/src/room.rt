@@ -143,16 +143,6 @@ impl<E: Over> Play<(), View> for Forgets<E> {
     ghost then = { λ _ me _ me'. me' ≡ (view (forgetting E.id me.0.registry) me.0.cells me.0.seen, me.1) };
 }
 
-/// A step at which a new caller comes, who has seen nothing.
-pub struct Comes;
-
-impl Play<(), View> for Comes {
-    ghost use Rattle.std.specs.Prelude.{◌≡◌};
-    ghost use Rattle.runtime_history.specs.Agreed.{nobody};
-
-    ghost then = { λ _ _ _ me'. me'.0 ≡ nobody };
-}
-
 /// All that a token knows goes to another.
 pub struct Whole;
 

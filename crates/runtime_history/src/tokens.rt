@@ -18,8 +18,7 @@ ghost use Rattle.runtime_history.specs.Agreed.{with_registry, with_started, with
 ghost use Rattle.runtime_history.specs.Agreed.{without_registry};
 
 use crate::room::{
-    Asked, Comes, Forgets, Happens, Node, Notes, OfCells, OfRegistry, Over, Sees, Tells, Token,
-    Whole,
+    Asked, Forgets, Happens, Node, Notes, OfCells, OfRegistry, Over, Sees, Tells, Token, Whole,
 };
 use cri_msgs::Answer;
 use registry::{Cells, Registry};
@@ -75,16 +74,6 @@ pub(crate) fn cells_part(notes: &Notes, me: &mut Token) -> Token
     ensures part { (result.table_id ≡ me.old.table_id) × (result.me ≡ (cells_of me.old.me.0, [])) }
 {
     notes.split_seat::<OfCells>(me)
-}
-
-/// The token of a caller who has seen nothing.
-#[tactic(auto, using(crate::proofs::Moves::comes))]
-pub(crate) fn new_caller(notes: &Notes) -> Token
-    requires { 0 < notes.now.table_id.words }
-    ensures { (result.table_id ≡ notes.now.table_id) × (result.me ≡ (nobody, [])) }
-{
-    let (_, token) = notes.load_new_seat::<Comes>(0);
-    token
 }
 
 /// Adds that a request was served with the cells of its sandbox, and which of them it started.

@@ -1,4 +1,5 @@
 use crate::runtime_play::{Play, files_of, no_getpid, reply_text, request_of, wanted};
+use registry::RemovedCells;
 use runtime_core::{Cells, Registry, Stage};
 use std::alloc::Global;
 use std::test::Fail;
@@ -148,7 +149,7 @@ fn is_answered(
     let (line, want) = row.split_once("=>").unwrap_or((row, ""));
     let files = files_of(alloc, line)?;
     let request = request_of(alloc, 1, line)?;
-    let mut gone = Cells::new(alloc);
+    let mut gone = RemovedCells::new(alloc);
     let reply = registry.serve_lent(cells, &mut gone, request, files);
     let told = reply_text(alloc, &reply)?;
     let want = wanted(alloc, 1, want)?;

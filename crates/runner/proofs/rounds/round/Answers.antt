@@ -7,8 +7,8 @@ use Rattle.runner.proofs.rounds.round.Goals as goal
 pub loop-visit-preserved-then-went_on : goal.loop-visit-preserved-then-went_on
 loop-visit-preserved-then-went_on g c =
     let so = c.loop-visit.invariant in
-    let old = g.V.Visits.seen c.loop-visit.visits in
-    let new = g.V.Visits.seen c.visit.new.self in
+    let old = c.loop-visit.me in
+    let new = c.visit.new.me in
     let one : Asked = record {
       above = c.loop-visit.last;
       visit = Some c.in-Some.visit;
@@ -31,8 +31,8 @@ loop-visit-preserved-then-went_on g c =
 pub loop-visit-preserved : goal.loop-visit-preserved
 loop-visit-preserved g c =
     let so = c.loop-visit.invariant in
-    let old = g.V.Visits.seen c.loop-visit.visits in
-    let new = g.V.Visits.seen c.visit.new.self in
+    let old = c.loop-visit.me in
+    let new = c.visit.new.me in
     let one : Asked = record {
       above = c.loop-visit.last;
       visit = Some c.in-Some.visit;
@@ -58,8 +58,8 @@ returns g c =
     let end : Asked = record {
       above = c.loop-visit.last;
       visit = c.visit.result;
-      old = g.V.Visits.seen c.loop-visit.visits;
-      new = g.V.Visits.seen c.visit.new.self;
+      old = c.loop-visit.me;
+      new = c.visit.new.me;
     } in (
       end ∷ so.asked,
       record {

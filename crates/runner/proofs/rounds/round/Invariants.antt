@@ -7,9 +7,9 @@ use Rattle.runner.proofs.rounds.round.Given as goal
 abbrev pub invariant-loop-visit : goal.invariant-loop-visit
 invariant-loop-visit g l = record {
   asked : List Asked;
-  are : AreVisits g.V.Visits.baseline (g.V.Visits.runner l.fn.visits) (g.V.Visits.runners l.fn.visits)
-      (g.V.Visits.seen l.fn.visits) asked;
-  seen : g.V.Visits.seen l.visits ≡ seen_after (g.V.Visits.seen l.fn.visits) asked;
+  are : AreVisits g.B.Node.filter (g.V.Visits.runner l.fn.visits) (g.V.Visits.runners l.fn.visits)
+      l.fn.me asked;
+  seen : l.me ≡ seen_after l.fn.me asked;
   last : l.last ≡ last_of asked;
   went : l.went_on ≡ went_on asked;
   runner : g.V.Visits.runner l.visits ≡ g.V.Visits.runner l.fn.visits;

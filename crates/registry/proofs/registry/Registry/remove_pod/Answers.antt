@@ -10,7 +10,7 @@ use Rattle.registry.specs.Stands.{IsEmptyIn, Keeps}
 use Rattle.registry.proofs.Agreeing.{keeps_none, removed_none, spares_others}
 use Rattle.registry.proofs.registry.Registry.remove_pod.Goals as goal
 
-abbrev after : goal.After-hand_over → Registry
+abbrev after : goal.After-put_all → Registry
 after c = record {
   alloc = c.args.self.now.alloc;
   baseline = c.args.self.now.baseline;
@@ -20,7 +20,7 @@ after c = record {
   made = c.args.self.now.made;
 }
 
-forgotten : (c : goal.After-hand_over) → (i : ℕ)
+forgotten : (c : goal.After-put_all) → (i : ℕ)
     → home_in c.forget.new.self i ≡ cond (list_any (λ cell. id_of cell == i) c.args.cells.now) None
     (home_in c.args.self.now.homes i)
 forgotten c i = c.forget.ensures i ∙ ap (λ (cells : List Cell).
@@ -35,7 +35,7 @@ returns-in-Live-clause-keeps c =
     let live = subst (λ u. stage_of (known_in c.args.self.now.uids u) ≡ stage.Live c.in-Live.ready)
     c.as_str.ensures.value (sym c.stage.ensures ∙ c.in-Live.is) in
     subst (λ (cells : List Cell). Keeps c.args.self.now new c.args.uid.now c.args.cells.now cells)
-    (sym c.hand_over.ensures.here)
+    (sym c.put_all.ensures.left)
     (keeps_none c.args.self.now new c.args.uid.now c.args.cells.now refl (forgotten c)
     (subst (λ k. IsEmptyIn (stage_of k) []) (sym here)
     (removed_none (known_in c.args.self.now.uids c.args.uid.now) c.in-Live.ready live)))

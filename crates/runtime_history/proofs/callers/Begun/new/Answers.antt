@@ -4,7 +4,7 @@ use Rattle.registry.specs.Runtime.{Runtime, empty}
 use Rattle.registry.specs.Stands.{stages_in}
 use Rattle.runtime_history.specs.Agreed.{Kept, keeper}
 use Rattle.runtime_history.proofs.Moves.{begins}
-use Rattle.runtime_history.proofs.parts.Begun.new.Goals as goal
+use Rattle.runtime_history.proofs.callers.Begun.new.Goals as goal
 
 pub of_words-requires : goal.of_words-requires
 of_words-requires c =
