@@ -6,6 +6,7 @@ pub mod Objects
 pub mod PartObjects
 pub mod PickText
 pub mod PickedText
+pub mod PodPlay
 pub mod Playing
 pub mod ShownText
 pub mod Texts

@@ -12,6 +12,7 @@ mod list_objects;
 mod objects;
 mod picked;
 mod playing;
+mod pod_play;
 mod show;
 
 pub use compared::{Difference, reason, same_line};
@@ -23,4 +24,5 @@ pub use objects::{
 };
 pub use picked::picked_lines;
 pub use playing::{Outcome, play};
+pub use pod_play::{DeniedCall, decided_by, denied_line, denied_object, ended_line, ended_object};
 pub use show::code_lines;

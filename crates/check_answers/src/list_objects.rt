@@ -18,7 +18,7 @@ use std::fmt;
 
 /// A call: its number, or its name where that is wanted and there is one.
 #[derive(Clone, Copy)]
-struct CallValue(CallWord);
+pub(crate) struct CallValue(pub(crate) CallWord);
 
 impl fmt::Display for CallValue {
     ghost use Rattle.std.specs.Prelude.{Some};
@@ -189,7 +189,7 @@ fn picked_object(
 }
 
 /// The name of a profile, and behind it the path of one that has a file. A path may have any byte.
-fn profile_members(alloc: Global, choice: Choice<'_>) -> Result<String, AllocError>
+pub(crate) fn profile_members(alloc: Global, choice: Choice<'_>) -> Result<String, AllocError>
     ensures { IfOk result (λ text. string_bytes text ≡ profile_members (choice_seen choice.entry)) }
 {
     match choice {

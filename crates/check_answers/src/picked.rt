@@ -10,7 +10,7 @@ use std::fmt;
 
 /// A container's name and the profile that it gets, as they are printed.
 #[derive(Clone, Copy)]
-struct Picked<'p> {
+pub(crate) struct Picked<'p> {
     name: &'p str,
     kind: &'static str,
     /// The file of the profile, if it has one.
@@ -43,7 +43,7 @@ pub fn picked_lines(alloc: Global, pod: &Pod, seccomp_default: bool) -> Result<S
 }
 
 /// A container with what it gets.
-fn named<'p>(container: &'p Container, choice: Choice<'p>) -> Picked<'p>
+pub(crate) fn named<'p>(container: &'p Container, choice: Choice<'p>) -> Picked<'p>
     ensures { line_text result ≡ container.now.name
         ++ (codes " " ++ profile_text (choice_seen choice.entry)) }
 {

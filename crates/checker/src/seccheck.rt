@@ -1,9 +1,11 @@
 use crate::answer_object::AnswerObject;
 use crate::compared::{BUDGET, is_profile, same_or_stop};
+use crate::denying::{Asked, denied_told};
 use crate::file::is_same_file;
 use crate::form::Form;
 use crate::linting::{beside, lint_told};
 use crate::notes::tell_note;
+use crate::pod_playing::{PodAsked, pod_told};
 use crate::profiles::{default_line, explain_text};
 use crate::resolving::{resolve_text, settings_of};
 use crate::stop::{
@@ -119,7 +121,39 @@ fn told_of<'a, R: rt::Files + AllocGlobal>(
             compile_told(rt, path, out, form)
         }
         "lint" => lint_told(rt, word_at(matches, "PROFILE"), form),
+        "play" if matches.get_str("pod").is_some() => pod_told(rt, pod_asked(matches, form)?),
+        "denied" => {
+            let asked = Asked {
+                by_call: matches.get_flag("by-call"),
+                profiles: matches.get_str("profiles"),
+                form,
+            };
+            denied_told(rt, matches.get_strs("FILE").unwrap_or(&[]), asked)
+        }
         _ => Ok(Told::plain(rt.alloc(), text_of(rt, name, matches, form)?)),
+    }
+}
+
+/// What `play` is asked of a pod.
+fn pod_asked<'a>(matches: &ArgMatches<'a>, form: Form) -> Result<PodAsked<'a>, Stop<'a>> {
+    Ok(PodAsked {
+        manifest: matches.get_str("pod").unwrap_or(""),
+        scripts: matches.get_str("scripts").unwrap_or("."),
+        profiles: matches.get_str("profiles").unwrap_or("."),
+        baseline: matches.get_str("baseline"),
+        seccomp_default: matches.get_flag("seccomp-default"),
+        attempt: attempt_at(matches).map_err(Stop::BadNumber)?,
+        naming: naming_at(matches),
+        form,
+    })
+}
+
+/// Whether calls are printed by their names.
+fn naming_at(matches: &ArgMatches<'_>) -> Naming {
+    if matches.get_flag("names") {
+        Naming::Name
+    } else {
+        Naming::Number
     }
 }
 
@@ -160,11 +194,7 @@ fn text_of<'a, R: rt::Files + AllocGlobal>(
         "play" => {
             let attempt = attempt_at(matches).map_err(Stop::BadNumber)?;
             let filters = matches.get_strs("FILTER").unwrap_or(&[]);
-            let naming = if matches.get_flag("names") {
-                Naming::Name
-            } else {
-                Naming::Number
-            };
+            let naming = naming_at(matches);
             let played = played_at(rt, word_at(matches, "SCRIPT"), filters, attempt)?;
             Ok(record_text(rt.alloc(), &played, naming, form)?)
         }
@@ -336,7 +366,10 @@ fn stack_at<'a, R: rt::Files + AllocGlobal>(rt: &R, paths: &[&'a str]) -> Result
 }
 
 /// The filter in a file.
-fn filter_at<'a, R: rt::Files + AllocGlobal>(rt: &R, path: &'a str) -> Result<Filter, Stop<'a>> {
+pub(crate) fn filter_at<'a, R: rt::Files + AllocGlobal>(
+    rt: &R,
+    path: &'a str,
+) -> Result<Filter, Stop<'a>> {
     let bytes = bytes_at(rt, path)?;
     filter_of(rt.alloc(), &bytes).map_err(|refusal| filter_stop(path, refusal))
 }

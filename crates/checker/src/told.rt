@@ -53,4 +53,18 @@ impl Told {
             status: 0,
         }
     }
+
+    /// A text, and faults that are told beside it, with status 1 where there are some.
+    pub(crate) fn with_faults(text: String, aside: String) -> Told
+        ensures text { result.text ≡ text }
+        ensures aside { result.aside ≡ aside }
+        ensures status { result.status ≡ (if length (string_bytes aside) == 0 then 0 else 1) }
+    {
+        let status = if aside.as_str().is_empty() { 0 } else { 1 };
+        Told {
+            text,
+            aside,
+            status,
+        }
+    }
 }

@@ -41,7 +41,8 @@ pub(crate) fn command<'a>(alloc: Global) -> Result<Command<'a>, AllocError> {
         .subcommand(explain(alloc)?)?
         .subcommand(compare(alloc)?)?
         .subcommand(play(alloc)?)?
-        .subcommand(pick(alloc)?)
+        .subcommand(pick(alloc)?)?
+        .subcommand(denied(alloc)?)
 }
 
 fn compile<'a>(alloc: Global) -> Result<Command<'a>, AllocError> {
@@ -147,9 +148,13 @@ fn compare<'a>(alloc: Global) -> Result<Command<'a>, AllocError> {
 }
 
 fn play<'a>(alloc: Global) -> Result<Command<'a>, AllocError> {
-    Command::new(alloc, "play")
+    let command = Command::new(alloc, "play")
         .about("Play a container's script under filters and print its record")
-        .arg(given(alloc, "SCRIPT", "Script file"))?
+        .arg(
+            Arg::new(alloc, "SCRIPT")
+                .required_unless_present("pod")?
+                .help("Script file"),
+        )?
         .arg(
             Arg::new(alloc, "FILTER")
                 .num_args(0..)
@@ -161,8 +166,58 @@ fn play<'a>(alloc: Global) -> Result<Command<'a>, AllocError> {
                 .long("names")
                 .action(ArgAction::SetTrue)
                 .help("Print the names of calls, not their numbers"),
+        )?;
+    of_pod(alloc, command)?.arg(json(alloc))
+}
+
+/// The words of a pod that is played.
+fn of_pod<'a>(alloc: Global, command: Command<'a>) -> Result<Command<'a>, AllocError> {
+    command
+        .arg(option(
+            alloc,
+            "pod",
+            "MANIFEST",
+            "Play the containers of a pod, each under its own profile",
+        )
+        .conflicts_with("SCRIPT")?)?
+        .arg(
+            option(
+                alloc,
+                "scripts",
+                "DIR",
+                "Folder of the containers' scripts [default: .]",
+            )
+            .requires_arg("pod")?
+            .conflicts_with("SCRIPT")?,
         )?
-        .arg(json(alloc))
+        .arg(
+            option(
+                alloc,
+                "profiles",
+                "DIR",
+                "Folder of the seccomp profiles [default: .]",
+            )
+            .requires_arg("pod")?
+            .conflicts_with("SCRIPT")?,
+        )?
+        .arg(
+            option(
+                alloc,
+                "baseline",
+                "FILTER",
+                "Filter file that confines every container of the node",
+            )
+            .requires_arg("pod")?
+            .conflicts_with("SCRIPT")?,
+        )?
+        .arg(
+            Arg::new(alloc, "seccomp-default")
+                .long("seccomp-default")
+                .action(ArgAction::SetTrue)
+                .requires_arg("pod")?
+                .conflicts_with("SCRIPT")?
+                .help("Assume a node whose seccomp default is on"),
+        )
 }
 
 fn pick<'a>(alloc: Global) -> Result<Command<'a>, AllocError> {
@@ -175,6 +230,31 @@ fn pick<'a>(alloc: Global) -> Result<Command<'a>, AllocError> {
                 .action(ArgAction::SetTrue)
                 .help("Assume a node whose seccomp default is on"),
         )?
+        .arg(json(alloc))
+}
+
+fn denied<'a>(alloc: Global) -> Result<Command<'a>, AllocError> {
+    Command::new(alloc, "denied")
+        .about("Add up the calls that containers were denied, the most denied first")
+        .arg(
+            Arg::new(alloc, "FILE")
+                .num_args(1..)
+                .required(true)
+                .help("Files of records of containers, one per line"),
+        )?
+        .arg(
+            Arg::new(alloc, "by-call")
+                .long("by-call")
+                .action(ArgAction::SetTrue)
+                .conflicts_with("profiles")?
+                .help("Add up the calls of all containers"),
+        )?
+        .arg(option(
+            alloc,
+            "profiles",
+            "DIR",
+            "Folder of the profiles: print what of a profile denied each call",
+        ))?
         .arg(json(alloc))
 }
 

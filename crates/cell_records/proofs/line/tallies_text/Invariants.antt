@@ -1,0 +1,8 @@
+-- What was written, and the tallies from here on, are all together.
+use Rattle.std.proofs.Common.{◌≡◌, ◌++◌, drop, string_bytes}
+use Rattle.cell_records.specs.RecordText.{other_tallies, tallies_text}
+use Rattle.cell_records.proofs.line.tallies_text.Given as goal
+
+abbrev pub invariant-loop-other : goal.invariant-loop-other
+invariant-loop-other l = string_bytes l.text ++ other_tallies (drop l.other-index l.others)
+    ≡ tallies_text l.tallies

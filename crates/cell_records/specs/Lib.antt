@@ -1,0 +1,3 @@
+pub mod RecordText
+pub mod Steps
+pub mod Summary

@@ -1,0 +1,10 @@
+pub mod Deciding
+pub mod Faults
+pub mod Firsts
+pub mod Lines
+pub mod Objects
+pub mod Orders
+pub mod Reading
+pub mod Shown
+pub mod Sightings
+pub mod Table

@@ -1,0 +1,25 @@
+-- Denied calls as lines of a table, this project's own: docs/SEMANTICS.md, "Programs".
+use Rattle.std.specs.Prelude.{ℕ, List, [], ◌∷◌, ◌++◌, codes, string_bytes}
+use Rattle.std.specs.Fmt.{decimal}
+use Rattle.explain.specs.Text.{decider_text}
+use Rattle.explain.specs.declared.explanation.Decider.{Decider}
+use Rattle.denied_calls.specs.declared.sighting.Sighting.{Sighting}
+use Rattle.denied_calls.specs.declared.totalling.Total.{Total}
+use Rattle.denied_calls.specs.Shown.{call_text, verdict_text}
+
+abbrev pub row_cells : Sighting → ℕ → List (List ℕ)
+row_cells s count = string_bytes s.uid ∷ string_bytes s.name ∷ call_text s.nr s.arch
+    ∷ verdict_text s.value ∷ decimal count
+    ∷ (codes "attempt " ++ (decimal s.attempt ++ (codes ", call " ++ decimal s.first))) ∷ []
+
+abbrev pub total_cells : Total → List (List ℕ)
+total_cells t = call_text t.nr t.arch ∷ verdict_text t.value ∷ decimal t.count.0 ∷ decimal t.containers ∷ []
+
+abbrev pub others_text : List Decider → List ℕ
+others_text [] = []
+others_text (decider ∷ deciders) = codes ", " ++ (decider_text decider ++ others_text deciders)
+
+-- what of the profile denied a call
+abbrev pub by_text : List Decider → List ℕ
+by_text [] = codes "-"
+by_text (decider ∷ deciders) = decider_text decider ++ others_text deciders

@@ -1,0 +1,50 @@
+//! Calls and verdicts, as a person reads them.
+use action::Verdict;
+use call_data::NATIVE_ARCH;
+use call_names::{CallWord, Naming};
+use std::fmt;
+
+/// A call: its name, or its number if the call table has no name; behind the number of another architecture
+/// stands which one, `26 --arch 1073741827`.
+#[derive(Clone, Copy)]
+pub(crate) struct CallText {
+    pub nr: u32,
+    pub arch: u32,
+}
+
+impl fmt::Display for CallText {
+    ghost use Rattle.std.specs.Prelude.{Some};
+    ghost use Rattle.denied_calls.specs.Shown.{call_text};
+
+    ghost output = { λ call. Some (call_text call.nr call.arch) };
+
+    #[tactic(auto, unfolding(crate::specs::Shown::call_text))]
+    fn fmt<W: fmt::Write>(&self, f: &mut fmt::Formatter<W>) -> fmt::Result {
+        let (nr, arch) = (self.nr, self.arch);
+        if arch == NATIVE_ARCH {
+            let word = CallWord {
+                nr,
+                naming: Naming::Name,
+            };
+            return write!(f, "{word}");
+        }
+        write!(f, "{nr} --arch {arch}")
+    }
+}
+
+/// The verdict of a filter's value: `ERRNO 1`.
+#[derive(Clone, Copy)]
+pub(crate) struct VerdictText(pub u32);
+
+impl fmt::Display for VerdictText {
+    ghost use Rattle.std.specs.Prelude.{Some};
+    ghost use Rattle.denied_calls.specs.Shown.{verdict_text};
+
+    ghost output = { λ value. Some (verdict_text value.0) };
+
+    fn fmt<W: fmt::Write>(&self, f: &mut fmt::Formatter<W>) -> fmt::Result {
+        let verdict = Verdict::of_value(self.0);
+        let (action, ret_data) = (verdict.action, verdict.ret_data);
+        write!(f, "{action} {ret_data}")
+    }
+}
