@@ -6,10 +6,11 @@ use Rattle.clap.specs.declared.error.Error.{Error}
 use Rattle.clap.specs.declared.error.kind.ErrorKind.TheVariants as kind
 use Rattle.command_line.specs.declared.fault.LineFault.{LineFault}
 use Rattle.command_line.specs.declared.fault.LineFault.TheVariants.{Refused, BadNumber, Misfit as Unfit}
-use Rattle.command_line.specs.declared.fault.LineFault.TheVariants.{Memory}
+use Rattle.command_line.specs.declared.fault.LineFault.TheVariants.{Memory, UnknownCommand}
 use Rattle.command_line.specs.declared.fault.Misfit.{Misfit}
 use Rattle.command_line.specs.declared.fault.Misfit.TheVariants.{WithoutRuntime, WithoutSettle, WithSettle}
 use Rattle.command_line.specs.declared.fault.Misfit.TheVariants.{WithoutPods, NothingToTell, Missing}
+use Rattle.command_line.specs.declared.fault.Misfit.TheVariants.{WithoutRecords}
 
 abbrev pub misfit_text : Misfit → List ℕ
 misfit_text WithoutRuntime = codes "WithoutRuntime"
@@ -17,6 +18,7 @@ misfit_text WithoutSettle = codes "WithoutSettle"
 misfit_text WithSettle = codes "WithSettle"
 misfit_text WithoutPods = codes "WithoutPods"
 misfit_text NothingToTell = codes "NothingToTell"
+misfit_text WithoutRecords = codes "WithoutRecords"
 misfit_text Missing = codes "Missing"
 
 -- want of memory is told as that, wherever it comes
@@ -28,6 +30,7 @@ IsOfClap error fault = (kind_of error ≡ kind.OutOfMemory → fault ≡ Memory)
 -- wanted
 abbrev pub IsRefusal : Kinds → LineFault → Type 0
 IsRefusal kinds (BadNumber word) = ⊥
+IsRefusal kinds (UnknownCommand word) = ⊥
 IsRefusal kinds (Unfit word why) = ⊥
 IsRefusal kinds (Refused error) = (kind_of error ≢ kind.OutOfMemory) × IsAmong (kind_of error) kinds
 IsRefusal kinds Memory = Unit {0}

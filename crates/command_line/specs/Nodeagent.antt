@@ -1,14 +1,14 @@
 -- The line `nodeagent --socket PATH [--with-runtime] [--scripts DIR] [--profiles DIR] [--baseline FILTER]
--- [--seccomp-default] [--workers N] [--settle] [--until S] [--cri N] [--history N] [--pods DIR] [--run NAME]
--- [--state FILE] [--remove] [--reasons] [--fail] [--watch] [--json] [--verbose] [MANIFEST]..`, this project's
--- own: docs/SEMANTICS.md, "Programs".
+-- [--seccomp-default] [--records FILE] [--records-all] [--workers N] [--settle] [--until S] [--cri N]
+-- [--history N] [--pods DIR] [--run NAME] [--state FILE] [--remove] [--reasons] [--fail] [--watch] [--json]
+-- [--verbose] [MANIFEST]..`, this project's own: docs/SEMANTICS.md, "Programs".
 use Rattle.std.specs.Prelude.{ℕ, ◌^◌, ◌&&◌, List, Bool, not, if◌then◌else◌, codes, map, Option, Some, None}
 use Rattle.std.specs.Prelude.{Result, Ok, Err, option_map}
 use Rattle.clap.specs.Simple.{App, new_app, with_rule}
 use Rattle.clap.specs.Walk.{Row, first_of}
 use Rattle.command_line.specs.Arguments.{flag_rule, folder_of, has_words, is_set, is_there, option_rule}
 use Rattle.command_line.specs.Arguments.{versioned, word_of, words_of, words_rule}
-use Rattle.command_line.specs.Scriptd.{serving}
+use Rattle.command_line.specs.Scriptd.{misfit_of_records, recording, serving}
 use Rattle.command_line.specs.Words.{written_if_there, written_within}
 use Rattle.command_line.specs.declared.fault.Misfit.{Misfit}
 use Rattle.command_line.specs.declared.fault.Misfit.TheVariants.{WithoutRuntime, WithoutSettle, WithSettle}
@@ -43,7 +43,7 @@ abbrev pub naming : App → App
 naming app = with_rule (with_rule app (flag_rule (codes "verbose"))) (words_rule (codes "MANIFEST"))
 
 abbrev pub working : App → App
-working app = speaking (settling (choosing (serving app)))
+working app = speaking (settling (recording (choosing (serving app))))
 
 abbrev pub running : App → App
 running app = naming (telling (ending (coming (working app))))
@@ -78,6 +78,8 @@ pub record Nodeagent : Type 0 where
   pub profiles : List ℕ
   pub baseline : Option (List ℕ)
   pub seccomp_default : Bool
+  pub records : Option (List ℕ)
+  pub records_all : Bool
   pub numbers : Numbers
   pub settle : Bool
   pub pods : Option (List ℕ)
@@ -100,6 +102,8 @@ nodeagent_with rows (Ok numbers) = Ok (record {
   profiles = folder_of (codes "profiles") rows;
   baseline = first_of (codes "baseline") rows;
   seccomp_default = is_set (codes "seccomp-default") rows;
+  records = first_of (codes "records") rows;
+  records_all = is_set (codes "records-all") rows;
   numbers = numbers;
   settle = is_set (codes "settle") rows;
   pods = first_of (codes "pods") rows;
@@ -117,7 +121,7 @@ nodeagent_with rows (Ok numbers) = Ok (record {
 abbrev pub settles : List Row → Bool
 settles rows = is_set (codes "settle") rows
 
--- with --with-runtime a runtime is beside the agent, which reads scripts and profiles
+-- with --with-runtime a runtime is beside the agent, which reads scripts and profiles, and writes records
 abbrev pub reads_nothing : List ℕ → List Row → Bool
 reads_nothing folder rows = not (is_set (codes "with-runtime") rows) && is_there folder rows
 
@@ -136,7 +140,8 @@ misfit_of_folder rows =
 abbrev pub misfit_of_end : List Row → Option (List ℕ × Misfit)
 misfit_of_end rows =
     if not (settles rows) && is_set (codes "remove") rows then Some (codes "--remove", WithoutSettle)
-    else if not (settles rows) && is_set (codes "reasons") rows then Some (codes "--reasons", WithoutSettle)
+    else if not (settles rows) && (not (is_set (codes "watch") rows) && is_set (codes "reasons") rows)
+    then Some (codes "--reasons", WithoutSettle)
     else if not (settles rows) && is_set (codes "fail") rows then Some (codes "--fail", WithoutSettle)
     else if settles rows && is_set (codes "watch") rows then Some (codes "--watch", WithSettle)
     else if not (settles rows) && (not (is_set (codes "watch") rows) && is_set (codes "json") rows)
@@ -162,7 +167,8 @@ abbrev pub misfit_in : List Row → Option (List ℕ × Misfit)
 misfit_in rows =
     if reads_nothing (codes "scripts") rows then Some (codes "--scripts", WithoutRuntime)
     else if reads_nothing (codes "profiles") rows then Some (codes "--profiles", WithoutRuntime)
-    else or_else (misfit_of_folder rows) (misfit_of_rest rows)
+    else if reads_nothing (codes "records") rows then Some (codes "--records", WithoutRuntime)
+    else or_else (misfit_of_records rows) (or_else (misfit_of_folder rows) (misfit_of_rest rows))
 
 -- what the matches of a line say, or the first word that writes no number of its range
 abbrev pub nodeagent_in : List Row → Result Nodeagent (List ℕ)
@@ -177,6 +183,8 @@ nodeagent_of line = record {
   profiles = line.profiles.now;
   baseline = option_map (λ w. w.now) line.baseline;
   seccomp_default = line.seccomp_default;
+  records = option_map (λ w. w.now) line.records;
+  records_all = line.records_all;
   numbers = line.numbers;
   settle = line.settle;
   pods = option_map (λ w. w.now) line.pods;

@@ -1,10 +1,13 @@
 -- The line `scriptd --socket PATH [--scripts DIR] [--profiles DIR] [--baseline FILTER] [--runners N]
--- [--verbose]`, this project's own: docs/SEMANTICS.md, "Programs".
-use Rattle.std.specs.Prelude.{ℕ, List, Bool, codes, Option, Result, Ok, Err, option_map}
+-- [--records FILE] [--records-all] [--verbose]`, this project's own: docs/SEMANTICS.md, "Programs".
+use Rattle.std.specs.Prelude.{ℕ, ◌&&◌, List, Bool, not, if◌then◌else◌, codes, Option, Some, None, Result, Ok}
+use Rattle.std.specs.Prelude.{Err, option_map}
 use Rattle.clap.specs.Simple.{App, new_app, with_rule}
 use Rattle.clap.specs.Walk.{Row, first_of}
-use Rattle.command_line.specs.Arguments.{flag_rule, folder_of, is_set, option_rule, required_rule, versioned}
-use Rattle.command_line.specs.Arguments.{word_of}
+use Rattle.command_line.specs.Arguments.{flag_rule, folder_of, is_set, is_there, option_rule, required_rule}
+use Rattle.command_line.specs.Arguments.{versioned, word_of}
+use Rattle.command_line.specs.declared.fault.Misfit.{Misfit}
+use Rattle.command_line.specs.declared.fault.Misfit.TheVariants.{WithoutRecords}
 use Rattle.command_line.specs.Words.{written_within}
 use Rattle.command_line.specs.declared.scriptd.ScriptdLine.{ScriptdLine}
 
@@ -16,8 +19,12 @@ abbrev pub serving : App → App
 serving app = with_rule (folders (with_rule app (required_rule (codes "socket"))))
     (option_rule (codes "baseline"))
 
+abbrev pub recording : App → App
+recording app = with_rule (with_rule app (option_rule (codes "records"))) (flag_rule (codes "records-all"))
+
 abbrev pub stepping : App → App
-stepping app = with_rule (with_rule app (option_rule (codes "runners"))) (flag_rule (codes "verbose"))
+stepping app = with_rule (recording (with_rule app (option_rule (codes "runners"))))
+    (flag_rule (codes "verbose"))
 
 unfoldable pub scriptd : App
 scriptd = stepping (serving (versioned (new_app (codes "scriptd"))))
@@ -30,6 +37,9 @@ pub record Scriptd : Type 0 where
   pub baseline : Option (List ℕ)
   -- from 1 to 64, 4 where none is named
   pub runners : ℕ
+  -- the file of the records, and whether they list performed calls too
+  pub records : Option (List ℕ)
+  pub records_all : Bool
   pub verbose : Bool
 
 abbrev pub scriptd_with : List Row → Result ℕ (List ℕ) → Result Scriptd (List ℕ)
@@ -40,12 +50,21 @@ scriptd_with rows (Ok runners) = Ok (record {
   profiles = folder_of (codes "profiles") rows;
   baseline = first_of (codes "baseline") rows;
   runners = runners;
+  records = first_of (codes "records") rows;
+  records_all = is_set (codes "records-all") rows;
   verbose = is_set (codes "verbose") rows;
 })
 
 -- what the matches of a line say, or the word that writes no number of its range
 abbrev pub scriptd_in : List Row → Result Scriptd (List ℕ)
 scriptd_in rows = scriptd_with rows (written_within 1 64 4 (first_of (codes "runners") rows))
+
+-- what records list is of no use without a file for them
+abbrev pub misfit_of_records : List Row → Option (List ℕ × Misfit)
+misfit_of_records rows =
+    if is_set (codes "records-all") rows && not (is_there (codes "records") rows)
+    then Some (codes "--records-all", WithoutRecords)
+    else None
 
 -- the texts that a line lends
 abbrev pub scriptd_of : ScriptdLine → Scriptd
@@ -55,5 +74,7 @@ scriptd_of line = record {
   profiles = line.profiles.now;
   baseline = option_map (λ w. w.now) line.baseline;
   runners = line.runners;
+  records = option_map (λ w. w.now) line.records;
+  records_all = line.records_all;
   verbose = line.verbose;
 }

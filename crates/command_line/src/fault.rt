@@ -14,6 +14,8 @@ pub enum Misfit {
     WithoutPods,
     /// The option says how something is printed, and nothing is.
     NothingToTell,
+    /// The option says what records list, and the line names no file for them.
+    WithoutRecords,
     /// The line requires such a word.
     Missing,
 }
@@ -32,6 +34,7 @@ impl fmt::Display for Misfit {
             Misfit::WithSettle => f.write_str("WithSettle"),
             Misfit::WithoutPods => f.write_str("WithoutPods"),
             Misfit::NothingToTell => f.write_str("NothingToTell"),
+            Misfit::WithoutRecords => f.write_str("WithoutRecords"),
             Misfit::Missing => f.write_str("Missing"),
         }
     }
@@ -44,6 +47,8 @@ pub enum LineFault<'a> {
     Refused(clap::Error),
     /// The first word that is not a number, or is out of its range.
     BadNumber(&'a str),
+    /// The first word is not a command.
+    UnknownCommand(&'a str),
     /// This option does not go with the others, or is required and missing.
     Misfit(&'static str, Misfit),
     /// An allocation failed.

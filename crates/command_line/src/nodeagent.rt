@@ -8,14 +8,14 @@ ghost use Rattle.command_line.specs.Faults.{TellsFault};
 ghost use Rattle.command_line.specs.Words.{told};
 ghost use Rattle.command_line.specs.Nodeagent.{choosing, coming, ending, misfit_in, misfit_of_end};
 ghost use Rattle.command_line.specs.Nodeagent.{misfit_of_folder, misfit_of_pods, misfit_of_rest, naming};
-ghost use Rattle.command_line.specs.Nodeagent.{nodeagent, nodeagent_in, nodeagent_of};
+ghost use Rattle.command_line.specs.Nodeagent.{nodeagent, nodeagent_in, nodeagent_of, or_else};
 ghost use Rattle.command_line.specs.Nodeagent.{nodeagent_with, numbers_in, reads_nothing, running, settling};
 ghost use Rattle.command_line.specs.Nodeagent.{speaking, telling, working};
 
 use crate::arguments::{versioned, with_flag, with_option, with_words};
 use crate::fault::{LineFault, Misfit};
 use crate::matched::{folder_at, has_words, is_set, is_there, required_at, word_at, words_at};
-use crate::scriptd::{matches_in, serving};
+use crate::scriptd::{matches_in, misfit_of_records, recording, serving};
 use crate::written::{number_if_there, number_within};
 use clap::{ArgMatches, Command};
 use std::alloc::{AllocError, Global};
@@ -48,6 +48,10 @@ pub struct NodeagentLine<'a> {
     pub baseline: Option<&'a str>,
     /// Whether a container without a seccomp profile gets RuntimeDefault.
     pub seccomp_default: bool,
+    /// The file to which the records of containers are appended.
+    pub records: Option<&'a str>,
+    /// Whether a record lists performed calls too.
+    pub records_all: bool,
     pub numbers: Numbers,
     /// Whether the clock is virtual, and the program ends once every pod is over.
     pub settle: bool,
@@ -59,7 +63,7 @@ pub struct NodeagentLine<'a> {
     pub state: Option<&'a str>,
     /// Whether the pods are removed from the runtime at the end.
     pub remove: bool,
-    /// Whether the table shows why containers wait.
+    /// Whether the table, or the changes, show why containers wait.
     pub reasons: bool,
     /// Whether a pod of the table that is Failed makes the status 1.
     pub fail: bool,
@@ -122,6 +126,7 @@ fn working<'a>(alloc: Global, command: Command<'a>) -> Result<Command<'a>, Alloc
     ensures { IfOk result (λ c. app_of c ≡ working (app_of command.entry)) }
 {
     let command = choosing(alloc, serving(alloc, command)?)?;
+    let command = recording(alloc, command)?;
     speaking(alloc, settling(alloc, command)?)
 }
 
@@ -237,7 +242,7 @@ fn ending<'a>(alloc: Global, command: Command<'a>) -> Result<Command<'a>, AllocE
         alloc,
         command,
         "reasons",
-        "Print why each unfinished container waits (with --settle)",
+        "Print why each unfinished container waits (with --settle or --watch)",
     )?;
     with_flag(
         alloc,
@@ -272,11 +277,23 @@ fn misfit(matches: &ArgMatches) -> Option<(&'static str, Misfit)>
         Some(("--scripts", Misfit::WithoutRuntime))
     } else if reads_nothing(matches, "profiles") {
         Some(("--profiles", Misfit::WithoutRuntime))
+    } else if reads_nothing(matches, "records") {
+        Some(("--records", Misfit::WithoutRuntime))
     } else {
-        match misfit_of_folder(matches) {
+        match misfit_of_records(matches) {
             Some(misfit) => Some(misfit),
-            None => misfit_of_rest(matches),
+            None => misfit_of_folder_and_rest(matches),
         }
+    }
+}
+
+fn misfit_of_folder_and_rest(matches: &ArgMatches) -> Option<(&'static str, Misfit)>
+    ensures { option_map (λ m. (m.0.now, m.1)) result ≡ or_else
+        (misfit_of_folder (rows_of (found_of matches.now))) (misfit_of_rest (rows_of (found_of matches.now))) }
+{
+    match misfit_of_folder(matches) {
+        Some(misfit) => Some(misfit),
+        None => misfit_of_rest(matches),
     }
 }
 
@@ -317,7 +334,7 @@ fn misfit_of_end(matches: &ArgMatches) -> Option<(&'static str, Misfit)>
     let settles = is_set(matches, "settle");
     if !settles && is_set(matches, "remove") {
         Some(("--remove", Misfit::WithoutSettle))
-    } else if !settles && is_set(matches, "reasons") {
+    } else if !settles && !is_set(matches, "watch") && is_set(matches, "reasons") {
         Some(("--reasons", Misfit::WithoutSettle))
     } else if !settles && is_set(matches, "fail") {
         Some(("--fail", Misfit::WithoutSettle))
@@ -370,6 +387,8 @@ fn said<'a>(
         profiles: folder_at(matches, "profiles"),
         baseline: word_at(matches, "baseline"),
         seccomp_default: is_set(matches, "seccomp-default"),
+        records: word_at(matches, "records"),
+        records_all: is_set(matches, "records-all"),
         numbers,
         settle: is_set(matches, "settle"),
         pods: word_at(matches, "pods"),

@@ -1,4 +1,4 @@
-ghost use Rattle.std.specs.Prelude.{◌≡◌, [], true, None, IfErr, IfOk, Ok, map};
+ghost use Rattle.std.specs.Prelude.{◌≡◌, [], true, None, IfErr, IfOk, Ok, map, option_map};
 ghost use Rattle.std.specs.Result.{result_map_both};
 ghost use Rattle.std.specs.String.{string_bytes};
 ghost use Rattle.clap.specs.Matches.{found_of};
@@ -6,11 +6,12 @@ ghost use Rattle.clap.specs.Faults.{fault_of, is_simple_and_free};
 ghost use Rattle.clap.specs.Simple.{app_of, is_simple, matches_of};
 ghost use Rattle.clap.specs.Walk.{rows_of};
 ghost use Rattle.command_line.specs.Faults.{IsRefusal, TellsFault};
-ghost use Rattle.command_line.specs.Scriptd.{folders, scriptd, scriptd_in, scriptd_of, serving, stepping};
+ghost use Rattle.command_line.specs.Scriptd.{folders, misfit_of_records, recording, scriptd, scriptd_in};
+ghost use Rattle.command_line.specs.Scriptd.{scriptd_of, serving, stepping};
 
 use crate::arguments::{versioned, with_flag, with_option, with_required};
-use crate::fault::LineFault;
-use crate::matched::{folder_at, is_set, required_at, word_at};
+use crate::fault::{LineFault, Misfit};
+use crate::matched::{folder_at, is_set, is_there, required_at, word_at};
 use crate::written::number_within;
 use clap::{ArgMatches, Command};
 use std::alloc::{AllocError, Global};
@@ -28,6 +29,10 @@ pub struct ScriptdLine<'a> {
     pub baseline: Option<&'a str>,
     /// How many threads step the containers, from 1 to 64.
     pub runners: u32,
+    /// The file to which the records of containers are appended.
+    pub records: Option<&'a str>,
+    /// Whether a record lists performed calls too.
+    pub records_all: bool,
     /// Whether each event is logged on standard error.
     pub verbose: bool,
 }
@@ -42,10 +47,18 @@ pub fn scriptd_line<'a>(
     ensures taken { IfOk result (λ _. fault_of scriptd (map string_bytes words.now) ≡ []) }
     ensures line { IfOk result (λ line. scriptd_in (matches_of scriptd (map string_bytes words.now))
         ≡ Ok (scriptd_of line)) }
-    ensures fault { IfErr result (TellsFault (fault_of scriptd (map string_bytes words.now)) None
+    ensures fault { IfErr result (TellsFault (fault_of scriptd (map string_bytes words.now))
+        (misfit_of_records (matches_of scriptd (map string_bytes words.now)))
         (scriptd_in (matches_of scriptd (map string_bytes words.now)))) }
+
+    // A word that does not go with the others is refused.
+    ensures used { IfOk result (λ _. misfit_of_records (matches_of scriptd (map string_bytes words.now))
+        ≡ None) }
 {
     let matches = matches_in(scriptd(alloc)?, words)?;
+    if let Some((word, why)) = misfit_of_records(&matches) {
+        return Err(LineFault::Misfit(word, why));
+    }
     match said(&matches) {
         Ok(line) => Ok(line),
         Err(word) => Err(LineFault::BadNumber(word)),
@@ -72,12 +85,43 @@ fn stepping<'a>(alloc: Global, command: Command<'a>) -> Result<Command<'a>, Allo
         "N",
         "Number of threads that step containers, 1 to 64 [default: 4]",
     )?;
+    let command = recording(alloc, command)?;
     with_flag(
         alloc,
         command,
         "verbose",
         "Log each event on standard error",
     )
+}
+
+/// The options of records.
+pub(crate) fn recording<'a>(alloc: Global, command: Command<'a>) -> Result<Command<'a>, AllocError>
+    ensures { IfOk result (λ c. app_of c ≡ recording (app_of command.entry)) }
+{
+    let command = with_option(
+        alloc,
+        command,
+        "records",
+        "FILE",
+        "Append a record of each container to FILE: the calls that it was denied",
+    )?;
+    with_flag(
+        alloc,
+        command,
+        "records-all",
+        "List performed calls in the records too",
+    )
+}
+
+/// The option of records that does not go with the others.
+pub(crate) fn misfit_of_records(matches: &ArgMatches) -> Option<(&'static str, Misfit)>
+    ensures { option_map (λ m. (m.0.now, m.1)) result ≡ misfit_of_records (rows_of (found_of matches.now)) }
+{
+    if is_set(matches, "records-all") && !is_there(matches, "records") {
+        Some(("--records-all", Misfit::WithoutRecords))
+    } else {
+        None
+    }
 }
 
 /// The options of a program that runs containers.
@@ -139,6 +183,8 @@ fn said<'a>(matches: &ArgMatches<'a>) -> Result<ScriptdLine<'a>, &'a str>
         profiles: folder_at(matches, "profiles"),
         baseline: word_at(matches, "baseline"),
         runners,
+        records: word_at(matches, "records"),
+        records_all: is_set(matches, "records-all"),
         verbose: is_set(matches, "verbose"),
     })
 }

@@ -1,3 +1,4 @@
 pub mod Starts
 pub mod Notes
 pub mod Paths
+pub mod Refusals

@@ -1,5 +1,6 @@
 pub mod Accepting
 pub mod Places
+pub mod Recording
 pub mod Stops
 pub mod StopText
 pub mod Telling

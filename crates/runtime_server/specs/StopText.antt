@@ -18,7 +18,7 @@ use Rattle.runtime_server.specs.declared.sockets.TheConstants.{MAX_NAME}
 use Rattle.runtime_server.specs.declared.stops.ServerStop.{ServerStop}
 use Rattle.runtime_server.specs.declared.stops.ServerStop.TheVariants.{CommandLine, BadNumber, Misfit}
 use Rattle.runtime_server.specs.declared.stops.ServerStop.TheVariants.{Baseline, File, Socket, Unwritten}
-use Rattle.runtime_server.specs.declared.stops.ServerStop.TheVariants.{Memory}
+use Rattle.runtime_server.specs.declared.stops.ServerStop.TheVariants.{Memory, UnknownCommand}
 
 -- the name of a filter's fault, without its place
 abbrev pub code_fault_name : CodeFault → List ℕ
@@ -60,6 +60,8 @@ abbrev pub stop_text : List ℕ → ServerStop → Option (List ℕ)
 stop_text program (CommandLine error) = None
 stop_text program (BadNumber word) = Some (program ++ codes ": " ++ shown_path word.now
     ++ codes ": BadNumber\n")
+stop_text program (UnknownCommand word) = Some (program ++ codes ": " ++ shown_path word.now
+    ++ codes ": UnknownCommand\n")
 stop_text program (Misfit word why) = Some (program ++ codes ": " ++ word.now ++ codes ": " ++ misfit_text why
     ++ codes "\n")
 stop_text program (Baseline path refusal) =

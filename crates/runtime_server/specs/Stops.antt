@@ -14,12 +14,13 @@ use Rattle.runtime_server.specs.declared.socket_fault.SocketFault.TheVariants as
 use Rattle.runtime_server.specs.declared.stops.ServerStop.{ServerStop}
 use Rattle.runtime_server.specs.declared.stops.ServerStop.TheVariants.{CommandLine, BadNumber, Misfit}
 use Rattle.runtime_server.specs.declared.stops.ServerStop.TheVariants.{Baseline, File, Socket, Unwritten}
-use Rattle.runtime_server.specs.declared.stops.ServerStop.TheVariants.{Memory}
+use Rattle.runtime_server.specs.declared.stops.ServerStop.TheVariants.{Memory, UnknownCommand}
 
 abbrev pub status_of : ServerStop → ℕ
 status_of (Baseline path refusal) = 1
 status_of (CommandLine error) = 2
 status_of (BadNumber word) = 2
+status_of (UnknownCommand word) = 2
 status_of (Misfit word why) = 2
 status_of (File path caused) = 3
 status_of (Socket path fault) = 3
@@ -30,6 +31,7 @@ status_of Memory = 4
 abbrev pub of_line_fault : LineFault → ServerStop
 of_line_fault (line.Refused error) = CommandLine error
 of_line_fault (line.BadNumber word) = BadNumber word
+of_line_fault (line.UnknownCommand word) = UnknownCommand word
 of_line_fault (line.Misfit word why) = Misfit word why
 of_line_fault line.Memory = Memory
 

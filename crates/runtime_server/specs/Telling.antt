@@ -1,12 +1,9 @@
 -- What is told of a runtime beside its messages, this project's own: docs/SEMANTICS.md, "Programs".
 use Rattle.std.specs.Prelude.{ℕ, List, [], ◌++◌, Bool, true, false, codes}
-use Rattle.cri_msgs.specs.declared.refusals.Refusal.{Refusal}
-use Rattle.cri_msgs.specs.declared.refusals.Refusal.TheVariants.{InvalidArgument, NotFound, AlreadyExists}
-use Rattle.cri_msgs.specs.declared.refusals.Refusal.TheVariants.{ResourceExhausted, FailedPrecondition}
-use Rattle.cri_msgs.specs.declared.refusals.Refusal.TheVariants.{Internal, Memory}
 use Rattle.cri_msgs.specs.declared.replies.Answer.{Answer}
 use Rattle.cri_msgs.specs.declared.replies.Answer.TheVariants.{Refused}
 use Rattle.fault_notes.specs.Paths.{shown_path}
+use Rattle.fault_notes.specs.Refusals.{refusal_text}
 use Rattle.runtime_server.specs.declared.site.Address.{Address}
 use Rattle.runtime_server.specs.declared.site.Tells.{Tells}
 use Rattle.runtime_server.specs.declared.site.Tells.TheVariants.{Nothing, WrongFiles, Each}
@@ -21,16 +18,6 @@ is_told Each wrong = true
 abbrev pub told_where : Bool → Tells
 told_where true = Each
 told_where false = Nothing
-
--- the names of gRPC's status codes, and of want of memory
-abbrev pub refusal_text : Refusal → List ℕ
-refusal_text InvalidArgument = codes "InvalidArgument"
-refusal_text NotFound = codes "NotFound"
-refusal_text AlreadyExists = codes "AlreadyExists"
-refusal_text ResourceExhausted = codes "ResourceExhausted"
-refusal_text FailedPrecondition = codes "FailedPrecondition"
-refusal_text Internal = codes "Internal"
-refusal_text Memory = codes "Memory"
 
 -- behind an answer
 abbrev pub name_behind : Answer → List ℕ

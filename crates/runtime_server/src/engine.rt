@@ -1,33 +1,43 @@
 //! A runtime that threads share, and the runners that step its containers.
 ghost use Rattle.std.specs.Prelude.{◌≡◌, ◌<◌};
+ghost use Rattle.runner.specs.Shared.{MayServe};
 ghost use Rattle.runtime_history.specs.History.{unseen};
 
+use crate::recording::{EndGate, Recorder};
 use cri_msgs::{Call, MessageFault, Reply, Request, Version};
-use runner::{Begun, Host, Node, Notifier, Open, Reader, SharedHost, SharedRuntime};
+use registry::RemovedCells;
+use runner::{Begun, Callers, Host, Node, Notifier, Reader, SharedHost, SharedRuntime};
 use runtime_core::FileAnswers;
 use std::alloc::{AllocError, Global};
 use std::marker::Model;
 use std::sync::Wait;
 use std::thread::{Scope, Threads};
+use std::time::Clock;
 
-/// A runtime that threads share, with the notifier of its runners and the reader of large texts.
+/// A runtime that threads share, with the one who makes its callers, the notifier of its runners, the reader
+/// of large texts, and the recorder of its cells, if records are written.
 #[derive(Drop)]
 pub struct Engine<B: Node> {
     runtime: SharedRuntime<B>,
+    callers: Callers<B>,
     notifier: Notifier,
     reader: Reader,
+    recorder: Option<Recorder>,
     alloc: Global,
 }
 
 impl<B: Node> Engine<B> {
     /// A runtime that has served nothing.
-    pub fn new(alloc: Global, begun: Begun) -> Engine<B>
+    pub fn new(alloc: Global, begun: Begun, recorder: Option<Recorder>) -> Engine<B>
         requires { begun ≡ (B.filter, B.table) }
     {
+        let (runtime, callers) = SharedRuntime::new(alloc, begun);
         Engine {
-            runtime: SharedRuntime::new(alloc, begun),
+            runtime,
+            callers,
             notifier: Notifier::new(),
             reader: Reader::new(),
+            recorder,
             alloc,
         }
     }
@@ -38,15 +48,24 @@ impl<B: Node> Engine<B> {
     {
         EngineHost {
             rt,
-            host: SharedHost::new(rt, &self.runtime),
+            host: SharedHost::new(rt, &self.runtime, &self.callers),
             notifier: &self.notifier,
             reader: &self.reader,
+            recorder: self.recorder.as_ref(),
+            alloc: self.alloc,
         }
     }
 
     /// Waits until none of its containers runs, given its number of runners, or until it is closed.
     pub fn wait_idle<R: Wait>(&self, rt: &R, runners: u32) {
         self.notifier.wait_idle(rt, u64::from(runners));
+    }
+
+    /// Waits until all records are written, if they are.
+    pub fn finish<R: Wait + Clock>(&self, rt: &R) {
+        if let Some(recorder) = &self.recorder {
+            recorder.finish(rt);
+        }
     }
 
     /// Ends its runners, and its reader.
@@ -64,12 +83,16 @@ impl<B: Node> Engine<B> {
         if runner >= runners {
             return;
         }
-        let mut me = self.runtime.client();
+        let mut me = self.runtime.client(&self.callers);
+        let gate = EndGate {
+            rt,
+            recorder: self.recorder.as_ref(),
+        };
         self.notifier.work(
             rt,
             || -> bool
                 requires { runner < runners }
-            { self.runtime.step_round(rt, &mut me, runner, runners, &Open) },
+            { self.runtime.step_round(rt, &mut me, runner, runners, &gate) },
         );
     }
 }
@@ -97,6 +120,21 @@ pub struct EngineHost<'a, B: Node, R: Wait> {
     host: SharedHost<'a, B, R>,
     notifier: &'a Notifier,
     reader: &'a Reader,
+    recorder: Option<&'a Recorder>,
+    alloc: Global,
+}
+
+impl<'a, B: Node, R: Wait> EngineHost<'a, B, R> {
+    // Serves a request, and has the cells that it removes recorded.
+    fn serve_recorded(&mut self, recorder: &Recorder, request: Request, files: FileAnswers) -> Reply
+        ensures { MayServe B.filter self.old request files result self.new }
+    {
+        let uid = recorder.removal(&request);
+        let mut gone = RemovedCells::new(self.alloc);
+        let reply = self.host.serve_keeping(&mut gone, request, files);
+        recorder.record_removed(self.rt, &uid, &gone);
+        reply
+    }
 }
 
 impl<'a, B: Node, R: Wait> Model for EngineHost<'a, B, R> {
@@ -114,7 +152,10 @@ impl<B: Node, R: Wait> Host for EngineHost<'_, B, R> {
 
     fn serve(&mut self, request: Request, files: FileAnswers) -> Reply {
         let starts = matches!(&request.call, Call::StartContainer { .. });
-        let reply = self.host.serve(request, files);
+        let reply = match self.recorder {
+            Some(recorder) => self.serve_recorded(recorder, request, files),
+            None => self.host.serve(request, files),
+        };
         if starts {
             self.notifier.notify(self.rt);
         }

@@ -3,6 +3,7 @@ ghost use Rattle.runtime_server.specs.Telling.{told_where};
 
 use crate::engine::start_runners;
 use crate::inputs::{baseline_at, look_at_folders};
+use crate::recording::recorder_for;
 use crate::site::{Address, Site, Tells, accept_all};
 use crate::stops::{ServerStop, Told, socket_stop};
 use crate::teller::{Stream, Teller};
@@ -68,7 +69,8 @@ fn run_line<'a, B: Node + Send + Sync, R: Threads + Wait + Clock + Copy + Send +
     } else {
         None
     };
-    let site = match Site::<B>::open(rt, system, address_of(line), begun, teller) {
+    let recorder = recorder_for(rt, system, "scriptd", line.records, line.records_all)?;
+    let site = match Site::<B>::open(rt, system, address_of(line), begun, teller, recorder) {
         Ok(site) => site,
         Err(fault) => return Err(socket_stop(line.socket, fault)),
     };

@@ -5,6 +5,7 @@ use crate::accepting::{Accepting, Report};
 use crate::connections::{Connections, NoPlace};
 use crate::diagnosis::{is_of_files, wrong_in};
 use crate::engine::{Engine, EngineHost};
+use crate::recording::Recorder;
 use crate::socket_fault::SocketFault;
 use crate::sockets::Socket;
 use crate::teller::Teller;
@@ -77,13 +78,15 @@ pub struct Site<'a, B: Node> {
 }
 
 impl<'a, B: Node> Site<'a, B> {
-    /// Listens at the address. The runtime has served nothing. The teller has its lines.
+    /// Listens at the address. The runtime has served nothing. The teller has its lines, and the recorder its
+    /// cells.
     pub fn open<R: Wait>(
         rt: &R,
         system: &HostRuntime,
         address: Address<'a>,
         begun: Begun,
         teller: Option<Arc<Teller, Global>>,
+        recorder: Option<Recorder>,
     ) -> Result<Site<'a, B>, SocketFault>
         requires { begun ≡ (B.filter, B.table) }
         ensures { IfOk result (λ site. site.address ≡ address.entry) }
@@ -99,7 +102,7 @@ impl<'a, B: Node> Site<'a, B> {
             socket,
             connections,
             teller,
-            engine: Engine::new(system.alloc(), begun),
+            engine: Engine::new(system.alloc(), begun, recorder),
         })
     }
 

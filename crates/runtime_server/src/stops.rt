@@ -18,6 +18,8 @@ pub enum ServerStop<'a> {
     CommandLine(clap::Error),
     /// A word of the command line is not a number in its range.
     BadNumber(&'a str),
+    /// The first word of the command line is not a command.
+    UnknownCommand(&'a str),
     /// This option of the command line does not go with the others, or is required and missing.
     Misfit(&'static str, Misfit),
     /// The node's own filter is refused.
@@ -42,7 +44,10 @@ impl ServerStop<'_> {
     {
         match self {
             ServerStop::Baseline(_, _) => 1,
-            ServerStop::CommandLine(_) | ServerStop::BadNumber(_) | ServerStop::Misfit(_, _) => 2,
+            ServerStop::CommandLine(_)
+            | ServerStop::BadNumber(_)
+            | ServerStop::UnknownCommand(_)
+            | ServerStop::Misfit(_, _) => 2,
             ServerStop::File(_, _) | ServerStop::Socket(_, _) | ServerStop::Unwritten(_) => 3,
             ServerStop::Memory => 4,
         }
@@ -94,6 +99,9 @@ impl fmt::Display for Told<'_, '_> {
         match self.stop {
             ServerStop::CommandLine(error) => write!(f, "{error}"),
             ServerStop::BadNumber(word) => writeln!(f, "{program}: {}: BadNumber", ShownPath(word)),
+            ServerStop::UnknownCommand(word) => {
+                writeln!(f, "{program}: {}: UnknownCommand", ShownPath(word))
+            }
             ServerStop::Misfit(word, why) => writeln!(f, "{program}: {word}: {why}"),
             ServerStop::Baseline(path, refusal) => writeln!(
                 f,
@@ -148,6 +156,7 @@ impl<'a> From<LineFault<'a>> for ServerStop<'a> {
         match fault {
             LineFault::Refused(error) => ServerStop::CommandLine(error),
             LineFault::BadNumber(word) => ServerStop::BadNumber(word),
+            LineFault::UnknownCommand(word) => ServerStop::UnknownCommand(word),
             LineFault::Misfit(word, why) => ServerStop::Misfit(word, why),
             LineFault::Memory => ServerStop::Memory,
         }

@@ -1,13 +1,12 @@
-//! A queue of lines from any thread, and the one thread that writes them to standard output or standard
-//! error: adding a line never waits for the reader.
+//! A queue of lines from any thread, and the one thread that writes them to standard output, to standard
+//! error or to a file: adding a line never waits for the reader.
 
 use node_io::Cause;
 use std::alloc::{AllocError, Global};
-use std::io::{self, Eprint, Print};
-use std::mem;
 use std::sync::{Arc, Condvar, CondvarTimeouts, Mutex, Wait};
 use std::thread::{Threads, spawn};
 use std::time::{Clock, Duration};
+use std::{io, mem};
 
 /// The most lines that wait for their reader. Those beyond are left out, and counted.
 pub const MAX_WAITING: usize = 16_384;
@@ -16,10 +15,35 @@ pub const MAX_WAITING: usize = 16_384;
 pub const READER_PATIENCE: u64 = 10;
 
 /// Where lines are written.
+pub trait Outlet {
+    /// Writes a line, and its end.
+    fn write_line(&mut self, system: &HostRuntime, line: &str) -> io::Result<()>;
+
+    /// Called once no lines wait. So many were left out after the last one.
+    fn rest(&mut self, system: &HostRuntime, left_out: u64);
+}
+
+/// A stream of the process.
 #[derive(Clone, Copy, Debug, PartialEq, Eq)]
 pub enum Stream {
     Output,
     Error,
+}
+
+impl Outlet for Stream {
+    fn write_line(&mut self, system: &HostRuntime, line: &str) -> io::Result<()> {
+        match self {
+            Stream::Output => println!(system; "{line}"),
+            Stream::Error => eprintln!(system; "{line}"),
+        }
+    }
+
+    /// Nobody added this line, so it goes to standard error in any case.
+    fn rest(&mut self, system: &HostRuntime, left_out: u64) {
+        if left_out > 0 {
+            let _ = eprintln!(system; "{left_out} lines left out");
+        }
+    }
 }
 
 #[derive(Drop)]
@@ -49,19 +73,12 @@ pub struct Teller {
     changed: Condvar,
 }
 
-fn write_line<S: Print + Eprint>(system: &S, stream: Stream, line: &str) -> io::Result<()> {
-    match stream {
-        Stream::Output => println!(system; "{line}"),
-        Stream::Error => eprintln!(system; "{line}"),
-    }
-}
-
 impl Teller {
     /// Starts the writer, in a thread that ends with the program.
-    pub fn start<R: Threads + Wait + Copy + Send + 'static>(
+    pub fn start<R: Threads + Wait + Copy + Send + 'static, O: Outlet + Drop + Send + 'static>(
         rt: R,
         system: HostRuntime,
-        stream: Stream,
+        outlet: O,
     ) -> Result<Arc<Teller, Global>, AllocError> {
         let alloc = system.alloc();
         let teller = Arc::new(
@@ -79,7 +96,7 @@ impl Teller {
             },
         )?;
         let its = Arc::try_clone(&teller)?;
-        let writer = spawn(&rt, move || its.write_lines(&rt, &system, stream))?;
+        let writer = spawn(&rt, move || its.write_lines(&rt, &system, outlet))?;
         drop(writer);
         Ok(teller)
     }
@@ -135,16 +152,14 @@ impl Teller {
     }
 
     // What the writer's thread does. A line that can't be written is lost.
-    fn write_lines<R: Wait, S: Print + Eprint>(&self, rt: &R, system: &S, stream: Stream) {
+    fn write_lines<R: Wait, O: Outlet + Drop>(&self, rt: &R, system: &HostRuntime, outlet: O) {
+        let mut outlet = outlet;
         for _ in rt.forever() {
             let (lines, left_out) = self.take(rt);
             for line in lines.as_slice() {
-                self.count_written(rt, write_line(system, stream, line.as_str()));
+                self.count_written(rt, outlet.write_line(system, line.as_str()));
             }
-            if left_out > 0 {
-                // This line was not added by anyone, so it goes to standard error in any case.
-                let _ = eprintln!(system; "{left_out} lines left out");
-            }
+            outlet.rest(system, left_out);
         }
     }
 

@@ -1,11 +1,11 @@
 //! The log line of each event, if logging is on: who, which pod, the request and its answer as they are
 //! written in messages, and after a refusal its name and cause.
 ghost use Rattle.std.specs.Prelude.{◌≡◌, IfOk, string_bytes};
-ghost use Rattle.runtime_server.specs.Telling.{listening_text, name_behind, refusal_text};
+ghost use Rattle.runtime_server.specs.Telling.{listening_text, name_behind};
 
 use crate::site::Address;
-use cri_msgs::{Answer, Refusal, Reply, Request, Version};
-use fault_notes::ShownPath;
+use cri_msgs::{Answer, Reply, Request, Version};
+use fault_notes::{ShownPath, refusal_name};
 use runtime_core::uid_of;
 use std::alloc::{AllocError, Global};
 use std::str;
@@ -49,21 +49,6 @@ fn name_behind(alloc: Global, answer: &Answer) -> Result<String, AllocError>
             format!(in alloc; " refused {name}")
         }
         _ => Ok(String::new(alloc)),
-    }
-}
-
-/// The name of a refusal.
-pub fn refusal_name(refusal: Refusal) -> &'static str
-    ensures { result.now ≡ refusal_text refusal }
-{
-    match refusal {
-        Refusal::InvalidArgument => "InvalidArgument",
-        Refusal::NotFound => "NotFound",
-        Refusal::AlreadyExists => "AlreadyExists",
-        Refusal::ResourceExhausted => "ResourceExhausted",
-        Refusal::FailedPrecondition => "FailedPrecondition",
-        Refusal::Internal => "Internal",
-        Refusal::Memory => "Memory",
     }
 }
 

@@ -1,0 +1,32 @@
+//! Asks a container runtime about pods: `scriptctl --help` says how.
+#![tactic(auto)]
+
+use host_io::open_closed;
+use runtime_client::scriptctl_run;
+use std::env;
+use std::io::{self, ErrorKind};
+use std::process::ExitCode;
+
+fn main(rt: HostRuntime) -> ExitCode {
+    if open_closed(&rt).is_err() {
+        return ExitCode::from(3);
+    }
+    let status = match words(&rt) {
+        Ok(words) => scriptctl_run(&rt, &words, &mut io::writer(&rt), &mut rt.stderr()),
+        // A process always has its arguments: either there is no memory to copy them, or one is not UTF-8.
+        Err(error) => {
+            let (why, status) = match error.kind() {
+                ErrorKind::InvalidData => ("a word of the command line is not UTF-8", 2),
+                _ => ("Memory", 4),
+            };
+            let _ = eprintln!(rt; "scriptctl: {why}");
+            status
+        }
+    };
+    ExitCode::from(status)
+}
+
+/// The words of the command line, the program's name first.
+fn words(rt: &HostRuntime) -> io::Result<Vec<String>> {
+    Ok(env::args(rt)?.collect(rt.alloc())?)
+}
