@@ -4,17 +4,15 @@ ghost use Rattle.std.specs.Prelude.{◌≡◌, IfSome};
 ghost use Rattle.node_lock.specs.Books.{worker_of};
 
 use crate::folders::PodsFolder;
-use crate::leftovers::StateFile;
 use crate::limits::ERRAND_LOOK;
 use crate::reader::is_gone;
-use crate::removal::Removal;
-use crate::troubles::{LostPod, Troubles};
-use agent_parts::{Loss, TableEnd, TableTeller};
+use crate::removal::removed_at_end;
+use crate::troubles::Troubles;
+use agent_parts::{Removal, StateFile, TableEnd, TableTeller, loss_line};
 use fault_notes::ShownPath;
 use manifest::Uid;
 use node_io::CausedFault;
 use runtime_server::Teller;
-use std::alloc::{AllocError, Global};
 use std::sync::Wait;
 use std::sync::atomic::{AtomicU64, Ordering};
 use std::sync::ledger::Ledger;
@@ -129,17 +127,17 @@ impl<L: Ledger, R: Wait + Clock> AgentErrands<'_, '_, L, R> {
     /// Reports each pod that the runtime has lost once, and has it go on under its next uid if its file is in
     /// the folder.
     pub(crate) fn report_losses(&mut self) {
-        for LostPod { uid, loss } in self.troubles.take_lost(self.rt) {
+        for lost in self.troubles.take_lost(self.rt) {
             let moves = match &mut self.folder {
-                Some(folder) => folder.lost(&uid),
+                Some(folder) => folder.lost(&lost.uid),
                 None => false,
             };
-            if self.told.iter().any(|told| *told == uid) {
+            if self.told.iter().any(|told| *told == lost.uid) {
                 continue;
             }
             self.teller
-                .tell(self.rt, loss_line(self.table.alloc, &uid, loss, moves));
-            drop(self.told.push(uid));
+                .tell(self.rt, loss_line(self.table.alloc, &lost, moves));
+            drop(self.told.push(lost.uid));
         }
     }
 
@@ -148,15 +146,6 @@ impl<L: Ledger, R: Wait + Clock> AgentErrands<'_, '_, L, R> {
     {
         let uid = self.removal.as_ref()?.next()?;
         Some(AgentEvent::Delete(uid))
-    }
-}
-
-fn loss_line(alloc: Global, uid: &Uid, loss: Loss, moves: bool) -> Result<String, AllocError> {
-    let uid = uid.as_str();
-    if moves {
-        format!(in alloc; "nodeagent: {uid}: lost: {loss}; it goes on under its next uid")
-    } else {
-        format!(in alloc; "nodeagent: {uid}: lost: {loss}")
     }
 }
 
@@ -223,7 +212,7 @@ impl<L: Ledger, R: Wait + Clock> Errands for AgentErrands<'_, '_, L, R> {
 
     fn at_end(&mut self, ended: Ended, now: u64) -> Option<Ended> {
         match &mut self.removal {
-            Some(removal) => removal.at_end(self.rt, self.shared, &self.table, ended, now),
+            Some(removal) => removed_at_end(removal, self.rt, self.shared, &self.table, ended, now),
             None => Some(ended),
         }
     }

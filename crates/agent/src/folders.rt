@@ -1,20 +1,17 @@
 //! A folder of manifests that come and go with their files.
-ghost use Rattle.std.specs.Prelude.{◌≡◌, IfOk, IfSome};
-ghost use Rattle.agent.specs.Looks.{IsManifest, rest_after};
+ghost use Rattle.std.specs.Prelude.{◌≡◌, IfSome};
 ghost use Rattle.node_lock.specs.Books.{worker_of};
-ghost use Rattle.pod_folder.specs.Looking.{ReadsAs};
 
-use crate::limits::{LONGEST_REST, LOOK_SHARE, SHORTEST_REST, SLICE};
-use agent_parts::{AgentStop, Repeats, pod_of};
-use fault_notes::ShownPath;
-use manifest::{PodFault, Uid};
+use crate::limits::SLICE;
+use agent_parts::{FolderLines, Repeats, SHORTEST_REST, for_node, rest_after};
+use manifest::Uid;
 use node_io::CausedFault;
 use pod_folder::{
-    Due, Folder, Look, Looking, MAX_FILES, Manifest, ManifestReader, Naming, OnNode, Reading,
-    Report, SystemFolder, gives_uid, names_in,
+    Due, Folder, Look, Looking, MAX_FILES, ManifestReader, Naming, OnNode, Reading, SystemFolder,
+    names_in,
 };
-use runtime_server::{ServerStop, Teller};
-use std::alloc::{AllocError, Global};
+use runtime_server::Teller;
+use std::alloc::AllocError;
 use std::mem;
 use std::sync::Wait;
 use std::sync::ledger::Ledger;
@@ -26,81 +23,25 @@ use worker_crew::Shared;
 #[derive(Drop)]
 pub(crate) struct FileTeller<'s, 'a, L: Ledger, R: Wait> {
     pub(crate) rt: &'s R,
-    pub(crate) alloc: Global,
     pub(crate) shared: &'s Shared<L>,
     pub(crate) teller: &'s Teller,
-    // The folder's path.
-    pub(crate) folder: &'a str,
-}
-
-// The line of a stop, without its line end, which the teller writes.
-fn line_of(alloc: Global, stop: &AgentStop<'_>) -> Result<String, AllocError> {
-    let text = format!(in alloc; "{stop}")?;
-    let line = text.as_str();
-    String::from_str(alloc, line.strip_suffix("\n").unwrap_or(line))
+    pub(crate) lines: FolderLines<'a>,
 }
 
 impl<L: Ledger, R: Wait> FileTeller<'_, '_, L, R> {
-    fn path_of(&self, name: &str) -> Result<String, AllocError> {
-        let slash = if self.folder.ends_with("/") { "" } else { "/" };
-        format!(in self.alloc; "{}{slash}{name}", self.folder)
-    }
-
-    fn unread_line(&self, path: &str, fault: CausedFault) -> Result<String, AllocError> {
-        line_of(
-            self.alloc,
-            &AgentStop::Server(ServerStop::File(path, fault)),
-        )
-    }
-
-    // The line of what is reported of the file of this name.
-    fn line(&self, name: &str, report: Report) -> Result<String, AllocError> {
-        let path = self.path_of(name)?;
-        match report {
-            Report::Refused(line) => Ok(line),
-            Report::Unread(fault) => self.unread_line(path.as_str(), fault),
-            Report::KnownUid => self.refused_line(path.as_str(), NodeRefusal::KnownUid),
-        }
-    }
-
-    fn refused_line(&self, path: &str, refusal: NodeRefusal) -> Result<String, AllocError> {
-        line_of(self.alloc, &AgentStop::Pod(path, refusal))
-    }
-
-    fn unnamed_line(&self, name: &str) -> Result<String, AllocError> {
-        let path = self.path_of(name)?;
-        line_of(
-            self.alloc,
-            &AgentStop::Manifest(path.as_str(), PodFault::BadName),
-        )
-    }
-
     fn tell(&self, line: Result<String, AllocError>) {
         self.teller.tell(self.rt, line);
-    }
-
-    fn reading(&self, path: &str, bytes: &[u8]) -> Result<Reading, AllocError>
-        ensures { IfOk result (ReadsAs IsManifest bytes.now) }
-    {
-        match pod_of(self.alloc, path, bytes) {
-            Ok(pod) => {
-                let gives_uid = gives_uid(self.alloc, bytes)?;
-                Ok(Reading::Pod(Manifest { pod, gives_uid }))
-            }
-            Err(AgentStop::Server(ServerStop::Memory)) => Err(AllocError),
-            Err(stop) => Ok(Reading::Refused(line_of(self.alloc, &stop)?)),
-        }
     }
 }
 
 impl<L: Ledger, R: Wait> ManifestReader for FileTeller<'_, '_, L, R> {
-    ghost use Rattle.agent.specs.Looks.{IsManifest};
+    ghost use Rattle.agent_parts.specs.Looks.{IsManifest};
 
     ghost reads = { IsManifest };
 
     fn read(&self, name: &str, bytes: &[u8]) -> Result<Reading, AllocError> {
-        let path = self.path_of(name)?;
-        self.reading(path.as_str(), bytes)
+        let path = self.lines.path_of(name)?;
+        self.lines.reading(path.as_str(), bytes)
     }
 
     fn is_on_node(&self, uid: &Uid) -> bool {
@@ -112,17 +53,6 @@ impl<L: Ledger, R: Wait> OnNode for FileTeller<'_, '_, L, R> {
     fn has(&self, uid: &Uid) -> bool {
         self.shared.has_pod(self.rt, uid)
     }
-}
-
-// How many milliseconds after the beginning of a look that took so many the next one begins: looks take at
-// most a hundredth of a core, but there is one each ten seconds at least, and at most one each second.
-fn rest_after(spent: u64) -> u64
-    ensures { result ≡ rest_after spent }
-{
-    spent
-        .saturating_mul(LOOK_SHARE)
-        .max(SHORTEST_REST)
-        .min(LONGEST_REST)
 }
 
 /// The folder, and the state of its files.
@@ -154,7 +84,7 @@ impl<'s, 'a, L: Ledger, R: Wait + Clock> PodsFolder<'s, 'a, L, R> {
         reader: FileTeller<'s, 'a, L, R>,
         naming: Naming<'a>,
     ) -> PodsFolder<'s, 'a, L, R> {
-        let folder = Folder::new(reader.alloc, naming);
+        let folder = Folder::new(reader.lines.alloc, naming);
         PodsFolder {
             reader,
             folder,
@@ -218,12 +148,13 @@ impl<'s, 'a, L: Ledger, R: Wait + Clock> PodsFolder<'s, 'a, L, R> {
 
     // Looks at files until each was looked at, or a moment has passed. Returns whether each was.
     fn go_on(&mut self, system: &HostRuntime, start: Option<Instant>) -> Result<bool, CausedFault> {
-        let mut files = SystemFolder::open(system, self.reader.folder)?;
+        let mut files = SystemFolder::open(system, self.reader.lines.folder)?;
         let mut looking = match self.looking.take() {
             Some(looking) => looking,
             None => {
-                let names = names_in(self.reader.alloc, &mut files.entries()?)?;
-                Looking::begin(self.reader.alloc, names)?
+                let alloc = self.reader.lines.alloc;
+                let names = names_in(alloc, &mut files.entries()?)?;
+                Looking::begin(alloc, names)?
             }
         };
         let mut is_whole = false;
@@ -263,31 +194,21 @@ impl<'s, 'a, L: Ledger, R: Wait + Clock> PodsFolder<'s, 'a, L, R> {
         self.seen();
         for (place, report) in reports {
             let line = match self.folder.found().get(place) {
-                Some(file) => self.reader.line(file.name(), report),
+                Some(file) => self.reader.lines.report(file.name(), report),
                 None => continue,
             };
             self.reader.tell(line);
         }
         if left_out != self.left_out {
-            let line = self.left_out_line(left_out);
-            self.reader.tell(line);
+            self.reader.tell(self.reader.lines.left_out(left_out));
         }
         self.left_out = left_out;
-    }
-
-    fn left_out_line(&self, left_out: usize) -> Result<String, AllocError> {
-        let alloc = self.reader.alloc;
-        format!(in alloc;
-            "nodeagent: {}: {left_out} files left out, at most {MAX_FILES} are read",
-            ShownPath(self.reader.folder)
-        )
     }
 
     // The folder could not be looked into, for this reason, which is reported once.
     fn missed(&mut self, fault: CausedFault) {
         if self.unseen != Some(fault) {
-            let line = self.reader.unread_line(self.reader.folder, fault);
-            self.reader.tell(line);
+            self.reader.tell(self.reader.lines.missed(fault));
         }
         self.unseen = Some(fault);
     }
@@ -295,12 +216,7 @@ impl<'s, 'a, L: Ledger, R: Wait + Clock> PodsFolder<'s, 'a, L, R> {
     // The folder was looked into, which is reported once if it could not be before.
     fn seen(&mut self) {
         if self.unseen.take().is_some() {
-            let alloc = self.reader.alloc;
-            let line = format!(in alloc;
-                "nodeagent: {}: read again",
-                ShownPath(self.reader.folder)
-            );
-            self.reader.tell(line);
+            self.reader.tell(self.reader.lines.seen());
         }
     }
 
@@ -331,7 +247,7 @@ impl<'s, 'a, L: Ledger, R: Wait + Clock> PodsFolder<'s, 'a, L, R> {
                 Ok(Due::Event(event)) => return for_node(event),
                 Ok(Due::Unnamed(place)) => {
                     let line = match self.folder.found().get(place) {
-                        Some(file) => self.reader.unnamed_line(file.name()),
+                        Some(file) => self.reader.lines.unnamed(file.name()),
                         None => continue,
                     };
                     self.reader.tell(line);
@@ -369,9 +285,8 @@ impl<'s, 'a, L: Ledger, R: Wait + Clock> PodsFolder<'s, 'a, L, R> {
     // Reports a refusal, if it is not one after which another uid is tried. A full node is reported once, and
     // then once a minute.
     fn refused(&mut self, refusal: NodeRefusal, now: u64) {
-        let path = match self.folder.told_of(refusal) {
-            Some(name) => self.reader.path_of(name),
-            None => return,
+        let Some(name) = self.folder.told_of(refusal) else {
+            return;
         };
         let times = if refusal == NodeRefusal::Full {
             self.full.note(now)
@@ -379,34 +294,8 @@ impl<'s, 'a, L: Ledger, R: Wait + Clock> PodsFolder<'s, 'a, L, R> {
             Some(1)
         };
         if let Some(times) = times {
-            let line = self.refusal_line(path, refusal, times);
-            self.reader.tell(line);
+            self.reader
+                .tell(self.reader.lines.refusal(name, refusal, times));
         }
-    }
-
-    fn refusal_line(
-        &self,
-        path: Result<String, AllocError>,
-        refusal: NodeRefusal,
-        times: u64,
-    ) -> Result<String, AllocError> {
-        let alloc = self.reader.alloc;
-        let path = path?;
-        let line = self.reader.refused_line(path.as_str(), refusal)?;
-        if times == 1 {
-            Ok(line)
-        } else {
-            format!(in alloc; "{} ({times} times)", line.as_str())
-        }
-    }
-}
-
-// What worker 0 may record.
-fn for_node(event: AgentEvent) -> Option<AgentEvent>
-    ensures { IfSome result (λ event. worker_of event ≡ 0) }
-{
-    match event {
-        AgentEvent::Admit(_) | AgentEvent::Delete(_) => Some(event),
-        _ => None,
     }
 }

@@ -1,209 +1,35 @@
-//! The pods that a former start of the agent left in the runtime, by the file of `--state`.
+//! Removing the pods that a former start of the agent left in the runtime.
 
-use agent_parts::{AgentStop, KeptUids, Store};
-use cri_msgs::{Answer, Call, Request};
-use host_io::replace;
-use manifest::Uid;
-use node_io::{CausedFault, FileFault, MAX_FILE_BYTES, read_file};
-use runtime_server::file_stop;
-use std::alloc::{AllocError, Global};
+use agent_parts::StateFile;
 use std::sync::Wait;
+use std::thread;
 use std::time::{Clock, Duration, Instant};
-use std::{str, thread};
 use worker_crew::Peer;
 
 // How many seconds pass before the runtime is asked again to remove pods, if it was not reached.
 const REST: u64 = 1;
 
-// The file at a path of the system.
-#[derive(Clone, Copy)]
-struct SystemStore<'a> {
-    system: HostRuntime,
-    path: &'a str,
-}
-
-impl Store for SystemStore<'_> {
-    fn put(&mut self, text: &[u8]) -> Result<(), CausedFault> {
-        replace(&self.system, self.path, text)
-    }
-}
-
-/// The file, and what it holds.
-#[derive(Drop)]
-pub(crate) struct StateFile<'a> {
-    alloc: Global,
-    store: SystemStore<'a>,
-    kept: KeptUids,
-}
-
-// The uids of a text, one a line. The number of the first line that is not a uid, from 1, if there is one.
-fn uids_of(alloc: Global, text: &[u8]) -> Result<Result<Vec<Uid>, usize>, AllocError> {
-    let Ok(text) = str::from_utf8(text) else {
-        return Ok(Err(1));
-    };
-    let mut uids = Vec::new(alloc);
-    let mut number: usize = 0;
-    for line in text.lines() {
-        number = number.saturating_add(1);
-        match Uid::new(alloc, line)? {
-            Some(uid) => uids.push(uid)?,
-            None => return Ok(Err(number)),
+/// Removes the pods of a former start from the runtime, and asks again each second while the runtime is not
+/// reached, up to this moment. Returns whether the runtime was reached.
+pub(crate) fn sweep<P: Peer, R: Wait + Clock>(
+    rt: &R,
+    state: &mut StateFile<'_>,
+    peer: &mut P,
+    until: Option<u64>,
+) -> bool {
+    let start = Instant::now(rt).ok();
+    for _ in rt.forever() {
+        if state.is_swept() || state.sweep_once(peer).unwrap_or(false) {
+            return true;
         }
-    }
-    Ok(Ok(uids))
-}
-
-// How the removal of a pod ended.
-enum Removal {
-    Removed,
-    // No reply came.
-    Lost,
-    // The runtime refused it.
-    Refused,
-}
-
-fn asked<P: Peer>(peer: &mut P, id: u64, call: Call) -> Removal {
-    match peer.call(&Request { id, call }) {
-        Ok(reply) => match reply.answer {
-            Answer::Refused(_) => Removal::Refused,
-            _ => Removal::Removed,
-        },
-        Err(_) => Removal::Lost,
-    }
-}
-
-// Has the runtime stop and remove a pod. Without memory for the calls it counts as not reached.
-fn remove<P: Peer>(alloc: Global, peer: &mut P, uid: &Uid) -> Removal {
-    let (Ok(stopped), Ok(removed)) = (uid.try_clone(alloc), uid.try_clone(alloc)) else {
-        return Removal::Lost;
-    };
-    match asked(
-        peer,
-        1,
-        Call::StopPodSandbox {
-            uid: stopped,
-            grace: 0,
-        },
-    ) {
-        Removal::Removed => asked(peer, 2, Call::RemovePodSandbox { uid: removed }),
-        other => other,
-    }
-}
-
-impl<'a> StateFile<'a> {
-    /// Reads the file at a path. One that is not there holds nothing.
-    pub(crate) fn read(
-        system: &HostRuntime,
-        path: &'a str,
-    ) -> Result<StateFile<'a>, AgentStop<'a>> {
-        let alloc = system.alloc();
-        let former = match read_file(system, path, MAX_FILE_BYTES) {
-            Ok(text) => match uids_of(alloc, text.as_slice())? {
-                Ok(uids) => uids,
-                Err(line) => return Err(AgentStop::State(path, line)),
-            },
-            Err(fault) if fault.fault == FileFault::NotFound => Vec::new(alloc),
-            Err(fault) => return Err(AgentStop::from(file_stop(path, fault))),
+        let passed = match start.map(|start| start.elapsed(rt)) {
+            Some(Ok(passed)) => passed,
+            Some(Err(_)) | None => Duration::ZERO,
         };
-        Ok(StateFile {
-            alloc,
-            store: SystemStore {
-                system: *system,
-                path,
-            },
-            kept: KeptUids::new(alloc, former),
-        })
-    }
-
-    /// Its path.
-    pub(crate) fn path(&self) -> &'a str {
-        self.store.path
-    }
-
-    /// Keeps the uid of a pod that is about to be admitted. If it can't be kept, the pod must not be
-    /// admitted.
-    pub(crate) fn keep(&mut self, uid: &Uid) -> Result<(), CausedFault> {
-        self.kept.keep(&mut self.store, uid)
-    }
-
-    /// Forgets the uids of pods that are not on the node, as this test says.
-    pub(crate) fn forget_all_but<F: Fn(&Uid) -> bool>(
-        &mut self,
-        is_on_node: F,
-    ) -> Result<(), CausedFault>
-        requires { F.IsAlwaysCallable is_on_node }
-    {
-        let mut own = Vec::new(self.alloc);
-        for uid in self.kept.own() {
-            if is_on_node(uid) {
-                add(self.alloc, &mut own, uid)?;
-            }
+        if until.is_some_and(|until| passed >= Duration::from_secs(until)) {
+            return false;
         }
-        if own.len() == self.kept.own().len() {
-            return Ok(());
-        }
-        let former = copies(self.alloc, self.kept.former())?;
-        self.kept.forget(&mut self.store, former, own)
+        thread::sleep(rt, Duration::from_secs(REST));
     }
-
-    // Asks for the removal of each pod of a former start once. Returns whether each call came back.
-    fn sweep_once<P: Peer>(&mut self, peer: &mut P) -> Result<bool, CausedFault> {
-        let mut left = Vec::new(self.alloc);
-        let mut is_whole = true;
-        for uid in self.kept.former() {
-            match remove(self.alloc, peer, uid) {
-                Removal::Removed => {}
-                Removal::Refused => add(self.alloc, &mut left, uid)?,
-                Removal::Lost => {
-                    is_whole = false;
-                    add(self.alloc, &mut left, uid)?;
-                }
-            }
-        }
-        if left.len() < self.kept.former().len() {
-            let own = copies(self.alloc, self.kept.own())?;
-            self.kept.forget(&mut self.store, left, own)?;
-        }
-        Ok(is_whole)
-    }
-
-    /// Removes the pods of a former start from the runtime, and asks again each second while the runtime is
-    /// not reached, up to this moment. Returns whether the runtime was reached. A pod whose removal the
-    /// runtime refuses stays in the file.
-    pub(crate) fn sweep<P: Peer, R: Wait + Clock>(
-        &mut self,
-        rt: &R,
-        peer: &mut P,
-        until: Option<u64>,
-    ) -> bool {
-        let start = Instant::now(rt).ok();
-        for _ in rt.forever() {
-            if self.kept.former().is_empty() || self.sweep_once(peer).unwrap_or(false) {
-                return true;
-            }
-            let passed = match start.map(|start| start.elapsed(rt)) {
-                Some(Ok(passed)) => passed,
-                Some(Err(_)) | None => Duration::ZERO,
-            };
-            if until.is_some_and(|until| passed >= Duration::from_secs(until)) {
-                return false;
-            }
-            thread::sleep(rt, Duration::from_secs(REST));
-        }
-        unreachable!()
-    }
-}
-
-// Adds a copy of a uid.
-fn add(alloc: Global, uids: &mut Vec<Uid>, uid: &Uid) -> Result<(), AllocError> {
-    uids.push(uid.try_clone(alloc)?)?;
-    Ok(())
-}
-
-fn copies(alloc: Global, uids: &[Uid]) -> Result<Vec<Uid>, AllocError> {
-    let mut copies = Vec::new(alloc);
-    for uid in uids {
-        add(alloc, &mut copies, uid)?;
-    }
-    Ok(copies)
+    unreachable!()
 }

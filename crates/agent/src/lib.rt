@@ -16,10 +16,7 @@ mod nodeagent;
 mod peers;
 mod reader;
 mod removal;
-mod run_ends;
-mod settings;
 mod tellers;
-mod telling;
 mod troubles;
 mod working;
 

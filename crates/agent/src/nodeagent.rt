@@ -4,15 +4,14 @@ ghost use Rattle.node_lock.specs.declared.limits.TheConstants.{PARTS};
 use crate::counterpart::RuntimeBehind;
 use crate::errands::AgentErrands;
 use crate::folders::{FileTeller, PodsFolder};
-use crate::leftovers::StateFile;
 use crate::peers::{CallLog, Calls};
-use crate::removal::Removal;
-use crate::run_ends::{RunEnd, note_of, run_end};
-use crate::settings::{form_of, limit_of, observed_of, run_name, settings_of};
 use crate::tellers::Tellers;
 use crate::troubles::Troubles;
 use crate::working::{Left, run_crew, run_own};
-use agent_parts::{AgentStop, TableTeller, pod_at};
+use agent_parts::{
+    AgentStop, FolderLines, Removal, RunEnd, StateFile, TableTeller, form_of, limit_of, note_of,
+    observed_of, pod_at, run_end, run_name, settings_of,
+};
 use command_line::{NodeagentLine, nodeagent_line};
 use manifest::is_uid;
 use node_io::Cause;
@@ -253,10 +252,12 @@ fn errands_of<'s, 'a, L: Ledger, R: Wait + Clock>(
         Some(path) => {
             let reader = FileTeller {
                 rt,
-                alloc,
                 shared,
                 teller,
-                folder: path,
+                lines: FolderLines {
+                    alloc,
+                    folder: path,
+                },
             };
             Some(PodsFolder::new(reader, naming))
         }

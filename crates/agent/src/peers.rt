@@ -3,9 +3,8 @@ ghost use Rattle.std.specs.Prelude.{◌≡◌, IfOk};
 
 use crate::dialing::{Deadline, TimedStream, connect};
 use crate::limits::PATIENCE;
-use crate::telling::call_line;
 use crate::troubles::Troubles;
-use agent_parts::{LostCall, Why};
+use agent_parts::{LostCall, Why, call_line};
 use cri_frames::{Lost, call_over};
 use cri_msgs::{Reply, Request, Version};
 use node_io::{Cause, StreamWire};

@@ -1,22 +1,21 @@
 //! Runs the crew of an agent over its socket, with the runtime in this process if that is asked for.
 ghost use Rattle.std.specs.Prelude.{◌≡◌, ◌<◌, IfOk, min, vec_len};
 ghost use Rattle.std.specs.List.{AllByRecursion};
-ghost use Rattle.agent.specs.Lines.{version_for};
+ghost use Rattle.agent_parts.specs.CommandLine.{version_for};
 ghost use Rattle.node_lock.specs.declared.limits.TheConstants.{PARTS};
 
 use crate::counterpart::RuntimeBehind;
 use crate::errands::AgentErrands;
+use crate::leftovers::sweep;
 use crate::limits::{MAX_WORKERS, RUNNERS};
 use crate::peers::{Calls, SocketPeer};
-use crate::settings::{address_of, pace_of, version_of};
 use crate::tellers::Tellers;
-use crate::telling::working_line;
-use agent_parts::{AgentStop, TableEnd};
+use agent_parts::{AgentStop, TableEnd, address_of, pace_of, version_of, working_line};
 use bpf_verify::Filter;
 use command_line::NodeagentLine;
 use node_lock::PARTS;
 use runner::{Begun, Node};
-use runtime_server::{Site, accept_all, socket_stop, start_runners};
+use runtime_server::{Site, accept_all, recorder_for, socket_stop, start_runners};
 use std::alloc::AllocError;
 use std::marker::Brand;
 use std::sync::ledger::Ledger;
@@ -144,7 +143,7 @@ fn swept<L: Ledger, R: Wait + Clock>(
         return true;
     };
     let mut peer = peer_of(rt, system, line, calls);
-    state.sweep(rt, &mut peer, line.numbers.until)
+    sweep(rt, state, &mut peer, line.numbers.until)
 }
 
 /// Runs the crew with a runtime of a node with this filter, in threads beside the workers.
@@ -202,11 +201,16 @@ fn run_beside<
     requires own { begun ≡ (B.filter, B.table) }
 {
     let teller = Some(Arc::try_clone(&tellers.lines)?);
-    let site = match Site::<B>::open(rt, system, address_of(line), begun, teller) {
+    let recorder = match recorder_for(rt, system, "nodeagent", line.records, line.records_all) {
+        Ok(recorder) => recorder,
+        Err(stop) => return Err(AgentStop::Server(stop)),
+    };
+    let site = match Site::<B>::open(rt, system, address_of(line), begun, teller, recorder) {
         Ok(site) => site,
         Err(fault) => return Err(AgentStop::Server(socket_stop(line.socket, fault))),
     };
     let left = run_at(rt, system, line, &site, shared, calls, coordinator, errands);
+    site.engine.finish(rt);
     Ok(left?)
 }
 

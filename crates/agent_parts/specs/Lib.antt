@@ -2,8 +2,9 @@ pub mod Table
 pub mod Stops
 pub mod StopText
 pub mod NodeEnds
+pub mod CommandLine
+pub mod Looks
 pub mod LostText
 pub mod Repeats
-pub mod Troubles
 pub mod Reach
 pub mod State

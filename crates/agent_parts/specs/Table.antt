@@ -4,6 +4,7 @@
 use Rattle.std.specs.Prelude.{ℕ, ◌-◌, List, [], ◌++◌, codes, Option, Some, None}
 use Rattle.std.specs.Fmt.{decimal}
 use Rattle.std.specs.List.{flat_map, zip}
+use Rattle.fault_notes.specs.Refusals.{refusal_text}
 use Rattle.lifecycle.specs.declared.policy.RestartPolicy.{RestartPolicy}
 use Rattle.lifecycle.specs.declared.state.ContainerState.{ContainerState}
 use Rattle.lifecycle.specs.declared.state.ContainerState.TheVariants.{Waiting, Running, Terminated}
@@ -21,7 +22,6 @@ use Rattle.node_watch.specs.declared.reasons.Trouble.{Trouble}
 use Rattle.node_watch.specs.declared.reasons.Trouble.TheVariants.{Refused, Lost}
 use Rattle.node_watch.specs.Calls.{call_name}
 use Rattle.node_watch.specs.Reasons.{reason_for}
-use Rattle.runtime_server.specs.Telling.{refusal_text}
 use Rattle.worker_core.specs.declared.slots.Slot.{Slot}
 use Rattle.worker_core.specs.Kept.{KeptNode}
 

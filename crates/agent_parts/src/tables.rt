@@ -4,10 +4,10 @@ ghost use Rattle.agent_parts.specs.Table.{restarts_of, state_line, state_members
 ghost use Rattle.agent_parts.specs.Table.{told_table, trouble_text, uid_member, why_text};
 ghost use Rattle.node_watch.specs.declared.forms.Form.TheVariants as form;
 
+use fault_notes::refusal_name;
 use lifecycle::{ContainerState, Phase, Track};
 use manifest::{Container, Label, Pod, Uid};
 use node_watch::{Form, Reason, Reasons, Trouble, call_name};
-use runtime_server::refusal_name;
 use std::alloc::{AllocError, Global};
 use worker_core::{MAX_PODS, Node};
 

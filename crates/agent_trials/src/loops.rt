@@ -41,7 +41,7 @@ impl<B: Node> Loop<B> {
     {
         Loop {
             alloc,
-            engine: Engine::new(alloc, node),
+            engine: Engine::new(alloc, node, None),
             scripts: Mutex::new(scripts),
             profiles: Mutex::new(profiles),
             moves: AtomicU64::new(0),

@@ -7,6 +7,7 @@ mod books;
 mod folders;
 mod nodes;
 mod runs;
+mod waiting;
 mod watching;
 mod worlds;
 
@@ -43,6 +44,9 @@ fn told(rt: &HostRuntime, name: &str, given: &str) -> Option<Told> {
 /// Tries a call of what an agent shows of its pods, of their past runs, or of its folder of manifests.
 fn of_pods(rt: &HostRuntime, name: &str) -> Option<Told> {
     if let Some(told) = watching::told(rt, name) {
+        return Some(told);
+    }
+    if let Some(told) = waiting::told(rt, name) {
         return Some(told);
     }
     if let Some(told) = runs::told(rt, name) {

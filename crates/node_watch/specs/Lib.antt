@@ -1,4 +1,7 @@
 pub mod Calls
 pub mod Changes
+pub mod Losses
 pub mod Reasons
 pub mod Seen
+pub mod Waits
+pub mod WaitTexts

@@ -115,7 +115,12 @@ fn add_object(
     add_state(text, seen.state, seen.restarts)
 }
 
-fn add_which(text: &mut String, moment: u64, uid: &Uid, name: &Label) -> Result<(), AllocError>
+pub(crate) fn add_which(
+    text: &mut String,
+    moment: u64,
+    uid: &Uid,
+    name: &Label,
+) -> Result<(), AllocError>
     ensures { OnOk result (string_bytes text.new ≡ string_bytes text.old
         ++ which_members moment uid.now name.now) }
 {

@@ -1,9 +1,9 @@
 ghost use Rattle.std.specs.Prelude.{◌≡◌, ◌<◌, ◌∷◌, [], IfOk, OnOk, OnErr, None, Some, Ok, option_copied};
 ghost use Rattle.std.specs.Prelude.{vec_len, vec_capacity};
 ghost use Rattle.node_watch.specs.Reasons.{at_place, goes_on, is_same_trouble, noted, place_of, reason_for};
-ghost use Rattle.node_watch.specs.Reasons.{since_of, without_at};
+ghost use Rattle.node_watch.specs.Reasons.{since_of, times_of, without_at, without_pod};
 
-use crate::calls::{are_about_one, call_name, concerns};
+use crate::calls::{are_about_one, call_name, concerns, uid_of};
 use cri_msgs::{Call, Refusal};
 use manifest::{Label, Uid};
 use std::alloc::{AllocError, Global};
@@ -25,6 +25,25 @@ pub struct Reason {
     pub trouble: Trouble,
     /// The moment, in seconds, since which each such call has failed in the same way.
     pub since: u64,
+    /// How many such calls have failed since then.
+    pub times: u64,
+    /// The moment at which the latest of them failed.
+    pub latest: u64,
+}
+
+impl Reason {
+    /// A copy of it.
+    pub fn try_clone(&self, alloc: Global) -> Result<Reason, AllocError>
+        ensures { IfOk result (λ copy. copy ≡ self.now) }
+    {
+        Ok(Reason {
+            call: self.call.try_clone(alloc)?,
+            trouble: self.trouble,
+            since: self.since,
+            times: self.times,
+            latest: self.latest,
+        })
+    }
 }
 
 /// Why the containers of a node wait: the latest failed calls, at most one for each container, and one for
@@ -44,7 +63,7 @@ impl Model for Reasons {
     ghost view = { λ r. r.list.items };
 }
 
-fn is_same_trouble(trouble: Trouble, other: Trouble) -> bool
+pub(crate) fn is_same_trouble(trouble: Trouble, other: Trouble) -> bool
     ensures { result ≡ is_same_trouble trouble other }
 {
     match (trouble, other) {
@@ -66,6 +85,15 @@ fn since_of(moment: u64, call: &Call, trouble: Trouble, was: Option<&Reason>) ->
     match was {
         Some(reason) if goes_on(call, trouble, reason) => reason.since,
         _ => moment,
+    }
+}
+
+fn times_of(call: &Call, trouble: Trouble, was: Option<&Reason>) -> u64
+    ensures { result ≡ times_of call.now trouble (option_copied was.entry) }
+{
+    match was {
+        Some(reason) if goes_on(call, trouble, reason) => reason.times.saturating_add(1),
+        _ => 1,
     }
 }
 
@@ -94,6 +122,12 @@ fn forget_at(reasons: &mut Vec<Reason>, place: Option<usize>)
             drop(reasons.remove(place));
         }
     }
+}
+
+fn forget_pod(reasons: &mut Vec<Reason>, uid: &Uid)
+    ensures { reasons.new.items ≡ without_pod uid.now reasons.old.items }
+{
+    reasons.retain(|r| uid_of(&r.call).as_str() != uid.as_str());
 }
 
 fn put_first(reasons: &mut Vec<Reason>, reason: Reason)
@@ -147,7 +181,9 @@ impl Reasons {
         self.list.reserve(1)?;
         let copy = call.try_clone(self.alloc)?;
         let place = place_of(call, self.list.as_slice());
-        let since = since_of(moment, call, trouble, at_place(self.list.as_slice(), place));
+        let was = at_place(self.list.as_slice(), place);
+        let since = since_of(moment, call, trouble, was);
+        let times = times_of(call, trouble, was);
         forget_at(&mut self.list, place);
         put_first(
             &mut self.list,
@@ -155,9 +191,18 @@ impl Reasons {
                 call: copy,
                 trouble,
                 since,
+                times,
+                latest: moment,
             },
         );
         Ok(())
+    }
+
+    /// Forgets the failed calls about a pod that has left the node.
+    pub fn forget(&mut self, uid: &Uid)
+        ensures { self.new ≡ without_pod uid.now self.old }
+    {
+        forget_pod(&mut self.list, uid);
     }
 
     /// The last failed call about this container of the pod, or about the whole pod.

@@ -10,13 +10,17 @@ use Rattle.lifecycle.specs.declared.track.Track.{Track}
 use Rattle.manifest.specs.declared.pods.Pod.{Pod}
 use Rattle.node_watch.specs.declared.forms.Form.{Form}
 use Rattle.node_watch.specs.declared.seen.PodSeen.{PodSeen}
+use Rattle.node_watch.specs.declared.reasons.Reason.{Reason}
+use Rattle.node_watch.specs.declared.waits.PodWaits.{PodWaits}
 use Rattle.node_watch.specs.Changes.{pod_changes}
 use Rattle.node_watch.specs.Seen.{containers_seen}
+use Rattle.node_watch.specs.Waits.{waits_of}
+use Rattle.node_watch.specs.WaitTexts.{wait_changes}
 use Rattle.worker_pod.specs.Next.{phase_in}
 use Rattle.worker_core.specs.declared.slots.Slot.{Slot}
-use Rattle.worker_crew.specs.declared.observer.Observed.TheVariants.{Changes}
 use Rattle.worker_crew.specs.declared.observer.TheConstants.{MAX_CHANGES}
-use Rattle.worker_crew.specs.Observed.{Adds, Admits, Beside, IsChange, IsFirst}
+use Rattle.worker_crew.specs.Observed.{Adds, AdmitsSeen, AdmitsWaits, Beside, IsChange, IsFirst}
+use Rattle.worker_crew.specs.Observed.{IsWaitChange}
 
 -- how a pod was seen that was looked up, and the text of what changed since
 abbrev pub IsText : Form → ℕ → Pod → List Track → Phase → Option PodSeen → List ℕ → Type 0
@@ -67,9 +71,28 @@ text_of Q line is text (made, ok, same) =
 
 pub admits_there : (form : Form) (moment : ℕ) (slot : Option Slot) (pod : Pod) {old new : Beside}
     → Some pod ≡ option_map (λ s. s.state.pod) slot → Adds (IsFirst form moment slot) old new
-    → Admits (Changes form) moment slot old new
+    → AdmitsSeen form moment slot old new
 admits_there form moment None pod there adds = absurd cc
 admits_there form moment (Some s) pod there adds = adds
+
+-- why the containers of a pod wait that was looked up, and what is told of it
+abbrev pub IsWaitText : Form → ℕ → List Reason → Pod → List Track → Option PodWaits → List ℕ → Type 0
+IsWaitText form moment reasons pod tracks was text = (now : PodWaits) × (now.uid ≡ pod.uid)
+    × (now.containers.items ≡ waits_of pod.policy pod.uid reasons moment pod.containers.all tracks)
+    × (text ≡ wait_changes form moment was now)
+
+pub waits_there : (form : Form) (moment : ℕ) (reasons : List Reason) (slot : Option Slot) (pod : Pod)
+    (tracks : List Track) (was : Option PodWaits) (text : List ℕ)
+    → Some pod ≡ option_map (λ s. s.state.pod) slot → Some tracks ≡ option_map (λ s. s.state.tracks) slot
+    → IsWaitText form moment reasons pod tracks was text → IsWaitChange form moment reasons slot was text
+waits_there form moment reasons None pod tracks was text a b is = absurd cc
+waits_there form moment reasons (Some s) pod tracks was text a b (now, u, i, t) = (now, (cc, cc), t)
+
+pub admits_waits_there : (form : Form) (moment : ℕ) (slot : Option Slot) (pod : Pod) {old new : Beside}
+    → Some pod ≡ option_map (λ s. s.state.pod) slot
+    → Adds (IsWaitChange form moment old.reasons slot None) old new → AdmitsWaits form moment slot old new
+admits_waits_there form moment None pod there adds = absurd cc
+admits_waits_there form moment (Some s) pod there adds = adds
 
 -- a line that was put behind the others
 pub puts : {P : List ℕ → Type 0} (line : String Global) {old new : Beside} → P (string_bytes line)

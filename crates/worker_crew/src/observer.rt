@@ -10,17 +10,25 @@ ghost use Rattle.std.specs.String.{string_bytes};
 ghost use Rattle.cri_msgs.specs.Calls.{uid_of};
 ghost use Rattle.lifecycle.specs.BackOff.{later};
 ghost use Rattle.node_watch.specs.Changes.{pod_changes};
+ghost use Rattle.node_watch.specs.Reasons.{noted};
 ghost use Rattle.node_watch.specs.Seen.{containers_seen};
+ghost use Rattle.node_watch.specs.Waits.{waits_of};
+ghost use Rattle.node_watch.specs.WaitTexts.{wait_changes};
 ghost use Rattle.node_watch.specs.declared.seen.PodSeen.{PodSeen};
+ghost use Rattle.node_watch.specs.declared.waits.PodWaits.{PodWaits};
 ghost use Rattle.worker_core.specs.Slots.{claim_of, slot_of};
 ghost use Rattle.worker_crew.specs.declared.observer.TheConstants.{MAX_CHANGES};
-ghost use Rattle.worker_crew.specs.Observed.{Adds, Admits, Ends, IsBefore, IsChange};
-ghost use Rattle.worker_crew.specs.Observed.{IsSeenBefore, refusal_by, refusal_in, trouble_by, trouble_of};
+ghost use Rattle.worker_crew.specs.Observed.{Adds, Admits, AdmitsSeen, AdmitsTold, AdmitsWaits};
+ghost use Rattle.worker_crew.specs.Observed.{AreWaitsBefore, Ends, EndsTold, IsBefore, IsChange, IsSeenBefore};
+ghost use Rattle.worker_crew.specs.Observed.{IsWaitChange, Notes, reasons_behind, refusal_by, refusal_in};
+ghost use Rattle.worker_crew.specs.Observed.{trouble_by, trouble_of};
 
 use cri_msgs::{Answer, Call, Refusal};
 use manifest::Uid;
 use node_lock::Entry;
-use node_watch::{Form, PodSeen, Reasons, Trouble, gone_line, pod_changes, uid_of};
+use node_watch::{
+    Form, PodSeen, PodWaits, Reasons, Trouble, gone_line, pod_changes, uid_of, wait_changes,
+};
 use std::alloc::{AllocError, Global};
 use std::marker::Model;
 use std::mem;
@@ -39,6 +47,8 @@ pub enum Observed {
     Reasons,
     /// What changed in pods and their containers, in lines of this form.
     Changes(Form),
+    /// The same, and after it why containers wait.
+    ChangesAndReasons(Form),
 }
 
 /// What changed: the lines, each with its line end, and how many were left out after them.
@@ -70,11 +80,12 @@ impl Model for Observer {
     } };
 }
 
-/// A worker's claim before it ends: its call, and how its pod is seen then.
+/// A worker's claim before it ends: its call, how its pod is seen then, and why the pod's containers wait.
 #[derive(Drop)]
 pub(crate) struct Before {
     call: Call,
     seen: Option<PodSeen>,
+    waits: Option<PodWaits>,
 }
 
 // The refusal that an event brings.
@@ -210,25 +221,48 @@ impl Observer {
         ensures { IfOk result (IsSeenBefore self.now.observed (slot_of (uid_of call.now) node.now.slots)) }
     {
         match (self.observed, node.pod_of(uid_of(call))) {
-            (Observed::Changes(_), Some(view)) => Ok(Some(PodSeen::of(self.alloc, view)?)),
-            (Observed::Changes(_) | Observed::Nothing | Observed::Reasons, _) => Ok(None),
+            (Observed::Changes(_) | Observed::ChangesAndReasons(_), Some(view)) => {
+                Ok(Some(PodSeen::of(self.alloc, view)?))
+            }
+            _ => Ok(None),
         }
     }
 
-    fn copy_of(&self, node: &Node, call: &Call) -> Result<Before, AllocError>
+    // Why the containers of the pod of a call wait, where that is kept beside changes.
+    fn waits(&self, moment: u64, node: &Node, call: &Call) -> Result<Option<PodWaits>, AllocError>
+        ensures { IfOk result (AreWaitsBefore self.now.observed self.now.reasons moment
+            (slot_of (uid_of call.now) node.now.slots)) }
+    {
+        match (self.observed, node.pod_of(uid_of(call))) {
+            (Observed::ChangesAndReasons(_), Some(view)) => {
+                Ok(Some(PodWaits::of(self.alloc, view, &self.reasons, moment)?))
+            }
+            _ => Ok(None),
+        }
+    }
+
+    fn copy_of(&self, moment: u64, node: &Node, call: &Call) -> Result<Before, AllocError>
         ensures call { IfOk result (λ before. before.call ≡ call.now) }
         ensures seen { IfOk result (λ before. IsSeenBefore self.now.observed
             (slot_of (uid_of call.now) node.now.slots) before.seen) }
+        ensures waits { IfOk result (λ before. AreWaitsBefore self.now.observed self.now.reasons moment
+            (slot_of (uid_of call.now) node.now.slots) before.waits) }
     {
         let copy = call.try_clone(self.alloc)?;
         let seen = self.seen(node, call)?;
-        Ok(Before { call: copy, seen })
+        let waits = self.waits(moment, node, call)?;
+        Ok(Before {
+            call: copy,
+            seen,
+            waits,
+        })
     }
 
-    /// The call of a worker's claim and how its pod is seen, before the claim ends. `None` if nothing is kept,
-    /// or memory runs out.
-    pub(crate) fn before(&mut self, node: &Node, worker: u32) -> Option<Before>
-        ensures before { IfSome result (λ b. IsBefore self.old.observed node.now worker b.call b.seen) }
+    /// The call of a worker's claim, how its pod is seen, and why the pod's containers wait, before the claim
+    /// ends at this moment. `None` if nothing is kept, or memory runs out.
+    pub(crate) fn before(&mut self, moment: u64, node: &Node, worker: u32) -> Option<Before>
+        ensures before { IfSome result (λ b. IsBefore self.old.observed self.old.reasons moment node.now worker
+            b.call b.seen b.waits) }
         ensures observed { self.new.observed ≡ self.old.observed }
         ensures reasons { self.new.reasons ≡ self.old.reasons }
         ensures lines { self.new.lines ≡ self.old.lines }
@@ -237,7 +271,7 @@ impl Observer {
             return None;
         }
         let request = node.claim_of(worker)?;
-        match self.copy_of(node, &request.call) {
+        match self.copy_of(moment, node, &request.call) {
             Ok(before) => Some(before),
             Err(error) => {
                 self.add(Err(error));
@@ -249,20 +283,98 @@ impl Observer {
     /// Records that the claim has ended at this moment, by this entry.
     pub(crate) fn ended(&mut self, moment: u64, node: &Node, entry: &Entry, before: &Before)
         ensures { Ends self.old.observed moment node.now entry.now.event before.now.call before.now.seen
-            self.old self.new }
+            before.now.waits self.old self.new }
     {
         match self.observed {
             Observed::Nothing => {}
-            Observed::Reasons => {
-                let trouble = trouble_of(&entry.event, node, &before.call);
-                // If memory runs out, the reason is not kept.
-                let _ = self.reasons.note(moment, &before.call, trouble);
-            }
-            Observed::Changes(form) => {
-                let line = self.change_of(form, moment, node, before);
-                self.add(line);
-            }
+            Observed::Reasons => self.note(moment, node, entry, before),
+            Observed::Changes(form) => self.add_change(form, moment, node, before),
+            Observed::ChangesAndReasons(form) => self.tell_end(form, moment, node, entry, before),
         }
+    }
+
+    // If memory runs out, the reason is not kept.
+    fn note(&mut self, moment: u64, node: &Node, entry: &Entry, before: &Before)
+        ensures { Notes (noted moment before.now.call
+            (trouble_of entry.now.event (slot_of (uid_of before.now.call) node.now.slots)) self.old.reasons)
+            self.old self.new }
+    {
+        let trouble = trouble_of(&entry.event, node, &before.call);
+        let _ = self.reasons.note(moment, &before.call, trouble);
+    }
+
+    // The same, but a pod that has left is forgotten.
+    fn note_or_forget(&mut self, moment: u64, node: &Node, entry: &Entry, before: &Before)
+        ensures { Notes (reasons_behind moment before.now.call
+            (trouble_of entry.now.event (slot_of (uid_of before.now.call) node.now.slots))
+            (slot_of (uid_of before.now.call) node.now.slots) self.old.reasons) self.old self.new }
+    {
+        match node.pod_of(uid_of(&before.call)) {
+            Some(_) => self.note(moment, node, entry, before),
+            None => self.reasons.forget(uid_of(&before.call)),
+        }
+    }
+
+    fn add_change(&mut self, form: Form, moment: u64, node: &Node, before: &Before)
+        ensures { Adds (IsChange form moment (uid_of before.now.call)
+            (slot_of (uid_of before.now.call) node.now.slots) before.now.seen) self.old self.new }
+    {
+        let line = self.change_of(form, moment, node, before);
+        self.add(line);
+    }
+
+    fn add_wait_change(&mut self, form: Form, moment: u64, node: &Node, before: &Before)
+        ensures { Adds (IsWaitChange form moment self.old.reasons
+            (slot_of (uid_of before.now.call) node.now.slots) before.now.waits) self.old self.new }
+    {
+        let line = self.wait_change_of(form, moment, node, before);
+        self.add(line);
+    }
+
+    // What changed comes before why containers wait.
+    fn tell_end(&mut self, form: Form, moment: u64, node: &Node, entry: &Entry, before: &Before)
+        ensures { EndsTold form moment before.now.call
+            (trouble_of entry.now.event (slot_of (uid_of before.now.call) node.now.slots))
+            (slot_of (uid_of before.now.call) node.now.slots) before.now.seen before.now.waits self.old
+            self.new }
+    {
+        self.add_change(form, moment, node, before);
+        self.note_or_forget(moment, node, entry, before);
+        self.add_wait_change(form, moment, node, before);
+    }
+
+    fn wait_change_of(
+        &self,
+        form: Form,
+        moment: u64,
+        node: &Node,
+        before: &Before,
+    ) -> Result<String, AllocError>
+        ensures { IfOk result (λ line. IsWaitChange form moment self.now.reasons
+            (slot_of (uid_of before.now.call) node.now.slots) before.now.waits (string_bytes line)) }
+    {
+        let uid = uid_of(&before.call);
+        match node.pod_of(uid) {
+            Some(view) => self.waits_since(form, moment, before.waits.as_ref(), view),
+            None => Ok(String::new(self.alloc)),
+        }
+    }
+
+    // What is told anew of why the containers of a pod wait, which waited so before, or were not seen.
+    fn waits_since(
+        &self,
+        form: Form,
+        moment: u64,
+        old: Option<&PodWaits>,
+        view: PodView<'_>,
+    ) -> Result<String, AllocError>
+        ensures { IfOk result (λ line. (now : PodWaits) × (now.uid ≡ view.entry.pod.now.uid)
+            × (now.containers.items ≡ waits_of view.entry.pod.now.policy view.entry.pod.now.uid
+            self.now.reasons moment view.entry.pod.now.containers.all view.entry.tracks.now)
+            × (string_bytes line ≡ wait_changes form moment (option_copied old.entry) now)) }
+    {
+        let waits = PodWaits::of(self.alloc, view, &self.reasons, moment)?;
+        wait_changes(self.alloc, form, moment, old, &waits)
     }
 
     fn change_of(
@@ -303,12 +415,35 @@ impl Observer {
     pub(crate) fn admitted(&mut self, moment: u64, node: &Node, uid: &Uid)
         ensures { Admits self.old.observed moment (slot_of uid.now node.now.slots) self.old self.new }
     {
-        let Observed::Changes(form) = self.observed else {
-            return;
-        };
+        match self.observed {
+            Observed::Nothing | Observed::Reasons => {}
+            Observed::Changes(form) => self.add_first(form, moment, node, uid),
+            Observed::ChangesAndReasons(form) => self.tell_first(form, moment, node, uid),
+        }
+    }
+
+    fn add_first(&mut self, form: Form, moment: u64, node: &Node, uid: &Uid)
+        ensures { AdmitsSeen form moment (slot_of uid.now node.now.slots) self.old self.new }
+    {
         if let Some(view) = node.pod_of(uid) {
             let line = self.changes_since(form, moment, None, view);
             self.add(line);
         }
+    }
+
+    fn add_first_waits(&mut self, form: Form, moment: u64, node: &Node, uid: &Uid)
+        ensures { AdmitsWaits form moment (slot_of uid.now node.now.slots) self.old self.new }
+    {
+        if let Some(view) = node.pod_of(uid) {
+            let line = self.waits_since(form, moment, None, view);
+            self.add(line);
+        }
+    }
+
+    fn tell_first(&mut self, form: Form, moment: u64, node: &Node, uid: &Uid)
+        ensures { AdmitsTold form moment (slot_of uid.now node.now.slots) self.old self.new }
+    {
+        self.add_first(form, moment, node, uid);
+        self.add_first_waits(form, moment, node, uid);
     }
 }

@@ -119,20 +119,21 @@ fn observe<L: Ledger>(guarded: &mut Guarded<L>, receipt: &Receipt, moment: u64)
     }
 }
 
-fn before_of<L: Ledger>(guarded: &mut Guarded<L>, worker: u32) -> Option<Before>
-    ensures before { IfSome result (λ b. IsBefore guarded.old.observer.observed guarded.old.book.node worker
-        b.call b.seen) }
+fn before_of<L: Ledger>(guarded: &mut Guarded<L>, worker: u32, moment: u64) -> Option<Before>
+    ensures before { IfSome result (λ b. IsBefore guarded.old.observer.observed guarded.old.observer.reasons
+        moment guarded.old.book.node worker b.call b.seen b.waits) }
     ensures book { guarded.new.book ≡ guarded.old.book }
     ensures workers { guarded.new.workers ≡ guarded.old.workers }
     ensures ticked { guarded.new.ticked ≡ guarded.old.ticked }
 {
-    guarded.observer.before(guarded.book.node(), worker)
+    guarded.observer.before(moment, guarded.book.node(), worker)
 }
 
 // Observes what a worker reported of its claim.
 fn observe_end<L: Ledger>(guarded: &mut Guarded<L>, receipt: &Receipt, before: &Before, moment: u64)
     ensures observer { Ends guarded.old.observer.observed moment guarded.old.book.node
-        receipt.now.entry.event before.now.call before.now.seen guarded.old.observer guarded.new.observer }
+        receipt.now.entry.event before.now.call before.now.seen before.now.waits guarded.old.observer
+        guarded.new.observer }
     ensures book { guarded.new.book ≡ guarded.old.book }
     ensures workers { guarded.new.workers ≡ guarded.old.workers }
     ensures ticked { guarded.new.ticked ≡ guarded.old.ticked }
@@ -231,10 +232,11 @@ impl<L: Ledger> Shared<L> {
         ensures parts { share.new.parts ≡ share.old.parts }
     {
         let mut guarded = self.guarded.lock(rt);
-        let before = before_of(&mut guarded, worker);
+        let moment = self.moment();
+        let before = before_of(&mut guarded, worker, moment);
         let recorded = record_behind(&mut guarded.book, share, worker, event, last);
         if let (Some(before), Some(receipt)) = (&before, &recorded) {
-            observe_end(&mut guarded, receipt, before, self.moment());
+            observe_end(&mut guarded, receipt, before, moment);
         }
         drop(guarded);
         self.changed.notify_all();

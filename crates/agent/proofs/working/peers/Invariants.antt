@@ -1,7 +1,7 @@
 -- So many peers as were asked for, at most 64, each of this socket and in this version.
 use Rattle.std.proofs.Common.{◌≡◌, ◌≤◌, min, vec_len}
 use Rattle.std.specs.List.{AllByRecursion}
-use Rattle.agent.specs.Lines.{version_for}
+use Rattle.agent_parts.specs.CommandLine.{version_for}
 use Rattle.agent.proofs.working.peers.Given as goal
 
 abbrev pub invariant-loop : goal.invariant-loop

@@ -1,18 +1,20 @@
 use Rattle.std.proofs.Common.{◌∙◌, ap, sym, subst}
-use Rattle.std.specs.String.{string_bytes}
 use Rattle.worker_core.specs.Slots.{slot_of}
-use Rattle.worker_crew.specs.Observed.{Admits, IsFirst}
-use Rattle.worker_crew.proofs.Changed.{adds_so, admits_there, first_there, made_so, text_of}
+use Rattle.worker_crew.specs.Observed.{Admits}
 use Rattle.worker_crew.proofs.observer.Observer.admitted.Goals as goal
 
-pub returns-in-Some : goal.returns-in-Some
-returns-in-Some c =
-    let slot = slot_of c.args.uid.now c.args.node.now.slots in
-    subst (λ observed. Admits observed c.args.moment slot c.args.self.now c.add.new.self)
+pub returns-in-Changes : goal.returns-in-Changes
+returns-in-Changes c =
+    subst
+    (λ observed. Admits observed c.args.moment (slot_of c.args.uid.now c.args.node.now.slots) c.args.self.now
+    c.add_first.new.self)
     (sym (ap (λ beside. beside.observed) (sym c.self.view_is) ∙ c.in-Changes.is))
-    (admits_there c.in-Changes.form c.args.moment slot _ c.in-Some.ensures.pod
-    (adds_so (text_of (IsFirst c.in-Changes.form c.args.moment slot) c.changes_since-line.result
-    (made_so c.changes_since-line.result
-    (λ line is. first_there c.in-Changes.form c.args.moment slot _ _ _ (string_bytes line)
-    c.in-Some.ensures.pod c.in-Some.ensures.tracks c.in-Some.ensures.phase is)
-    c.changes_since-line.ensures)) c.add.ensures))
+    c.add_first.ensures
+
+pub returns-in-ChangesAndReasons : goal.returns-in-ChangesAndReasons
+returns-in-ChangesAndReasons c =
+    subst
+    (λ observed. Admits observed c.args.moment (slot_of c.args.uid.now c.args.node.now.slots) c.args.self.now
+    c.tell_first.new.self)
+    (sym (ap (λ beside. beside.observed) (sym c.self.view_is) ∙ c.in-ChangesAndReasons.is))
+    c.tell_first.ensures

@@ -1,7 +1,7 @@
 //! Pods whose sandbox the runtime does not have any more: either side was started again, or another client of
 //! the runtime removed it.
 ghost use Rattle.std.specs.Prelude.{◌≡◌};
-ghost use Rattle.agent_parts.specs.Troubles.{loss_by, loss_of, removed_by, when_listed};
+ghost use Rattle.node_watch.specs.Losses.{loss_by, loss_of, removed_by, when_listed};
 
 use cri_msgs::{Answer, Call, Refusal};
 use std::fmt;
@@ -18,7 +18,7 @@ pub enum Loss {
 /// A few words of plain English.
 impl fmt::Display for Loss {
     ghost use Rattle.std.specs.Prelude.{Some};
-    ghost use Rattle.agent_parts.specs.Troubles.{loss_text};
+    ghost use Rattle.node_watch.specs.Losses.{loss_text};
 
     ghost output = { λ loss. Some (loss_text loss) };
 

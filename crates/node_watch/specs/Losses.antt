@@ -1,4 +1,4 @@
--- What an agent reports of its calls: this project's own. docs/SEMANTICS.md, "When one side is started
+-- Which answers show that a pod is lost: this project's own. docs/SEMANTICS.md, "When one side is started
 -- again".
 use Rattle.std.specs.Prelude.{ℕ, ◌==◌, List, Option, Some, None, codes, length, if◌then◌else◌}
 use Rattle.cri_msgs.specs.declared.calls.Call.{Call}
@@ -8,8 +8,8 @@ use Rattle.cri_msgs.specs.declared.refusals.Refusal.{Refusal}
 use Rattle.cri_msgs.specs.declared.refusals.Refusal.TheVariants.{NotFound, FailedPrecondition}
 use Rattle.cri_msgs.specs.declared.replies.Answer.{Answer}
 use Rattle.cri_msgs.specs.declared.replies.Answer.TheVariants.{Refused, Statuses}
-use Rattle.agent_parts.specs.declared.losses.Loss.{Loss}
-use Rattle.agent_parts.specs.declared.losses.Loss.TheVariants.{Unknown, Removed}
+use Rattle.node_watch.specs.declared.losses.Loss.{Loss}
+use Rattle.node_watch.specs.declared.losses.Loss.TheVariants.{Unknown, Removed}
 
 -- a call that needs its sandbox was refused
 abbrev pub loss_by : Refusal → Option Loss

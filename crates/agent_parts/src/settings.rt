@@ -1,7 +1,7 @@
 //! How a run of `nodeagent` is set by its command line.
 ghost use Rattle.std.specs.Prelude.{◌≡◌, ◌≤◌, min, option_copied};
-ghost use Rattle.agent.specs.Lines.{form_for, observed_for, pace_for, run_name, settings_for};
-ghost use Rattle.agent.specs.Lines.{told_beside, version_for};
+ghost use Rattle.agent_parts.specs.CommandLine.{form_for, observed_for, pace_for, run_name, settings_for};
+ghost use Rattle.agent_parts.specs.CommandLine.{told_beside, version_for};
 ghost use Rattle.node_lock.specs.declared.limits.TheConstants.{MAX_ENTRIES};
 
 use crate::limits::{POLL, SETTLE_UNTIL};
@@ -14,11 +14,7 @@ use worker_crew::{Observed, Pace};
 use worker_pod::Settings;
 
 /// The name of this run: with a folder of pods each start has one of its own.
-pub(crate) fn run_name<'a>(
-    run: Option<&'a str>,
-    pods: Option<&'a str>,
-    made: &'a str,
-) -> Option<&'a str>
+pub fn run_name<'a>(run: Option<&'a str>, pods: Option<&'a str>, made: &'a str) -> Option<&'a str>
     ensures { option_copied result ≡ run_name (option_copied run.entry) (option_copied pods.entry) made.now }
 {
     match (run, pods) {
@@ -29,7 +25,7 @@ pub(crate) fn run_name<'a>(
 }
 
 /// The settings of the pods.
-pub(crate) fn settings_of(line: &NodeagentLine<'_>) -> Settings
+pub fn settings_of(line: &NodeagentLine<'_>) -> Settings
     ensures { result ≡ settings_for line.now }
 {
     Settings {
@@ -40,7 +36,7 @@ pub(crate) fn settings_of(line: &NodeagentLine<'_>) -> Settings
 }
 
 /// The version of the messages.
-pub(crate) fn version_of(line: &NodeagentLine<'_>) -> Version
+pub fn version_of(line: &NodeagentLine<'_>) -> Version
     ensures { result ≡ version_for line.now }
 {
     match line.numbers.cri {
@@ -50,7 +46,7 @@ pub(crate) fn version_of(line: &NodeagentLine<'_>) -> Version
 }
 
 /// The clock, and the last moment.
-pub(crate) fn pace_of(line: &NodeagentLine<'_>) -> Pace
+pub fn pace_of(line: &NodeagentLine<'_>) -> Pace
     ensures { result ≡ pace_for line.now }
 {
     let until = line.numbers.until;
@@ -62,17 +58,19 @@ pub(crate) fn pace_of(line: &NodeagentLine<'_>) -> Pace
 }
 
 /// The form of what is printed.
-pub(crate) fn form_of(line: &NodeagentLine<'_>) -> Form
+pub fn form_of(line: &NodeagentLine<'_>) -> Form
     ensures { result ≡ form_for line.now }
 {
     if line.json { Form::Json } else { Form::Text }
 }
 
 /// What is kept beside the history.
-pub(crate) fn observed_of(line: &NodeagentLine<'_>) -> Observed
+pub fn observed_of(line: &NodeagentLine<'_>) -> Observed
     ensures { result ≡ observed_for line.now }
 {
-    if line.watch {
+    if line.watch && line.reasons {
+        Observed::ChangesAndReasons(form_of(line))
+    } else if line.watch {
         Observed::Changes(form_of(line))
     } else if line.reasons {
         Observed::Reasons
@@ -82,7 +80,7 @@ pub(crate) fn observed_of(line: &NodeagentLine<'_>) -> Observed
 }
 
 /// How many entries a part of the history may have.
-pub(crate) fn limit_of(line: &NodeagentLine<'_>) -> usize
+pub fn limit_of(line: &NodeagentLine<'_>) -> usize
     ensures value { result ≡ min line.now.numbers.history MAX_ENTRIES }
     ensures most { result ≤ MAX_ENTRIES }
 {
@@ -90,7 +88,7 @@ pub(crate) fn limit_of(line: &NodeagentLine<'_>) -> usize
 }
 
 /// If the runtime is in this process, the agent logs the calls. The runtime only reports which file is wrong.
-pub(crate) fn address_of<'a>(line: &NodeagentLine<'a>) -> Address<'a>
+pub fn address_of<'a>(line: &NodeagentLine<'a>) -> Address<'a>
     ensures socket { result.socket ≡ line.now.socket }
     ensures scripts { result.scripts ≡ line.now.scripts }
     ensures profiles { result.profiles ≡ line.now.profiles }

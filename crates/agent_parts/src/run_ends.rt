@@ -1,11 +1,12 @@
 //! With what a run of `nodeagent` ends: its status, and what is printed then.
 ghost use Rattle.std.specs.Prelude.{◌≡◌, [], IfErr, IfOk, IfSome, None, Some, false, string_bytes, true};
-ghost use Rattle.agent.specs.Lines.{form_for, reasons_for, status_at, stop_at};
+ghost use Rattle.agent_parts.specs.CommandLine.{form_for, reasons_for, status_at, stop_at};
 ghost use Rattle.agent_parts.specs.NodeEnds.{end_of, settled_status, status_of_end};
 ghost use Rattle.agent_parts.specs.Table.{told_table};
 
+use crate::node_ends::{TableEnd, table_end};
 use crate::settings::form_of;
-use agent_parts::{AgentStop, TableEnd, table_end};
+use crate::stops::AgentStop;
 use command_line::NodeagentLine;
 use node_lock::Book;
 use node_watch::Reasons;
@@ -17,16 +18,16 @@ use worker_crew::Ended;
 
 /// The end of a run that was not stopped.
 #[derive(Drop)]
-pub(crate) struct RunEnd {
-    pub(crate) status: u8,
-    pub(crate) text: String,
+pub struct RunEnd {
+    pub status: u8,
+    pub text: String,
     /// What is written about it to standard error.
-    pub(crate) note: String,
+    pub note: String,
 }
 
 /// The lines printed to standard error at the end: that the moment did not end, and how many pods could not
 /// be removed.
-pub(crate) fn note_of(
+pub fn note_of(
     system: &HostRuntime,
     line: &NodeagentLine<'_>,
     ended: &Ended,
@@ -49,7 +50,7 @@ pub(crate) fn note_of(
 }
 
 /// The status and the output with which the program ends.
-pub(crate) fn run_end<'a, L: Ledger>(
+pub fn run_end<'a, L: Ledger>(
     system: &HostRuntime,
     line: &NodeagentLine<'a>,
     ended: Ended,

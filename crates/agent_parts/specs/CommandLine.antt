@@ -1,5 +1,5 @@
 -- What nodeagent does with its line, and how it ends: this project's own. docs/SEMANTICS.md, "Programs".
-use Rattle.std.specs.Prelude.{ℕ, ◌==◌, Bool, true, false, if◌then◌else◌, List, [], ◌++◌, codes, Option, Some}
+use Rattle.std.specs.Prelude.{ℕ, ◌==◌, ◌&&◌, Bool, true, false, if◌then◌else◌, List, [], ◌++◌, codes, Option, Some}
 use Rattle.std.specs.Prelude.{None, unwrap_or}
 use Rattle.std.specs.Fmt.{decimal}
 use Rattle.command_line.specs.declared.nodeagent.NodeagentLine.{NodeagentLine}
@@ -56,10 +56,12 @@ status_at ended.HistoryFull = None
 abbrev pub form_for : NodeagentLine → Form
 form_for line = if line.json then Json else Text
 
--- what is kept beside the history: why containers wait, or what changes of them
+-- what is kept beside the history: why containers wait, what changes of them, or both
 abbrev pub observed_for : NodeagentLine → Observed
-observed_for line = if line.watch then observed.Changes (form_for line) else if line.reasons
-    then observed.Reasons else observed.Nothing
+observed_for line =
+    if line.watch && line.reasons then observed.ChangesAndReasons (form_for line)
+    else if line.watch then observed.Changes (form_for line) else if line.reasons then observed.Reasons
+    else observed.Nothing
 
 abbrev pub reasons_for : NodeagentLine → List Reason → List Reason
 reasons_for line reasons = if line.reasons then reasons else []

@@ -1,15 +1,15 @@
 //! The log of an agent, if it is asked for: what it works on, and for each call the moment at which it was
 //! claimed, the pod, the request, and the result.
 ghost use Rattle.std.specs.Prelude.{◌≡◌, IfOk, string_bytes};
-ghost use Rattle.agent.specs.Lines.{working_text};
+ghost use Rattle.agent_parts.specs.CommandLine.{working_text};
 
-use agent_parts::LostCall;
+use crate::lost::LostCall;
 use cri_msgs::{Reply, Request};
 use runtime_server::{answered, asked};
 use std::alloc::{AllocError, Global};
 
 /// The first log line of an agent.
-pub(crate) fn working_line(alloc: Global, socket: &str, pods: usize) -> Result<String, AllocError>
+pub fn working_line(alloc: Global, socket: &str, pods: usize) -> Result<String, AllocError>
     ensures { IfOk result (λ line. string_bytes line ≡ working_text socket.now pods) }
 {
     format!(in alloc; "works over {socket}, pods: {pods}")
@@ -23,7 +23,7 @@ fn outcome(alloc: Global, outcome: &Result<Reply, LostCall>) -> Result<String, A
 }
 
 /// The log line of an agent's call at a moment, with its result.
-pub(crate) fn call_line(
+pub fn call_line(
     alloc: Global,
     moment: u64,
     request: &Request,
