@@ -1,14 +1,14 @@
 # `make` alone says what there is and how long it takes; tools/help.sh has the text.
 
 PREFIX ?= /usr/local
-PROGRAMS := seccheck scriptd nodeagent
+PROGRAMS := seccheck scriptd scriptctl nodeagent
 COUNT ?= 100000
 ENGINES ?= /
 BENCH_FLAGS := -std=gnu11 -O2 -Wall -Wextra
 EXAMPLES := ../../examples
 
-.PHONY: help test quick cases times planted demo try lib install copy uninstall bench kernel table fleet real \
-  clean
+.PHONY: help test quick cases times planted mutants demo try lib install copy uninstall bench kernel table \
+  fleet real clean
 
 help:
 	@tools/help.sh
@@ -21,6 +21,9 @@ times:
 
 planted:
 	@tools/planted.py $(CRATE)
+
+mutants:
+	@tools/mutants.py $(PROGRAM)
 
 quick:
 	@tools/quick.py

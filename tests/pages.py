@@ -283,6 +283,7 @@ def stated_statuses(crates):
 STATUSES = {
     "seccheck": (["checker"], {0}),
     "scriptd": (["runtime_server"], set()),
+    "scriptctl": (["runtime_server"], {0}),
     "nodeagent": (["runtime_server", "agent_parts"], {0, 5}),
 }
 
@@ -401,8 +402,14 @@ def check_examples(prefix, program, room):
     examples = "".join(re.findall(r"^\.nf\n(.*?)^\.fi$", part, re.M | re.S)).splitlines()
     check(f"{program}.1 has two examples", len(examples) >= 2)
     how = {"cwd": f"{room}/examples", "env": environment(prefix)}
-    for example in examples:
-        check(f"{program}.1: {example}", runs(example, how))
+    # What scriptctl asks needs a runtime at the socket of its examples.
+    words = ["scriptd", "--socket", "node.sock"] if program == "scriptctl" else ["true"]
+    with subprocess.Popen([shutil.which(words[0], path=how["env"]["PATH"]), *words[1:]], **how) as beside:
+        while words[0] == "scriptd" and not os.path.exists(f"{room}/examples/node.sock"):
+            time.sleep(0.01)
+        for example in examples:
+            check(f"{program}.1: {example}", runs(example, how))
+        beside.kill()
 
 
 def checked(programs):

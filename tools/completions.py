@@ -8,7 +8,7 @@ import re
 import subprocess
 import sys
 
-PROGRAMS = ("seccheck", "scriptd", "nodeagent")
+PROGRAMS = ("seccheck", "scriptd", "scriptctl", "nodeagent")
 PLACES = {"bash": "share/bash-completion/completions/{}", "zsh": "share/zsh/site-functions/_{}",
           "fish": "share/fish/vendor_completions.d/{}.fish"}
 FILES, FOLDERS = {"PATH", "FILE", "FILTER"}, {"DIR"}

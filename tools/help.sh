@@ -9,6 +9,8 @@ make test     the gate: proves every crate from nothing, tries the must-fail edi
 make times    prints the processor seconds that the last gate spent, crate by crate. At once
 make planted  tries all wrong bodies, also those that the gate leaves out; CRATE=NAME.. those of some crates.
               Each costs up to 30 CPU seconds, plus two proofs per crate: about two hours on four cores for all
+make mutants  plants the wrong bodies of tests/mutants that no contract reaches, and runs the cases that should
+              notice; PROGRAM=NAME.. those of some programs. A minute and a half for each, two at a time
 make cases    runs the cases of tests/ with the programs that make test built, or those in BIN=FOLDER;
               CASES=FILE.. runs some of them. A minute or two
 make demo     compiles a profile, judges a call with a verified filter, plays scripts, settles pods over a socket,

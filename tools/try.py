@@ -1,5 +1,5 @@
 #!/usr/bin/env python3
-"""try.py PREFIX: compiles the three programs side by side, with checks at run time in the place of proofs, and
+"""try.py PREFIX: compiles the programs side by side, with checks at run time in the place of proofs, and
 installs them with their manual pages and the shells' completions below PREFIX. Their `--version` says `unproved`.
 """
 import os
@@ -14,7 +14,7 @@ sys.dont_write_bytecode = True
 from side_by_side import ROOT, timed
 from tried import built
 
-PROGRAMS = ("seccheck", "scriptd", "nodeagent")
+PROGRAMS = ("seccheck", "scriptd", "scriptctl", "nodeagent")
 VERSION_FILE, VERSION = "crates/command_line/src/arguments.rt", '"0.1.0"'
 
 
