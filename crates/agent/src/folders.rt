@@ -200,7 +200,8 @@ impl<'s, 'a, L: Ledger, R: Wait + Clock> PodsFolder<'s, 'a, L, R> {
             self.reader.tell(line);
         }
         if left_out != self.left_out {
-            self.reader.tell(self.reader.lines.left_out(left_out));
+            let line = self.reader.lines.left_out(left_out);
+            self.reader.tell(line);
         }
         self.left_out = left_out;
     }
@@ -208,7 +209,8 @@ impl<'s, 'a, L: Ledger, R: Wait + Clock> PodsFolder<'s, 'a, L, R> {
     // The folder could not be looked into, for this reason, which is reported once.
     fn missed(&mut self, fault: CausedFault) {
         if self.unseen != Some(fault) {
-            self.reader.tell(self.reader.lines.missed(fault));
+            let line = self.reader.lines.missed(fault);
+            self.reader.tell(line);
         }
         self.unseen = Some(fault);
     }
@@ -216,7 +218,8 @@ impl<'s, 'a, L: Ledger, R: Wait + Clock> PodsFolder<'s, 'a, L, R> {
     // The folder was looked into, which is reported once if it could not be before.
     fn seen(&mut self) {
         if self.unseen.take().is_some() {
-            self.reader.tell(self.reader.lines.seen());
+            let line = self.reader.lines.seen();
+            self.reader.tell(line);
         }
     }
 
@@ -285,17 +288,17 @@ impl<'s, 'a, L: Ledger, R: Wait + Clock> PodsFolder<'s, 'a, L, R> {
     // Reports a refusal, if it is not one after which another uid is tried. A full node is reported once, and
     // then once a minute.
     fn refused(&mut self, refusal: NodeRefusal, now: u64) {
-        let Some(name) = self.folder.told_of(refusal) else {
+        if self.folder.told_of(refusal).is_none() {
             return;
-        };
+        }
         let times = if refusal == NodeRefusal::Full {
             self.full.note(now)
         } else {
             Some(1)
         };
-        if let Some(times) = times {
-            self.reader
-                .tell(self.reader.lines.refusal(name, refusal, times));
+        if let (Some(times), Some(name)) = (times, self.folder.told_of(refusal)) {
+            let line = self.reader.lines.refusal(name, refusal, times);
+            self.reader.tell(line);
         }
     }
 }
