@@ -5,7 +5,6 @@ PROGRAMS := seccheck scriptd scriptctl nodeagent
 COUNT ?= 100000
 ENGINES ?= /
 BENCH_FLAGS := -std=gnu11 -O2 -Wall -Wextra
-EXAMPLES := ../../examples
 
 .PHONY: help test quick cases times planted mutants demo try lib install copy uninstall bench kernel table \
   fleet real clean
@@ -32,16 +31,8 @@ quick:
 cases:
 	@tests/run $(CASES)
 
-# Waits for no proof: the program is compiled with checks at run time in the place of proofs.
+# Waits for no proof: the programs are compiled with checks at run time in place of proofs.
 demo:
-	@echo "demo: built without waiting for the proofs; 'make test' proves what it runs"
-	@echo "demo: seccheck, 1 of 2 programs"
-	@cd crates/seccheck && rt try --data x86_64_only.bpf=$(EXAMPLES)/x86_64_only.bpf \
-	  --data no_ptrace.bpf=$(EXAMPLES)/no_ptrace.bpf --data tries_ptrace.json=$(EXAMPLES)/tries_ptrace.json \
-	  --data adds_a_filter.json=$(EXAMPLES)/adds_a_filter.json --data no_ptrace.json=$(EXAMPLES)/no_ptrace.json \
-	  --data two_profiles.json=$(EXAMPLES)/two_profiles.json \
-	  --cases $(EXAMPLES)/demo
-	@echo "demo: nodeagent, 2 of 2 programs"
 	@tools/demo.py
 
 # Installs the programs to PREFIX, compiled with checks at run time in the place of proofs.

@@ -1,7 +1,8 @@
 /*
  * The compiler, the checker, the machine and the comparison of seccomp filters, classic BPF as seccomp(2)
  * takes it: the filter of a profile, whether a filter is safe to run, why it is not, what it returns on a
- * call, and whether two filters return the same value on every call.
+ * call, and whether two filters return the same value on every call. Beside these: what decides a call under
+ * a profile, the plain profile of a container engine's template, the default profile, and the names of calls.
  *
  * A profile is the JSON text of the linux.seccomp object of the OCI runtime specification 1.1. A filter is
  * the bytes of its struct sock_filter (linux/filter.h), 8 each, numbers little-endian: an array of these as
@@ -12,15 +13,22 @@
  * comments restate. No proof sees the caller, who has to ensure the following: each pointer points to as
  * much memory as its length says, which may be read, and written if it is an output; an output overlaps with
  * nothing else that is passed; no other thread writes to what is passed before the function returns. An
- * array of length 0 may be NULL, and so may `at` in C and in C++, by the two macros below. A caller of the
- * library's own motchidu_verify and motchidu_longest, as from another language, has to pass a place there.
+ * array of length 0 may be NULL, and so may `at`; no other pointer may.
+ *
+ * A function that writes text or a filter gets room for it, and a length to set. If the room is large enough,
+ * the first *length bytes of the room become the text, and the others are unchanged. If it is not, the answer
+ * is MOTCHIDU_NO_ROOM, *length is the number of bytes that are needed, and nothing else is written. A text
+ * does not end with a zero byte or a line's end.
  *
  * The functions take memory with malloc while they run, and release it with free; these two are C's own, or
- * keep C's promises. motchidu_compile needs 128 KiB of stack, because a profile's text may have 127 nested
- * objects (119 KiB were measured for these, and 26 KiB for profiles as engines write them); the others need
- * 24 KiB (12 motchidu_verify, 17 motchidu_longest, 9 motchidu_run_all, 15 motchidu_compare). They keep
- * nothing between two calls, and may run in many threads at once, but not in a signal handler, nor in the
- * forked child of a process with threads.
+ * keep C's promises. All but motchidu_call_number and motchidu_call_name take memory, and may return
+ * MOTCHIDU_MEMORY. They keep nothing between two calls, and may run in many threads at once, but not in a
+ * signal handler, nor in the forked child of a process with threads.
+ *
+ * Those that read JSON, which are motchidu_compile, motchidu_compile_at, motchidu_explain and
+ * motchidu_resolve, need 128 KiB of stack, because a text may have 127 nested objects: motchidu_compile took
+ * 119 KiB for these, and 26 KiB for profiles as engines write them, and the other three take as much. The
+ * others need 24 KiB (12 motchidu_verify, 17 motchidu_longest, 9 motchidu_run_all, 15 motchidu_compare).
  *
  * Link with -lmotchidu. The library is for x86-64, as of x86-64-v2.
  */
@@ -40,11 +48,12 @@ extern "C" {
 #endif
 
 /* What a function returns. Names and order of the faults are those of the project's programs, and the
- * first fault in that order is returned. P marks those that have a place. Only motchidu_compile returns those
- * from MOTCHIDU_NOT_JSON to MOTCHIDU_NO_ROOM, which are about profiles; only motchidu_compare returns those
- * from MOTCHIDU_SAME on, which are about two filters. */
+ * first fault in that order is returned. P marks those that have a place in a filter. Those from
+ * MOTCHIDU_LENGTH to MOTCHIDU_UNSTORED are about filters, those from MOTCHIDU_NOT_JSON to MOTCHIDU_TOO_HEAVY
+ * about profiles and templates. Only motchidu_compare returns those from MOTCHIDU_SAME to
+ * MOTCHIDU_ARITHMETIC, which are about two filters, and only motchidu_resolve the three after them. */
 enum motchidu_status {
-    MOTCHIDU_ACCEPTED = 0,        /* the filter is sound: it may be run on any call */
+    MOTCHIDU_ACCEPTED = 0,        /* done; of a filter: it is sound, and may be run on any call */
     MOTCHIDU_LENGTH = 1,          /* its length is not a multiple of 8 */
     MOTCHIDU_TOO_LONG = 2,        /* more than 4,096 instructions */
     MOTCHIDU_BAD_CODE = 3,        /* P: a code that is not in the table of instructions */
@@ -56,7 +65,7 @@ enum motchidu_status {
     MOTCHIDU_ZERO_DIVISOR = 9,    /* P: a division by the constant 0 */
     MOTCHIDU_NO_FINAL_RETURN = 10, /* the last instruction is not a return */
     MOTCHIDU_UNSTORED = 11,       /* P: a load of a scratch word that some walk to it did not store */
-    MOTCHIDU_MEMORY = 12,         /* there was no memory; this says nothing about the filter */
+    MOTCHIDU_MEMORY = 12,         /* there was no memory; this says nothing about what was passed */
     MOTCHIDU_LENGTHS = 13,        /* the lengths of calls, values and steps don't agree; the filter was
                                      not checked. Only motchidu_run_all returns this */
     MOTCHIDU_NOT_JSON = 14,       /* the text is not JSON */
@@ -70,16 +79,46 @@ enum motchidu_status {
     MOTCHIDU_REPEATED_INDEX = 22, /* an entry that tests an argument twice */
     MOTCHIDU_ERRNO_NOT_ALLOWED = 23, /* an errno for an action that returns none */
     MOTCHIDU_ERRNO_TOO_LARGE = 24, /* an errno above what its action can return */
-    MOTCHIDU_UNKNOWN_CALL = 25,   /* an unknown call under an action that is stricter than the default */
+    MOTCHIDU_UNKNOWN_CALL = 25,   /* an unknown call: one that was asked for, or in a profile one under an
+                                     action that is stricter than the default */
     MOTCHIDU_NOTIFY = 26,         /* SCMP_ACT_NOTIFY, for which there is no listener */
-    MOTCHIDU_TOO_LARGE = 27,      /* a text of more than 262,144 bytes */
+    MOTCHIDU_TOO_LARGE = 27,      /* a text of more than 262,144 bytes, or a template whose profile has
+                                     more */
     MOTCHIDU_TOO_HEAVY = 28,      /* too many entries, names and conditions for one filter */
-    MOTCHIDU_NO_ROOM = 29,        /* the filter is longer than the room for it */
+    MOTCHIDU_NO_ROOM = 29,        /* the filter or the text is longer than the room for it */
     MOTCHIDU_SAME = 30,           /* both filters return the same value on every call that was asked about */
     MOTCHIDU_DIFFER = 31,         /* on one of those calls they return different values */
     MOTCHIDU_BUDGET = 32,         /* undecided: it takes more instructions than the budget allows */
-    MOTCHIDU_ARITHMETIC = 33      /* undecided: a filter computes with loaded data, or compares two words */
+    MOTCHIDU_ARITHMETIC = 33,     /* undecided: a filter computes with loaded data, or compares two words */
+    MOTCHIDU_BOTH = 34,           /* two fields that exclude each other: name and names, or architectures
+                                     and archMap */
+    MOTCHIDU_UNKNOWN_ERRNO = 35,  /* an errno's name that does not exist */
+    MOTCHIDU_BAD_KERNEL = 36      /* a minKernel that is not a version of two numbers */
 };
+
+/* What decides a call under a profile. */
+enum motchidu_decider {
+    MOTCHIDU_BY_ENTRY = 0,        /* the first entry that names the call and whose conditions all hold */
+    MOTCHIDU_BY_DEFAULT = 1,      /* defaultAction, since there is no such entry */
+    MOTCHIDU_BY_ARCHITECTURE = 2, /* the call is not one of x86-64: it kills the process */
+    MOTCHIDU_BY_X32 = 3           /* the call is one of x32, from number 2^30 on: it kills the process */
+};
+
+/*
+ * Finds the name of the call of x86-64 with this number, such as read for 0.
+ *
+ * With MOTCHIDU_ACCEPTED the name is the first *length of the name_len bytes at name; 32 bytes are room for
+ * any name. With MOTCHIDU_UNKNOWN_CALL no call that the project knows has the number, and nothing is written.
+ */
+enum motchidu_status motchidu_call_name(uint32_t number, char *name, size_t name_len, size_t *length);
+
+/*
+ * Finds the number of the call of x86-64 with this name, of name_len bytes, such as 0 for read.
+ *
+ * With MOTCHIDU_ACCEPTED *number becomes the number. With MOTCHIDU_UNKNOWN_CALL no call that the project
+ * knows has the name, and nothing is written.
+ */
+enum motchidu_status motchidu_call_number(const void *name, size_t name_len, uint32_t *number);
 
 /*
  * Checks two filters, of first_len and of second_len bytes, and compares them on every call, or, with native,
@@ -96,10 +135,10 @@ enum motchidu_status {
  * The comparison follows the ways that calls can take through both filters, by at most budget instructions
  * in all. seccheck allows 100,000,000, which take some 20 seconds if all of them are used.
  */
-enum motchidu_status motchidu_compare(const uint8_t *first, size_t first_len,
-                                      const uint8_t *second, size_t second_len,
+enum motchidu_status motchidu_compare(const void *first, size_t first_len,
+                                      const void *second, size_t second_len,
                                       bool native, uint64_t budget,
-                                      uint8_t call[64], uint32_t values[2]);
+                                      void *call, uint32_t values[2]);
 
 /*
  * Compiles the profile of profile_len bytes to a sound filter, whose value on every call is what the
@@ -109,23 +148,77 @@ enum motchidu_status motchidu_compare(const uint8_t *first, size_t first_len,
  * are unchanged; 32,768 bytes are room for any filter. With MOTCHIDU_NO_ROOM *length is how many bytes the
  * filter takes, and nothing else is written. With any other answer *length is unchanged as well.
  */
-enum motchidu_status motchidu_compile(const uint8_t *profile, size_t profile_len,
-                                      uint8_t *filter, size_t filter_len, size_t *length);
+enum motchidu_status motchidu_compile(const void *profile, size_t profile_len,
+                                      void *filter, size_t filter_len, size_t *length);
+
+/*
+ * Compiles the profile as motchidu_compile does, with the same answers, and finds the place of a fault in the
+ * profile's text.
+ *
+ * With an answer from MOTCHIDU_NOT_JSON to MOTCHIDU_TOO_LARGE *place_length becomes the number of bytes of
+ * the place, such as 20 of syscalls[3].names[0]; if place_len is not smaller, the place becomes the first of
+ * these bytes at place, and else nothing is written there. A place is never cut: 128 bytes are room for any.
+ * It has 0 bytes where the fault is the whole text's, as with MOTCHIDU_NOT_JSON. With any other answer place
+ * and *place_length are unchanged.
+ */
+enum motchidu_status motchidu_compile_at(const void *profile, size_t profile_len,
+                                         void *filter, size_t filter_len, size_t *length,
+                                         char *place, size_t place_len, size_t *place_length);
+
+/*
+ * Writes the text of RuntimeDefault, the profile that a container gets where its manifest says so. It is the
+ * line that seccheck default prints, without its end.
+ *
+ * With MOTCHIDU_ACCEPTED the text is the first *length of the text_len bytes at text; 8,192 bytes are room
+ * for it.
+ */
+enum motchidu_status motchidu_default(char *text, size_t text_len, size_t *length);
+
+/*
+ * Finds what decides the call of 64 bytes under the profile, and the value that the profile's filter returns
+ * on it.
+ *
+ * With MOTCHIDU_ACCEPTED *decider becomes one of enum motchidu_decider, and *value the value. With
+ * MOTCHIDU_BY_ENTRY *entry becomes the entry's index in syscalls, from 0; with any other decider it is
+ * unchanged. With any other answer, which is that of motchidu_compile for a text that is not a profile,
+ * nothing is written. A profile that is too heavy for a filter is explained too.
+ */
+enum motchidu_status motchidu_explain(const void *profile, size_t profile_len, const void *call,
+                                      uint32_t *decider, size_t *entry, uint32_t *value);
 
 /*
  * Checks the filter of filter_len bytes as motchidu_verify does, with the same answers. With
  * MOTCHIDU_ACCEPTED *longest becomes the largest number of instructions on any way through the filter,
  * whatever the call: no run takes more steps.
  */
-enum motchidu_status motchidu_longest(const uint8_t *filter, size_t filter_len,
+enum motchidu_status motchidu_longest(const void *filter, size_t filter_len,
                                       uint32_t *longest, size_t *at);
+
+/*
+ * Writes the plain profile that a template is for one container, as seccheck resolve prints it, without the
+ * line's end. A template is a profile as Docker, podman and containerd keep them: entries of it have
+ * includes and excludes.
+ *
+ * caps has a bit for each capability of the container: that of number n in linux/capability.h is bit n, as in
+ * CapBnd of /proc/PID/status. Bits from 41 on have no effect. The kernel is of version
+ * kernel_major.kernel_minor; UINT32_MAX for both is newer than any that a template asks for. The architecture
+ * is x86-64, amd64 in templates. Names of calls that the project does not know are left out of entries that
+ * are stricter than the default, since the profile would be refused for them.
+ *
+ * With MOTCHIDU_ACCEPTED the text is the first *length of the text_len bytes at text; 262,144 bytes are room
+ * for any. With any other answer but MOTCHIDU_NO_ROOM nothing is written.
+ */
+enum motchidu_status motchidu_resolve(const void *template_text, size_t template_len,
+                                      uint64_t caps, uint32_t kernel_major, uint32_t kernel_minor,
+                                      char *text, size_t text_len, size_t *length);
 
 /*
  * Checks the filter of filter_len bytes.
  *
  * If the answer has a place, *at becomes that place, counted in instructions from 0; else *at is unchanged.
+ * If at is NULL, no place is written.
  */
-enum motchidu_status motchidu_verify(const uint8_t *filter, size_t filter_len, size_t *at);
+enum motchidu_status motchidu_verify(const void *filter, size_t filter_len, size_t *at);
 
 /*
  * Checks the filter of filter_len bytes once, and runs it on each call of a list.
@@ -136,8 +229,8 @@ enum motchidu_status motchidu_verify(const uint8_t *filter, size_t filter_len, s
  * action in its upper 16 bits, seccomp(2)), and steps[i] the number of instructions that it executed, the
  * last one included, which is never above filter_len / 8. With any other answer nothing is written.
  */
-enum motchidu_status motchidu_run_all(const uint8_t *filter, size_t filter_len,
-                                      const uint8_t *calls, size_t calls_len,
+enum motchidu_status motchidu_run_all(const void *filter, size_t filter_len,
+                                      const void *calls, size_t calls_len,
                                       uint32_t *values, size_t values_len,
                                       uint32_t *steps, size_t steps_len);
 
@@ -179,28 +272,12 @@ static inline const char *motchidu_status_text(enum motchidu_status status)
     case MOTCHIDU_DIFFER: return "Differ";
     case MOTCHIDU_BUDGET: return "Budget";
     case MOTCHIDU_ARITHMETIC: return "Arithmetic";
+    case MOTCHIDU_BOTH: return "Both";
+    case MOTCHIDU_UNKNOWN_ERRNO: return "UnknownErrno";
+    case MOTCHIDU_BAD_KERNEL: return "BadKernel";
     }
     return "Unknown";
 }
-
-/* The library's own two functions always get a place; the parentheses keep these macros from applying. */
-static inline enum motchidu_status motchidu_longest_or_null(const uint8_t *filter, size_t filter_len,
-                                                            uint32_t *longest, size_t *at)
-{
-    size_t nowhere = 0;
-    return (motchidu_longest)(filter, filter_len, longest, at ? at : &nowhere);
-}
-
-static inline enum motchidu_status motchidu_verify_or_null(const uint8_t *filter, size_t filter_len,
-                                                           size_t *at)
-{
-    size_t nowhere = 0;
-    return (motchidu_verify)(filter, filter_len, at ? at : &nowhere);
-}
-
-#define motchidu_longest(filter, filter_len, longest, at) \
-    motchidu_longest_or_null(filter, filter_len, longest, at)
-#define motchidu_verify(filter, filter_len, at) motchidu_verify_or_null(filter, filter_len, at)
 
 #ifdef __cplusplus
 }

@@ -231,7 +231,8 @@ FAULTS = (("bpf_code/src/fault.rt", "CodeFault"), ("bpf_verify/src/fault.rt", "F
           ("cri_frames/src/faults.rt", "FeedFault"), ("cri_frames/src/faults.rt", "Lost"),
           ("worker_core/src/answers.rt", "NodeRefusal"), ("compile/src/fault.rt", "CompileFault"),
           ("profile_text/src/faults.rt", "WriteFault"), ("node_io/src/faults.rt", "FileFault"),
-          ("checker/src/bad_words.rt", "WordFault"), ("command_line/src/fault.rt", "Misfit"))
+          ("check_stops/src/bad_words.rt", "WordFault"), ("command_line/src/fault.rt", "Misfit"),
+          ("seen_calls/src/faults.rt", "LineFault"), ("profile_unit/src/faults.rt", "UnitFault"))
 NO_ROWS = {"Profile"}  # a template's fault that is one of a profile
 
 
@@ -281,10 +282,10 @@ def stated_statuses(crates):
 
 # What a program ends with besides what stops it: done, and the last moment.
 STATUSES = {
-    "seccheck": (["checker"], {0}),
-    "scriptd": (["runtime_server"], set()),
-    "scriptctl": (["runtime_server"], {0}),
-    "nodeagent": (["runtime_server", "agent_parts"], {0, 5}),
+    "seccheck": (["check_stops"], {0}),
+    "scriptd": (["runtime_stops"], set()),
+    "scriptctl": (["runtime_stops"], {0}),
+    "nodeagent": (["runtime_stops", "agent_parts"], {0, 5}),
 }
 
 
@@ -314,10 +315,10 @@ def check_library_page(prefix, room):
     page, header = text_of("man/motchidu.3"), text_of("include/motchidu.h")
     functions = set(re.findall(r"^(?:static inline )?[a-z_ ]+ \*?(motchidu_[a-z_]+)\(", header, re.M))
     named = set(re.findall(r"^\.B (motchidu_[a-z_]+)$", page, re.M))
-    check("motchidu.3 has each function", named, {it for it in functions if not it.endswith("_or_null")})
-    statuses = re.findall(r"^    (MOTCHIDU_[A-Z_]+) = (\d+)", header, re.M)
-    told = re.findall(r'^\.BR (MOTCHIDU_[A-Z_]+) " \(" (\d+) \)$', page, re.M)
-    check("motchidu.3 has each status", told, statuses)
+    check("motchidu.3 has each function", named, functions)
+    statuses = re.findall(r"^    (MOTCHIDU_[A-Z0-9_]+) = (\d+)", header, re.M)
+    told = re.findall(r'^\.BR (MOTCHIDU_[A-Z0-9_]+) " \(" (\d+) \)$', page, re.M)
+    check("motchidu.3 has each status and each decider", told, statuses)
     placed = set(re.findall(r"(MOTCHIDU_[A-Z_]+) = \d+,? +/\* P: ", header))
     told = set(re.findall(r"^\.BR (MOTCHIDU_[A-Z_]+) .*\n.*Has a place\.$", page, re.M))
     check("motchidu.3 has what has a place", told, placed)
@@ -404,6 +405,9 @@ def check_examples(prefix, program, room):
     how = {"cwd": f"{room}/examples", "env": environment(prefix)}
     # What scriptctl asks needs a runtime at the socket of its examples.
     words = ["scriptd", "--socket", "node.sock"] if program == "scriptctl" else ["true"]
+    # A scriptd that was killed in an example leaves its socket.
+    if os.path.exists(f"{room}/examples/node.sock"):
+        os.unlink(f"{room}/examples/node.sock")
     with subprocess.Popen([shutil.which(words[0], path=how["env"]["PATH"]), *words[1:]], **how) as beside:
         while words[0] == "scriptd" and not os.path.exists(f"{room}/examples/node.sock"):
             time.sleep(0.01)

@@ -41,6 +41,15 @@ build judge "${shared[@]}" && "$out/judge" examples/x86_64_only.bpf > "$out/judg
   && diff examples/c/judge.stdout "$out/judge.stdout"
 count c/judge $?
 
+if build explain "${shared[@]}"; then
+  {
+    "$out/explain" - read clone3 ptrace nosuchcall
+    "$out/explain" examples/c/refused.json mkdir
+  } > "$out/explain.stdout"
+  diff examples/c/explain.stdout "$out/explain.stdout"
+fi
+count c/explain $?
+
 build every_status -I$library $library/libmotchidu.a -Wl,--wrap=malloc && "$out/every_status"
 count c/every_status $?
 
@@ -84,10 +93,14 @@ else
   }
   try_python judge examples/c/confine.json
   try_python compare examples/c/confine.json examples/no_ptrace.json
-  # The names of the module are those of the header, in its order.
+  try_python explain examples/c/confine.json examples/template.json
+  # The names of statuses in the module are those of the header, in its order, and so are the functions.
   diff <(sed -n -E 's/^    case MOTCHIDU_[A-Z_]+: return "(.*)";/\1/p' include/motchidu.h) \
     <(PYTHONPATH=examples/python python3 -B -c 'import motchidu; print(*motchidu.NAMES, sep="\n")')
   count python/motchidu $?
+  diff <(sed -n -E 's/^enum motchidu_status (motchidu_[a-z_]+)\(.*/\1/p' include/motchidu.h | sort) \
+    <(PYTHONPATH=examples/python python3 -B -c 'import motchidu; print(*motchidu._ARGUMENTS, sep="\n")')
+  count "python/motchidu's functions" $?
 fi
 echo "$passed passed, $failed failed"
 [ $failed = 0 ]

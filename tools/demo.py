@@ -1,6 +1,7 @@
 #!/usr/bin/env python3
-"""The second half of make demo: nodeagent, compiled with checks at run time in the place of proofs, settles
-two pods over a socket, and then looks after a folder into which a manifest is put and from which it is taken.
+"""make demo: programs compiled with checks at run time in place of proofs. A small one gives a first verdict. Then
+come the commands of a user and their answers: seccheck over a profile, filters and scripts, and nodeagent, which
+settles two pods over a socket and looks after a folder of pods.
 """
 import os
 import shutil
@@ -8,22 +9,39 @@ import subprocess
 import sys
 import tempfile
 import time
+from concurrent.futures import ThreadPoolExecutor
 
 sys.dont_write_bytecode = True
-from side_by_side import ROOT
+from side_by_side import ROOT, timed
 from tried import built
 
 PATIENCE = 120  # seconds for each line that is waited for
 
+SECCHECK = (
+    ("A profile is compiled to a filter:", "seccheck compile no_ptrace.json compiled.bpf"),
+    ("A filter is checked:", "seccheck verify no_ptrace.bpf"),
+    ("Its instructions:", "seccheck show no_ptrace.bpf"),
+    ("A verified filter judges a call:", "seccheck run x86_64_only.bpf getpid"),
+    ("The entry of a profile that decides a call:", "seccheck explain no_ptrace.json ptrace"),
+    ("A container's script is played under a filter:", "seccheck play tries_ptrace.json no_ptrace.bpf"),
+    ("A script adds a filter of its own, which denies its next call:", "seccheck play adds_a_filter.json"),
+    ("The profile of each container of a pod:", "seccheck pick two_profiles.json"),
+)
 
-def settled(room, env):
-    command = "nodeagent --socket node.sock --with-runtime --settle confined_pod.json tracing_pod.json"
+
+def said(text):
+    print(f"demo: {text}", flush=True)
+
+
+def shown(command, room, env):
+    """Runs a command as a user would type it, and shows what it prints."""
     print(f"$ {command}", flush=True)
-    return subprocess.run(command, shell=True, cwd=room, env=env, check=False).returncode
+    if subprocess.run(command, shell=True, cwd=room, env=env, check=False).returncode:
+        raise SystemExit("demo: the command failed")
 
 
 def shown_until(agent, told, wanted):
-    """Prints what the agent tells, until it tells this of a pod."""
+    """Prints what the agent prints, until it prints this of a pod."""
     late = time.monotonic() + PATIENCE
     while time.monotonic() < late:
         line = told.readline()
@@ -35,7 +53,7 @@ def shown_until(agent, told, wanted):
             break
         else:
             time.sleep(0.05)
-    raise SystemExit(f"demo: nodeagent did not tell: {wanted}")
+    raise SystemExit(f"demo: nodeagent did not print: {wanted}")
 
 
 def looked_after(room, env):
@@ -57,18 +75,44 @@ def looked_after(room, env):
 
 
 def main():
-    with tempfile.TemporaryDirectory(prefix="motchidu-demo-") as folder:
-        said, is_there = built("nodeagent", folder)
-        if not is_there:
-            raise SystemExit(f"{said}demo: nodeagent is not built")
+    begun = time.monotonic()
+    said("programs are compiled with checks in place of proofs; make test proves what they run")
+    with tempfile.TemporaryDirectory(prefix="motchidu-demo-") as folder, ThreadPoolExecutor() as pool:
         env = {**os.environ, "PATH": f"{folder}/bin:{os.environ['PATH']}"}
         room = shutil.copytree(f"{ROOT}/examples", f"{folder}/examples")
-        print("demo: two pods over a socket; a container asks for ptrace under RuntimeDefault, and one under "
-              "a profile that lets it", flush=True)
-        if settled(room, env):
-            raise SystemExit("demo: the pods did not settle")
-        print("demo: a folder of pods: a manifest is put into it, and taken out of it", flush=True)
-        looked_after(room, env)
+
+        def wait_for(name, building):
+            text, is_there = building.result()
+            if not is_there:
+                raise SystemExit(f"{text}demo: {name} could not be compiled")
+
+        def start(name):
+            return pool.submit(built, name, f"{folder}/{name}")
+
+        # The small program has all processors, so that its verdicts come soon.
+        programs = {"first_verdict": start("first_verdict")}
+        programs["first_verdict"].result()
+        programs.update((name, start(name)) for name in ("seccheck", "nodeagent"))
+        os.makedirs(f"{folder}/bin")
+        for name, building in programs.items():
+            wait_for(name, building)
+            os.rename(f"{folder}/{name}/bin/{name}", f"{folder}/bin/{name}")
+            if name == "first_verdict":
+                said(f"after {timed(begun)}, a small program compiles a profile, and has its first verdicts:")
+                shown("first_verdict no_ptrace.json getpid ptrace", room, env)
+                said("seccheck and nodeagent are compiled, two minutes more")
+            elif name == "seccheck":
+                for title, command in SECCHECK:
+                    said(title)
+                    shown(command, room, env)
+            else:
+                said("Two pods over a socket. A container asks for ptrace under RuntimeDefault, and one under "
+                     "a profile that allows it:")
+                shown("nodeagent --socket node.sock --with-runtime --settle confined_pod.json "
+                      "tracing_pod.json", room, env)
+                said("A folder of pods. A manifest is put into it, and removed:")
+                looked_after(room, env)
+    said(f"the end, after {timed(begun)}")
 
 
 main()

@@ -13,14 +13,14 @@ make mutants  plants the wrong bodies of tests/mutants that no contract reaches,
               notice; PROGRAM=NAME.. those of some programs. A minute and a half for each, two at a time
 make cases    runs the cases of tests/ with the programs that make test built, or those in BIN=FOLDER;
               CASES=FILE.. runs some of them. A minute or two
-make demo     compiles a profile, judges a call with a verified filter, plays scripts, settles pods over a socket,
-              and runs the pods of a folder, before any proof. Three minutes
+make demo     compiles a profile, judges calls with its filter, plays scripts, settles pods over a socket, and runs
+              the pods of a folder, before any proof. A first verdict after half a minute, three minutes in all
 make try      installs the programs, their manual pages and completions to PREFIX (/usr/local), compiled with
-              checks at run time in place of proofs; their --version says unproved. Two minutes on four cores
+              checks at run time in place of proofs; their --version says unproved. Two to three minutes on four cores
 make install  proves the programs and the library for C, and installs them with pages and completions to PREFIX
               (/usr/local). An hour of one core; make copy installs what is already built, and
               make uninstall removes it. At once
-make lib      builds the library for C and its header, proved, in out/c. Ten minutes of one core
+make lib      builds the library for C and its header, proved, in out/c. Fifteen minutes of one core
 make bench    measures the machine and the compiler beside others, the runtime with few and many uids, calls over
               a socket, creations, a full sandbox, and a long-running agent; uses what is already built.
               ENGINES=FOLDER: profiles of engines whose packages lie there. A quarter of an hour

@@ -5,23 +5,26 @@
 #
 # A crate that takes memory calls the toolchain's few lines over malloc, realloc and free, which go along.
 # Functions begin at multiples of 64 bytes, so that the speed of the machine's loop does not hang on where
-# a link happens to put it. The shared library shows the functions of the header alone.
+# a link happens to put it. Both libraries show the functions of the header alone.
+#
+# All tools are the toolchain's: its clang is LLVM's objcopy too, when it is called by that name.
 set -e
 archive=$1 folder=$2
 kit=$(dirname "$(rt doc)")
 parts=$(mktemp -d)
 trap 'rm -rf "$parts"' EXIT
 mkdir -p "$folder"
+ln -s "$kit/toolchain/bin/clang" "$parts/llvm-objcopy"
+# The proved functions need a place to write to, and tools/null_places.c calls them with one.
+"$parts/llvm-objcopy" --redefine-sym motchidu_verify=proved_verify \
+  --redefine-sym motchidu_longest=proved_longest "$archive" "$parts/proved.a"
+"$kit/toolchain/bin/clang" -std=c11 -O2 -fPIC -ffreestanding -Wall -Wextra -Werror -c tools/null_places.c \
+  -o "$parts/null_places.o"
 echo 'SECTIONS { .text : SUBALIGN(64) { *(.text .text.*) } }' > "$parts/layout"
-"$kit/toolchain/bin/ld.lld" -r -T "$parts/layout" --whole-archive "$archive" "$kit/c/liblibc_c.a" \
-  -o "$parts/motchidu.o"
+"$kit/toolchain/bin/ld.lld" -r -T "$parts/layout" --whole-archive "$parts/proved.a" "$kit/c/liblibc_c.a" \
+  "$parts/null_places.o" -o "$parts/motchidu.o"
 # Or a program could not link the library beside another that brings the same few lines.
-if command -v objcopy > /dev/null; then
-  objcopy --wildcard --keep-global-symbol='motchidu_*' "$parts/motchidu.o"
-else
-  echo "$folder: there is no objcopy, so libmotchidu.a shows names beside the header's:" \
-    "rattle_alloc and two more"
-fi
+"$parts/llvm-objcopy" --wildcard --keep-global-symbol='motchidu_*' "$parts/motchidu.o"
 version=$(sed -n -E 's/^#define MOTCHIDU_VERSION "(.*)"$/\1/p' include/motchidu.h)
 name=libmotchidu.so.${version%%.*}
 # The shared library names C's, whose malloc and free it calls, where a compiler says where that is.

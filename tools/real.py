@@ -1,10 +1,9 @@
 #!/usr/bin/env python3
-"""real.py: runs the scripts of examples/real/, each of which holds a real program to a filter or a profile, the
-commands of docs/REAL.md, and profile_of_strace.py on odd lines. seccheck is crates/seccheck/out/seccheck, or that
+"""real.py: runs the scripts of examples/real/, each of which holds a real program to a filter or a profile, and
+the commands of docs/REAL.md. seccheck is crates/seccheck/out/seccheck, or that
 in the folder BIN; the library for C is that of out/c, or the one that pkg-config knows. What this machine can't run
 is left out, and the last lines say why. Status 0 if all that could run passed.
 """
-import json
 import os
 import re
 import shlex
@@ -18,25 +17,6 @@ REAL = f"{ROOT}/examples/real"
 BIN = os.path.abspath(os.environ.get("BIN") or f"{ROOT}/crates/seccheck/out")
 LEFT_OUT, SECONDS = 77, 120  # the status of a script that can't run here, and the limit of each
 
-# Lines of strace, and each call that a profile has to have by them; None: the line has to be reported.
-LINES = (
-    ('execve("/bin/true", ["true"], 0x7ffc /* 35 vars */) = 0', "execve"),
-    ("101   getpid()                          = 101", "getpid"),
-    ("[pid   102] getppid() = 101", "getppid"),
-    ("101   12:00:01 uname({sysname=\"Linux\"}) = 0", "uname"),
-    ("101   1764331200.000001 alarm(0) = 0", "alarm"),
-    ("102   read(3,  <unfinished ...>", "read"),
-    ("101   <... wait4 resumed>NULL, 0, NULL) = 102", "wait4"),
-    ("101   --- SIGCHLD {si_signo=SIGCHLD, si_code=CLD_EXITED} ---", ""),
-    ("102   +++ exited with 0 +++", ""),
-    ("101   exit_group(0)                     = ?", "exit_group"),
-    ("", ""),
-    ("101   syscall_0x1c5(0, 0) = -1 ENOSYS (Function not implemented)", None),
-    ("101   ????( <unfinished ...>", None),
-    ('101   openat(AT_FDCWD, "/etc/ld.so', None),
-    ("101   clo", None),
-)
-
 
 def environment():
     new = {**os.environ, "PATH": f"{BIN}:{os.environ['PATH']}"}
@@ -44,20 +24,6 @@ def environment():
         for name in ("PKG_CONFIG_PATH", "LD_LIBRARY_PATH"):
             new[name] = ":".join(filter(None, (f"{ROOT}/out/c", new.get(name))))
     return new
-
-
-def takes_odd_lines():
-    with tempfile.TemporaryDirectory() as room:
-        with open(f"{room}/log", "w", encoding="utf-8") as log:
-            log.write("".join(f"{line}\n" for line, _ in LINES))
-        words = [sys.executable, f"{REAL}/profile_of_strace.py", "--errno", "38", f"{room}/log"]
-        ran = subprocess.run(words, capture_output=True, text=True, timeout=SECONDS)
-        profile = json.loads(ran.stdout or "{}")
-        found = {name for entry in profile.get("syscalls", []) for name in entry["names"]}
-        wanted = {name for _, name in LINES if name}
-        told = [int(it) for it in re.findall(r":(\d+): left out: ", ran.stderr)]
-        odd = [at for at, (_, name) in enumerate(LINES, 1) if name is None]
-        return wanted <= found and not any(it.startswith("syscall_") for it in found) and told == odd
 
 
 def status_of(words, **more):
@@ -108,9 +74,9 @@ def main():
         print(said, end="", flush=True)
         passed += status == 0
         failed += [script] if status else []
-    others = [("profile_of_strace.py: each call is in the profile, each broken line is reported", takes_odd_lines)]
-    if any(it.startswith("strace: ") for it in left_out):
-        left_out.append("docs/REAL.md: left out: it needs what strace.sh needs\n")
+    others = []
+    if any(it.startswith("bubblewrap: ") for it in left_out):
+        left_out.append("docs/REAL.md: left out: it needs what bubblewrap.sh needs\n")
     else:
         others.append(("docs/REAL.md: each command prints what is shown", follows_page))
     for what, holds in others:

@@ -1,7 +1,8 @@
-/* A filter, a profile or a pair of filters for each status of motchidu.h, so that the numbers of the header
- * and those of the library can't part. Prints each row that is not as it should be, and ends with their
- * number. */
+/* A filter, a profile, a pair of filters or a template for each status of motchidu.h, so that the numbers of
+ * the header and those of the library can't part. Prints each row that is not as it should be, and ends with
+ * their number. */
 #include <linux/audit.h>
+#include <linux/capability.h>
 #include <linux/filter.h>
 #include <linux/seccomp.h>
 #include <motchidu.h>
@@ -75,8 +76,7 @@ static void expect_run(const char *name, const void *code, size_t len, size_t ca
                        uint32_t want) {
     static const struct seccomp_data calls[2];
     uint32_t values[2] = {NOWHERE, NOWHERE}, steps[2] = {NOWHERE, NOWHERE};
-    uint32_t status =
-        motchidu_run_all(code, len, (const uint8_t *)calls, calls_len, values, 2, steps, steps_len);
+    uint32_t status = motchidu_run_all(code, len, calls, calls_len, values, 2, steps, steps_len);
     int is_kept = values[0] == NOWHERE && values[1] == NOWHERE && steps[0] == NOWHERE && steps[1] == NOWHERE;
     expect(name, status, 0, want, 0);
     if (is_kept == (want == MOTCHIDU_ACCEPTED)) {
@@ -91,21 +91,27 @@ static void expect_run(const char *name, const void *code, size_t len, size_t ca
 static const struct {
     const char *text;
     enum motchidu_status want;
+    const char *place;
 } profiles[] = {
-    {ENTRY("\"names\":[\"read\"],\"action\":\"SCMP_ACT_TRAP\""), MOTCHIDU_ACCEPTED},
-    {"{", MOTCHIDU_NOT_JSON},
-    {"[]", MOTCHIDU_NOT_OBJECT},
-    {"{}", MOTCHIDU_MISSING},
-    {"{\"defaultAction\":1}", MOTCHIDU_WRONG_TYPE},
-    {"{\"defaultAction\":\"ALLOW\"}", MOTCHIDU_UNKNOWN_ACTION},
-    {ARG("{\"index\":0,\"value\":1,\"op\":\"EQ\"}"), MOTCHIDU_UNKNOWN_OP},
-    {ARG("{\"index\":6,\"value\":1,\"op\":\"SCMP_CMP_EQ\"}"), MOTCHIDU_BAD_INDEX},
-    {ENTRY("\"names\":[],\"action\":\"SCMP_ACT_TRAP\""), MOTCHIDU_EMPTY_NAMES},
-    {ARG("{\"index\":0,\"value\":1,\"op\":\"SCMP_CMP_EQ\"},{\"index\":0}"), MOTCHIDU_REPEATED_INDEX},
-    {"{\"defaultAction\":\"SCMP_ACT_ALLOW\",\"defaultErrnoRet\":1}", MOTCHIDU_ERRNO_NOT_ALLOWED},
-    {"{\"defaultAction\":\"SCMP_ACT_ERRNO\",\"defaultErrnoRet\":4096}", MOTCHIDU_ERRNO_TOO_LARGE},
-    {ENTRY("\"names\":[\"nosuchcall\"],\"action\":\"SCMP_ACT_TRAP\""), MOTCHIDU_UNKNOWN_CALL},
-    {"{\"defaultAction\":\"SCMP_ACT_NOTIFY\"}", MOTCHIDU_NOTIFY},
+    {ENTRY("\"names\":[\"read\"],\"action\":\"SCMP_ACT_TRAP\""), MOTCHIDU_ACCEPTED, NULL},
+    {"{", MOTCHIDU_NOT_JSON, ""},
+    {"[]", MOTCHIDU_NOT_OBJECT, ""},
+    {"{}", MOTCHIDU_MISSING, "defaultAction"},
+    {"{\"defaultAction\":1}", MOTCHIDU_WRONG_TYPE, "defaultAction"},
+    {"{\"defaultAction\":\"ALLOW\"}", MOTCHIDU_UNKNOWN_ACTION, "defaultAction"},
+    {ARG("{\"index\":0,\"value\":1,\"op\":\"EQ\"}"), MOTCHIDU_UNKNOWN_OP, "syscalls[0].args[0].op"},
+    {ARG("{\"index\":6,\"value\":1,\"op\":\"SCMP_CMP_EQ\"}"),
+     MOTCHIDU_BAD_INDEX, "syscalls[0].args[0].index"},
+    {ENTRY("\"names\":[],\"action\":\"SCMP_ACT_TRAP\""), MOTCHIDU_EMPTY_NAMES, "syscalls[0].names"},
+    {ARG("{\"index\":0,\"value\":1,\"op\":\"SCMP_CMP_EQ\"},{\"index\":0}"),
+     MOTCHIDU_REPEATED_INDEX, "syscalls[0].args[1].index"},
+    {"{\"defaultAction\":\"SCMP_ACT_ALLOW\",\"defaultErrnoRet\":1}",
+     MOTCHIDU_ERRNO_NOT_ALLOWED, "defaultErrnoRet"},
+    {"{\"defaultAction\":\"SCMP_ACT_ERRNO\",\"defaultErrnoRet\":4096}",
+     MOTCHIDU_ERRNO_TOO_LARGE, "defaultErrnoRet"},
+    {ENTRY("\"names\":[\"nosuchcall\"],\"action\":\"SCMP_ACT_TRAP\""),
+     MOTCHIDU_UNKNOWN_CALL, "syscalls[0].names[0]"},
+    {"{\"defaultAction\":\"SCMP_ACT_NOTIFY\"}", MOTCHIDU_NOTIFY, "defaultAction"},
 };
 
 /* Compiles a profile with this much room, and says whether room and length are as the answer has it. */
@@ -114,7 +120,7 @@ static void expect_compiled(const char *name, const char *text, size_t text_len,
     static uint8_t filter[64];
     size_t length = NOWHERE, after = want == MOTCHIDU_ACCEPTED ? want_length : 0;
     memset(filter, 0xa5, sizeof filter);
-    uint32_t status = motchidu_compile((const uint8_t *)text, text_len, filter, room, &length);
+    uint32_t status = motchidu_compile(text, text_len, filter, room, &length);
     expect(name, status, length, want, want_length);
     for (size_t i = after; i < sizeof filter; i++)
         if (filter[i] != 0xa5) {
@@ -204,8 +210,7 @@ static const struct {
 /* What the filter returns on the call. */
 static uint32_t returned(const struct code *filter, const struct seccomp_data *call) {
     uint32_t value = NOWHERE, steps;
-    motchidu_run_all((const uint8_t *)filter->code, filter->len, (const uint8_t *)call, sizeof *call, &value,
-                     1, &steps, 1);
+    motchidu_run_all(filter->code, filter->len, call, sizeof *call, &value, 1, &steps, 1);
     return value;
 }
 
@@ -216,9 +221,8 @@ static void expect_compared(const char *name, const struct code *first, const st
     uint32_t values[2] = {NOWHERE, NOWHERE};
     memset(&before, 0xa5, sizeof before);
     call = before;
-    uint32_t status =
-        motchidu_compare((const uint8_t *)first->code, first->len, (const uint8_t *)second->code, second->len,
-                         native, budget, (uint8_t *)&call, values);
+    uint32_t status = motchidu_compare(first->code, first->len, second->code, second->len, native, budget,
+                                       &call, values);
     expect(name, status, 0, want, 0);
     if (want != MOTCHIDU_DIFFER) {
         if (memcmp(&call, &before, sizeof call) != 0 || values[0] != NOWHERE || values[1] != NOWHERE) {
@@ -269,13 +273,347 @@ static void expect_pairs_without_memory(void) {
     served = ALL;
 }
 
+/* Compiles a profile with room for this much of the place, and says whether the place is as it should be. */
+static void expect_placed(const char *text, size_t room, uint32_t want, const char *want_place) {
+    static uint8_t filter[64];
+    char place[32];
+    size_t length = NOWHERE, place_length = NOWHERE;
+    size_t want_length = want == MOTCHIDU_ACCEPTED ? 64 : NOWHERE;
+    size_t takes = want_place ? strlen(want_place) : NOWHERE, written = takes <= room ? takes : 0;
+    memset(place, '#', sizeof place);
+    uint32_t status = motchidu_compile_at(text, strlen(text), filter, sizeof filter, &length, place, room,
+                                          &place_length);
+    expect(text, status, length, want, want_length);
+    expect(text, 0, place_length, 0, takes);
+    for (size_t i = 0; i < sizeof place; i++)
+        if (place[i] != (i < written ? want_place[i] : '#')) {
+            printf("%s: at %.32s\n", text, place);
+            wrong++;
+            break;
+        }
+}
+
+static void expect_places(void) {
+    for (size_t i = 0; i < sizeof profiles / sizeof *profiles; i++) {
+        const char *place = profiles[i].place;
+        expect_placed(profiles[i].text, 32, profiles[i].want, place);
+        expect_placed(profiles[i].text, 0, profiles[i].want, place);
+        if (!place || place[0] == '\0')
+            continue;
+        expect_placed(profiles[i].text, strlen(place), profiles[i].want, place);
+        expect_placed(profiles[i].text, strlen(place) - 1, profiles[i].want, place);
+    }
+    served = 0;
+    expect_placed(profiles[3].text, 32, MOTCHIDU_MEMORY, NULL);
+    served = ALL;
+}
+
+/* A text that is written into this much room: whether the answer, the length and the bytes are as they should
+ * be. The text is what is wanted, or NULL if nothing is to be written. */
+static void expect_text(const char *name, uint32_t status, uint32_t want, const char *room, size_t room_len,
+                        size_t length, const char *want_text) {
+    size_t takes = want_text ? strlen(want_text) : NOWHERE;
+    size_t written = want == MOTCHIDU_ACCEPTED ? takes : 0;
+    expect(name, status, length, want, takes);
+    for (size_t i = 0; i < room_len; i++)
+        if (room[i] != (i < written ? want_text[i] : '#')) {
+            printf("%s: byte %zu is %02x\n", name, i, room[i]);
+            wrong++;
+            break;
+        }
+}
+
+static void expect_call(const char *call, size_t len, uint32_t want, uint32_t want_number) {
+    uint32_t number = NOWHERE, status = motchidu_call_number(call, len, &number);
+    expect(call ? call : "no name", status, number, want, want_number);
+}
+
+static void expect_name(uint32_t number, size_t room, uint32_t want, const char *want_name) {
+    char name[32], row[32];
+    size_t length = NOWHERE;
+    memset(name, '#', sizeof name);
+    snprintf(row, sizeof row, "call %u", number);
+    uint32_t status = motchidu_call_name(number, name, room, &length);
+    expect_text(row, status, want, name, sizeof name, length, want_name);
+}
+
+/* Names and numbers at both ends of the table, and beside it. */
+static void expect_calls(void) {
+    expect_call("read", 4, MOTCHIDU_ACCEPTED, 0);
+    expect_call("ptrace", 6, MOTCHIDU_ACCEPTED, 101);
+    expect_call("faccessat2", 10, MOTCHIDU_ACCEPTED, 439);
+    expect_call("ptrac", 5, MOTCHIDU_UNKNOWN_CALL, NOWHERE);
+    expect_call("ptrace", 7, MOTCHIDU_UNKNOWN_CALL, NOWHERE);
+    expect_call("PTRACE", 6, MOTCHIDU_UNKNOWN_CALL, NOWHERE);
+    expect_call("ptrace\xff", 7, MOTCHIDU_UNKNOWN_CALL, NOWHERE);
+    expect_call("\xff", 1, MOTCHIDU_UNKNOWN_CALL, NOWHERE);
+    expect_call(NULL, 0, MOTCHIDU_UNKNOWN_CALL, NOWHERE);
+    expect_name(0, 32, MOTCHIDU_ACCEPTED, "read");
+    expect_name(101, 6, MOTCHIDU_ACCEPTED, "ptrace");
+    expect_name(101, 5, MOTCHIDU_NO_ROOM, "ptrace");
+    expect_name(439, 32, MOTCHIDU_ACCEPTED, "faccessat2");
+    expect_name(440, 32, MOTCHIDU_UNKNOWN_CALL, NULL);
+    expect_name(256 + 101, 32, MOTCHIDU_UNKNOWN_CALL, NULL);
+    expect_name(0x40000000, 32, MOTCHIDU_UNKNOWN_CALL, NULL);
+    size_t length = NOWHERE;
+    uint32_t status = motchidu_call_name(0, NULL, 0, &length);
+    expect("no room for a name", status, length, MOTCHIDU_NO_ROOM, 4);
+}
+
+/* RuntimeDefault is a profile, whose text needs all of its room. */
+static void expect_default(void) {
+    static char text[8192], again[8192];
+    static uint8_t filter[32768];
+    size_t needed = NOWHERE, length = NOWHERE;
+    served = 0;
+    uint32_t status = motchidu_default(text, sizeof text, &length);
+    expect("no memory for the default", status, length, MOTCHIDU_MEMORY, NOWHERE);
+    served = ALL;
+    expect("no room", motchidu_default(NULL, 0, &needed), 0, MOTCHIDU_NO_ROOM, 0);
+    memset(text, '#', sizeof text);
+    status = motchidu_default(text, needed - 1, &length);
+    expect("a byte too few", status, length, MOTCHIDU_NO_ROOM, needed);
+    expect("nothing is written", (uint32_t)text[0], 0, '#', 0);
+    status = motchidu_default(text, needed, &length);
+    expect("the default", status, length, MOTCHIDU_ACCEPTED, needed);
+    expect("the byte behind it", (uint32_t)text[needed], 0, '#', 0);
+    status = motchidu_default(again, sizeof again, &length);
+    expect("more room", status, length, MOTCHIDU_ACCEPTED, needed);
+    expect("the same text", memcmp(text, again, needed) == 0, 0, 1, 0);
+    status = motchidu_compile(text, needed, filter, sizeof filter, &length);
+    expect("is a profile", status, 0, MOTCHIDU_ACCEPTED, 0);
+}
+
+/* Three entries, of which the second has a condition. */
+static const char explained[] =
+    "{\"defaultAction\":\"SCMP_ACT_ERRNO\",\"defaultErrnoRet\":38,\"syscalls\":["
+    "{\"names\":[\"read\"],\"action\":\"SCMP_ACT_ALLOW\"},"
+    "{\"names\":[\"socket\"],\"action\":\"SCMP_ACT_ALLOW\","
+    "\"args\":[{\"index\":0,\"value\":9,\"op\":\"SCMP_CMP_GE\"}]},"
+    "{\"names\":[\"socket\"],\"action\":\"SCMP_ACT_TRAP\"}]}";
+
+static void expect_explained(const char *name, const char *text, struct seccomp_data call, uint32_t want,
+                             uint32_t want_decider, size_t want_entry, uint32_t want_value) {
+    uint32_t decider = NOWHERE, value = NOWHERE;
+    size_t entry = NOWHERE;
+    uint32_t status = motchidu_explain(text, strlen(text), &call, &decider, &entry, &value);
+    expect(name, status, entry, want, want_entry);
+    expect(name, decider, 0, want_decider, 0);
+    expect(name, value, 0, want_value, 0);
+}
+
+static void expect_decided(const char *name, struct seccomp_data call, uint32_t decider, size_t entry,
+                           uint32_t value) {
+    expect_explained(name, explained, call, MOTCHIDU_ACCEPTED, decider, entry, value);
+}
+
+static void expect_deciders(void) {
+    struct seccomp_data call = {.nr = 0, .arch = AUDIT_ARCH_X86_64};
+    expect_decided("read", call, MOTCHIDU_BY_ENTRY, 0, SECCOMP_RET_ALLOW);
+    call.nr = 1;
+    expect_decided("write", call, MOTCHIDU_BY_DEFAULT, NOWHERE, SECCOMP_RET_ERRNO | 38);
+    call.nr = 41;
+    expect_decided("socket 0", call, MOTCHIDU_BY_ENTRY, 2, SECCOMP_RET_TRAP);
+    call.args[0] = 9;
+    expect_decided("socket 9", call, MOTCHIDU_BY_ENTRY, 1, SECCOMP_RET_ALLOW);
+    call.nr = 0x40000000;
+    expect_decided("x32", call, MOTCHIDU_BY_X32, NOWHERE, SECCOMP_RET_KILL_PROCESS);
+    call.arch = AUDIT_ARCH_I386;
+    expect_decided("i386", call, MOTCHIDU_BY_ARCHITECTURE, NOWHERE, SECCOMP_RET_KILL_PROCESS);
+    for (size_t i = 1; i < sizeof profiles / sizeof *profiles; i++)
+        expect_explained(profiles[i].text, profiles[i].text, call, profiles[i].want, NOWHERE, NOWHERE,
+                         NOWHERE);
+    served = 0;
+    expect_explained("no memory", explained, call, MOTCHIDU_MEMORY, NOWHERE, NOWHERE, NOWHERE);
+    served = ALL;
+}
+
+#define TEMPLATE(fields) \
+    "{\"defaultAction\":\"SCMP_ACT_ERRNO\",\"syscalls\":[{\"action\":\"SCMP_ACT_ALLOW\"," fields "}]}"
+#define RESOLVED(more) \
+    "{\"defaultAction\":\"SCMP_ACT_ERRNO\",\"defaultErrnoRet\":1,\"syscalls\":[" more "]}"
+#define BPF_ALLOWED "{\"action\":\"SCMP_ACT_ALLOW\",\"names\":[\"bpf\"]}"
+#define FOR_CAPS \
+    TEMPLATE("\"names\":[\"bpf\"],\"includes\":{\"caps\":[\"CAP_SYS_ADMIN\",\"CAP_BPF\"]}")
+#define FOR_KERNEL TEMPLATE("\"names\":[\"bpf\"],\"includes\":{\"minKernel\":\"5.8\"}")
+
+enum { BEYOND = 63 };
+
+/* Templates under settings, with the profile that is wanted of each that is one. */
+static const struct {
+    const char *text;
+    uint64_t caps;
+    uint32_t major, minor;
+    enum motchidu_status want;
+    const char *profile;
+} templates[] = {
+    {FOR_CAPS, UINT64_MAX, 6, 1, MOTCHIDU_ACCEPTED, RESOLVED(BPF_ALLOWED)},
+    {FOR_CAPS, UINT64_C(1) << CAP_SYS_ADMIN | UINT64_C(1) << CAP_BPF, 6, 1, MOTCHIDU_ACCEPTED,
+     RESOLVED(BPF_ALLOWED)},
+    {FOR_CAPS, UINT64_C(1) << CAP_SYS_ADMIN, 6, 1, MOTCHIDU_ACCEPTED, RESOLVED("")},
+    {FOR_CAPS, UINT64_C(1) << CAP_BPF, 6, 1, MOTCHIDU_ACCEPTED, RESOLVED("")},
+    {FOR_CAPS, UINT64_C(1) << BEYOND, 6, 1, MOTCHIDU_ACCEPTED, RESOLVED("")},
+    {FOR_KERNEL, 0, 5, 7, MOTCHIDU_ACCEPTED, RESOLVED("")},
+    {FOR_KERNEL, 0, 5, 8, MOTCHIDU_ACCEPTED, RESOLVED(BPF_ALLOWED)},
+    {FOR_KERNEL, 0, 4, 9, MOTCHIDU_ACCEPTED, RESOLVED("")},
+    {FOR_KERNEL, 0, UINT32_MAX, UINT32_MAX, MOTCHIDU_ACCEPTED, RESOLVED(BPF_ALLOWED)},
+    {TEMPLATE("\"names\":[\"bpf\"],\"includes\":{\"arches\":[\"amd64\"]}"), 0, 6, 1, MOTCHIDU_ACCEPTED,
+     RESOLVED(BPF_ALLOWED)},
+    {TEMPLATE("\"name\":\"bpf\",\"names\":[\"read\"]"), 0, 6, 1, MOTCHIDU_BOTH, NULL},
+    {"{\"defaultAction\":\"SCMP_ACT_ERRNO\",\"defaultErrno\":\"ENOSUCH\"}", 0, 6, 1,
+     MOTCHIDU_UNKNOWN_ERRNO, NULL},
+    {TEMPLATE("\"names\":[\"bpf\"],\"includes\":{\"minKernel\":\"5\"}"), 0, 6, 1, MOTCHIDU_BAD_KERNEL,
+     NULL},
+    {TEMPLATE("\"names\":[]"), 0, 6, 1, MOTCHIDU_EMPTY_NAMES, NULL},
+    {"{", 0, 6, 1, MOTCHIDU_NOT_JSON, NULL},
+};
+
+static void expect_resolved(size_t i, size_t room, uint32_t want, const char *want_text) {
+    char text[256];
+    size_t length = NOWHERE;
+    memset(text, '#', sizeof text);
+    uint32_t status = motchidu_resolve(templates[i].text, strlen(templates[i].text), templates[i].caps,
+                                       templates[i].major, templates[i].minor, text, room, &length);
+    expect_text(templates[i].text, status, want, text, sizeof text, length, want_text);
+}
+
+static void expect_templates(void) {
+    for (size_t i = 0; i < sizeof templates / sizeof *templates; i++) {
+        const char *profile = templates[i].profile;
+        expect_resolved(i, 256, templates[i].want, profile);
+        if (profile) {
+            expect_resolved(i, strlen(profile), templates[i].want, profile);
+            expect_resolved(i, strlen(profile) - 1, MOTCHIDU_NO_ROOM, profile);
+        }
+    }
+    served = 0;
+    expect_resolved(0, 256, MOTCHIDU_MEMORY, NULL);
+    served = ALL;
+}
+
+/* Each capability by its number and its name, of linux/capability.h. */
+#define CAP(name) {name, #name}
+static const struct {
+    int number;
+    const char *name;
+} capabilities[] = {
+    CAP(CAP_CHOWN), CAP(CAP_DAC_OVERRIDE), CAP(CAP_DAC_READ_SEARCH), CAP(CAP_FOWNER), CAP(CAP_FSETID),
+    CAP(CAP_KILL), CAP(CAP_SETGID), CAP(CAP_SETUID), CAP(CAP_SETPCAP), CAP(CAP_LINUX_IMMUTABLE),
+    CAP(CAP_NET_BIND_SERVICE), CAP(CAP_NET_BROADCAST), CAP(CAP_NET_ADMIN), CAP(CAP_NET_RAW),
+    CAP(CAP_IPC_LOCK), CAP(CAP_IPC_OWNER), CAP(CAP_SYS_MODULE), CAP(CAP_SYS_RAWIO), CAP(CAP_SYS_CHROOT),
+    CAP(CAP_SYS_PTRACE), CAP(CAP_SYS_PACCT), CAP(CAP_SYS_ADMIN), CAP(CAP_SYS_BOOT), CAP(CAP_SYS_NICE),
+    CAP(CAP_SYS_RESOURCE), CAP(CAP_SYS_TIME), CAP(CAP_SYS_TTY_CONFIG), CAP(CAP_MKNOD), CAP(CAP_LEASE),
+    CAP(CAP_AUDIT_WRITE), CAP(CAP_AUDIT_CONTROL), CAP(CAP_SETFCAP), CAP(CAP_MAC_OVERRIDE),
+    CAP(CAP_MAC_ADMIN), CAP(CAP_SYSLOG), CAP(CAP_WAKE_ALARM), CAP(CAP_BLOCK_SUSPEND), CAP(CAP_AUDIT_READ),
+    CAP(CAP_PERFMON), CAP(CAP_BPF), CAP(CAP_CHECKPOINT_RESTORE),
+};
+
+/* Whether a template's entry for this capability is kept under the mask. */
+static bool is_kept(const char *name, uint64_t mask) {
+    char template_text[256], text[256];
+    size_t length = 0;
+    snprintf(template_text, sizeof template_text,
+             TEMPLATE("\"names\":[\"bpf\"],\"includes\":{\"caps\":[\"%s\"]}"), name);
+    uint32_t status =
+        motchidu_resolve(template_text, strlen(template_text), mask, 6, 1, text, sizeof text, &length);
+    return status == MOTCHIDU_ACCEPTED && length == strlen(RESOLVED(BPF_ALLOWED));
+}
+
+static void expect_capabilities(void) {
+    for (size_t i = 0; i < sizeof capabilities / sizeof *capabilities; i++) {
+        uint64_t bit = UINT64_C(1) << capabilities[i].number;
+        expect(capabilities[i].name, is_kept(capabilities[i].name, bit), 0, true, 0);
+        expect(capabilities[i].name, is_kept(capabilities[i].name, ~bit), 0, false, 0);
+    }
+}
+
+/* Returns the status of a function, and says whether anything was written where there was no memory. */
+static uint32_t kept(const char *name, uint32_t status, size_t length, const char *text) {
+    if (status == MOTCHIDU_MEMORY && (length != NOWHERE || text[0] != '#')) {
+        printf("%s: something was written\n", name);
+        wrong++;
+    }
+    return status;
+}
+
+static uint32_t write_default(void) {
+    static char text[8192];
+    size_t length = NOWHERE;
+    text[0] = '#';
+    uint32_t status = motchidu_default(text, sizeof text, &length);
+    return kept("default", status, length, text);
+}
+
+static uint32_t resolve_template(void) {
+    char text[256] = "#";
+    size_t length = NOWHERE;
+    uint32_t status = motchidu_resolve(templates[0].text, strlen(templates[0].text), templates[0].caps, 6, 1,
+                                       text, sizeof text, &length);
+    return kept("resolve", status, length, text);
+}
+
+static uint32_t explain_call(void) {
+    static const struct seccomp_data socket = {.nr = 41, .arch = AUDIT_ARCH_X86_64};
+    uint32_t decider = NOWHERE, value = NOWHERE;
+    size_t entry = NOWHERE;
+    uint32_t status = motchidu_explain(explained, strlen(explained), &socket, &decider, &entry, &value);
+    return kept("explain", status, decider == NOWHERE && value == NOWHERE ? entry : 0, "#");
+}
+
+static uint32_t compile_faulty(void) {
+    static const char text[] = ENTRY("\"names\":[\"read\",1],\"action\":\"SCMP_ACT_TRAP\"");
+    static uint8_t filter[64];
+    char place[32] = "#";
+    size_t length = NOWHERE, place_length = NOWHERE;
+    uint32_t status = motchidu_compile_at(text, strlen(text), filter, sizeof filter, &length, place,
+                                          sizeof place, &place_length);
+    return kept("compile_at", status, place_length, place);
+}
+
+/* The length of a text is checked before memory is taken. */
+static void expect_too_large(void) {
+    static const struct seccomp_data call;
+    static char large[262144 + 1];
+    char room[64];
+    uint32_t decider = NOWHERE, value = NOWHERE;
+    size_t length = NOWHERE, entry = NOWHERE, place_length = NOWHERE;
+    memset(large, ' ', sizeof large);
+    uint32_t status = motchidu_resolve(large, sizeof large, 0, 6, 1, room, sizeof room, &length);
+    expect("a large template", status, length, MOTCHIDU_TOO_LARGE, NOWHERE);
+    served = 0;
+    status = motchidu_explain(large, sizeof large, &call, &decider, &entry, &value);
+    expect("explained", status, entry, MOTCHIDU_TOO_LARGE, NOWHERE);
+    status = motchidu_compile_at(large, sizeof large, NULL, 0, &length, NULL, 0, &place_length);
+    expect("compiled", status, place_length, MOTCHIDU_TOO_LARGE, 0);
+    served = ALL;
+}
+
+static void expect_in_turn(const char *name, uint32_t (*function)(void), uint32_t want) {
+    enum { MOST_REQUESTS = 100000 };
+    uint32_t status = MOTCHIDU_MEMORY;
+    for (int requests = 0; status == MOTCHIDU_MEMORY && requests < MOST_REQUESTS; requests++) {
+        served = requests;
+        status = function();
+    }
+    served = ALL;
+    expect(name, status, 0, want, 0);
+}
+
+/* Refuses each request for memory in turn, until all are served. */
+static void expect_texts_without_memory(void) {
+    expect_in_turn("default", write_default, MOTCHIDU_ACCEPTED);
+    expect_in_turn("resolve", resolve_template, MOTCHIDU_ACCEPTED);
+    expect_in_turn("explain", explain_call, MOTCHIDU_ACCEPTED);
+    expect_in_turn("compile_at", compile_faulty, MOTCHIDU_WRONG_TYPE);
+}
+
 /* In the order of their numbers. */
 static const char *const names[] = {
     "Accepted", "Length", "TooLong", "BadCode", "Empty", "BadOffset", "BadJump", "BadWord", "BadShift",
     "ZeroDivisor", "NoFinalReturn", "Unstored", "Memory", "Lengths", "NotJson", "NotObject", "Missing",
     "WrongType", "UnknownAction", "UnknownOp", "BadIndex", "EmptyNames", "RepeatedIndex", "ErrnoNotAllowed",
     "ErrnoTooLarge", "UnknownCall", "Notify", "TooLarge", "TooHeavy", "NoRoom", "Same", "Differ", "Budget",
-    "Arithmetic", "Unknown",
+    "Arithmetic", "Both", "UnknownErrno", "BadKernel", "Unknown",
 };
 
 static void expect_names(void) {
@@ -295,13 +633,22 @@ int main(void) {
         expect_run(rows[i].name, rows[i].code, rows[i].len, 128, 2, rows[i].want);
         expect_longest(rows[i].name, rows[i].code, rows[i].len, rows[i].want, 2, rows[i].at);
         uint32_t longest = NOWHERE;
-        const uint8_t *code = (const uint8_t *)rows[i].code;
-        expect(rows[i].name, motchidu_verify(code, rows[i].len, NULL), 0, rows[i].want, 0);
-        expect(rows[i].name, motchidu_longest(code, rows[i].len, &longest, NULL), 0, rows[i].want, 0);
+        expect(rows[i].name, motchidu_verify(rows[i].code, rows[i].len, NULL), 0, rows[i].want, 0);
+        expect(rows[i].name, motchidu_longest(rows[i].code, rows[i].len, &longest, NULL), 0, rows[i].want, 0);
+        uint32_t want_longest = rows[i].want == MOTCHIDU_ACCEPTED ? 2 : NOWHERE;
+        expect(rows[i].name, longest, 0, want_longest, 0);
     }
     static const struct sock_filter dead[] = {ALLOW, LOAD_NR, ALLOW};
     expect_longest("a return in front", dead, sizeof dead, MOTCHIDU_ACCEPTED, 1, NOWHERE);
     expect_profiles();
+    expect_places();
+    expect_calls();
+    expect_default();
+    expect_deciders();
+    expect_templates();
+    expect_capabilities();
+    expect_too_large();
+    expect_texts_without_memory();
     expect_pairs();
     expect_pairs_without_memory();
 
@@ -314,7 +661,7 @@ int main(void) {
     expect_run("a call too few", rows[0].code, rows[0].len, 64, 2, MOTCHIDU_LENGTHS);
     expect_run("half a call", rows[0].code, rows[0].len, 96, 2, MOTCHIDU_LENGTHS);
     expect_run("a number of steps too few", rows[0].code, rows[0].len, 128, 1, MOTCHIDU_LENGTHS);
-    status = motchidu_run_all((const uint8_t *)rows[0].code, rows[0].len, NULL, 0, NULL, 0, NULL, 0);
+    status = motchidu_run_all(rows[0].code, rows[0].len, NULL, 0, NULL, 0, NULL, 0);
     expect("no calls", status, 0, MOTCHIDU_ACCEPTED, 0);
 
     served = 0;

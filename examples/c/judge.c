@@ -24,7 +24,7 @@ int main(int argc, char **argv) {
     /* read of x86-64, the same call of the 32-bit table, and an empty one */
     struct seccomp_data calls[3] = {{.nr = 0, .arch = AUDIT_ARCH_X86_64}, {.nr = 3, .arch = AUDIT_ARCH_I386}};
     uint32_t values[3], steps[3];
-    status = motchidu_run_all(filter, len, (const uint8_t *)calls, sizeof calls, values, 3, steps, 3);
+    status = motchidu_run_all(filter, len, calls, sizeof calls, values, 3, steps, 3);
     for (int i = 0; status == MOTCHIDU_ACCEPTED && i < 3; i++)
         printf("%08x in %u steps\n", values[i], steps[i]);
     return status != MOTCHIDU_ACCEPTED;

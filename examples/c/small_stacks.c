@@ -19,26 +19,52 @@ static void expect(const char *name, uint32_t found, uint32_t want) {
     wrong++;
 }
 
-/* A profile with as many objects in one another as a JSON text may have, and one that has one more. In the
- * innermost stands a number, whose digits may be more than a float has. */
-static uint32_t compiled(int depth, const char *number) {
+/* A profile with as many objects in one another as a JSON text may have, or one more. In the innermost stands
+ * a number, whose digits may be more than a float has. */
+static const char *nested(int depth, const char *number) {
     static char text[2048];
-    static uint8_t filter[32768];
-    size_t length;
     strcpy(text, "{\"defaultAction\":\"SCMP_ACT_ALLOW\",\"more\":");
     for (int i = 0; i < depth; i++)
         strcat(text, "{\"a\":");
     strcat(text, number);
     for (int i = 0; i <= depth; i++)
         strcat(text, "}");
-    return motchidu_compile((const uint8_t *)text, strlen(text), filter, sizeof filter, &length);
+    return text;
 }
 
-static void *compile_both(void *unused) {
+/* Each function that reads JSON. */
+static void expect_read(const char *name, const char *text, uint32_t want) {
+    static uint8_t filter[32768];
+    static char profile[4096];
+    static const struct seccomp_data call;
+    char place[128];
+    uint32_t decider, value;
+    size_t text_len = strlen(text), length, place_length, entry;
+    expect(name, motchidu_compile(text, text_len, filter, sizeof filter, &length), want);
+    expect(name,
+           motchidu_compile_at(text, text_len, filter, sizeof filter, &length, place, sizeof place,
+                               &place_length),
+           want);
+    expect(name, motchidu_explain(text, text_len, &call, &decider, &entry, &value), want);
+    expect(name, motchidu_resolve(text, text_len, UINT64_MAX, 6, 1, profile, sizeof profile, &length), want);
+}
+
+static void *read_all(void *unused) {
     static const char long_number[] = "123456789012345678901234567890.123456789012345678901234567890e-20";
-    expect("the deepest profile", compiled(DEPTH, "1"), MOTCHIDU_ACCEPTED);
-    expect("a long number in it", compiled(DEPTH, long_number), MOTCHIDU_ACCEPTED);
-    expect("a deeper profile", compiled(DEPTH + 1, "1"), MOTCHIDU_NOT_JSON);
+    expect_read("the deepest profile", nested(DEPTH, "1"), MOTCHIDU_ACCEPTED);
+    expect_read("a long number in it", nested(DEPTH, long_number), MOTCHIDU_ACCEPTED);
+    expect_read("a deeper profile", nested(DEPTH + 1, "1"), MOTCHIDU_NOT_JSON);
+    return unused;
+}
+
+static void *write_and_look_up(void *unused) {
+    static char text[8192];
+    char name[32];
+    uint32_t number;
+    size_t length;
+    expect("default", motchidu_default(text, sizeof text, &length), MOTCHIDU_ACCEPTED);
+    expect("call_number", motchidu_call_number("faccessat2", 10, &number), MOTCHIDU_ACCEPTED);
+    expect("call_name", motchidu_call_name(number, name, sizeof name, &length), MOTCHIDU_ACCEPTED);
     return unused;
 }
 
@@ -54,27 +80,23 @@ static void *check_and_run(void *unused) {
         code[i] = (struct sock_filter)BPF_JUMP(BPF_JMP | BPF_JEQ | BPF_K, i, 0, 0);
     code[0] = (struct sock_filter)BPF_STMT(BPF_LD | BPF_W | BPF_ABS, 0);
     code[LONGEST_FILTER - 1] = (struct sock_filter)BPF_STMT(BPF_RET | BPF_K, SECCOMP_RET_ALLOW);
-    const uint8_t *bytes = (const uint8_t *)code;
-    expect("verify", motchidu_verify(bytes, sizeof code, &at), MOTCHIDU_ACCEPTED);
-    expect("longest", motchidu_longest(bytes, sizeof code, &longest, &at), MOTCHIDU_ACCEPTED);
+    expect("verify", motchidu_verify(code, sizeof code, &at), MOTCHIDU_ACCEPTED);
+    expect("longest", motchidu_longest(code, sizeof code, &longest, &at), MOTCHIDU_ACCEPTED);
     expect("the longest way", longest, LONGEST_FILTER);
-    expect("run_all", motchidu_run_all(bytes, sizeof code, (const uint8_t *)&call, 64, &value, 1, &steps, 1),
-           MOTCHIDU_ACCEPTED);
+    uint32_t status = motchidu_run_all(code, sizeof code, &call, sizeof call, &value, 1, &steps, 1);
+    expect("run_all", status, MOTCHIDU_ACCEPTED);
     expect("its value", value, SECCOMP_RET_ALLOW);
     expect("its steps", steps, LONGEST_FILTER);
     memcpy(other, code, sizeof code);
     other[LONGEST_FILTER - 1].k = SECCOMP_RET_LOG;
-    const uint8_t *other_bytes = (const uint8_t *)other;
-    uint32_t status =
-        motchidu_compare(bytes, sizeof code, other_bytes, sizeof other, true, BUDGET, differing, values);
+    status = motchidu_compare(code, sizeof code, other, sizeof other, true, BUDGET, differing, values);
     expect("compare with another", status, MOTCHIDU_DIFFER);
     expect("what the other returns", values[1], SECCOMP_RET_LOG);
     other[LONGEST_FILTER - 1] = code[LONGEST_FILTER - 1];
     other[1].k = LONGEST_FILTER;
-    status =
-        motchidu_compare(bytes, sizeof code, other_bytes, sizeof other, false, BUDGET, differing, values);
+    status = motchidu_compare(code, sizeof code, other, sizeof other, false, BUDGET, differing, values);
     expect("compare with the same by another test", status, MOTCHIDU_BUDGET);
-    status = motchidu_compare(bytes, sizeof code, bytes, sizeof code, false, 0, differing, values);
+    status = motchidu_compare(code, sizeof code, code, sizeof code, false, 0, differing, values);
     expect("compare with itself", status, MOTCHIDU_SAME);
     return unused;
 }
@@ -91,7 +113,8 @@ static void in_a_thread(size_t stack, void *(*work)(void *)) {
 }
 
 int main(void) {
-    in_a_thread(LARGE, compile_both);
+    in_a_thread(LARGE, read_all);
+    in_a_thread(SMALL, write_and_look_up);
     in_a_thread(SMALL, check_and_run);
     return wrong;
 }

@@ -1,39 +1,57 @@
-"""The library for C as a Python module: compile a profile, verify a filter, run it, compare two of them.
+"""The library for C as a Python module: compile a profile, explain what it decides, run and compare filters.
 
     import motchidu
     library = motchidu.Library("libmotchidu.so")
-    judged = library.compile(open("profile.json", "rb").read())
-    judged.run(motchidu.call(83))          # (value, steps)
+    profile = open("profile.json", "rb").read()
+    judged = library.compile(profile)
+    judged.run(motchidu.call(83))                          # (value, steps)
+    library.explain(profile, motchidu.call(library.call_number("mkdir")))
 
-A status of the library that is not an answer is raised as Refused, with its name and, if it has one, its place.
+A status of the library that is not an answer is raised as Refused, with its name and, if it has one, its
+place: the index of an instruction, or a path in the profile's text.
 """
 import ctypes
 import struct
+from collections import namedtuple
 
 X86_64 = 0xC000003E
 MAX_FILTER = 32768  # bytes: room for any filter
-ACCEPTED, SAME, DIFFER, BUDGET, ARITHMETIC = 0, 30, 31, 32, 33
+MAX_PROFILE = 262144  # bytes: room for any text
+MAX_PLACE = 128  # bytes: room for any place in a text
+ACCEPTED, UNKNOWN_CALL, SAME, DIFFER, BUDGET, ARITHMETIC = 0, 25, 30, 31, 32, 33
+NEWEST = (0xFFFFFFFF, 0xFFFFFFFF)  # newer than any kernel that a template asks for
 # In the order of enum motchidu_status.
 NAMES = """Accepted Length TooLong BadCode Empty BadOffset BadJump BadWord BadShift ZeroDivisor NoFinalReturn
 Unstored Memory Lengths NotJson NotObject Missing WrongType UnknownAction UnknownOp BadIndex EmptyNames
 RepeatedIndex ErrnoNotAllowed ErrnoTooLarge UnknownCall Notify TooLarge TooHeavy NoRoom Same Differ Budget
-Arithmetic""".split()
-# The statuses that have a place.
+Arithmetic Both UnknownErrno BadKernel""".split()
+# The statuses that have a place in a filter.
 PLACED = {"BadCode", "BadOffset", "BadJump", "BadWord", "BadShift", "ZeroDivisor", "Unstored"}
+# In the order of enum motchidu_decider.
+ENTRY, DEFAULT, ARCHITECTURE, X32 = range(4)
 
 _BYTES, _SIZE, _WORDS = ctypes.c_char_p, ctypes.c_size_t, ctypes.POINTER(ctypes.c_uint32)
-_PLACE = ctypes.POINTER(ctypes.c_size_t)
+_WORD, _MASK, _PLACE = ctypes.c_uint32, ctypes.c_uint64, ctypes.POINTER(ctypes.c_size_t)
 _ARGUMENTS = {
-    "motchidu_compile": [_BYTES, _SIZE, _BYTES, _SIZE, _PLACE],
-    "motchidu_verify": [_BYTES, _SIZE, _PLACE],
-    "motchidu_longest": [_BYTES, _SIZE, _WORDS, _PLACE],
-    "motchidu_run_all": [_BYTES, _SIZE, _BYTES, _SIZE, _WORDS, _SIZE, _WORDS, _SIZE],
+    "motchidu_call_name": [_WORD, _BYTES, _SIZE, _PLACE],
+    "motchidu_call_number": [_BYTES, _SIZE, _WORDS],
     "motchidu_compare": [_BYTES, _SIZE, _BYTES, _SIZE, ctypes.c_bool, ctypes.c_uint64, _BYTES, _WORDS],
+    "motchidu_compile": [_BYTES, _SIZE, _BYTES, _SIZE, _PLACE],
+    "motchidu_compile_at": [_BYTES, _SIZE, _BYTES, _SIZE, _PLACE, _BYTES, _SIZE, _PLACE],
+    "motchidu_default": [_BYTES, _SIZE, _PLACE],
+    "motchidu_explain": [_BYTES, _SIZE, _BYTES, _WORDS, _PLACE, _WORDS],
+    "motchidu_longest": [_BYTES, _SIZE, _WORDS, _PLACE],
+    "motchidu_resolve": [_BYTES, _SIZE, _MASK, _WORD, _WORD, _BYTES, _SIZE, _PLACE],
+    "motchidu_run_all": [_BYTES, _SIZE, _BYTES, _SIZE, _WORDS, _SIZE, _WORDS, _SIZE],
+    "motchidu_verify": [_BYTES, _SIZE, _PLACE],
 }
+
+# What decides a call: one of the four numbers above, the index of the entry if it is ENTRY, and the value.
+Explanation = namedtuple("Explanation", "decider entry value")
 
 
 class Refused(Exception):
-    """What the library refused: the name of its status, and the instruction where the fault is."""
+    """What the library refused: the name of its status, and the place of the fault."""
 
     def __init__(self, status, place=None):
         self.status, self.place = NAMES[status], place
@@ -54,13 +72,54 @@ class Library:
             function = getattr(self._library, name)
             function.argtypes, function.restype = arguments, ctypes.c_int
 
+    def _text(self, function, room, *arguments):
+        """The text that a function writes into its room."""
+        text, length = ctypes.create_string_buffer(room), ctypes.c_size_t()
+        status = function(*arguments, text, room, length)
+        if status != ACCEPTED:
+            raise Refused(status)
+        return text.raw[: length.value]
+
     def compile(self, profile):
         """The filter of a profile, the bytes of OCI's linux.seccomp as JSON."""
         code, length = ctypes.create_string_buffer(MAX_FILTER), ctypes.c_size_t()
-        status = self._library.motchidu_compile(profile, len(profile), code, MAX_FILTER, length)
+        place, place_length = ctypes.create_string_buffer(MAX_PLACE), ctypes.c_size_t()
+        status = self._library.motchidu_compile_at(
+            profile, len(profile), code, MAX_FILTER, length, place, MAX_PLACE, place_length)
+        if status != ACCEPTED:
+            raise Refused(status, place.raw[: place_length.value].decode() or None)
+        return Filter(self, code.raw[: length.value])
+
+    def explain(self, profile, one):
+        """What decides a call under a profile, and the value that its filter returns."""
+        decider, entry, value = ctypes.c_uint32(), ctypes.c_size_t(), ctypes.c_uint32()
+        status = self._library.motchidu_explain(profile, len(profile), one, decider, entry, value)
         if status != ACCEPTED:
             raise Refused(status)
-        return Filter(self, code.raw[: length.value])
+        index = entry.value if decider.value == ENTRY else None
+        return Explanation(decider.value, index, value.value)
+
+    def default(self):
+        """The bytes of RuntimeDefault, the profile that a container gets where its manifest says so."""
+        return self._text(self._library.motchidu_default, MAX_PROFILE)
+
+    def resolve(self, template, caps=0, kernel=NEWEST):
+        """The profile that a container engine's template is. Bit n of caps is capability n."""
+        return self._text(
+            self._library.motchidu_resolve, MAX_PROFILE, template, len(template), caps, *kernel)
+
+    def call_number(self, name):
+        """The number of the call with this name, or None."""
+        number, name = ctypes.c_uint32(), name.encode()
+        status = self._library.motchidu_call_number(name, len(name), number)
+        return None if status == UNKNOWN_CALL else number.value
+
+    def call_name(self, number):
+        """The name of the call with this number, or None."""
+        try:
+            return self._text(self._library.motchidu_call_name, 32, number).decode()
+        except Refused:
+            return None
 
     def filter(self, code):
         """The filter of these bytes, if it is sound."""

@@ -1,10 +1,10 @@
 #!/bin/sh
-# bwrap holds mkdir to the filter of mkdir.json, and then to that of the same profile without its call. bwrap
-# reads the filter from a descriptor, and installs it just before it starts the program.
+# bwrap holds mkdir to the filter of its learned profile, and then to that of the same profile without its call.
+# bwrap reads the filter from a descriptor, and installs it just before it starts the program.
 . "$(dirname "$0")/common.sh"
 needs bwrap bubblewrap
 bwrap --ro-bind / / true 2> "$room/said" || skip "$(cat "$room/said")"
-profiles "$here/mkdir.json"
+learned
 
 confined() {
   bwrap --ro-bind / / --tmpfs /tmp --seccomp 3 mkdir /tmp/new 3< "$room/$1.bpf"

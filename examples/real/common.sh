@@ -1,6 +1,7 @@
 # shellcheck shell=sh disable=SC2034
-# Sourced by the scripts of this folder, which need seccheck on the path. Each defines `confined NAME`, which
-# runs mkdir under the filter or the profile $room/NAME.*, and ends with `both`.
+# Sourced by the scripts of this folder, which need seccheck on the path. Each calls `learned`, which makes the
+# profile of mkdir from traces, and defines `confined NAME`, which runs mkdir under the filter or the profile
+# $room/NAME.*. It ends with `both`.
 # Status 0: both runs ended as the profiles say. 1: one did not. 77: this machine can't run the script.
 set -eu
 export LC_ALL=C # messages in English
@@ -25,8 +26,20 @@ needs() { # COMMAND PACKAGE
 
 command -v seccheck > /dev/null || fail "seccheck is not on the path: make try or make install"
 
+# Makes the profile of two runs of mkdir, and what `profiles` makes of it. The second run fails, as the folder
+# is there by then, so the profile has the calls of an error message too.
+learned() { # OPTION or FILE..
+  needs strace strace
+  strace -f -o "$room/log" mkdir "$room/new" || skip "strace can't trace here"
+  ! strace -f -A -o "$room/log" mkdir "$room/new" 2> "$room/said" || fail "a folder was made twice"
+  rmdir "$room/new"
+  # Each name on a line of its own.
+  seccheck learn --needed --default 'ERRNO 38' "$@" "$room/log" | sed 's/"[a-z0-9_]*",/&\n/g' > "$room/learned.json"
+  profiles "$room/learned.json"
+}
+
 # with.json and with.bpf are the profile and its filter; without.json and without.bpf lack the call mkdir, whose
-# entry is one line of the profile.
+# name is on a line of its own.
 profiles() { # PROFILE
   cp "$1" "$room/with.json"
   sed -E '/"mkdir(at)?"/d' "$1" > "$room/without.json"

@@ -1,20 +1,30 @@
 #!/bin/sh
-# A program in C, examples/c/confine.c, holds its child to a filter of the library for C. Its profile denies
-# three calls, and then getpid too: in a profile that allows all calls, a call is taken away by an entry.
-# pkg-config has to know the library, as after `make install` with README's lines of `export`.
+# A program in C, examples/c/confine.c, holds its child to the filter of its learned profile, by the library for C,
+# and then to that of the same profile without getpid. pkg-config has to know the library, as after `make install`
+# with README's lines of `export`.
 . "$(dirname "$0")/common.sh"
 needs "${CC:-cc}" gcc
 needs pkg-config pkg-config
+needs strace strace
 flags=$(pkg-config --cflags --libs motchidu 2> /dev/null) || skip "pkg-config knows no motchidu: make install"
-c=$here/../c
 # shellcheck disable=SC2086
-"${CC:-cc}" -D_GNU_SOURCE "$c/confine.c" -o "$room/confine" $flags
+"${CC:-cc}" -D_GNU_SOURCE "$here/../c/confine.c" -o "$room/confine" $flags
 
-sed 's/"mkdirat"/"mkdirat", "getpid"/' "$c/confine.json" > "$room/without.json"
-sed 's/^getpid: .*/getpid: errno 13/' "$c/confine.stdout" > "$room/without.stdout"
-said=$("$room/confine" "$c/confine.json") || { [ $? = 77 ] && skip "$said"; fail "$said"; }
-[ "$said" = "$(cat "$c/confine.stdout")" ] || fail "$said"
+# The child makes a folder, which the next run has to make again.
+run() { # PROFILE
+  "$room/confine" "$1" && rmdir /tmp/motchidu_confined
+}
+
+echo '{"defaultAction": "SCMP_ACT_ALLOW"}' > "$room/all.json"
+said=$(run "$room/all.json") || { [ $? = 77 ] && skip "$said"; fail "$said"; }
+strace -f -o "$room/log" "$room/confine" "$room/all.json" > "$room/said" || skip "strace can't trace here"
+rmdir /tmp/motchidu_confined
+# Each name on a line of its own.
+seccheck learn --needed --default 'ERRNO 38' "$room/log" | sed 's/"[a-z0-9_]*",/&\n/g' > "$room/with.json"
+sed '/"getpid"/d' "$room/with.json" > "$room/without.json"
+
+[ "$(run "$room/with.json")" = "$said" ] || fail "the program does not work under its filter"
 echo "$me: getpid works under the filter"
-said=$("$room/confine" "$room/without.json") || fail "$said"
-[ "$said" = "$(cat "$room/without.stdout")" ] || fail "$said"
-echo "$me: without its call: $(echo "$said" | head -1)"
+echo "$said" | sed 's/^getpid: .*/getpid: errno 38/' > "$room/wanted"
+[ "$(run "$room/without.json")" = "$(cat "$room/wanted")" ] || fail "getpid does not fail as the profile says"
+echo "$me: without its call: $(head -1 "$room/wanted")"

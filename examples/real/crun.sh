@@ -1,7 +1,7 @@
 #!/bin/sh
-# crun runs mkdir in a container, under the filter of mkdir.json, and then under that of the same profile
-# without its call. The annotation run.oci.seccomp_bpf_data takes the filter in base64, and crun installs it
-# unchanged. For root.
+# crun runs mkdir in a container, under the filter of its learned profile, and then under that of the same
+# profile without its call. The annotation run.oci.seccomp_bpf_data takes the filter in Base64, and crun installs
+# it unchanged. For root.
 . "$(dirname "$0")/common.sh"
 needs crun crun
 [ "$(id -u)" = 0 ] || skip "it is for root"
@@ -19,9 +19,10 @@ container() { # TOP
 }
 
 confined() {
-  container "\"annotations\": {\"run.oci.seccomp_bpf_data\": \"$(base64 -w 0 "$room/$1.bpf")\"},"
+  seccheck compile --base64 "$room/$1.json" "$room/$1.base64" > "$room/said" 2>&1 || fail "$(cat "$room/said")"
+  container "\"annotations\": {\"run.oci.seccomp_bpf_data\": \"$(cat "$room/$1.base64")\"},"
 }
 
 said=$(container '' 2>&1) || skip "crun starts no container here: $said"
-profiles "$here/mkdir.json"
+learned
 both

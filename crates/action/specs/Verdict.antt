@@ -1,5 +1,5 @@
--- What the value that a filter returns stands for: seccomp(2), return values. An action that the
--- manual does not list is SECCOMP_RET_KILL_PROCESS, as there, and here also where actions are ranked.
+-- The meaning of a filter's return value: seccomp(2), return values. An action that the manual does not list
+-- is SECCOMP_RET_KILL_PROCESS, as in the manual; here it also ranks as that action.
 use Rattle.std.specs.Prelude.{ℕ, ◌+◌, ◌*◌, ◌/◌, ◌%◌, ◌^◌, ◌==◌, min, Bool, true, false, List, [], ◌∷◌, find}
 use Rattle.std.specs.Prelude.{codes, Option, Some, None, unwrap_or}
 use Rattle.action.specs.declared.action.Action.{Action}
@@ -50,7 +50,7 @@ name_of Allow = codes "ALLOW"
 abbrev pub every_action : List Action
 every_action = KillProcess ∷ KillThread ∷ Trap ∷ Errno ∷ UserNotif ∷ Trace ∷ Log ∷ Allow ∷ []
 
--- the action with this code, and the end of the process for a code that none has
+-- the action with this code, or KillProcess if no action has it
 unfoldable pub action_of : ℕ → Action
 action_of code = unwrap_or (find (λ action. code_of action == code) every_action) KillProcess
 
@@ -62,8 +62,8 @@ verdict_of value = record { action = action_of (value / 2 ^ 16); ret_data = valu
 abbrev pub value_of : Verdict → ℕ
 value_of verdict = code_of verdict.action * 2 ^ 16 + verdict.ret_data
 
--- the errno that a call returns in place of being performed, if it returns one: with ENOSYS where
--- nobody traces it or is told of it
+-- the errno that a call returns instead of being performed, if any: ENOSYS if a supervisor or tracer is
+-- needed and there is none
 abbrev pub errno_by : Action → ℕ → Option ℕ
 errno_by Errno ret_data = Some (min ret_data MAX_ERRNO)
 errno_by UserNotif ret_data = Some ENOSYS

@@ -3,25 +3,24 @@ ghost use Rattle.action.specs.Verdict.{action_of, code_of, name_of, rank_of};
 
 use std::fmt;
 
-/// What is done with a system call, strictest first: where filters differ, the strictest of their actions is
-/// taken.
+/// What happens to a system call, strictest first. If filters differ, the strictest of their actions applies.
 #[derive(Clone, Copy, Debug, PartialEq, Eq)]
 pub enum Action {
-    /// The process is ended.
+    /// Ends the process.
     KillProcess,
-    /// The thread is ended.
+    /// Ends the thread.
     KillThread,
-    /// The thread gets the signal SIGSYS.
+    /// Sends the signal SIGSYS to the thread.
     Trap,
-    /// The call returns an errno.
+    /// Makes the call return an errno.
     Errno,
-    /// A supervisor is asked.
+    /// Asks a supervisor.
     UserNotif,
-    /// A tracer is notified.
+    /// Notifies a tracer.
     Trace,
-    /// The call is performed, and logged.
+    /// Performs the call and logs it.
     Log,
-    /// The call is performed.
+    /// Performs the call.
     Allow,
 }
 

@@ -4,14 +4,14 @@ ghost use Rattle.action.specs.declared.verdict.Verdict.{Verdict};
 ghost use Rattle.action.specs.declared.verdict.TheConstants.{ENOSYS, MAX_ERRNO};
 ghost use Rattle.action.specs.Verdict.{code_of, performs_of, rank_of, value_of, verdict_of};
 
-/// A verdict is the one that its value stands for.
+/// A verdict's value decodes to the same verdict.
 #[tactic(auto, unfolding(crate::specs::Verdict::action_of))]
 pub fn verdicts_round_trip()
     ensures { (verdict : Verdict) → verdict.ret_data < 2 ^ 16
         → verdict_of (value_of verdict) ≡ verdict }
 {}
 
-/// A value is its verdict's value if its action is known. Any other value ends the process, and keeps its
+/// A value is that of its verdict if its action is known. Any other value ends the process and keeps its
 /// data.
 #[tactic(auto, unfolding(crate::specs::Verdict::action_of))]
 pub fn values_round_trip()

@@ -1,8 +1,16 @@
-//! What a seccomp filter decides of a system call: the actions of seccomp(2), and the 32-bit values
-//! that stand for them.
+//! The verdicts of seccomp filters on system calls: the actions of seccomp(2), and the 32-bit values that
+//! encode them.
 //!
 //! Every value has a verdict; an unknown action counts as the strictest one. The tables are in
 //! `specs/Verdict.antt`.
+//!
+//! # What is proved
+//!
+//! - Every value has its verdict: `Verdict::of_value`.
+//! - A verdict has its value, from verdict to value and back: `value`, `verdicts_round_trip`,
+//!   `values_round_trip`.
+//! - The rank of a verdict: `rank`, `ranks_are_an_order`.
+//! - A verdict decides whether the call is performed, and which errno is returned: `performs`, `errno`.
 #![tactic(auto)]
 
 mod action;

@@ -5,7 +5,7 @@ use crate::action::Action;
 /// The greatest errno that a call returns.
 pub const MAX_ERRNO: u16 = 4095;
 
-/// ENOSYS, function not implemented: the errno of a call for which no supervisor or tracer answers.
+/// ENOSYS (function not implemented): the errno of a call that no supervisor or tracer answers.
 pub const ENOSYS: u16 = 38;
 
 /// What a filter's value decides about a call.
@@ -19,8 +19,7 @@ pub struct Verdict {
 impl Verdict {
     ghost use Rattle.action.specs.Verdict.{errno_of, performs_of, rank_of, value_of, verdict_of};
 
-    /// The verdict that a filter's value stands for. An unknown action is `Action::KillProcess`, and
-    /// the data stays.
+    /// Decodes a filter's value. An unknown action becomes `Action::KillProcess`; the data is kept.
     pub fn of_value(value: u32) -> Verdict
         ensures { result ≡ verdict_of value }
     {
@@ -30,7 +29,7 @@ impl Verdict {
         }
     }
 
-    /// The value that stands for this verdict.
+    /// The value that encodes this verdict.
     pub fn value(self) -> u32
         ensures { result ≡ value_of self }
     {
@@ -51,7 +50,7 @@ impl Verdict {
         matches!(self.action, Action::Log | Action::Allow)
     }
 
-    /// The errno that the call returns instead of being performed, if it returns one.
+    /// The errno that the call returns instead of being performed, if any.
     pub fn errno(self) -> Option<u16>
         ensures { result ≡ errno_of self }
     {

@@ -9,38 +9,42 @@ use Rattle.lifecycle.specs.declared.track.Track.{Track}
 use Rattle.manifest.specs.declared.pods.Pod.{Pod}
 use Rattle.worker_pod.specs.Next.{phase_in}
 use Rattle.node_watch.specs.declared.forms.Form.{Form}
+use Rattle.node_watch.specs.declared.counts.Counted.{Counted}
 use Rattle.node_watch.specs.declared.reasons.Reason.{Reason}
 use Rattle.worker_core.specs.declared.slots.Slot.{Slot}
 use Rattle.agent_parts.specs.Table.{pod_lines, slot_lines}
 
-more : (form : Form) (reasons : List Reason) (slots : List Slot) (place : ℕ) (pod : Pod) (tracks : List Track)
-    (phase : Phase)
+more : (form : Form) (reasons : List Reason) (counts : List Counted) (slots : List Slot) (place : ℕ)
+    (pod : Pod) (tracks : List Track) (phase : Phase)
     → slice_get (map (λ slot. slot.state.pod) slots) place ≡ Some pod
     → slice_get (map (λ slot. slot.state.tracks) slots) place ≡ Some tracks
     → slice_get (map (λ slot. phase_in slot.state) slots) place ≡ Some phase
-    → flat_map (slot_lines form reasons) (take (suc place) slots)
-    ≡ flat_map (slot_lines form reasons) (take place slots) ++ pod_lines form reasons pod tracks phase
-more form reasons [] place pod tracks phase p t h = absurd cc
-more form reasons (slot ∷ slots) zero pod tracks phase p t h =
-    let same : slot_lines form reasons slot ≡ pod_lines form reasons pod tracks phase = cc in
-    append-nil (slot_lines form reasons slot) ∙ same
-more form reasons (slot ∷ slots) (suc place) pod tracks phase p t h =
-    ap (λ rest. slot_lines form reasons slot ++ rest) (more form reasons slots place pod tracks phase p t h)
-    ∙ sym (append_assoc (slot_lines form reasons slot) (flat_map (slot_lines form reasons) (take place slots))
-    (pod_lines form reasons pod tracks phase))
+    → flat_map (slot_lines form reasons counts) (take (suc place) slots)
+    ≡ flat_map (slot_lines form reasons counts) (take place slots)
+    ++ pod_lines form reasons counts pod tracks phase
+more form reasons counts [] place pod tracks phase p t h = absurd cc
+more form reasons counts (slot ∷ slots) zero pod tracks phase p t h =
+    let same : slot_lines form reasons counts slot ≡ pod_lines form reasons counts pod tracks phase = cc in
+    append-nil (slot_lines form reasons counts slot) ∙ same
+more form reasons counts (slot ∷ slots) (suc place) pod tracks phase p t h =
+    ap (λ rest. slot_lines form reasons counts slot ++ rest)
+    (more form reasons counts slots place pod tracks phase p t h)
+    ∙ sym (append_assoc (slot_lines form reasons counts slot)
+    (flat_map (slot_lines form reasons counts) (take place slots)) (pod_lines form reasons counts pod tracks phase))
 
-pub one_more_pod : (form : Form) (reasons : List Reason) (slots : List Slot) (place : ℕ) (pod : Pod)
-    (tracks : List Track) (phase : Phase)
+pub one_more_pod : (form : Form) (reasons : List Reason) (counts : List Counted) (slots : List Slot)
+    (place : ℕ) (pod : Pod) (tracks : List Track) (phase : Phase)
     → slice_get (map (λ slot. slot.state.pod) slots) place ≡ Some pod
     → slice_get (map (λ slot. slot.state.tracks) slots) place ≡ Some tracks
     → slice_get (map (λ slot. phase_in slot.state) slots) place ≡ Some phase
-    → flat_map (slot_lines form reasons) (take (place + 1) slots)
-    ≡ flat_map (slot_lines form reasons) (take place slots) ++ pod_lines form reasons pod tracks phase
-one_more_pod form reasons slots place pod tracks phase p t h =
-    ap (λ n. flat_map (slot_lines form reasons) (take n slots)) (add-one place)
-    ∙ more form reasons slots place pod tracks phase p t h
+    → flat_map (slot_lines form reasons counts) (take (place + 1) slots)
+    ≡ flat_map (slot_lines form reasons counts) (take place slots)
+    ++ pod_lines form reasons counts pod tracks phase
+one_more_pod form reasons counts slots place pod tracks phase p t h =
+    ap (λ n. flat_map (slot_lines form reasons counts) (take n slots)) (add-one place)
+    ∙ more form reasons counts slots place pod tracks phase p t h
 
--- behind the last one there is none
+-- there is none after the last one
 none : {A : Type 0} (xs : List A) (place : ℕ) → is_some (slice_get xs place) ≡ false
     → take (suc place) xs ≡ take place xs
 none [] zero e = refl

@@ -1,4 +1,4 @@
--- What nodeagent does with its line, and how it ends: this project's own. docs/SEMANTICS.md, "Programs".
+-- How nodeagent reads its command line, and how it ends: this project's own. docs/SEMANTICS.md, "Programs".
 use Rattle.std.specs.Prelude.{ℕ, ◌==◌, ◌&&◌, Bool, true, false, if◌then◌else◌, List, [], ◌++◌, codes, Option, Some}
 use Rattle.std.specs.Prelude.{None, unwrap_or}
 use Rattle.std.specs.Fmt.{decimal}
@@ -10,8 +10,7 @@ use Rattle.node_watch.specs.declared.forms.Form.TheVariants.{Text, Json}
 use Rattle.node_watch.specs.declared.reasons.Reason.{Reason}
 use Rattle.runtime_server.specs.declared.site.Tells.{Tells}
 use Rattle.runtime_server.specs.declared.site.Tells.TheVariants as tells
-use Rattle.runtime_server.specs.declared.stops.ServerStop.TheVariants.{Memory}
-use Rattle.worker_core.specs.Kept.{KeptNode}
+use Rattle.runtime_stops.specs.declared.stops.ServerStop.TheVariants.{Memory}
 use Rattle.worker_crew.specs.declared.observer.Observed.{Observed}
 use Rattle.worker_crew.specs.declared.observer.Observed.TheVariants as observed
 use Rattle.worker_crew.specs.declared.pace.Ended.{Ended}
@@ -21,13 +20,12 @@ use Rattle.worker_crew.specs.declared.pace.Pace.TheVariants.{Counted, Machine}
 use Rattle.worker_pod.specs.declared.settings.Settings.{Settings}
 use Rattle.agent_parts.specs.declared.stops.AgentStop.{AgentStop}
 use Rattle.agent_parts.specs.declared.stops.AgentStop.TheVariants.{Server, HistoryFull}
-use Rattle.agent_parts.specs.Table.{told_table}
 
 -- the version of its requests
 abbrev pub version_for : NodeagentLine → Version
 version_for line = if line.numbers.cri == 1 then V1 else V2
 
--- a container that runs is looked at again after a second, with --settle at the same moment
+-- a running container is looked at again after a second, with --settle at the same moment
 abbrev pub settings_for : NodeagentLine → Settings
 settings_for line = record {
   seccomp_default = line.seccomp_default;
@@ -35,12 +33,12 @@ settings_for line = record {
   version = version_for line;
 }
 
--- what a runtime beside the agent tells
+-- which answers a runtime beside the agent reports
 abbrev pub told_beside : Bool → Tells
 told_beside true = tells.WrongFiles
 told_beside false = tells.Nothing
 
--- with --settle the time is counted, for an hour where nothing else is said; else it is the machine's
+-- with --settle the time is counted, by default for an hour; otherwise it is the machine's
 abbrev pub pace_for : NodeagentLine → Pace
 pace_for line = if line.settle then Counted (unwrap_or line.numbers.until 3600)
     else Machine line.numbers.until
@@ -56,7 +54,7 @@ status_at ended.HistoryFull = None
 abbrev pub form_for : NodeagentLine → Form
 form_for line = if line.json then Json else Text
 
--- what is kept beside the history: why containers wait, what changes of them, or both
+-- what is kept beside the history: why containers wait, their changes, or both
 abbrev pub observed_for : NodeagentLine → Observed
 observed_for line =
     if line.watch && line.reasons then observed.ChangesAndReasons (form_for line)
@@ -66,12 +64,7 @@ observed_for line =
 abbrev pub reasons_for : NodeagentLine → List Reason → List Reason
 reasons_for line reasons = if line.reasons then reasons else []
 
--- what is printed behind it
-abbrev pub text_at : NodeagentLine → List Reason → KeptNode → List ℕ
-text_at line reasons node = if line.settle then told_table (form_for line) (reasons_for line reasons) node
-    else []
-
--- why a run was stopped; memory may lack for the text, too
+-- why a run was stopped; the text may run out of memory, too
 abbrev pub stop_at : Ended → AgentStop
 stop_at ended.HistoryFull = HistoryFull
 stop_at ended.Settled = Server Memory
@@ -79,11 +72,11 @@ stop_at ended.TimeUp = Server Memory
 stop_at ended.Endless = Server Memory
 stop_at ended.Memory = Server Memory
 
--- the line with which it begins, where it tells of itself: over which socket it works, on how many pods
+-- the first log line: the socket, and the number of pods
 abbrev pub working_text : List ℕ → ℕ → List ℕ
 working_text socket pods = codes "works over " ++ (socket ++ (codes ", pods: " ++ decimal pods))
 
--- the name of a run: with a folder of pods one of its own, unless one is given
+-- the name of a run: the one given; if none is, with a folder of pods, one made for the run
 abbrev pub run_name : Option (List ℕ) → Option (List ℕ) → List ℕ → Option (List ℕ)
 run_name (Some run) pods made = Some run
 run_name None (Some folder) made = Some made

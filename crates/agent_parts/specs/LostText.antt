@@ -1,4 +1,4 @@
--- Why a call was lost, as it is told: this project's own. docs/SEMANTICS.md, "Programs".
+-- Why a call was lost, as text: this project's own. docs/SEMANTICS.md, "Programs".
 use Rattle.std.specs.Prelude.{ℕ, List, ◌++◌, codes, Option, Some, None}
 use Rattle.cri_frames.specs.FaultText.{lost_text}
 use Rattle.node_io.specs.Causes.{cause_text}

@@ -1,4 +1,4 @@
--- How the pods of a node stand at the end of a run with --settle, and its status: this project's own.
+-- The state of a node's pods at the end of a run with --settle, and its exit status: this project's own.
 -- docs/SEMANTICS.md, "Programs".
 use Rattle.std.specs.Prelude.{ℕ, Bool, if◌then◌else◌}
 use Rattle.worker_core.specs.Kept.{KeptNode}

@@ -10,7 +10,7 @@ use Rattle.agent_parts.specs.declared.reach.Reach.TheVariants.{Reached, Unreache
 use Rattle.agent_parts.specs.declared.reach.ReachReport.{ReachReport}
 use Rattle.agent_parts.specs.declared.reach.ReachReport.TheVariants.{Nothing, Lost, Again}
 
--- a call that came as far as its connection has reached the runtime
+-- a call that got a connection has reached the runtime
 abbrev pub shown_by : Option Why → Reach
 shown_by (Some (NotConnected cause)) = Unreached (NotConnected cause)
 shown_by (Some QueueFull) = Unreached QueueFull

@@ -1,4 +1,4 @@
--- When something that happens again and again is reported: this project's own. docs/SEMANTICS.md, "Programs".
+-- When a repeated event is reported: this project's own. docs/SEMANTICS.md, "Programs".
 use Rattle.std.specs.Prelude.{ℕ, ◌+◌, ◌-◌, ◌^◌, min, nat_le, Bool, true, if◌then◌else◌, Option, Some, None}
 use Rattle.agent_parts.specs.declared.repeats.TheConstants.{REPORT_REST}
 use Rattle.agent_parts.specs.declared.repeats.Repeats.{Repeats}

@@ -1,11 +1,11 @@
--- What is told where nodeagent ends before its work is done, this project's own: docs/SEMANTICS.md,
+-- The message of nodeagent when it ends before its work is done, this project's own: docs/SEMANTICS.md,
 -- "Programs".
 use Rattle.std.specs.Prelude.{ℕ, List, ◌++◌, codes, string_bytes, Option, Some}
 use Rattle.std.specs.Fmt.{decimal}
 use Rattle.fault_notes.specs.Paths.{shown_path}
 use Rattle.manifest.specs.Faults.{fault_text as pod_fault_text}
 use Rattle.worker_core.specs.Answers.{refusal_text}
-use Rattle.runtime_server.specs.StopText.{stop_text as server_text}
+use Rattle.runtime_stops.specs.StopText.{stop_text as server_text}
 use Rattle.agent_parts.specs.declared.stops.AgentStop.{AgentStop}
 use Rattle.agent_parts.specs.declared.stops.AgentStop.TheVariants.{Server, Text, Manifest, Pod, State, RunName}
 use Rattle.agent_parts.specs.declared.stops.AgentStop.TheVariants.{HistoryFull}

@@ -1,12 +1,12 @@
--- With which status nodeagent ends before its work is done: this project's own. docs/SEMANTICS.md,
+-- The exit status of nodeagent when it ends before its work is done: this project's own. docs/SEMANTICS.md,
 -- "Programs".
 use Rattle.std.specs.Prelude.{◌≡◌, ℕ, List, Some, string_bytes}
 use Rattle.fault_notes.specs.Notes.{IsNote}
 use Rattle.fault_notes.specs.declared.named.Named.TheVariants as named
 use Rattle.manifest.specs.declared.placed.PodFaultAt.{PodFaultAt}
 use Rattle.manifest.specs.Reading.{first_fault_at}
-use Rattle.runtime_server.specs.Stops.{status_of as status_of_server}
-use Rattle.runtime_server.specs.declared.stops.ServerStop.TheVariants as server
+use Rattle.runtime_stops.specs.Stops.{status_of as status_of_server}
+use Rattle.runtime_stops.specs.declared.stops.ServerStop.TheVariants as server
 use Rattle.agent_parts.specs.declared.stops.AgentStop.{AgentStop}
 use Rattle.agent_parts.specs.declared.stops.AgentStop.TheVariants.{Server, Text, Manifest, Pod, State, RunName}
 use Rattle.agent_parts.specs.declared.stops.AgentStop.TheVariants.{HistoryFull}
@@ -20,8 +20,8 @@ status_of (State path line) = 1
 status_of (RunName name) = 2
 status_of HistoryFull = 4
 
--- the first fault of a manifest's text stops the program, with its place and what stands there, or want of
--- memory does
+-- the program stops with the first fault of a manifest's text, its place and the value there, or because it
+-- is out of memory
 abbrev pub IsOfText : List ℕ → List ℕ → AgentStop → Type 0
 IsOfText path bytes (Text word told) =
     (word.now ≡ path) × ((found : PodFaultAt) × (first_fault_at bytes ≡ Some found)

@@ -1,4 +1,4 @@
-//! What is reported of a folder of manifests and of its files.
+//! The lines that report on a folder of manifests and its files.
 ghost use Rattle.std.specs.Prelude.{IfOk};
 ghost use Rattle.agent_parts.specs.Looks.{IsManifest};
 ghost use Rattle.pod_folder.specs.Looking.{ReadsAs};
@@ -9,11 +9,11 @@ use fault_notes::ShownPath;
 use manifest::PodFault;
 use node_io::CausedFault;
 use pod_folder::{MAX_FILES, Manifest, Reading, Report, gives_uid};
-use runtime_server::ServerStop;
+use runtime_stops::ServerStop;
 use std::alloc::{AllocError, Global};
 use worker_core::NodeRefusal;
 
-/// Makes the lines of a folder, none with a line end.
+/// Makes the lines of a folder, without line ends.
 #[derive(Clone, Copy)]
 pub struct FolderLines<'a> {
     pub alloc: Global,
@@ -35,7 +35,7 @@ impl FolderLines<'_> {
         format!(in self.alloc; "{}{slash}{name}", self.folder)
     }
 
-    /// What the bytes of the file at this path are read as.
+    /// Reads the bytes of the file at this path.
     pub fn reading(&self, path: &str, bytes: &[u8]) -> Result<Reading, AllocError>
         ensures { IfOk result (ReadsAs IsManifest bytes.now) }
     {
@@ -60,7 +60,7 @@ impl FolderLines<'_> {
         line_of(self.alloc, &AgentStop::Pod(path, refusal))
     }
 
-    /// What is reported of the file of this name.
+    /// The report on the file of this name.
     pub fn report(&self, name: &str, report: Report) -> Result<String, AllocError> {
         let path = self.path_of(name)?;
         match report {
@@ -70,7 +70,7 @@ impl FolderLines<'_> {
         }
     }
 
-    /// No uid can be made for the pod of the file of this name.
+    /// Reports that no uid can be made for the pod of the file of this name.
     pub fn unnamed(&self, name: &str) -> Result<String, AllocError> {
         let path = self.path_of(name)?;
         line_of(
@@ -79,7 +79,7 @@ impl FolderLines<'_> {
         )
     }
 
-    /// The node refused the pod of the file of this name, this many times since the last report.
+    /// Reports that the node refused the pod of this file, this many times since the last report.
     pub fn refusal(
         &self,
         name: &str,
@@ -95,7 +95,7 @@ impl FolderLines<'_> {
         }
     }
 
-    /// The look left out this many files.
+    /// Reports that the look left out this many files.
     pub fn left_out(&self, left_out: usize) -> Result<String, AllocError> {
         format!(in self.alloc;
             "nodeagent: {}: {left_out} files left out, at most {MAX_FILES} are read",
@@ -103,12 +103,12 @@ impl FolderLines<'_> {
         )
     }
 
-    /// The folder could not be looked into, for this reason.
+    /// Reports that the folder could not be read, for this reason.
     pub fn missed(&self, fault: CausedFault) -> Result<String, AllocError> {
         self.unread(self.folder, fault)
     }
 
-    /// The folder was looked into, which failed before.
+    /// Reports that the folder can be read again.
     pub fn seen(&self) -> Result<String, AllocError> {
         format!(in self.alloc; "nodeagent: {}: read again", ShownPath(self.folder))
     }

@@ -8,7 +8,8 @@ use crate::stops::AgentStop;
 use fault_notes::manifest_note;
 use manifest::{Pod, PodFault};
 use pod_folder::{gives_uid, uid_for};
-use runtime_server::{ServerStop, bytes_at};
+use runtime_server::bytes_at;
+use runtime_stops::ServerStop;
 use std::alloc::Global;
 use std::rt;
 
@@ -26,8 +27,8 @@ pub fn pod_of<'a>(alloc: Global, path: &'a str, bytes: &[u8]) -> Result<Pod, Age
     }
 }
 
-/// The pod of a manifest, and whether the manifest gives its uid. A uid that it does not give ends with the
-/// name of the run.
+/// The pod of a manifest, and whether the manifest sets its uid. A generated uid ends with the name of the
+/// run.
 pub fn pod_at<'a, R: rt::Files + AllocGlobal>(
     rt: &R,
     path: &'a str,

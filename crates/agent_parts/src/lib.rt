@@ -1,6 +1,26 @@
-//! Parts of `nodeagent` that wait for nobody: how its line sets it, why it ends, the table of its pods and how
-//! they stand, what it logs, what it reports of calls, of lost pods and of a folder's files, which pods it
-//! removes at its end, and which uids it keeps in its file.
+//! Parts of `nodeagent` that never wait: its settings from the command line, why it ends, the table and the
+//! state of its pods, its log, its reports on calls, lost pods and a folder's files, the pods that it removes
+//! at its end, and the uids that it keeps in its file.
+//!
+//! # What is proved
+//!
+//! - The table of a node is a function of what the node keeps. It has for each pod, in order of admission,
+//!   its uid and phase, and for each of its containers, init ones first, name, state, code and restarts. It
+//!   is printed as words or as JSON, with the given reasons why containers wait: `table`, `told_table`.
+//! - The status of `--settle` is 0 exactly if each pod of the printed table is Succeeded or Failed, and 1
+//!   with `--fail` if one is Failed: `table_end` (text, end), `NodeEnd::status`.
+//! - The end and the text of a stopped program, except for clap's words: `AgentStop::status`, `Display` of
+//!   `AgentStop`.
+//! - The words that report a lost call: `Display` of `LostCall`.
+//! - The first fault of a refused manifest's text, with its place: `pod_of`.
+//! - When it is reported that the runtime can't be reached, that it is reached again, and that something
+//!   happens again: `reach_of`, `is_unreached`, `report_of`, `Repeats::note` (told, after).
+//! - The text of the file of `--state`, which is written before a uid counts as kept: `KeptUids`.
+//! - The settings, the clock and the version of the line: `settings_of`, `pace_of`, `version_of`,
+//!   `address_of`.
+//! - The name of a run, and the status and the text of its end: `run_name`, `run_end`.
+//! - The time between two looks into a folder of pods: `rest_after`.
+//! - The lines and constants: `working_line`, `FolderLines::reading`, `constants_are_as_stated`.
 #![tactic(auto)]
 
 mod folder_lines;

@@ -1,4 +1,4 @@
-//! How often a folder of manifests is looked into, and what may come of a look.
+//! How often a folder of manifests is read, and which events a look may cause.
 ghost use Rattle.std.specs.Prelude.{◌≡◌, IfSome};
 ghost use Rattle.agent_parts.specs.Looks.{rest_after};
 ghost use Rattle.node_lock.specs.Books.{worker_of};
@@ -6,8 +6,8 @@ ghost use Rattle.node_lock.specs.Books.{worker_of};
 use crate::limits::{LONGEST_REST, LOOK_SHARE, SHORTEST_REST};
 use worker_core::AgentEvent;
 
-/// How many milliseconds after the beginning of a look that took so many the next one begins: looks take at
-/// most a hundredth of a core, but there is one each ten seconds at least, and at most one each second.
+/// The milliseconds from the beginning of a look that took `spent` milliseconds to the next one: looks take
+/// at most a hundredth of a core, but there is at least one every ten seconds, and at most one every second.
 pub fn rest_after(spent: u64) -> u64
     ensures { result ≡ rest_after spent }
 {

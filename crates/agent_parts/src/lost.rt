@@ -1,4 +1,4 @@
-//! Why a call was lost, in more detail than its fault gives.
+//! Why a call was lost, in more detail than its fault.
 
 use cri_frames::Lost;
 use node_io::Cause;
@@ -18,7 +18,7 @@ pub enum Why {
     NotConnected(Cause),
     /// The listener's queue had no free place in time.
     QueueFull,
-    /// The agent ends, and begins no call.
+    /// The agent is ending, and begins no call.
     Ending,
     /// The system failed a read or a write.
     Failed(Cause),

@@ -1,16 +1,16 @@
-//! How the pods of a node stand at the end of a run, and the table that shows them.
+//! The state of a node's pods at the end of a run, and the table that shows it.
 ghost use Rattle.std.specs.Prelude.{◌≡◌, IfOk};
 ghost use Rattle.std.specs.String.{string_bytes};
 ghost use Rattle.agent_parts.specs.NodeEnds.{end_of, status_of_end};
 ghost use Rattle.agent_parts.specs.Table.{told_table};
 
 use crate::tables::told_table;
-use node_watch::{Form, Reasons};
+use node_watch::{Counts, Form, Reasons};
 use std::alloc::{AllocError, Global};
 use worker_core::Node;
 use worker_crew::NodeTeller;
 
-/// How the pods of a node stand.
+/// The state of a node's pods.
 #[derive(Clone, Copy, Debug, PartialEq, Eq)]
 pub enum NodeEnd {
     /// One is neither Succeeded nor Failed.
@@ -21,7 +21,7 @@ pub enum NodeEnd {
     Succeeded,
 }
 
-/// How the pods of this node stand.
+/// The state of this node's pods.
 fn end_of(node: &Node) -> NodeEnd
     ensures { result ≡ end_of node.now }
 {
@@ -48,24 +48,26 @@ impl NodeEnd {
     }
 }
 
-/// The table of a node, and how the pods in it stand. Only `table_end` makes one.
+/// The table of a node, and the state of its pods. Only `table_end` makes one.
 #[derive(Drop)]
 pub struct TableEnd {
     pub text: String,
     pub end: NodeEnd,
 }
 
-/// The table of this node, and how its pods stand.
+/// The table of this node, and the state of its pods.
 pub fn table_end(
     alloc: Global,
     node: &Node,
     form: Form,
     reasons: &Reasons,
+    counts: &Counts,
 ) -> Result<TableEnd, AllocError>
-    ensures text { IfOk result (λ table. string_bytes table.text ≡ told_table form reasons.now node.now) }
+    ensures text { IfOk result (λ table. string_bytes table.text
+        ≡ told_table form reasons.now counts.now node.now) }
     ensures end { IfOk result (λ table. table.end ≡ end_of node.now) }
 {
-    let text = told_table(alloc, node, form, reasons)?;
+    let text = told_table(alloc, node, form, reasons, counts)?;
     Ok(TableEnd {
         text,
         end: end_of(node),
@@ -82,7 +84,12 @@ pub struct TableTeller {
 impl NodeTeller for TableTeller {
     type Told = TableEnd;
 
-    fn tell(&self, node: &Node, reasons: &Reasons) -> Result<TableEnd, AllocError> {
-        table_end(self.alloc, node, self.form, reasons)
+    fn tell(
+        &self,
+        node: &Node,
+        reasons: &Reasons,
+        counts: &Counts,
+    ) -> Result<TableEnd, AllocError> {
+        table_end(self.alloc, node, self.form, reasons, counts)
     }
 }

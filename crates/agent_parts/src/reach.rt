@@ -1,5 +1,4 @@
-//! Whether the runtime can be reached, as it is reported: once when it can't be, and once when it can be
-//! again.
+//! Reports whether the runtime can be reached: once when it can't be, and once when it can be again.
 ghost use Rattle.std.specs.Prelude.{◌≡◌};
 ghost use Rattle.agent_parts.specs.Reach.{is_unreached, reach_of, report_of};
 
@@ -41,7 +40,7 @@ pub fn reach_of(came: &Result<Reply, LostCall>) -> Reach
     }
 }
 
-/// Whether the runtime can't be reached, by what was known before a call and what the call shows.
+/// Whether the runtime can't be reached, from what was known before a call and what the call shows.
 pub fn is_unreached(before: bool, now: Reach) -> bool
     ensures { result ≡ is_unreached before now }
 {

@@ -14,7 +14,7 @@ pub struct Removal {
     ended: Option<Ended>,
     // The last moment at which pods may leave.
     until: u64,
-    // The pods that are still to be deleted.
+    // The pods still to delete.
     uids: Vec<Uid>,
     // The table of the pods as they were before.
     table: Option<TableEnd>,
@@ -32,8 +32,8 @@ impl Removal {
         }
     }
 
-    /// The run has ended at this moment: these pods are to be removed, of which this is the table. Returns how
-    /// it ends at last, or `None` if pods are to leave first.
+    /// Records that the run has ended at this moment, with the pods to remove and their table. Returns how it
+    /// finally ends, or `None` if pods must leave first.
     pub fn begin(
         &mut self,
         ended: Ended,
@@ -52,7 +52,7 @@ impl Removal {
         }
     }
 
-    /// How the run ends at last, if it has ended before and now comes to this end. `None` if it has not.
+    /// How the run finally ends, with this end after an earlier one. `None` if there was no earlier one.
     pub fn ended(&self, ended: Ended) -> Option<Ended> {
         let first = self.ended?;
         Some(if ended == Ended::Settled {
@@ -69,7 +69,7 @@ impl Removal {
         table
     }
 
-    /// The last moment of the virtual clock, where the run's own would be this one.
+    /// The last moment of the virtual clock: the removal's, or `until` if the run has not ended.
     pub fn until(&self, until: u64) -> u64 {
         match self.ended {
             Some(_) => self.until,
@@ -77,12 +77,12 @@ impl Removal {
         }
     }
 
-    /// The pod that is to be deleted next.
+    /// The pod to delete next.
     pub fn next(&self) -> Option<Uid> {
         self.uids.last()?.try_clone(self.alloc).ok()
     }
 
-    /// Says that the pod was deleted.
+    /// Records that the pod was deleted.
     pub fn recorded(&mut self) {
         drop(self.uids.pop());
     }

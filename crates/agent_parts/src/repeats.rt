@@ -1,8 +1,8 @@
-//! What happens again and again is reported the first time, and then once a minute with its count.
+//! Reports a repeated event the first time, and then once a minute with its count.
 ghost use Rattle.std.specs.Prelude.{◌≡◌, None};
 ghost use Rattle.agent_parts.specs.Repeats.{is_told, noted, told_now};
 
-/// How many seconds pass at least between two reports of what happens again and again.
+/// The fewest seconds between two reports of a repeated event.
 pub const REPORT_REST: u64 = 60;
 
 /// How often something happened, and when that was reported last.

@@ -1,4 +1,4 @@
-//! With what a run of `nodeagent` ends: its status, and what is printed then.
+//! The end of a run of `nodeagent`: its exit status, and what is printed then.
 ghost use Rattle.std.specs.Prelude.{◌≡◌, [], IfErr, IfOk, IfSome, None, Some, false, string_bytes, true};
 ghost use Rattle.agent_parts.specs.CommandLine.{form_for, reasons_for, status_at, stop_at};
 ghost use Rattle.agent_parts.specs.NodeEnds.{end_of, settled_status, status_of_end};
@@ -9,8 +9,8 @@ use crate::settings::form_of;
 use crate::stops::AgentStop;
 use command_line::NodeagentLine;
 use node_lock::Book;
-use node_watch::Reasons;
-use runtime_server::ServerStop;
+use node_watch::{Counts, Reasons};
+use runtime_stops::ServerStop;
 use std::alloc::{AllocError, Global};
 use std::sync::ledger::Ledger;
 use worker_core::{MAX_PODS, Node};
@@ -49,20 +49,21 @@ pub fn note_of(
     Ok(note)
 }
 
-/// The status and the output with which the program ends.
+/// The program's exit status and output at its end.
 pub fn run_end<'a, L: Ledger>(
     system: &HostRuntime,
     line: &NodeagentLine<'a>,
     ended: Ended,
     book: &Book<L>,
     reasons: &Reasons,
+    counts: &Counts,
     before: Option<TableEnd>,
     note: String,
 ) -> Result<RunEnd, AgentStop<'a>>
     // With --settle the status is that of the node whose table is printed: 0 exactly if each of its pods is
     // Succeeded or Failed, but 1 with --fail if one is Failed.
     ensures table { before ≡ None → line.now.settle ≡ true → IfOk result (λ end. (string_bytes end.text
-        ≡ told_table (form_for line.now) (reasons_for line.now reasons.now) book.now.node)
+        ≡ told_table (form_for line.now) (reasons_for line.now reasons.now) counts.now book.now.node)
         × (end.status ≡ settled_status line.now.fail book.now.node)) }
     ensures before { IfSome before (λ table. line.now.settle ≡ true → IfOk result (λ end.
         (end.text ≡ table.text) × (end.status ≡ status_of_end line.now.fail table.end))) }
@@ -83,7 +84,7 @@ pub fn run_end<'a, L: Ledger>(
     }
     let table = match before {
         Some(table) => table,
-        None => table_of(system.alloc(), line, book.node(), reasons)?,
+        None => table_of(system.alloc(), line, book.node(), reasons, counts)?,
     };
     let TableEnd { text, end } = table;
     Ok(RunEnd {
@@ -99,14 +100,15 @@ fn table_of(
     line: &NodeagentLine<'_>,
     node: &Node,
     reasons: &Reasons,
+    counts: &Counts,
 ) -> Result<TableEnd, AllocError>
     ensures text { IfOk result (λ table. string_bytes table.text
-        ≡ told_table (form_for line.now) (reasons_for line.now reasons.now) node.now) }
+        ≡ told_table (form_for line.now) (reasons_for line.now reasons.now) counts.now node.now) }
     ensures end { IfOk result (λ table. table.end ≡ end_of node.now) }
 {
     if line.reasons {
-        table_end(alloc, node, form_of(line), reasons)
+        table_end(alloc, node, form_of(line), reasons, counts)
     } else {
-        table_end(alloc, node, form_of(line), &Reasons::new(alloc))
+        table_end(alloc, node, form_of(line), &Reasons::new(alloc), counts)
     }
 }

@@ -1,4 +1,4 @@
-//! How a run of `nodeagent` is set by its command line.
+//! The settings of a run of `nodeagent`, from its command line.
 ghost use Rattle.std.specs.Prelude.{◌≡◌, ◌≤◌, min, option_copied};
 ghost use Rattle.agent_parts.specs.CommandLine.{form_for, observed_for, pace_for, run_name, settings_for};
 ghost use Rattle.agent_parts.specs.CommandLine.{told_beside, version_for};
@@ -13,7 +13,7 @@ use runtime_server::{Address, Tells};
 use worker_crew::{Observed, Pace};
 use worker_pod::Settings;
 
-/// The name of this run: with a folder of pods each start has one of its own.
+/// The name of this run: with a folder of pods each start has its own, unless the line names one.
 pub fn run_name<'a>(run: Option<&'a str>, pods: Option<&'a str>, made: &'a str) -> Option<&'a str>
     ensures { option_copied result ≡ run_name (option_copied run.entry) (option_copied pods.entry) made.now }
 {

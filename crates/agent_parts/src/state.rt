@@ -10,12 +10,12 @@ use node_io::CausedFault;
 use std::alloc::{AllocError, Global};
 use std::marker::Model;
 
-/// Where the text is kept. It is replaced whole, or stays as it was.
+/// A store for the text, which is replaced as a whole or not at all.
 pub trait Store {
-    // What is kept, if that is known.
+    // The stored text, if it is known.
     ghost stored: { Self → Option (List ℕ) } = { λ _. None };
 
-    /// Replaces what is kept.
+    /// Replaces the stored text.
     fn put(&mut self, text: &[u8]) -> Result<(), CausedFault>
         ensures put { OnOk result (Stores (stored self.new) text.now) }
         ensures kept { OnErr result (stored self.new ≡ stored self.old) };

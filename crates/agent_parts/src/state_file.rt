@@ -1,4 +1,4 @@
-//! The pods that a former start of the agent left in the runtime, by the file of `--state`.
+//! The pods that a former start of the agent left in the runtime, from the file of `--state`.
 
 use crate::state::{KeptUids, Store};
 use crate::stops::AgentStop;
@@ -6,7 +6,7 @@ use cri_msgs::{Answer, Call, Request};
 use host_io::replace;
 use manifest::Uid;
 use node_io::{CausedFault, FileFault, MAX_FILE_BYTES, read_file};
-use runtime_server::file_stop;
+use runtime_stops::file_stop;
 use std::alloc::{AllocError, Global};
 use std::str;
 use worker_crew::Peer;
@@ -24,7 +24,7 @@ impl Store for SystemStore<'_> {
     }
 }
 
-/// The file, and what it holds.
+/// The file, and its contents.
 #[derive(Drop)]
 pub struct StateFile<'a> {
     alloc: Global,
@@ -32,7 +32,7 @@ pub struct StateFile<'a> {
     kept: KeptUids,
 }
 
-// The uids of a text, one a line. The number of the first line that is not a uid, from 1, if there is one.
+// The uids of a text, one per line, or the number of the first line that is not a uid, from 1.
 fn uids_of(alloc: Global, text: &[u8]) -> Result<Result<Vec<Uid>, usize>, AllocError> {
     let Ok(text) = str::from_utf8(text) else {
         return Ok(Err(1));
@@ -68,7 +68,7 @@ fn asked<P: Peer>(peer: &mut P, id: u64, call: Call) -> Removal {
     }
 }
 
-// Has the runtime stop and remove a pod. Without memory for the calls it counts as not reached.
+// Stops and removes a pod in the runtime. Out of memory, the runtime counts as not reached.
 fn remove<P: Peer>(alloc: Global, peer: &mut P, uid: &Uid) -> Removal {
     let (Ok(stopped), Ok(removed)) = (uid.try_clone(alloc), uid.try_clone(alloc)) else {
         return Removal::Lost;
@@ -87,7 +87,7 @@ fn remove<P: Peer>(alloc: Global, peer: &mut P, uid: &Uid) -> Removal {
 }
 
 impl<'a> StateFile<'a> {
-    /// Reads the file at a path. One that is not there holds nothing.
+    /// Reads the file at a path. A missing file counts as empty.
     pub fn read(system: &HostRuntime, path: &'a str) -> Result<StateFile<'a>, AgentStop<'a>> {
         let alloc = system.alloc();
         let former = match read_file(system, path, MAX_FILE_BYTES) {
@@ -108,7 +108,7 @@ impl<'a> StateFile<'a> {
         })
     }
 
-    /// Its path.
+    /// The file's path.
     pub fn path(&self) -> &'a str {
         self.store.path
     }
@@ -119,7 +119,7 @@ impl<'a> StateFile<'a> {
         self.kept.keep(&mut self.store, uid)
     }
 
-    /// Forgets the uids of pods that are not on the node, as this test says.
+    /// Forgets the uids of pods that are not on the node, by this test.
     pub fn forget_all_but<F: Fn(&Uid) -> bool>(&mut self, is_on_node: F) -> Result<(), CausedFault>
         requires { F.IsAlwaysCallable is_on_node }
     {
@@ -136,13 +136,13 @@ impl<'a> StateFile<'a> {
         self.kept.forget(&mut self.store, former, own)
     }
 
-    /// Whether the file holds no pod of a former start.
+    /// Whether the file lists no pod of a former start.
     pub fn is_swept(&self) -> bool {
         self.kept.former().is_empty()
     }
 
-    /// Asks for the removal of each pod of a former start once. Returns whether each call came back. A pod whose
-    /// removal the runtime refuses stays in the file.
+    /// Asks once for the removal of each pod of a former start. Returns whether each call was answered. A pod
+    /// whose removal the runtime refuses stays in the file.
     pub fn sweep_once<P: Peer>(&mut self, peer: &mut P) -> Result<bool, CausedFault> {
         let mut left = Vec::new(self.alloc);
         let mut is_whole = true;

@@ -1,7 +1,7 @@
 use command_line::LineFault;
 use fault_notes::ShownPath;
 use manifest::PodFault;
-use runtime_server::{ServerStop, Told};
+use runtime_stops::{ServerStop, Told};
 use std::alloc::{AllocError, AllocFailed};
 use std::fmt;
 
@@ -29,7 +29,7 @@ impl AgentStop<'_> {
     ghost use Rattle.std.specs.Prelude.{◌≡◌};
     ghost use Rattle.agent_parts.specs.Stops.{status_of};
 
-    /// The status with which the program ends.
+    /// The program's exit status.
     pub fn status(&self) -> u8
         ensures { result ≡ status_of self.now }
     {
@@ -90,7 +90,7 @@ impl<'a> From<ServerStop<'a>> for AgentStop<'a> {
 impl<'a> From<AllocError> for AgentStop<'a> {
     ghost use Rattle.std.specs.Prelude.{◌≡◌};
     ghost use Rattle.agent_parts.specs.declared.stops.AgentStop.TheVariants.{Server};
-    ghost use Rattle.runtime_server.specs.declared.stops.ServerStop.TheVariants.{Memory};
+    ghost use Rattle.runtime_stops.specs.declared.stops.ServerStop.TheVariants.{Memory};
 
     ghost from_gives = { λ _ stop. stop ≡ Server Memory };
 
@@ -102,7 +102,7 @@ impl<'a> From<AllocError> for AgentStop<'a> {
 impl<'a, T: Drop> From<AllocFailed<T>> for AgentStop<'a> {
     ghost use Rattle.std.specs.Prelude.{◌≡◌};
     ghost use Rattle.agent_parts.specs.declared.stops.AgentStop.TheVariants.{Server};
-    ghost use Rattle.runtime_server.specs.declared.stops.ServerStop.TheVariants.{Memory};
+    ghost use Rattle.runtime_stops.specs.declared.stops.ServerStop.TheVariants.{Memory};
 
     ghost from_gives = { λ _ stop. stop ≡ Server Memory };
 
@@ -114,7 +114,7 @@ impl<'a, T: Drop> From<AllocFailed<T>> for AgentStop<'a> {
 impl<'a> From<LineFault<'a>> for AgentStop<'a> {
     ghost use Rattle.std.specs.Prelude.{◌≡◌};
     ghost use Rattle.agent_parts.specs.declared.stops.AgentStop.TheVariants.{Server};
-    ghost use Rattle.runtime_server.specs.Stops.{of_line_fault};
+    ghost use Rattle.runtime_stops.specs.Stops.{of_line_fault};
 
     ghost from_gives = { λ fault stop. stop ≡ Server (of_line_fault fault) };
 

@@ -1,13 +1,13 @@
 ghost use Rattle.std.specs.Prelude.{◌≡◌, ◌++◌, [], IfOk, OnOk, option_copied, string_bytes};
 ghost use Rattle.agent_parts.specs.Table.{container_line, name_member, pod_line, pod_lines, reason_text};
 ghost use Rattle.agent_parts.specs.Table.{restarts_of, state_line, state_members, state_words, table_text};
-ghost use Rattle.agent_parts.specs.Table.{told_table, trouble_text, uid_member, why_text};
+ghost use Rattle.agent_parts.specs.Table.{rest_text, told_table, trouble_text, uid_member, why_text};
 ghost use Rattle.node_watch.specs.declared.forms.Form.TheVariants as form;
 
 use fault_notes::refusal_name;
 use lifecycle::{ContainerState, Phase, Track};
 use manifest::{Container, Label, Pod, Uid};
-use node_watch::{Form, Reason, Reasons, Trouble, call_name};
+use node_watch::{CallCounts, Counts, Form, Reason, Reasons, Trouble, add_counts, call_name};
 use std::alloc::{AllocError, Global};
 use worker_core::{MAX_PODS, Node};
 
@@ -16,23 +16,34 @@ use worker_core::{MAX_PODS, Node};
 pub fn table(alloc: Global, node: &Node) -> Result<String, AllocError>
     ensures { IfOk result (λ text. string_bytes text ≡ table_text node.now) }
 {
-    told_table(alloc, node, Form::Text, &Reasons::new(alloc))
+    let (reasons, counts) = (Reasons::new(alloc), Counts::new(alloc));
+    told_table(alloc, node, Form::Text, &reasons, &counts)
 }
 
-/// The table in a form, as words or JSON, which says after each container that is not over why it waits, by
-/// these reasons.
+/// The table as words or JSON, with the counts of each container's calls, if there are any, and the given
+/// reason why each unfinished container waits.
 pub fn told_table(
     alloc: Global,
     node: &Node,
     form: Form,
     reasons: &Reasons,
+    counts: &Counts,
 ) -> Result<String, AllocError>
-    ensures { IfOk result (λ text. string_bytes text ≡ told_table form reasons.now node.now) }
+    ensures { IfOk result (λ text. string_bytes text
+        ≡ told_table form reasons.now counts.now node.now) }
 {
     let mut text = String::new(alloc);
     for place in 0..MAX_PODS {
         if let Some(view) = node.pod(place) {
-            add_pod(&mut text, form, reasons, view.pod, view.tracks, view.phase)?;
+            add_pod(
+                &mut text,
+                form,
+                reasons,
+                counts,
+                view.pod,
+                view.tracks,
+                view.phase,
+            )?;
         }
     }
     Ok(text)
@@ -42,16 +53,17 @@ fn add_pod(
     text: &mut String,
     form: Form,
     reasons: &Reasons,
+    counts: &Counts,
     pod: &Pod,
     tracks: &[Track],
     phase: Phase,
 ) -> Result<(), AllocError>
     ensures { OnOk result (string_bytes text.new ≡ string_bytes text.old
-        ++ pod_lines form reasons.now pod.now tracks.now phase) }
+        ++ pod_lines form reasons.now counts.now pod.now tracks.now phase) }
 {
     add_phase(text, form, pod, phase)?;
     for (container, track) in pod.containers.as_slice().iter().zip(tracks) {
-        add_container(text, form, reasons, pod, container, track)?;
+        add_container(text, form, reasons, counts, pod, container, track)?;
     }
     Ok(())
 }
@@ -71,19 +83,22 @@ fn add_container(
     text: &mut String,
     form: Form,
     reasons: &Reasons,
+    counts: &Counts,
     pod: &Pod,
     container: &Container,
     track: &Track,
 ) -> Result<(), AllocError>
     ensures { OnOk result (string_bytes text.new ≡ string_bytes text.old
-        ++ container_line form reasons.now pod.now.uid pod.now.policy (container.now, track.now)) }
+        ++ container_line form reasons.now counts.now pod.now.uid pod.now.policy
+        (container.now, track.now)) }
 {
     let (uid, name) = (&pod.uid, &container.name);
     let state = track.state(pod.policy);
     let reason = reasons.reason_for(uid, name);
+    let counts = counts.counts_of(uid, name);
     match form {
-        Form::Text => add_words(text, name, state, restarts(track), reason),
-        Form::Json => add_object(text, uid, name, state, restarts(track), reason),
+        Form::Text => add_words(text, name, state, restarts(track), counts, reason),
+        Form::Json => add_object(text, uid, name, state, restarts(track), counts, reason),
     }
 }
 
@@ -92,13 +107,14 @@ fn add_words(
     name: &Label,
     state: ContainerState,
     restarts: usize,
+    counts: Option<CallCounts>,
     reason: Option<&Reason>,
 ) -> Result<(), AllocError>
     ensures { OnOk result (string_bytes text.new ≡ string_bytes text.old
-        ++ state_line form.Text [] name.now state restarts (option_copied reason.entry)) }
+        ++ state_line form.Text [] name.now state restarts counts (option_copied reason.entry)) }
 {
     add_state(text, name, state, restarts)?;
-    add_why(text, Form::Text, state, reason)?;
+    add_rest(text, Form::Text, state, counts, reason)?;
     text.push_str("\n")
 }
 
@@ -108,15 +124,16 @@ fn add_object(
     name: &Label,
     state: ContainerState,
     restarts: usize,
+    counts: Option<CallCounts>,
     reason: Option<&Reason>,
 ) -> Result<(), AllocError>
     ensures { OnOk result (string_bytes text.new ≡ string_bytes text.old
-        ++ state_line form.Json uid.now name.now state restarts (option_copied reason.entry)) }
+        ++ state_line form.Json uid.now name.now state restarts counts (option_copied reason.entry)) }
 {
     add_uid(text, uid)?;
     add_name(text, name)?;
     add_members(text, state, restarts)?;
-    add_why(text, Form::Json, state, reason)?;
+    add_rest(text, Form::Json, state, counts, reason)?;
     text.push_str("}\n")
 }
 
@@ -172,7 +189,22 @@ fn add_members(text: &mut String, state: ContainerState, restarts: usize) -> Res
     Ok(())
 }
 
-// Adds why a container waits, if it is not over.
+// Adds the counts of a container's calls, if there are any, and why it waits.
+fn add_rest(
+    text: &mut String,
+    form: Form,
+    state: ContainerState,
+    counts: Option<CallCounts>,
+    reason: Option<&Reason>,
+) -> Result<(), AllocError>
+    ensures { OnOk result (string_bytes text.new ≡ string_bytes text.old
+        ++ rest_text form state counts (option_copied reason.entry)) }
+{
+    add_counts(text, form, counts)?;
+    add_why(text, form, state, reason)
+}
+
+// Adds why an unfinished container waits.
 fn add_why(
     text: &mut String,
     form: Form,

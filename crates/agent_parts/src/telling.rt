@@ -1,5 +1,5 @@
-//! The log of an agent, if it is asked for: what it works on, and for each call the moment at which it was
-//! claimed, the pod, the request, and the result.
+//! The log of an agent, if it is on: what it works on, and for each call the moment at which it was claimed,
+//! the pod, the request, and the result.
 ghost use Rattle.std.specs.Prelude.{◌≡◌, IfOk, string_bytes};
 ghost use Rattle.agent_parts.specs.CommandLine.{working_text};
 

@@ -1,4 +1,4 @@
-//! What goes wrong with an agent's calls, as it is reported: each thing once, or once a minute.
+//! Reports on what goes wrong with an agent's calls: each thing once, or once a minute.
 
 use crate::lost::LostCall;
 use crate::reach::{ReachReport, is_unreached, reach_of, report_of};
@@ -47,21 +47,21 @@ impl CallTroubles {
         }
     }
 
-    /// Records the end of a call. Returns what is to be reported of whether the runtime can be reached.
+    /// Records the end of a call. Returns the report on whether the runtime can be reached.
     pub fn note(&mut self, request: &Request, came: &Result<Reply, LostCall>) -> ReachReport {
         let shown = reach_of(came);
         let report = report_of(self.unreached, shown);
         self.unreached = is_unreached(self.unreached, shown);
         if let Ok(reply) = came {
             if let Some(loss) = loss_of(&request.call, &reply.answer) {
-                // Without memory for it, the loss is noted when the next call shows it.
+                // Out of memory, the loss is noted when the next call shows it.
                 let _ = add_loss(self.alloc, &mut self.lost, uid_of(&request.call), loss);
             }
         }
         report
     }
 
-    /// The line to report at this moment, if one is due. A line that could not be kept for lack of memory
+    /// The line to report at this moment, if one is due. A line that could not be kept, for lack of memory,
     /// counts as new the next time.
     pub fn repeat(&mut self, line: String, moment: u64) -> Option<Result<String, AllocError>> {
         let alloc = self.alloc;

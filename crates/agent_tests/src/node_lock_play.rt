@@ -38,7 +38,7 @@ fn worker_of(event: &AgentEvent) -> u32
 }
 
 // The event of a word: A with a pod's name, t with a moment, and with a worker c for a claim, l for a loss, a
-// for an abandon, and d for a reply that says done to request 1.
+// for an abandon, and d for the reply done to request 1.
 fn event(alloc: Global, word: &str) -> Result<Option<AgentEvent>, PodFault> {
     let Some((letter, rest)) = word.split_at_checked(1) else {
         return Ok(None);

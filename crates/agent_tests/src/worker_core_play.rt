@@ -81,7 +81,7 @@ fn status(state: State) -> cri_msgs::Answer {
     })
 }
 
-// The answer of the call's kind, a status as the letter says: e for an exit with 0, else running.
+// The answer of the call's kind, a status by the letter: e for an exit with 0, else running.
 fn said(call: &Call, letter: u8) -> cri_msgs::Answer {
     match (call, letter) {
         (_, b'r') => cri_msgs::Answer::Refused(Refusal::NotFound),
@@ -92,8 +92,8 @@ fn said(call: &Call, letter: u8) -> cri_msgs::Answer {
     }
 }
 
-// What the worker reports: l a loss, r a refusal, o a reply to request 1, e an exit with 0, else what is
-// wanted.
+// The worker's report: l a loss, r a refusal, o a reply to request 1, e an exit with 0, else the wanted
+// result.
 fn reported(letter: u8, request: &Request) -> Reported {
     let id = if letter == b'o' { 1 } else { request.id };
     match letter {
@@ -146,8 +146,8 @@ impl Play {
         text
     }
 
-    // Applies the event, after `answer` foretold the result, and returns what was answered. Events and
-    // answers are copied.
+    // Applies the event, after `answer` predicted the result, and returns the answer. Events and answers are
+    // copied.
     pub(crate) fn take(&mut self, event: &AgentEvent) -> Result<String, AllocError> {
         let foreseen = self.foreseen(event)?;
         let text = self.taken(event)?;
@@ -167,8 +167,8 @@ impl Play {
         }
     }
 
-    // The event of a word: A and D with a pod's name, t with a moment, c and a with a worker, and how a
-    // worker reports.
+    // The event of a word: A and D with a pod's name, t with a moment, c and a with a worker, and the letters
+    // of a worker's report.
     fn event(&self, letter: u8, rest: &str, spec: &str) -> Result<Option<AgentEvent>, PodFault> {
         let number = rest.parse::<u64>().unwrap_or(0);
         let worker = rest.parse::<u32>().unwrap_or(0);
@@ -211,7 +211,7 @@ impl Play {
         Ok(text)
     }
 
-    // How many are held, the moment from which on one is due, and the phases.
+    // How many are held, the moment from which one is due, and the phases.
     pub(crate) fn held_and_phases(&self) -> Result<String, AllocError> {
         let mut text = match self.node.next_due() {
             Some(due) => format!(in self.alloc; "{} held, due {due}", self.node.held())?,

@@ -85,7 +85,7 @@ impl<B: Node> Loop<B> {
     }
 }
 
-/// What the clock waits for: that each of this many runners is idle.
+/// The wait of the clock: until each of this many runners is idle.
 #[derive(Drop)]
 pub(crate) struct Idle<'a, B: Node, R: Wait> {
     pub(crate) rt: &'a R,
@@ -186,7 +186,7 @@ fn give(reply: &[u8], buf: &mut [u8]) -> usize
     count
 }
 
-// The model of such a wire says nothing about its bytes.
+// The model of this wire states nothing about its bytes.
 impl<B: Node, R: Wait> Wire for LoopWire<'_, B, R> {
     ghost failed = { λ wire. wire.failures };
 

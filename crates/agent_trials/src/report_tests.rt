@@ -130,7 +130,7 @@ fn is_told(alloc: Global, told: &Reported, frame: &[u8]) -> bool {
     }
 }
 
-// How many reports there are, and how many of them say what came in their frames.
+// How many reports there are, and how many of them match their frames.
 fn reports(alloc: Global, history: &[Entry], frames: &[Came]) -> (u32, u32) {
     let mut all: u32 = 0;
     let mut right: u32 = 0;
@@ -188,9 +188,8 @@ fn compares<R: Threads + Wait + Clock + Sync>(
     compared::<Brand, Brand, R>(rt, alloc, failing, Blank::new(PARTS), node)
 }
 
-// Each report gives the reply that came in its call's frame, or says that none did. There are at least
-// twenty: the sandboxes of three pods, and of five attempts the creation, the start and a status, and two
-// removals.
+// Each report has the reply from its call's frame, or reports that none came. There are at least twenty: the
+// sandboxes of three pods, and of five attempts the creation, the start and a status, and two removals.
 #[test]
 fn reports_are_what_came(rt: HostRuntime) -> Result<(), Fail> {
     for failing in 0..30 {

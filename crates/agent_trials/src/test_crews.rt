@@ -1,4 +1,4 @@
-//! Crews for tests: pods over a loop, and what is left at the end.
+//! Crews for tests: pods over a loop, and the state at the end.
 ghost use Rattle.std.specs.Prelude.{◌≡◌, ◌<◌, ◌≤◌, IfOk, vec_len};
 ghost use Rattle.node_lock.specs.declared.limits.TheConstants.{MAX_ENTRIES, PARTS};
 
@@ -50,7 +50,7 @@ boot "restartPolicy":"Never","initContainers":[{"name":"setup","image":"three.s"
 const ONE_POD: &str =
     r#"boot "restartPolicy":"Never","initContainers":[{"name":"setup","image":"three.s"}],"containers":[{"name":"main","image":"zero.s"}]"#;
 
-/// What is left of these.
+/// The end of these.
 pub(crate) const SETTLED: &str = "settled, true\n\
     POD default.flaky Succeeded\n  main Terminated 0 2\n\
     POD default.bad Failed\n  main Terminated 159 0\n\
@@ -236,11 +236,11 @@ pub(crate) fn worked<
     )
 }
 
-/// What is left of a trial.
+/// The end of a trial.
 #[derive(Drop)]
 pub(crate) struct Left {
-    /// How the crew ended, whether there is a receipt for each entry and each entry is where its receipt
-    /// says, and the pods' table.
+    /// How the crew ended, whether there is a receipt for each entry and each entry is at its receipt's
+    /// number, and the pods' table.
     pub(crate) text: String,
     /// At which moments the runs of the first pod's first container were recorded, if there are few pods and
     /// the history has one part.
@@ -257,8 +257,8 @@ fn recorded_at(node: &Node, run: usize) -> Option<u64> {
     }
 }
 
-// At which moments its runs were recorded, by a node that takes the events of the history once more, and
-// answers them as they were answered.
+// At which moments its runs were recorded, by a node that takes the events of the history once more, with the
+// same answers.
 fn recorded_first(alloc: Global, settings: Settings, history: &[Entry]) -> Result<Vec<u64>, Fail> {
     let mut node = Node::new(alloc, settings);
     let mut recorded = Vec::new(alloc);
@@ -276,7 +276,7 @@ fn recorded_first(alloc: Global, settings: Settings, history: &[Entry]) -> Resul
     Ok(recorded)
 }
 
-// What is left of a history, with the runs if settings are given and it has one part.
+// The end of a history, with the runs if settings are given and it has one part.
 fn left_of<L: Ledger>(
     alloc: Global,
     shared: Shared<L>,
@@ -381,7 +381,7 @@ impl<L: Ledger, R: Wait + Clock> Gate for Watch<'_, L, R> {
     fn after(&self, _call: u64) {}
 }
 
-/// How one pod is run whose first call is held up.
+/// A run of one pod whose first call is held up.
 #[derive(Clone, Copy)]
 pub(crate) struct HeldUp {
     pub(crate) workers: u32,
@@ -392,7 +392,7 @@ pub(crate) struct HeldUp {
     pub(crate) every: u64,
 }
 
-/// What is left then.
+/// The end of that run.
 #[derive(Drop)]
 pub(crate) struct Entries {
     /// How many entries there were after the wait.
@@ -483,8 +483,8 @@ fn pods_of(alloc: Global, pods: Pods) -> Result<String, AllocError> {
     Ok(lines)
 }
 
-/// What is left of the pods once workers settled them over a loop. If the first call was to be held up and
-/// was not, the text begins with that.
+/// The end of the pods after workers settled them over a loop. If the first call was to be held up and was
+/// not, the text begins with that.
 pub(crate) fn settled<
     L: Ledger + Send + Sync,
     B: RuntimeNode + Send + Sync,

@@ -22,7 +22,7 @@ bytes_in-take bytes n i fit = grind (arith, common_steps, fit i)
 bytes_in-drop : (bytes : List ℕ) (n i : ℕ) → AreBytes bytes → get_or (drop n bytes) i 0 < 256
 bytes_in-drop bytes n i fit = rw get_or-drop (fit (n + i))
 
--- what an instruction was made of spells it
+-- an instruction that eight bytes spell has these bytes
 pub bytes_of_insn-made : (insn : Insn) (bytes : List ℕ) → length bytes ≡ 8 → AreBytes bytes
     → Spells insn (little_number 2 (take 2 bytes)) (get_or bytes 2 0) (get_or bytes 3 0)
     (little_number 4 (drop 4 bytes)) → bytes ≡ bytes_of_insn insn

@@ -1,6 +1,6 @@
 -- Instructions of classic BPF and their bytes: struct sock_filter of linux/filter.h, its codes as
--- linux/bpf_common.h composes them. The table has the instructions that seccomp(2) takes, less those
--- that docs/SEMANTICS.md, "Instructions", leaves out.
+-- linux/bpf_common.h composes them. The table has the instructions that seccomp(2) takes, except those that
+-- docs/SEMANTICS.md, "Instructions", leaves out.
 use Rattle.std.specs.Prelude.{◌≡◌, ℕ, ◌<◌, ◌^◌, List, [], ◌∷◌, ◌++◌}
 use Rattle.std.specs.Int.{w16, w32, to_le_bytes}
 use Rattle.bpf_code.specs.declared.operation.Operation.{Operation}
@@ -71,7 +71,7 @@ abbrev pub bytes_of_code : List Insn → List ℕ
 bytes_of_code [] = []
 bytes_of_code (insn ∷ code) = bytes_of_insn insn ++ bytes_of_code code
 
--- numbers that an instruction has room for
+-- the instruction's numbers fit their fields
 pub record Fits (insn : Insn) : Type 0 where
   pub jt : insn.jt < 2 ^ 8
   pub jf : insn.jf < 2 ^ 8

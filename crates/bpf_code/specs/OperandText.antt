@@ -1,4 +1,4 @@
--- The text behind an instruction's mnemonic, as bpf_asm takes it. Constants are hexadecimal.
+-- The operand text after an instruction's mnemonic, as bpf_asm takes it. Constants are hexadecimal.
 use Rattle.std.specs.Prelude.{ℕ, List, [], ◌++◌, codes, false}
 use Rattle.std.specs.Fmt.{decimal, digits}
 use Rattle.bpf_code.specs.declared.display.Operand.{Operand}

@@ -7,15 +7,15 @@ use Rattle.bpf_code.specs.declared.fault.CodeFault.{CodeFault}
 use Rattle.bpf_code.specs.declared.fault.CodeFault.TheVariants.{Length, TooLong, BadCode, Memory}
 use Rattle.bpf_code.specs.declared.limits.TheConstants.{MAX_BYTES}
 
--- the code that stands at this place of a text
+-- the code at this place of a text
 abbrev pub code_at : List ℕ → ℕ → ℕ
 code_at bytes at = slice_index bytes (8 * at) + 256 * slice_index bytes (8 * at + 1)
 
--- no operation of the table has the code that stands there
+-- no operation of the table has the code at this place
 abbrev pub IsUnknownAt : List ℕ → ℕ → Type 0
 IsUnknownAt bytes at = (op : Operation) → code_of op ≢ code_at bytes at
 
--- an operation of the table has it
+-- an operation of the table has the code at this place
 abbrev pub IsKnownAt : List ℕ → ℕ → Type 0
 IsKnownAt bytes at = (op : Operation) × (code_of op ≡ code_at bytes at)
 
@@ -25,7 +25,7 @@ pub record IsFirstUnknown (bytes : List ℕ) (at : ℕ) : Type 0 where
   pub unknown : IsUnknownAt bytes at
   pub known : (earlier : ℕ) → earlier < at → IsKnownAt bytes earlier
 
--- what is wrong with a text: the first fault, in this order. Want of memory is none of the text's.
+-- the first fault of a text, in this order; running out of memory is not a fault of the text
 abbrev pub HasFault : List ℕ → CodeFault → Type 0
 HasFault bytes Length = length bytes % 8 ≢ 0
 HasFault bytes TooLong = (length bytes % 8 ≡ 0) × (MAX_BYTES < length bytes)

@@ -1,5 +1,5 @@
--- Assembler text of an instruction: the syntax of the kernel's bpf_asm, Documentation/networking/filter,
--- with the numbers of skipped instructions in the place of labels.
+-- Assembler text of an instruction: the syntax of the kernel's bpf_asm, Documentation/networking/filter, with
+-- the numbers of skipped instructions instead of labels.
 use Rattle.std.specs.Prelude.{ℕ, List, ◌++◌, codes}
 use Rattle.bpf_code.specs.declared.operation.Operation.{Operation}
 use Rattle.bpf_code.specs.declared.operation.Operation.TheVariants.{LoadImmediate, LoadData, LoadWord}
@@ -65,7 +65,7 @@ mnemonic_of ReturnA = codes "ret"
 mnemonic_of MoveToX = codes "tax"
 mnemonic_of MoveToA = codes "txa"
 
--- what stands behind it
+-- the operand after the mnemonic
 abbrev pub operand_of : Operation → ℕ → Operand
 operand_of LoadData k = Data k
 operand_of LoadWord k = Word k

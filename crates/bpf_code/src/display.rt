@@ -6,8 +6,8 @@ use crate::insn::Insn;
 use crate::operation::Operation;
 use std::fmt;
 
-/// Assembler text as the kernel's `bpf_asm` takes it, with the number of instructions that a jump skips in
-/// place of a label: `ld [4]`, `jeq #0xc000003e, 0, 1`, `ret #0x7fff0000`.
+/// Assembler text in the syntax of the kernel's `bpf_asm`. A jump has the number of instructions to skip
+/// instead of a label: `ld [4]`, `jeq #0xc000003e, 0, 1`, `ret #0x7fff0000`.
 impl fmt::Display for Insn {
     ghost use Rattle.std.specs.Prelude.{Some};
     ghost use Rattle.bpf_code.specs.Text.{text_of};

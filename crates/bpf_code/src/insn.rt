@@ -18,7 +18,7 @@ pub struct Insn {
     pub k: u32,
 }
 
-// An instruction in memory is as long as its encoding: the speed of the machine's loop rests on it.
+// An instruction in memory has the size of its encoding: the speed of the machine's loop depends on it.
 const _: () = prove!(size_of::<Insn>() == 8);
 
 impl Insn {

@@ -9,8 +9,8 @@ ghost use Rattle.bpf_code.specs.Reading.{HasFault};
 
 use crate::insn::Insn;
 
-/// What is written can be read back: the bytes of instructions have no fault, and no other instructions have
-/// the same bytes.
+/// Written code can be read back: the bytes of instructions have no fault, and no other instructions have the
+/// same bytes.
 pub fn written_is_read()
     ensures fine { (code : List Insn) (fault : CodeFault) → 8 * length code ≤ MAX_BYTES
         → HasFault (bytes_of_code code) fault → ⊥ }

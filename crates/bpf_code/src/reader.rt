@@ -13,13 +13,13 @@ use std::alloc::{AllocError, Global};
 /// Reads a filter file: its instructions one after the other, all numbers little-endian. No bytes
 /// are the empty list. The fault is the first in the order of [`CodeFault`].
 pub fn read(alloc: Global, bytes: &[u8]) -> Result<Vec<Insn>, CodeFault>
-    // What was read, written out again, is the text.
+    // Written out again, the instructions are the text.
     ensures text { IfOk result (λ code. bytes.now ≡ bytes_of_code code.items) }
     ensures fits { IfOk result (λ code. AllByRecursion Fits code.items) }
     ensures short { IfOk result (λ code. 8 * length code.items ≤ MAX_BYTES) }
     ensures fault { IfErr result (λ fault. fault ≢ CodeFault.Memory → HasFault bytes.now fault) }
 
-    // A text with a fault is refused, whether there is memory or not.
+    // A text with a fault is refused, even if memory runs out.
     ensures refused { (fault : CodeFault) → HasFault bytes.now fault → result ≡ Err fault }
 {
     if bytes.len() % 8 != 0 {

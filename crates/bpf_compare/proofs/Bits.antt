@@ -1,4 +1,4 @@
--- Numbers of which some bits are known.
+-- Numbers with some known bits.
 use Rattle.std.proofs.Common.{◌≡◌, ◌≢◌, ℕ, zero, suc, ◌-◌, ◌*◌, ◌^◌, ◌<◌, ◌≤◌, min, max, bit_and, bit_or, sym}
 use Rattle.std.proofs.Common.{ap, ◌∙◌, arith, ◌/◌, ◌%◌}
 use Rattle.std.specs.Int.{bit_at}
@@ -13,7 +13,7 @@ bits_meet n m k a b one two =
     ap (λ v. bit_and v k) (sym one) ∙ and_assoc k n m ∙ ap (λ v. bit_and n v) (and_comm m k)
     ∙ sym (and_assoc m n k) ∙ ap (λ v. bit_and v m) two
 
--- what is known stands under its mask
+-- the known bits are bits of their mask
 pub bits_stand : (n m a : ℕ) → bit_and n m ≡ a → bit_and a m ≡ a
 bits_stand n m a known =
     let own : bit_and m m ≡ m = same_from_bits _ _ (λ i. omega (arith, bit_at_and m m i)) in
@@ -42,7 +42,7 @@ pub bits_above : (n m a : ℕ) → n < 2 ^ 32 → m < 2 ^ 32 → bit_and n m ≡
 bits_above n m a small narrow known =
     omega (arith, and-not 32 m n narrow small, and_comm m n, and_le_l (2 ^ 32 - 1 - m) n)
 
--- what is known of more bits tells what is known of fewer
+-- bits known under a mask are known under a part of it
 pub fewer_bits : (n m k a b : ℕ) → bit_and k m ≡ k → bit_and n m ≡ a → bit_and a k ≡ b → bit_and n k ≡ b
 fewer_bits n m k a b within known is =
     ap (λ v. bit_and n v) (sym within ∙ and_comm k m) ∙ sym (and_assoc k n m) ∙ ap (λ v. bit_and v k) known
@@ -58,7 +58,7 @@ one_bit n k m power =
     rw power (λ some. and_pow n k ∙ two_ways (bit_at n k) (2 ^ k) (bit_at-lt n k) (λ none.
     some (and_pow n k ∙ none)))
 
--- the least and the greatest that another mask may leave of a number of which some bits are known
+-- the least and the greatest value, under another mask, of a number with some known bits
 pub bits_least : (n m k a : ℕ) → bit_and n m ≡ a → bit_and a k ≤ bit_and n k
 bits_least n m k a known = omega (
   arith,

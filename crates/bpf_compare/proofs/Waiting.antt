@@ -84,7 +84,7 @@ pub emptied : (before rest : List Path) (n : ℕ) → n ≡ 0 → before ≡ res
 emptied before rest n none items left =
     items ∙ ap (λ l. l ++ []) (left ∙ ap (λ k. take (k - 1) before) none)
 
--- there is no doubt only where there was none before
+-- there is no doubt only if there was none before
 pub no_doubt : {D : Type 0} (ended doubt both : Option D) → both ≡ option_or ended doubt → both ≡ None
     → (ended ≡ None) × (doubt ≡ None)
 no_doubt None doubt both is none = (refl, sym is ∙ none)

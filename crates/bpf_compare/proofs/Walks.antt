@@ -22,7 +22,7 @@ use Rattle.bpf_compare.specs.Paths.{Follows, IsAt, ReturnsAs}
 abbrev pub insn_at : List Insn → ℕ → Insn
 insn_at code place = get_or code place (record { op = LoadImmediate; jt = 0; jf = 0; k = 0 })
 
--- the call's run comes to a state for which these stand
+-- the call's run reaches a state that these represent
 pub record Comes (code : List Insn) (call : SysCall) (registers : Registers)
     (words : List Value) : Type 0 where
   pub moment : ℕ
@@ -95,7 +95,7 @@ turned {code = code} {call = call} {walk = walk} given new never_stuck inside fo
     led code call at.moment at.state walk.registers insn given new on.0 at.reached on.1
     (follows at.state on.0 at.stands (subst P same on.1.executes))
 
--- and so the call follows what was made of the walk
+-- and so the call follows the new walk
 pub followed : {code : List Insn} {call : SysCall} {on : Registers} (r : Registers) {words : List Value}
     (known : Known) → r ≡ on → Comes code call on words → IsAmong known call
     → Follows code call (record { registers = r; words = words; known = known })

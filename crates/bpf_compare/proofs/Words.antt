@@ -6,7 +6,7 @@ use Rattle.call_data.specs.declared.sys_call.SysCall.{SysCall}
 use Rattle.call_data.specs.CallData.{IsCall, word_at}
 use Rattle.bpf_compare.specs.Known.{number_at}
 
--- where the fields stand among the words
+-- where the fields are among the words
 pub record Fields (call : SysCall) : Type 0 where
   pub nr : call.nr < 2 ^ 32 → word_at call 0 ≡ call.nr
   pub arch : call.arch < 2 ^ 32 → word_at call 4 ≡ call.arch
@@ -67,14 +67,14 @@ six (a ∷ b ∷ c ∷ d ∷ e ∷ []) is = absurd (omega arith)
 six (a ∷ b ∷ c ∷ d ∷ e ∷ f ∷ []) is = refl
 six (a ∷ b ∷ c ∷ d ∷ e ∷ f ∷ g ∷ more) is = absurd (omega arith)
 
--- a number of 64 bits is what its halves make
+-- a number of 64 bits is made of its halves
 abbrev whole : SysCall → ℕ → ℕ
 whole call place = number_at call place + 2 ^ 32 * number_at call (place + 1)
 
 halves : (low high full : ℕ) → low ≡ full % 2 ^ 32 → high ≡ full / 2 ^ 32 → full ≡ low + 2 ^ 32 * high
 halves low high full low_is high_is = omega arith
 
--- a call is what its words make
+-- a call is made of its words
 pub call_of_words : (call : SysCall) (nr arch ip a b c d e f : ℕ) → IsCall call → Fields call
     → nr ≡ number_at call 0 → arch ≡ number_at call 1 → ip ≡ whole call 2 → a ≡ whole call 4
     → b ≡ whole call 6 → c ≡ whole call 8 → d ≡ whole call 10 → e ≡ whole call 12 → f ≡ whole call 14

@@ -21,19 +21,19 @@ pub record Agree (first second : List Insn) (call : SysCall) : Type 0 where
   pub of_first : Returns first call value
   pub of_second : Returns second call value
 
--- they return these values on this call, which are not the same
+-- they return these two different values on this call
 pub record Disagree (first second : List Insn) (call : SysCall) (one other : ℕ) : Type 0 where
   pub of_first : Returns first call one
   pub of_second : Returns second call other
   pub differ : one ≢ other
 
--- the call is one of those that are asked about: any at all, or one of x86-64's own, whose numbers lie
--- below the x32 bit, linux/audit.h and asm/unistd.h
+-- the call is in the scope: any call, or a native one of x86-64, whose number is below the x32 bit,
+-- linux/audit.h and asm/unistd.h
 abbrev pub IsOf : Scope → SysCall → Type 0
 IsOf EveryCall call = IsCall call
 IsOf NativeCalls call = IsCall call × (call.arch ≡ NATIVE_ARCH) × (call.nr < 2 ^ 30)
 
--- what a comparison says of two filters
+-- what a comparison claims about two filters
 abbrev pub Says : Comparison → Scope → List Insn → List Insn → Type 0
 Says Same scope first second = (call : SysCall) → IsOf scope call → Agree first second call
 Says (Differs call one other) scope first second = IsOf scope call × Disagree first second call one other

@@ -16,16 +16,16 @@ use Rattle.bpf_compare.specs.declared.known.Split.TheVariants.{Holds, Fails, Bot
 use Rattle.bpf_compare.specs.declared.known.Left.{Left}
 use Rattle.bpf_compare.specs.declared.known.Left.TheVariants as left
 
--- the number that is the word at this place, of the sixteen, of the call's data
+-- the word at this place, of the sixteen of the call's data
 unfoldable pub number_at : SysCall → ℕ → ℕ
 number_at call place = word_at call (4 * place)
 
--- whether a test holds of this number
+-- whether a test holds for this number
 abbrev pub answer_of : Test → ℕ → ℕ → Bool
 answer_of Equal part against = part == against
 answer_of Greater part against = nat_lt against part
 
--- whether it holds of what the mask leaves of this number
+-- whether it holds for this number under the mask
 abbrev pub answer : Question → ℕ → Bool
 answer question n = answer_of question.test (bit_and n question.mask) question.against
 
@@ -43,16 +43,16 @@ pub record IsIn (range : Range) (n : ℕ) : Type 0 where
 abbrev pub Lacks : Excluded → ℕ → Type 0
 Lacks it n = bit_and n it.mask ≢ it.bits
 
--- the call's word does not have them
+-- the call's word does not have these bits
 abbrev pub Avoids : SysCall → Excluded → Type 0
 Avoids call it = Lacks it (number_at call it.word.place)
 
--- what the mask leaves of the number is in the bounds
+-- the number under the mask is within the bounds
 pub record IsWithin (it : Bounded) (n : ℕ) : Type 0 where
   pub low : it.low ≤ bit_and n it.mask
   pub high : bit_and n it.mask ≤ it.high
 
--- what it leaves of the call's word is
+-- the call's word under the mask is within the bounds
 abbrev pub Keeps : SysCall → Bounded → Type 0
 Keeps call it = IsWithin it (number_at call it.word.place)
 
@@ -68,7 +68,7 @@ abbrev pub IsSettled : Known → Type 0
 IsSettled known = (place : ℕ) (range : Range) → place < 16
     → (slice_index_or known.ranges place range).mask ≡ 2 ^ 32 - 1
 
--- what becomes of a call of a set that a test splits
+-- where a call of a set is after a test that splits the set
 abbrev pub FallsIn : Split → SysCall → Question → Known → Type 0
 FallsIn Holds call question left = (answer_on call question ≡ true) × IsAmong left call
 FallsIn Fails call question left = (answer_on call question ≡ false) × IsAmong left call
@@ -76,7 +76,7 @@ FallsIn (Both other) call question left =
     (answer_on call question ≡ true → IsAmong left call)
     × (answer_on call question ≡ false → IsAmong other call)
 
--- where a call of a set is left once a question was asked
+-- where a call of a set is after a question
 abbrev pub IsLeft : Left → SysCall → Known → Type 0
 IsLeft left.None call kept = ⊥
 IsLeft left.All call kept = IsAmong kept call

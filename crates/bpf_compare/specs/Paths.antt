@@ -17,7 +17,7 @@ use Rattle.bpf_compare.specs.declared.value.Value.{Value}
 use Rattle.bpf_compare.specs.Stands.{StandsFor}
 use Rattle.bpf_compare.specs.Value.{Denotes}
 
--- the call is in the walk's set, and its run comes to a state for which the walk stands
+-- the call is in the walk's set, and its run reaches a state that the walk represents
 pub record Follows (code : List Insn) (call : SysCall) (walk : Walk) : Type 0 where
   pub moment : ℕ
   pub state : State
@@ -25,13 +25,13 @@ pub record Follows (code : List Insn) (call : SysCall) (walk : Walk) : Type 0 wh
   pub stands : StandsFor call walk.registers walk.words state
   pub among : IsAmong walk.known call
 
--- the filter returns a number on the call that the value may be
+-- on this call the filter returns a number that the value may be
 pub record ReturnsAs (code : List Insn) (call : SysCall) (value : Value) : Type 0 where
   pub number : ℕ
   pub denotes : Denotes call value number
   pub returns : Returns code call number
 
--- what becomes of a call that followed a walk
+-- where a call that followed a walk is after a step
 abbrev pub TurnsTo : Turn → List Insn → SysCall → Walk → Type 0
 TurnsTo turn.Goes code call walk = Follows code call walk
 TurnsTo (turn.Splits other) code call walk = Follows code call walk ⊎ Follows code call other
@@ -40,7 +40,7 @@ TurnsTo turn.Narrows code call walk = Unit {0}
 TurnsTo turn.Empty code call walk = ⊥
 TurnsTo turn.Unclear code call walk = Unit {0}
 
--- a walk in the first filter, or in the second one where the first returned a value
+-- a walk in the first filter, or in the second one if the first returned a value
 abbrev pub IsAt : List Insn → List Insn → SysCall → Option Value → Walk → Type 0
 IsAt first second call None walk = Follows first call walk
 IsAt first second call (Some value) walk = ReturnsAs first call value × Follows second call walk
@@ -48,7 +48,7 @@ IsAt first second call (Some value) walk = ReturnsAs first call value × Follows
 abbrev pub Takes : List Insn → List Insn → SysCall → Path → Type 0
 Takes first second call path = IsAt first second call path.first path.walk
 
--- what becomes of a call that took a path
+-- where a call that took a path is after a step
 abbrev pub Becomes : Progress → List Insn → List Insn → SysCall → Path → Type 0
 Becomes progress.Goes first second call path = Takes first second call path
 Becomes (progress.Splits other) first second call path =
@@ -65,7 +65,7 @@ pub record Meets (first second : List Insn) (call : SysCall) (path : Path) (one 
   pub of_second : ReturnsAs second call other
   pub among : IsAmong path.walk.known call
 
--- what is told holds
+-- a reported difference is real
 abbrev pub Tells : Progress → Scope → List Insn → List Insn → Type 0
 Tells (progress.Differs found) scope first second = Says found scope first second
 Tells progress.Goes scope first second = Unit {0}

@@ -1,4 +1,4 @@
--- Which states the registers and words of a path stand for. Only private functions cite this.
+-- Which states the registers and words of a path represent. Only private functions cite this.
 use Rattle.std.specs.Prelude.{◌≡◌, ℕ, ◌+◌, Bool, true, false, if◌then◌else◌, List, Some, slice_index_or}
 use Rattle.bpf_code.specs.declared.insn.Insn.{Insn}
 use Rattle.call_data.specs.declared.sys_call.SysCall.{SysCall}
@@ -19,7 +19,7 @@ pub record StandsFor (call : SysCall) (registers : Registers) (words : List Valu
   pub words_are : (word value : ℕ) (given : Value) → s.words word ≡ Some value
       → Denotes call (slice_index_or words word given) value
 
--- what a path goes on with is what the step leads to
+-- the path goes on with the result of the step
 abbrev pub GoesOn : SysCall → Registers → List Value → Next → Type 0
 GoesOn call registers words (Goes s) = StandsFor call registers words s
 GoesOn call registers words (Ends given) = ⊥
@@ -31,7 +31,7 @@ EndsWith call value (Ends given) = Denotes call value given
 abbrev pub skipped : Registers → ℕ → Registers
 skipped r count = record { place = r.place + 1 + count; a = r.a; x = r.x }
 
--- what was made of a test is what it says
+-- the result for a test agrees with its answer
 abbrev pub Answers : SysCall → After → Bool → Type 0
 Answers call after.Holds holds = holds ≡ true
 Answers call after.Fails holds = holds ≡ false
@@ -41,7 +41,7 @@ Answers call (after.Goes a x) holds = ⊥
 Answers call after.Skips holds = ⊥
 Answers call (after.Ends value) holds = ⊥
 
--- what was made of a step is what the step leads to
+-- the result for an instruction agrees with the machine's step
 abbrev pub LeadsTo : SysCall → Registers → Insn → After → List Value → Next → Type 0
 LeadsTo call r insn (after.Goes a x) words next =
     GoesOn call (record { place = r.place + 1; a = a; x = x }) words next

@@ -1,4 +1,4 @@
--- Which numbers a value stands for. Only private functions cite this.
+-- Which numbers a value may be. Only private functions cite this.
 use Rattle.std.specs.Prelude.{◌≡◌, ℕ, bit_and}
 use Rattle.call_data.specs.declared.sys_call.SysCall.{SysCall}
 use Rattle.bpf_compare.specs.declared.value.Value.{Value}

@@ -44,16 +44,16 @@ pub(crate) fn number_question(known: &Known, value: Value) -> Option<Question> {
     value_question(known, value)
 }
 
-/// How many bits are split at most: a path for each of their numbers takes a small part of a second.
+/// The greatest number of bits to split: a path for each of their numbers takes a fraction of a second.
 const MOST_SPLITS: u32 = 12;
 
-/// Whether these bits have too many numbers for a path each, with those that there are already.
+/// Whether these bits, with those already split, have too many numbers for a path each.
 fn is_wide(known: &Known, open: u32) -> bool {
     open.count_ones().saturating_add(known.splits) > MOST_SPLITS
 }
 
-/// A number that the word may be, if one is found. It is rather not 0 under the mask: with an X of 0 some
-/// tests have a single answer.
+/// A number that the word may be, if one is found; preferably not 0 under the mask, since with an X of 0 some
+/// tests have only one answer.
 fn guess(known: &Known, word: Word, mask: u32) -> Option<u32> {
     let least = number(known, word.place);
     let open = mask & !known.ranges[word.place].mask;
@@ -67,7 +67,7 @@ fn guess(known: &Known, word: Word, mask: u32) -> Option<u32> {
     }
 }
 
-/// A question about a bit of a word that breaks a rule of the set in this call, which was meant to be of it.
+/// A question about a bit of a word of this call that breaks a rule of the set to which it should belong.
 ///
 /// The words are independent: a set is empty only if one of them has no number left. The call has that one
 /// wrong, so a bit of a word that it has right would not help.
@@ -104,7 +104,7 @@ fn wrong_range_question(known: &Known, data: &[u8; 64]) -> Option<Question> {
     None
 }
 
-/// A question about a bit of any word. `None` if each word is known whole, so that at most one call is left.
+/// A question about a bit of any word. `None` if every word is fully known, so that at most one call is left.
 pub(crate) fn any_question(known: &Known) -> Option<Question>
     ensures { IfNone result (IsSettled known.now) }
 {

@@ -4,7 +4,7 @@ ghost use Rattle.bpf_compare.specs.Known.{IsIn, IsWithin};
 use crate::range::Range;
 use crate::word::Word;
 
-/// Bounds, both included, of what a mask leaves of a word of the call's data.
+/// Bounds, both included, of a word of the call's data under a mask.
 #[derive(Clone, Copy)]
 pub(crate) struct Bounded {
     pub(crate) word: Word,
@@ -20,14 +20,14 @@ impl Bounded {
         self.low <= part && part <= self.high
     }
 
-    /// Whether the range has no number within the bounds, as far as its known bits tell.
+    /// Whether the range has no number within the bounds, judged by its known bits.
     fn misses(&self, range: Range) -> bool
         ensures { IsTrue result → (n : ℕ) → IsIn range n → IsWithin self.now n → ⊥ }
     {
         range.least(self.mask) > self.high || range.greatest(self.mask) < self.low
     }
 
-    /// Whether no number of the range is within these bounds and those that were asked for.
+    /// Whether no number of the range is within both these bounds and the asked ones.
     pub(crate) fn rules_out(&self, range: Range, asked: Option<Bounded>) -> bool
         ensures { IsTrue result → (n : ℕ) → IsIn range n → IfSome asked (λ it. IsWithin it n)
             → IsWithin self.now n → ⊥ }
@@ -38,7 +38,7 @@ impl Bounded {
         }
     }
 
-    /// Whether no number is within the bounds of both, as bounds under one mask tell.
+    /// Whether no number is within the bounds of both. Different masks are not compared.
     fn contradicts(&self, other: Bounded) -> bool
         ensures { IsTrue result → (n : ℕ) → IsWithin self.now n → IsWithin other n → ⊥ }
     {

@@ -7,7 +7,7 @@ use bpf_machine::{run, runs_are_determined};
 use bpf_verify::Filter;
 use call_data::SysCall;
 
-/// Runs both filters on a call, and tells it if it is in the scope and their values differ.
+/// Runs both filters on a call. Returns it if it is in the scope and their values differ.
 pub(crate) fn difference(
     first: &Filter,
     second: &Filter,

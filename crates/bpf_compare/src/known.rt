@@ -21,7 +21,7 @@ pub(crate) struct Known {
     pub(crate) ranges: [Range; 16],
     pub(crate) excluded: Vec<Excluded>,
     pub(crate) bounded: Vec<Bounded>,
-    /// How many questions split the calls, other than tests of the filters: twice as many paths for each.
+    /// How many questions besides the filters' own tests split the calls. Each doubles the paths.
     pub(crate) splits: u32,
 }
 
@@ -36,7 +36,7 @@ pub(crate) enum Split {
     Both(Known),
 }
 
-/// Which calls are left once a question was asked.
+/// Which calls are left after a question.
 #[derive(Drop)]
 pub(crate) enum Left {
     /// None: the set was empty.
@@ -66,7 +66,7 @@ impl Known {
         }
     }
 
-    /// How many numbers are tried for a word: some for each rule, of which most rule out a single run.
+    /// How many numbers to try for a word: some for each rule, since most rules exclude a single run.
     pub(crate) fn tries(&self) -> usize {
         (self.excluded.len() + self.bounded.len())
             .saturating_mul(4)
@@ -80,7 +80,7 @@ impl Known {
         self.ranges[place].has(number) && self.run_without(place, number).is_none()
     }
 
-    /// Why the word at this place is not this number, if a rule tells: free low bits, of the numbers that the
+    /// If a rule excludes this number for the word at this place: the free low bits of the numbers that the
     /// rule excludes with it.
     pub(crate) fn run_without(&self, place: usize, number: u32) -> Option<u32> {
         for it in self.excluded.as_slice() {
@@ -96,7 +96,7 @@ impl Known {
         None
     }
 
-    /// The same value, as a constant where all its bits are known.
+    /// The same value, as a constant if all its bits are known.
     pub(crate) fn constant(&self, value: Value) -> Value
         ensures { (call : SysCall) (n : ℕ) → IsAmong self.now call → Denotes call value n
             → Denotes call result n }
@@ -139,7 +139,7 @@ impl Known {
         Ok(Split::Both(other))
     }
 
-    /// Learns the answer to a question, in a copy for some of the calls if both are possible.
+    /// Learns the answer to a question. If both are possible, a copy has some of the calls.
     pub(crate) fn ask(&mut self, alloc: Global, question: Question) -> Result<Left, AllocError>
         ensures { IfOk result (λ left. (call : SysCall) → IsAmong self.old call → IsLeft left call self.new) }
     {
@@ -188,7 +188,7 @@ impl Known {
         }
     }
 
-    /// Records this answer, by which the question's word is in this range.
+    /// Records this answer, which puts the question's word into this range.
     fn narrow(&mut self, question: Question, range: Range, holds: bool) -> Result<(), AllocError>
         ensures { IfOk result (λ _. (call : SysCall) → IsAmong self.old call → answer_on call question ≡ holds
             → IsIn range (number_at call question.word.place) → IsAmong self.new call) }
@@ -234,7 +234,7 @@ fn free_low_bits(mask: u32) -> u32 {
     mask.wrapping_sub(1) & !mask
 }
 
-/// Whether all numbers of the range are excluded for this word, as far as a quick check can tell.
+/// Whether all numbers of the range are excluded for this word, as far as a quick check shows.
 fn is_ruled_out(excluded: &[Excluded], word: Word, range: Range) -> bool
     ensures { IsTrue result → (call : SysCall) → All (Avoids call) excluded.now
         → IsIn range (number_at call word.place) → ⊥ }
@@ -253,7 +253,7 @@ fn is_ruled_out(excluded: &[Excluded], word: Word, range: Range) -> bool
     true
 }
 
-/// Whether bounds of the word rule out that it is in the range and within the bounds that are asked for.
+/// Whether bounds of the word rule out that it is in the range and within the asked bounds.
 fn is_out_of_bounds(bounded: &[Bounded], word: Word, range: Range, asked: Option<Bounded>) -> bool
     ensures { IsTrue result → (call : SysCall) → All (Keeps call) bounded.now
         → IsIn range (number_at call word.place)

@@ -3,9 +3,20 @@
 //!
 //! `specs/Agree.antt` defines what a result says about two filters. `compare` follows paths through both,
 //! each for a set of calls (`path.rt`, `walk.rt`, `step.rt`), of which it knows bounds and bits word by word
-//! (`known.rt`, `range.rt`, `question.rt`, `bounded.rt`). Where that is too little to go on, it learns a bit
-//! of the calls at a time (`asking.rt`), so that only arithmetic, an X that may be many numbers and the
-//! budget leave a doubt.
+//! (`known.rt`, `range.rt`, `question.rt`, `bounded.rt`). If that is not enough, it learns one bit of the
+//! calls at a time (`asking.rt`), so only arithmetic, an X that may be many numbers and the budget leave a
+//! result undecided.
+//!
+//! # What is proved
+//!
+//! - Same is returned only if both filters have a run, to the same value, on every call of the scope:
+//!   `compare`.
+//! - Differs is returned with a call of the scope and two different values, those of the runs on it:
+//!   `compare`.
+//!
+//! Undecided promises nothing. Only tests show that it is limited to an exceeded budget, arithmetic other
+//! than masks and an X of more than twelve open bits, and that equal code is never undecided. Only tests show
+//! that equal filters of other shapes are found the same, and that differences are found.
 #![tactic(auto)]
 
 mod asking;

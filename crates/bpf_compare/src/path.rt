@@ -25,7 +25,7 @@ use std::alloc::{AllocError, Global};
 pub(crate) struct Path {
     /// What the first filter returned, once it did.
     pub(crate) first: Option<Value>,
-    /// The way through the first filter, and then through the second one.
+    /// The walk through the first filter, and then through the second one.
     pub(crate) walk: Walk,
 }
 
@@ -40,7 +40,7 @@ pub(crate) enum Progress {
     Narrows,
     /// Both filters return the same value on all its calls, if it has any.
     Agrees,
-    /// They return different values on a call that this tells.
+    /// They return different values on the call of this result.
     Differs(Comparison),
     /// It depends on a value that is not tracked.
     Unclear,
@@ -102,8 +102,8 @@ impl Path {
         }
     }
 
-    /// Compares what the filters return. If that may differ, it tells a call of the path on which it does; if
-    /// none is found, it learns a bit of its calls, and goes through the second filter once more.
+    /// Compares what the filters return. If the values may differ, it looks for a call of the path on which
+    /// they do. If it finds none, it learns a bit of its calls, and goes through the second filter once more.
     fn meet(
         &mut self,
         alloc: Global,

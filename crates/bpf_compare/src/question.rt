@@ -15,7 +15,7 @@ pub(crate) enum Test {
 }
 
 impl Test {
-    /// Whether it holds of this number.
+    /// Whether it holds for this number.
     pub(crate) fn holds(self, number: u32, against: u32) -> bool
         ensures { result ≡ answer_of self number against }
     {
@@ -57,7 +57,7 @@ impl Question {
         }
     }
 
-    /// The bits that the word does not have if this is the answer, where the answer implies just that.
+    /// The bits that the word lacks if this is the answer, where the answer implies just that.
     pub(crate) fn excluded(self, holds: bool) -> Option<Excluded>
         ensures word { IfSome result (λ it. it.word ≡ self.word) }
         ensures lacks { (n : ℕ) → answer self n ≡ holds → IfSome result (λ it. Lacks it n) }
@@ -74,7 +74,7 @@ impl Question {
         })
     }
 
-    /// The bounds of what the mask leaves of the word if this is the answer, where a range can't have them.
+    /// The bounds of the word under the mask if this is the answer, where a range can't express them.
     pub(crate) fn bounds(self, holds: bool) -> Option<Bounded>
         ensures word { IfSome result (λ it. it.word ≡ self.word) }
         ensures within { (n : ℕ) → answer self n ≡ holds → IfSome result (λ it. IsWithin it n) }

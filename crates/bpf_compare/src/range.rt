@@ -39,14 +39,14 @@ impl Range {
         bits: NATIVE_ARCH,
     };
 
-    /// The same numbers, if there is one, with what the bounds and the known bits tell of each other.
+    /// The same numbers, if there is one, with bounds and known bits that narrow each other.
     fn settled(self) -> Option<Range>
         ensures { (n : ℕ) → IsIn self n → IsSomeAnd result (λ range. IsIn range n) }
     {
         self.within_bits()?.with_shared_bits()?.within_bits()
     }
 
-    /// The same numbers, if there is one: none is below the known bits, or above them and all others.
+    /// The same numbers, if there is one: none is below the known bits, or above these with all others set.
     fn within_bits(self) -> Option<Range>
         ensures { (n : ℕ) → IsIn self n → IsSomeAnd result (λ range. IsIn range n) }
     {
@@ -139,14 +139,14 @@ impl Range {
         mask & self.mask == mask && self.bits & mask == bits
     }
 
-    /// The least that a mask may leave of its numbers, as far as their known bits tell.
+    /// The least value of its numbers under a mask, judged by their known bits.
     pub(crate) fn least(self, mask: u32) -> u32
         ensures { (n : ℕ) → IsIn self n → result ≤ bit_and n mask }
     {
         self.bits & mask
     }
 
-    /// The greatest that a mask may leave of its numbers, as far as their known bits tell.
+    /// The greatest value of its numbers under a mask, judged by their known bits.
     pub(crate) fn greatest(self, mask: u32) -> u32
         ensures { (n : ℕ) → IsIn self n → bit_and n mask ≤ result }
     {

@@ -2,7 +2,7 @@ ghost use Rattle.std.specs.Prelude.{IsTrue};
 
 use call_data::{NATIVE_ARCH, SysCall, fields_fit};
 
-/// Numbers from this one on are none of x86-64's own: `__X32_SYSCALL_BIT` of asm/unistd.h.
+/// Numbers from this one on are not native calls of x86-64: `__X32_SYSCALL_BIT` of asm/unistd.h.
 const X32_BIT: u32 = 0x4000_0000;
 
 /// The calls on which filters are compared.

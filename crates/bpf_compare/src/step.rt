@@ -53,7 +53,7 @@ impl Registers {
     }
 }
 
-/// What an instruction leads to.
+/// The result of an instruction.
 pub(crate) enum After {
     /// Goes on to the next instruction, with these values in A and X.
     Goes(Value, Value),
@@ -112,7 +112,7 @@ fn any_bit(a: Value, bits: u32) -> After
     asked(a.masked(bits), Test::Greater, 0)
 }
 
-/// What arithmetic other than masks makes of A, if it is of constants.
+/// The result of arithmetic other than masks on A, if its operands are constants.
 fn computed(registers: Registers, insn: &Insn) -> Option<u32>
     requires { KeepsNumber insn.now.op insn.now.k }
     ensures { (call : SysCall) (s : State) (next : Next) → Denotes call registers.a s.a
@@ -139,7 +139,7 @@ fn computed(registers: Registers, insn: &Insn) -> Option<u32>
     }
 }
 
-/// What arithmetic with X makes of these numbers.
+/// The result of arithmetic with X on these numbers.
 fn computed_with_x(insn: &Insn, a: u32, x: u32) -> Option<u32>
     ensures { (call : SysCall) (s : State) (next : Next) → s.a ≡ a → s.x ≡ x
         → Executes insn.now.op call insn.now s next → IfSome result (λ number. next ≡ sets_a s number) }
@@ -155,7 +155,7 @@ fn computed_with_x(insn: &Insn, a: u32, x: u32) -> Option<u32>
     }
 }
 
-/// What has to be a constant before the instruction can be followed, if it is data.
+/// The value that must be a constant before the instruction can be followed, if it is data.
 pub(crate) fn wanted(registers: Registers, op: Operation) -> Value {
     match (op, registers.a) {
         (Operation::AndX, Value::Data(..)) => registers.x,
@@ -235,7 +235,7 @@ pub(crate) fn step(registers: Registers, insn: &Insn, words: &mut [Value; 16]) -
         Operation::ReturnA => After::Ends(a),
         Operation::MoveToX => After::Goes(a, a),
         Operation::MoveToA => After::Goes(x, x),
-        // Arithmetic other than masks, with what is no constant.
+        // Arithmetic other than masks, on a value that is not a constant.
         _ => After::Goes(Value::Unknown, x),
     }
 }

@@ -18,7 +18,7 @@ pub(crate) enum Value {
 }
 
 impl Value {
-    /// What is loaded from this offset of the call's data, in bytes.
+    /// The value loaded from this offset of the call's data, in bytes.
     pub(crate) fn loaded(offset: u32) -> Value
         requires inside { offset < 64 }
         requires aligned { offset % 4 ≡ 0 }
@@ -28,7 +28,7 @@ impl Value {
         Value::Data(Word::at(offset), u32::MAX)
     }
 
-    /// Whether both are the same number on every call, as far as can be seen.
+    /// Whether both are certainly the same number on every call.
     pub(crate) fn is_same(self, other: Value) -> bool
         ensures { IsTrue result → (call : SysCall) (n m : ℕ) → Denotes call self n → Denotes call other m
             → n ≡ m }
@@ -40,7 +40,7 @@ impl Value {
         }
     }
 
-    /// What is known of the same bits under a mask.
+    /// What is known of the value under a mask.
     #[tactic(auto, using(std::proofs::lemmas::Nat::and_assoc))]
     pub(crate) fn masked(self, mask: u32) -> Value
         ensures { (call : SysCall) (n : ℕ) → Denotes call self n → Denotes call result (bit_and n mask) }

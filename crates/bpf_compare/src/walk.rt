@@ -78,7 +78,7 @@ impl Walk {
         }
     }
 
-    /// A question whose answer has to be known before the next instruction can be followed.
+    /// A question whose answer must be known before the next instruction can be followed.
     fn wanted(&self, code: &[Insn]) -> Option<Question> {
         let insn = code.get(self.registers.place)?;
         number_question(&self.known, wanted(self.registers, insn.op))

@@ -8,8 +8,8 @@ use crate::laws::words_fit;
 use crate::range::Range;
 use call_data::{SysCall, words_of_fields};
 
-/// A call that is likely in the set. That is not guaranteed, so the caller runs both filters on it, but no
-/// other call is in a set whose words are all known.
+/// A call that is probably in the set; the caller checks it by running both filters. If all words of the set
+/// are known, no other call is in it.
 pub(crate) fn witness(known: &Known) -> SysCall
     ensures { (call : SysCall) → IsCall call → IsSettled known.now → IsAmong known.now call
         → call ≡ result }

@@ -15,7 +15,7 @@ use Rattle.bpf_machine.specs.Runs.{Reaches, Runs}
 use Rattle.bpf_machine.proofs.Steps.{IsKnown, moves, keeps_words, stores_word, executes, Executes-unique}
 use Rattle.bpf_machine.proofs.Steps.{goes_same, goes_not_ends}
 
--- the walk that led to a state, whose stored words it knows
+-- the walk that led to a state, with the words that the state has stored
 pub record Trace (code : List Insn) (s : State) : Type 0 where
   pub before : List ℕ
   pub walk : IsWalk code before s.place
@@ -60,7 +60,7 @@ trace_of code call zero s reached = record {
 trace_of code call (suc n) s reached = trace_step code call reached.0 s
     (trace_of code call n reached.0 reached.1) reached.2
 
--- what the verifier says of the walks through this code
+-- what the verifier ensures for the walks through this code
 pub record WalksStay (code : List Insn) : Type 0 where
   pub forward : (from to : ℕ) → Follows code from to → from < to
   pub inside : (before : List ℕ) (at : ℕ) → IsWalk code before at → at < length code
@@ -122,7 +122,7 @@ Reaches-unique code call (suc n) s t one two =
     goes_same s t (Step-unique code call one.0 (Goes s) (Goes t) one.2
     (step_at code call one.0 two.0 (Goes t) before two.2))
 
--- the state at an earlier moment went on
+-- the state after fewer steps went on
 goes_on_at : (code : List Insn) (call : SysCall) (k n : ℕ) (s : State) → k < n → Reaches code call n s
     → (t : State) × Reaches code call k t × (u : State) × Step call code t (Goes u)
 goes_on_at code call k zero s below reached = absurd (omega arith)

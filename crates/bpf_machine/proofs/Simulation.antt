@@ -20,8 +20,8 @@ use Rattle.bpf_machine.proofs.Progress.{WalksStay, stay_of, place_inside, count_
 abbrev pub insn_at : List Insn → ℕ → Insn
 insn_at code place = get_or code place (record { op = LoadImmediate; jt = 0; jf = 0; k = 0 })
 
--- what holds at the start of each turn of the machine's loop: after so many steps the registers and the
--- words stand for the state of the run, which is inside the code
+-- the invariant of the machine's loop: after this many steps the registers and the words represent the state
+-- of the run, which is inside the code
 pub record Turn (code : List Insn) (call : SysCall) (steps : ℕ) (r : Registers)
     (words : List ℕ) : Type 0 where
   pub state : State
@@ -67,7 +67,7 @@ first_turn code call words forward inside sound =
           absurd (none-some value stored);
     })
 
--- what follows from a step that leads to what the run's step does
+-- what follows if the machine's step matches the run's
 pub record WentOn (code : List Insn) (call : SysCall) (steps : ℕ) (r on : Registers)
     (words : List ℕ) : Type 0 where
   pub turn : Turn code call (steps + 1) on words

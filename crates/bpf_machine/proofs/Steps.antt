@@ -1,4 +1,4 @@
--- One step: that it leads to one thing, where it goes, and what it does to the words.
+-- One step: its only result, where it goes, and what it does to the words.
 use Rattle.std.proofs.Common.{◌≡◌, ℕ, ◌+◌, ◌==◌, Bool, true, false, cond, ◌⊎◌, inl, inr, Option, Some, refl}
 use Rattle.std.proofs.Common.{sym, ap, ◌∙◌}
 use Rattle.std.proofs.lemmas.Bool.{eq-eqb}
@@ -24,7 +24,7 @@ goes_same t u e = cc
 pub goes_not_ends : (t : State) (value : ℕ) → Goes t ≡ Ends value → ⊥
 goes_not_ends t value e = cc
 
--- an operation leads to one thing
+-- an operation has one result
 word_unique : (s : State) (word a b : ℕ) → Holds s word a → Holds s word b → a ≡ b
 word_unique s word a b one two = let e : Some a ≡ Some b = sym one.stored ∙ two.stored in cc
 
@@ -133,7 +133,7 @@ stores_word Store call insn s t stores does = set_sets s t insn.k s.a does.1
 stores_word StoreX call insn s t stores does = set_sets s t insn.k s.x does.1
 stores_word _ call insn s t stores does = absurd (cc)
 
--- an operation that keeps its rules leads to something
+-- an operation that keeps its rules has a result
 pub executes : (op : Operation) (call : SysCall) (insn : Insn) (s : State) → KeepsNumber op insn.k
     → (scratch_of op ≡ Loads → IsKnown s insn.k) → (next : Next) × Executes op call insn s next
 executes LoadData call insn s keeps known = (_, (keeps.0, keeps.1, refl))

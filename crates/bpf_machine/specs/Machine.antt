@@ -52,7 +52,7 @@ sets_word s word value =
           else s.words w;
     })
 
--- on past so many instructions
+-- on past this many instructions
 abbrev pub skips : State → ℕ → Next
 skips s count = Goes (record { place = s.place + 1 + count; a = s.a; x = s.x; words = s.words })
 
@@ -69,7 +69,7 @@ difference_of a b = (a + 2 ^ 32 - b) % 2 ^ 32
 abbrev pub product_of : ℕ → ℕ → ℕ
 product_of a b = a * b % 2 ^ 32
 
--- what the word holds, where it exists and was stored
+-- the word exists, was stored, and has this value
 pub record Holds (s : State) (word value : ℕ) : Type 0 where
   pub exists : word < SCRATCH_WORDS
   pub stored : s.words word ≡ Some value
@@ -117,7 +117,7 @@ Executes ReturnA call insn s next = next ≡ Ends s.a
 Executes MoveToX call insn s next = next ≡ sets_x s s.a
 Executes MoveToA call insn s next = next ≡ sets_a s s.x
 
--- a step of the code: what the instruction does that stands at the state's place
+-- a step of the code: the instruction at the state's place is executed
 pub record Step (call : SysCall) (code : List Insn) (s : State) (next : Next) : Type 0 where
   pub insn : Insn
   pub stands : slice_get code s.place ≡ Some insn

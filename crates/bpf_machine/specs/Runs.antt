@@ -5,12 +5,12 @@ use Rattle.call_data.specs.declared.sys_call.SysCall.{SysCall}
 use Rattle.bpf_machine.specs.Machine.{State, Next, Step, start}
 use Rattle.bpf_machine.specs.Machine.Next.{Goes, Ends}
 
--- after so many steps from the start the machine is in this state
+-- after this many steps from the start the machine is in this state
 abbrev pub Reaches : List Insn → SysCall → ℕ → State → Type 0
 Reaches code call zero s = s ≡ start
 Reaches code call (suc n) s = (before : State) × Reaches code call n before × Step call code before (Goes s)
 
--- the run of the code on the call ends with this value, after so many steps, the last one counted
+-- the run of the code on the call ends with this value, after this many steps, the last one counted
 pub record Runs (code : List Insn) (call : SysCall) (value steps : ℕ) : Type 0 where
   pub last : State
   pub before : ℕ

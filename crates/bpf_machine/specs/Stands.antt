@@ -1,4 +1,4 @@
--- Which state the machine's registers and words stand for. Only private functions cite this.
+-- Which state the machine's registers and words represent. Only private functions cite this.
 use Rattle.std.specs.Prelude.{◌≡◌, ℕ, ◌+◌, List, Some, slice_index}
 use Rattle.bpf_code.specs.declared.insn.Insn.{Insn}
 use Rattle.bpf_machine.specs.Machine.{State, Next}
@@ -14,7 +14,7 @@ pub record StandsFor (registers : Registers) (words : List ℕ) (s : State) : Ty
   pub x_is : registers.x ≡ s.x
   pub words_are : (word value : ℕ) → s.words word ≡ Some value → slice_index words word ≡ value
 
--- what the code goes on with is what the step leads to
+-- the code goes on with the result of the step
 abbrev pub GoesOn : Registers → List ℕ → Next → Type 0
 GoesOn registers words (Goes s) = StandsFor registers words s
 GoesOn registers words (Ends given) = ⊥
@@ -23,7 +23,7 @@ abbrev pub EndsWith : ℕ → Next → Type 0
 EndsWith value (Goes s) = ⊥
 EndsWith value (Ends given) = value ≡ given
 
--- what the code made of a step is what the step leads to
+-- the code's result for an instruction agrees with the machine's step
 abbrev pub LeadsTo : Registers → Insn → After → List ℕ → Next → Type 0
 LeadsTo r insn (after.Goes a x) words next = GoesOn (record { place = r.place + 1; a = a; x = x }) words next
 LeadsTo r insn after.Holds words next =

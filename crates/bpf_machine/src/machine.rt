@@ -29,7 +29,7 @@ pub fn run(filter: &Filter, call: &SysCall) -> Ran
     // Nor does it take more steps than the longest walk has places: `Filter::longest`.
     ensures longest { (places : ℕ) → IsLongest filter.now places → result.steps ≤ places }
 
-    // Each state that the run comes to has a next one: it reads only data and stored words.
+    // Each state that the run reaches has a next one: it reads only data and stored words.
     ensures never_stuck { NeverStuck filter.now call.now }
 {
     walks_stay_inside();

@@ -45,7 +45,7 @@ impl Registers {
     }
 }
 
-/// What an instruction leads to.
+/// The result of an instruction.
 ///
 /// A jump says only which of its numbers applies. So the result of a test is a branch in the machine's loop,
 /// which the processor predicts; if it were a number to look up, the loop would wait for the load.

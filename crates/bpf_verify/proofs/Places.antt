@@ -6,7 +6,7 @@ use borrow.Author.Count.{below_more}
 use Rattle.bpf_code.specs.declared.insn.Insn.{Insn}
 use Rattle.bpf_code.specs.declared.operation.Operation.TheVariants.{LoadImmediate}
 
--- what a read past the end of the code would give: any instruction
+-- the result of a read past the end of the code: any instruction
 abbrev pub no_insn : Insn
 no_insn = record { op = LoadImmediate; jt = 0; jf = 0; k = 0 }
 
@@ -21,7 +21,7 @@ places_more P code at insn so_far stands here earlier other below found =
     (λ o is. let Q : Insn → Type 0 = λ x. P at x in subst Q (same_Some insn o (sym stands ∙ is)) here) earlier
     below other found
 
--- the same where the instruction was read
+-- one more place, whose instruction was read
 pub places_read : (P : ℕ → Insn → Type 0) (code : List Insn) (at : ℕ) (d : Insn)
     → ((earlier : ℕ) (other : Insn) → earlier < at → slice_get code earlier ≡ Some other → P earlier other)
     → at < length code → P at (get_or code at d)

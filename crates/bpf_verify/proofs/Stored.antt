@@ -1,4 +1,4 @@
--- What the masks tell of walks, place by place.
+-- What the masks mean for walks, place by place.
 use Rattle.std.proofs.Common.{◌≡◌, ◌≢◌, ◌<◌, ◌+◌, ◌-◌, ◌^◌, ◌⊎◌, inl, inr, ℕ, List, [], ◌∷◌, Some, length}
 use Rattle.std.proofs.Common.{get_or, slice_get, min, max, bit_and, bit_or, refl, sym, ap, subst, ◌∙◌, arith}
 use Rattle.std.specs.Int.{bit_at}
@@ -32,7 +32,7 @@ pub record Bypass (code : List Insn) (word at : ℕ) : Type 0 where
   pub walk : IsWalk code before at
   pub unstored : ¬ IsStoredOn code word before
 
--- what the masks tell once all places below i were passed
+-- what the masks mean after all places below i were passed
 pub record Tells (code : List Insn) (i : ℕ) (masks : List ℕ) : Type 0 where
   pub set : (p w : ℕ) (before : List ℕ) → p < length masks → w < 16 → bit_at (get_or masks p 0) w ≡ 1
       → IsWalk code before p → Below i before → IsStoredOn code w before
@@ -123,7 +123,7 @@ passed_set Branches insn at stored masks p w within set =
     (first.0, λ goes. elim goes [ inl taken ↦ first.1 taken | inr not_taken ↦ second.1 not_taken ])
 passed_set Continues insn at stored masks p w within set = narrowed_set (at + 1) stored masks p w within set
 
--- a bit is clear where it was before, or where the filter may come to from here without the word
+-- a bit is clear where it was before, or where the filter may go from here without the word
 passed_clear : (f : Flow) (insn : Insn) (at stored : ℕ) (masks : List ℕ) (p w : ℕ) → p < length masks
     → bit_of (passed_on f insn at stored masks) p w ≡ 0
     → (bit_of masks p w ≡ 0) ⊎ (MayGo f insn at p × (bit_at stored w ≡ 0))
@@ -143,7 +143,7 @@ passed_clear Branches insn at stored masks p w within clear =
 passed_clear Continues insn at stored masks p w within clear =
     narrowed_clear (at + 1) stored masks p w within clear
 
--- the mask behind an instruction
+-- the mask after an instruction
 max_zero : (a b m : ℕ) → m ≡ max a b → b ≡ 0 → m ≡ a
 max_zero a b m is none = omega arith
 

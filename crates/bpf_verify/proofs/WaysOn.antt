@@ -1,4 +1,4 @@
--- What the numbers of places ahead tell of walks, from the last place to the first.
+-- What the numbers of places ahead mean for walks, from the last place to the first.
 use Rattle.std.proofs.Common.{◌≡◌, ◌<◌, ◌≤◌, ◌+◌, ◌-◌, ◌⊎◌, inl, inr, ℕ, zero, suc, List, [], ◌∷◌, Some}
 use Rattle.std.proofs.Common.{length, get_or, slice_get, refl, sym, ap, subst, ◌∙◌, arith}
 use Rattle.std.specs.Prelude.{slice_set}
@@ -76,7 +76,7 @@ most_small Branches insn at len ahead within below small =
     )
 most_small Continues insn at len ahead within below small = omega (arith, small (at + 1) (omega arith) below)
 
--- the number of this place can be written down
+-- the number of this place is at most the number of places left
 pub most_fits : (code : List Insn) (at : ℕ) (insn : Insn) (ahead : List ℕ) → Knows code (at + 1) ahead
     → at < length code → GoesBelow (flow_of insn.op) insn at (length code)
     → most_ahead (flow_of insn.op) insn at ahead + 1 ≤ length code - at
@@ -177,7 +177,7 @@ some_ahead code ahead from knows within =
     elim (knows.reached from (omega arith) within)
     [ inl one ↦ omega (arith, one) | inr some ↦ omega (arith, some.2) ]
 
--- a walk has a way on with as many places as the number of the place where it is says
+-- a walk has a way on with as many places as the number of its current place
 walks_on : (code : List Insn) (ahead : List ℕ) (left : ℕ) (before : List ℕ) (at : ℕ) → IsSound code
     → Knows code 0 ahead → IsWalk code before at → number_at ahead at ≡ suc left
     → (passed : List ℕ) × (end : ℕ) × IsWalk code passed end × (places_of passed ≡ length before + suc left)
@@ -191,7 +191,7 @@ walks_on code ahead (suc left) before at sound knows walk is =
           (more.0, more.1, more.2, omega (arith, more.3))
     ]
 
--- what a walk passed and what may come are no more than what the first place has ahead
+-- the places that a walk passed and those ahead of it are no more than the number of the first place
 left_of : (code : List Insn) (ahead : List ℕ) (before : List ℕ) (at : ℕ) → Knows code 0 ahead
     → IsWalk code before at → length before + number_at ahead at ≤ number_at ahead 0
 left_of code ahead [] at knows walk = omega (arith, ap (number_at ahead) walk)

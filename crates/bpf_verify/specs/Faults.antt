@@ -1,5 +1,5 @@
--- Which fault of a filter is told: the first one, in this project's own order. Places are judged
--- whether a walk reaches them or not; only an unstored word asks for a walk.
+-- Which fault of a filter is reported: the first one, in this project's own order. Places are checked whether
+-- a walk reaches them or not; only an unstored word needs a walk.
 use Rattle.std.specs.Prelude.{◌≡◌, ℕ, ◌<◌, ◌≤◌, List, Some, slice_get, length}
 use Rattle.bpf_code.specs.declared.insn.Insn.{Insn}
 use Rattle.bpf_code.specs.declared.operation.Operation.{Operation}
@@ -46,7 +46,7 @@ pub record IsFirstUnstored (code : List Insn) (at : ℕ) : Type 0 where
   pub earlier_find : (earlier : ℕ) (other : Insn) → earlier < at → slice_get code earlier ≡ Some other
       → FindsWord code earlier other
 
--- the length is in its limits
+-- the length is within its limits
 pub record HasLength (code : List Insn) : Type 0 where
   pub some : 0 < length code
   pub short : length code ≤ MAX_INSNS

@@ -1,5 +1,5 @@
 -- How the verifier keeps track of stored words: bit w of a place's mask is scratch word w. Only private
--- functions cite this; what the words mean for a filter is said by walks.
+-- functions cite this; walks define what the words mean for a filter.
 use Rattle.std.specs.Prelude.{ℕ, ◌+◌, ◌^◌, ◌<◌, List, slice_index, bit_and, bit_or, slice_set}
 use Rattle.bpf_code.specs.declared.insn.Insn.{Insn}
 use Rattle.bpf_code.specs.declared.flow.Flow.{Flow}
@@ -17,7 +17,7 @@ stored_after Untouched k mask = mask
 abbrev pub narrowed : ℕ → ℕ → List ℕ → List ℕ
 narrowed at stored masks = slice_set masks at (bit_and (slice_index masks at) stored)
 
--- the masks once a place was passed, from which the filter goes by this flow
+-- the masks after a place, from which the filter goes by this flow, was passed
 abbrev pub passed_on : Flow → Insn → ℕ → ℕ → List ℕ → List ℕ
 passed_on Returns insn at stored masks = masks
 passed_on Jumps insn at stored masks = narrowed (at + 1 + insn.k) stored masks

@@ -1,4 +1,4 @@
--- The name of a refusal as programs print it: that of the fault that it holds.
+-- The name of a refusal as programs print it: that of its fault.
 use Rattle.std.specs.Prelude.{ℕ, List}
 use Rattle.bpf_code.specs.FaultText.{fault_text as code_fault_text}
 use Rattle.bpf_verify.specs.FaultText.{fault_text}

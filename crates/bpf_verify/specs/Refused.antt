@@ -10,12 +10,12 @@ use Rattle.bpf_verify.specs.Faults.{IsFirstFault}
 use Rattle.bpf_verify.specs.declared.refusal.Refusal.{Refusal}
 use Rattle.bpf_verify.specs.declared.refusal.Refusal.TheVariants.{Code, Filter}
 
--- the bytes spell this code, and no other: its numbers have room in them
+-- the bytes spell this code, and no other: its numbers fit their fields
 pub record IsTextOf (bytes : List ℕ) (code : List Insn) : Type 0 where
   pub text : bytes ≡ bytes_of_code code
   pub fits : AllByRecursion Fits code
 
--- want of memory is no fault of the text
+-- running out of memory is not a fault of the text
 abbrev pub IsRefused : List ℕ → Refusal → Type 0
 IsRefused bytes (Code fault) = fault ≢ Memory → HasFault bytes fault
 IsRefused bytes (Filter fault) = (code : List Insn) × IsTextOf bytes code × IsFirstFault code fault

@@ -1,5 +1,5 @@
 -- Sound filters: the kernel's rules for a seccomp filter (seccomp(2), linux/filter.h), narrowed as
--- docs/SEMANTICS.md, "Sound filters", says. They speak of all walks, and know nothing of how to check.
+-- docs/SEMANTICS.md, "Sound filters", says. They cover all walks, and define no way to check them.
 use Rattle.std.specs.Prelude.{◌≡◌, ℕ, ◌+◌, ◌-◌, ◌%◌, ◌<◌, ◌≤◌, List, Some, slice_get, length}
 use Rattle.bpf_code.specs.declared.insn.Insn.{Insn}
 use Rattle.bpf_code.specs.declared.operation.Operation.{Operation}
@@ -12,7 +12,7 @@ use Rattle.bpf_code.specs.declared.limits.TheConstants.{MAX_INSNS, DATA_LEN, SCR
 use Rattle.bpf_code.specs.Flow.{flow_of, scratch_of}
 use Rattle.bpf_verify.specs.Walks.{IsWalk, IsStoredOn}
 
--- the number that an operation works with is one that it can work with
+-- the operation can work with its number
 abbrev pub KeepsNumber : Operation → ℕ → Type 0
 KeepsNumber LoadData k = (k < DATA_LEN) × (k % 4 ≡ 0)
 KeepsNumber LoadWord k = k < SCRATCH_WORDS
@@ -31,12 +31,12 @@ KeepsTargets Branches insn at len = (at + 1 + insn.jt < len) × (at + 1 + insn.j
 KeepsTargets Returns insn at len = Unit {0}
 KeepsTargets Continues insn at len = Unit {0}
 
--- what is asked of an instruction by itself, at its place in code of this length
+-- the rules for an instruction by itself, at its place in code of this length
 pub record KeepsRules (len at : ℕ) (insn : Insn) : Type 0 where
   pub number : KeepsNumber insn.op insn.k
   pub targets : KeepsTargets (flow_of insn.op) insn at len
 
--- each instruction keeps them
+-- each instruction keeps these rules
 abbrev pub AllKeepRules : List Insn → Type 0
 AllKeepRules code = (at : ℕ) (insn : Insn) → slice_get code at ≡ Some insn → KeepsRules (length code) at insn
 

@@ -6,7 +6,7 @@ use bpf_code::Insn;
 use std::alloc::{AllocError, Global};
 use std::marker::Model;
 
-/// A sound filter. Its holder has nothing left to check.
+/// A sound filter: nothing is left to check.
 #[derive(Drop)]
 pub struct Filter {
     insns: Vec<Insn>,

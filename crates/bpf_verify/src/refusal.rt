@@ -19,13 +19,13 @@ use thiserror::Error;
 /// Why the bytes of a filter are refused.
 #[derive(Clone, Copy, Debug, PartialEq, Eq, Error)]
 pub enum Refusal {
-    /// They are not a list of instructions, or there was no memory to read them.
+    /// They are not a list of instructions, or memory ran out while they were read.
     Code(CodeFault),
     /// Their instructions are not a sound filter.
     Filter(Fault),
 }
 
-/// The name of the fault that it holds.
+/// The name of its fault.
 impl fmt::Display for Refusal {
     ghost use Rattle.std.specs.Prelude.{Some};
     ghost use Rattle.bpf_verify.specs.RefusalText.{refusal_text};
@@ -40,15 +40,15 @@ impl fmt::Display for Refusal {
     }
 }
 
-/// The filter that these bytes spell, if it is sound: those of its `struct sock_filter`s, one after the
-/// other, little-endian. A fault of the bytes comes before one of the code that they spell. `Code(Memory)` if
-/// an allocation fails, and only for bytes that spell code.
+/// Reads and verifies the filter that these bytes spell: its `struct sock_filter`s, one after the other,
+/// little-endian. A fault of the bytes comes before a fault of their code. `Code(Memory)` if an allocation
+/// fails, and only for bytes that spell code.
 pub fn filter_of(alloc: Global, bytes: &[u8]) -> Result<Filter, Refusal>
     ensures text { IfOk result (λ filter. IsTextOf bytes.now filter) }
     ensures sound { IfOk result (λ filter. IsSound filter) }
     ensures refused { IfErr result (IsRefused bytes.now) }
 
-    // A text with a fault is refused for it, whether there is memory or not.
+    // A text with a fault is refused for it, even if memory runs out.
     ensures told { (fault : CodeFault) → HasFault bytes.now fault → result ≡ Err (Refusal.Code fault) }
 
     // If there is memory, sound code is accepted, and the first fault of other code is reported.

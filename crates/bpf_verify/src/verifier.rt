@@ -15,7 +15,7 @@ pub fn verify(insns: Vec<Insn>) -> Result<Filter, (Vec<Insn>, Fault)>
     ensures sound { IsOk result ↔ IsSound insns.items }
     ensures same { IfOk result (λ filter. filter ≡ insns.items) }
 
-    // After a refusal the list is as it was.
+    // A refused list is returned unchanged.
     ensures back { IfErr result (λ refused. refused.0.items ≡ insns.items) }
     ensures first { IfErr result (λ refused. IsFirstFault insns.items refused.1) }
 

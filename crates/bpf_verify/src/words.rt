@@ -64,7 +64,7 @@ fn finds_word(mask: u16, insn: &Insn) -> bool
     }
 }
 
-/// The words that are stored once an instruction is done, given those that were before.
+/// The words stored after an instruction, given those stored before it.
 fn after(mask: u16, insn: &Insn) -> u16
     requires { KeepsNumber insn.now.op insn.now.k }
     ensures { result ≡ stored_after (scratch_of insn.now.op) insn.now.k mask }

@@ -15,7 +15,7 @@ pub struct SysCall {
     pub arch: u32,
     /// The address of the instruction that makes the call.
     pub ip: u64,
-    /// The arguments, as they stand in the registers.
+    /// The arguments, as in the registers.
     pub args: [u64; 6],
 }
 

@@ -42,7 +42,7 @@ stay Branches insn at to others none = stays others (at + 1 + insn.jt) to
     (stays (slice_set others (at + 1 + insn.jt) true) (at + 1 + insn.jf) to none)
 stay Continues insn at to others none = stays others (at + 1) to none
 
--- where it may go there is one
+-- each place where it may go has a mark
 next_marked : (f : Flow) (insn : Insn) (at to : ℕ) (others : List Bool) → MayGo f insn at to
     → has (marked_on f insn at others) to ≡ false → ⊥
 next_marked Returns insn at to others goes none = goes
@@ -81,7 +81,7 @@ stands_here : (code : List Insn) (at : ℕ) (insn other : Insn) → slice_get co
     → slice_get code at ≡ Some other → other ≡ insn
 stands_here code at insn other one two = cc
 
--- an instruction behind which A may hold something else
+-- an instruction after which A may not be the call's number
 pub knows_marked : (code : List Insn) (others : List Bool) (at : ℕ) (insn : Insn)
     → slice_get code at ≡ Some insn → Knows code others at
     → Knows code (marked_on (flow_of insn.op) insn at others) (at + 1)
@@ -103,7 +103,7 @@ holds_by : (op : Operation) (k : ℕ) (other : Bool) → other_by op k other ≡
 holds_by LoadData k other none = inl (refl, grind (arith, common_steps))
 holds_by _ k other none = inr (grind (arith, common_steps))
 
--- one behind which it holds the number alone
+-- an instruction after which A is the call's number
 pub knows_kept : (code : List Insn) (others : List Bool) (at : ℕ) (insn : Insn)
     → slice_get code at ≡ Some insn → other_after insn (has others at) ≡ false → Knows code others at
     → Knows code others (at + 1)

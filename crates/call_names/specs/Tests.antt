@@ -1,5 +1,5 @@
 -- Which instructions compare the number of a call: the word at offset 0 of struct seccomp_data, seccomp(2),
--- that A holds on every walk to them. Walks are those of bpf_verify, whatever the data.
+-- which is in A on every walk to them. Walks are those of bpf_verify, whatever the data.
 use Rattle.std.specs.Prelude.{◌≡◌, ◌⊎◌, ℕ, Bool, true, false, List, [], ◌∷◌, Some, length, slice_get}
 use Rattle.std.specs.Prelude.{slice_index_or}
 use Rattle.bpf_code.specs.declared.insn.Insn.{Insn}
@@ -12,7 +12,7 @@ use Rattle.bpf_code.specs.declared.operation.Operation.TheVariants.{JumpAnyBitK,
 use Rattle.bpf_code.specs.declared.operation.Operation.TheVariants.{ReturnA, MoveToX}
 use Rattle.bpf_verify.specs.Walks.{IsWalk}
 
--- A may be another behind it
+-- the operation may change A
 abbrev pub writes_a : Operation → Bool
 writes_a LoadXImmediate = false
 writes_a LoadXWord = false
@@ -33,7 +33,7 @@ writes_a ReturnA = false
 writes_a MoveToX = false
 writes_a _ = true
 
--- it asks how A stands to a constant
+-- the operation compares A with a constant
 abbrev pub compares_constant : Operation → Bool
 compares_constant JumpEqualK = true
 compares_constant JumpGreaterK = true
@@ -47,22 +47,22 @@ pub record LoadsNumber (code : List Insn) (at : ℕ) : Type 0 where
   pub loads : insn.op ≡ LoadData
   pub number : insn.k ≡ 0
 
--- it leaves A as it is
+-- the instruction at this place leaves A as it is
 pub record KeepsA (code : List Insn) (at : ℕ) : Type 0 where
   pub insn : Insn
   pub stands : slice_get code at ≡ Some insn
   pub keeps : writes_a insn.op ≡ false
 
--- behind these places, the latest one first, A holds the call's number
+-- after these places, the latest one first, A is the call's number
 abbrev pub HoldsNumber : List Insn → List ℕ → Type 0
 HoldsNumber code [] = ⊥
 HoldsNumber code (last ∷ earlier) = LoadsNumber code last ⊎ (KeepsA code last × HoldsNumber code earlier)
 
--- some walk comes to the place
+-- some walk reaches the place
 abbrev pub IsReached : List Insn → ℕ → Type 0
 IsReached code at = (before : List ℕ) × IsWalk code before at
 
--- a walk comes to this place, whose instruction compares the call's number with a constant, whatever the walk
+-- a walk reaches this place, whose instruction compares the call's number with a constant, whatever the walk
 pub record IsNumberTest (code : List Insn) (at : ℕ) : Type 0 where
   pub insn : Insn
   pub stands : slice_get code at ≡ Some insn
@@ -70,7 +70,7 @@ pub record IsNumberTest (code : List Insn) (at : ℕ) : Type 0 where
   pub compares : compares_constant insn.op ≡ true
   pub number : (before : List ℕ) → IsWalk code before at → HoldsNumber code before
 
--- one answer for each instruction, and those that are said to be such comparisons are
+-- one answer for each instruction, and each that is reported is such a comparison
 pub record AreNumberTests (code : List Insn) (tests : List Bool) : Type 0 where
   pub as_many : length tests ≡ length code
   pub sound : (at : ℕ) → slice_index_or tests at false ≡ true → IsNumberTest code at

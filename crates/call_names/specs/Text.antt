@@ -1,4 +1,4 @@
--- Calls as they are told, this project's own: docs/SEMANTICS.md, "Programs".
+-- Calls as they are shown, this project's own: docs/SEMANTICS.md, "Programs".
 use Rattle.std.specs.Prelude.{ℕ, List, Option, Some, None}
 use Rattle.std.specs.Fmt.{decimal}
 use Rattle.sys_table.specs.SysTable.{name_of}

@@ -62,8 +62,7 @@ fn mark_reached(code: &[Insn], reached: &mut [bool])
     }
 }
 
-/// Marks the places at which A may hold something else than the call's number. Jumps only go forward, so one
-/// pass is enough.
+/// Marks the places at which A may not be the call's number. Jumps only go forward, so one pass is enough.
 fn mark_others(code: &[Insn], others: &mut [bool])
     requires short { length code.now ≤ MAX_INSNS }
     requires room { length others.old ≡ length code.now }
@@ -86,7 +85,7 @@ fn pass(others: &mut [bool], at: usize, insn: &Insn)
     }
 }
 
-/// Whether A may hold something else after the instruction, given whether it may before.
+/// Whether A may not be the call's number after the instruction, given whether that is so before.
 fn other_after(insn: &Insn, other: bool) -> bool
     ensures { result ≡ other_after insn.now other }
 {

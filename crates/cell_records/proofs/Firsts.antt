@@ -1,4 +1,4 @@
--- One more call of a record: what is told of the calls before it, with it.
+-- One more call of a record: what is listed of the calls before it, and the call itself.
 use Rattle.std.proofs.Common.{◌≡◌, ℕ, ◌+◌, ◌<◌, Bool, true, false, ◌&&◌, List, [], ◌∷◌, ◌++◌, length}
 use Rattle.std.proofs.Common.{take, drop, drop-cons, get_or, add-one, arith, not, sym, ap, ◌∙◌}
 use Rattle.std.specs.Prelude.{filter_map}
@@ -24,7 +24,7 @@ same_calls calls a b [] same is = is
 same_calls calls a b (entry ∷ entries) same is =
     grind (arith, common_steps, of_same calls a b entry same, same_calls calls a b entries same)
 
--- the kinds that are told are those of these calls
+-- the kinds with a tally are those of these calls
 abbrev pub Tells : RecordCalls → List Tally → List JudgedCall → Type 0
 Tells calls tallies before = (kind : CallKind) → is_told kind tallies ≡ list_any (is_of calls kind) before
 

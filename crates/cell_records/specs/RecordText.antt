@@ -47,12 +47,12 @@ tally_object tally =
     ++ (codes ",\"count\":" ++ (decimal tally.count ++ (codes ",\"first\":" ++ (decimal tally.first
     ++ codes "}")))))))
 
--- those that are not the first of their list
+-- the tallies after the first of a list
 abbrev pub other_tallies : List Tally → List ℕ
 other_tallies [] = []
 other_tallies (t ∷ ts) = codes "," ++ (tally_object t ++ other_tallies ts)
 
--- a comma between each two
+-- the tallies, separated by commas
 abbrev pub tallies_text : List Tally → List ℕ
 tallies_text [] = []
 tallies_text (t ∷ ts) = tally_object t ++ other_tallies ts
@@ -61,7 +61,7 @@ abbrev pub exit_value : Option ℕ → List ℕ
 exit_value None = codes "null"
 exit_value (Some code) = decimal code
 
--- the kind of profile, and behind it the path of one that has a file
+-- the kind of profile, followed by the path if it has a file
 abbrev pub profile_value : Option (List ℕ) → Bool → List ℕ
 profile_value (Some path) has_profile = quoted (codes "localhost/" ++ path)
 profile_value None true = quoted (codes "runtime/default")
@@ -71,13 +71,13 @@ abbrev pub is_there : Option Profile → Bool
 is_there None = false
 is_there (Some profile) = true
 
--- which container a cell stands for, and at which attempt
+-- the container of a cell, and its attempt
 abbrev pub container_members : List ℕ → Label → List ℕ
 container_members uid label =
     codes "\"uid\":" ++ (quoted uid ++ (codes ",\"name\":" ++ (quoted label.name
     ++ (codes ",\"attempt\":" ++ decimal label.attempt))))
 
--- the code with which it ended, if it has, and its profile
+-- the exit code, if it has ended, and its profile
 abbrev pub end_members : Cell → List ℕ
 end_members cell =
     codes "\"exit\":" ++ (exit_value (exit_of cell.state) ++ (codes ",\"profile\":"

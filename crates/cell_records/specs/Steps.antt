@@ -1,4 +1,4 @@
--- The calls of a record that are told so far. Only private functions cite this.
+-- The calls of a record that are listed so far. Only private functions cite this.
 use Rattle.std.specs.Prelude.{Bool, not, ◌&&◌, List}
 use Rattle.std.specs.List.{list_any}
 use Rattle.runtime_cell.specs.declared.calls.JudgedCall.{JudgedCall}

@@ -27,12 +27,12 @@ is_listed All entry = true
 abbrev pub is_of : RecordCalls → CallKind → JudgedCall → Bool
 is_of calls kind entry = is_listed calls entry && same_kind (kind_of entry) kind
 
--- whether the entry at this place is listed, and the first that is listed of its kind
+-- whether the entry at this place is listed, and the first listed one of its kind
 abbrev pub comes_first : RecordCalls → List JudgedCall → ℕ → JudgedCall → Bool
 comes_first calls entries place entry = is_listed calls entry
     && not (list_any (is_of calls (kind_of entry)) (take place entries))
 
--- how often a kind is listed that first comes at this place
+-- how often a kind is listed whose first entry is at this place
 abbrev pub tally_of : RecordCalls → List JudgedCall → ℕ → CallKind → Tally
 tally_of calls entries place kind = record {
   kind = kind;
@@ -44,7 +44,7 @@ abbrev pub tally_at : RecordCalls → List JudgedCall → ℕ × JudgedCall → 
 tally_at calls entries at = if comes_first calls entries at.0 at.1
     then Some (tally_of calls entries at.0 (kind_of at.1)) else None
 
--- a tally for each place at which a kind first comes, in order: so each kind that is listed has one tally,
--- with its least place, and no other kind has one
+-- a tally for each place at which a kind first occurs, in order: so each listed kind has one tally, with its
+-- least place, and no other kind has one
 abbrev pub summary : RecordCalls → List JudgedCall → List Tally
 summary calls entries = filter_map (tally_at calls entries) (enumerate_from 0 entries)

@@ -35,7 +35,7 @@ pub fn record_line(
     )
 }
 
-/// Which container a cell stands for, at which attempt.
+/// The container of a cell, and its attempt.
 fn container_members(alloc: Global, uid: &str, label: &Label) -> Result<String, AllocError>
     ensures { IfOk result (λ t. string_bytes t ≡ container_members uid.now label.now) }
 {
@@ -84,7 +84,7 @@ fn profile_value(alloc: Global, label: &Label, has_profile: bool) -> Result<Stri
     }
 }
 
-/// The code with which a cell ended, if it has.
+/// The exit code of a cell, if it has ended.
 #[derive(Clone, Copy)]
 struct Exit(Option<u8>);
 
@@ -102,7 +102,7 @@ impl fmt::Display for Exit {
     }
 }
 
-/// The objects of tallies, with a comma between each two.
+/// The objects of tallies, separated by commas.
 fn tallies_text(alloc: Global, tallies: &[Tally]) -> Result<String, AllocError>
     ensures { IfOk result (λ t. string_bytes t ≡ tallies_text tallies.now) }
 {

@@ -22,11 +22,11 @@ pub struct CallKind {
     pub nr: u32,
     /// The architecture, an `AUDIT_ARCH_` value of `linux/audit.h`.
     pub arch: u32,
-    /// What the filters said of it together.
+    /// The joint verdict of the filters on it.
     pub verdict: Verdict,
 }
 
-/// How often a call had a verdict in a record, and where first.
+/// How often a call had a verdict in a record, and where it first had it.
 #[derive(Clone, Copy, Debug, PartialEq, Eq)]
 pub struct Tally {
     pub kind: CallKind,
@@ -35,7 +35,7 @@ pub struct Tally {
     pub first: usize,
 }
 
-/// The listed calls of a record with their verdicts: each once, in the order in which they first came.
+/// The listed calls of a record with their verdicts: each once, in the order of their first occurrence.
 pub fn summary(
     alloc: Global,
     entries: &[JudgedCall],
@@ -67,7 +67,7 @@ fn kind_of(entry: &JudgedCall) -> CallKind
     }
 }
 
-/// Whether the calls are those of one number, architecture and verdict.
+/// Whether both calls have the same number, architecture and verdict.
 fn is_same(a: CallKind, b: CallKind) -> bool
     ensures { result ≡ same_kind a b }
 {

@@ -1,4 +1,4 @@
--- What a hole of eight hexadecimal digits writes.
+-- The text of a format hole of eight hexadecimal digits.
 use Rattle.std.proofs.Common.{◌≡◌, ℕ, ◌-◌, ◌^◌, List, [], ◌++◌, length, replicate, false, ap, ◌∙◌, arith}
 use Rattle.std.specs.Fmt.{char_count, format_spec, padded_integral}
 use Rattle.std.proofs.lemmas.List.{append-nil}

@@ -1,4 +1,4 @@
--- A cell that is played comes to its own end.
+-- A played cell ends by itself.
 use Rattle.std.proofs.Common.{◌≡◌, ℕ, ◌+◌, ◌-◌, ◌<◌, ◌≤◌, List, [], length, Some, None}
 use Rattle.std.proofs.Common.{false, refl, sym, ap, subst, ◌∙◌, arith}
 use Rattle.bpf_code.specs.declared.insn.Insn.{Insn}

@@ -1,5 +1,5 @@
--- The text behind an instruction, this project's own. Only private functions cite this: `specs/Texts.antt`
--- has the same in one.
+-- The text after an instruction, this project's own. Only private functions cite this: `specs/Texts.antt` has
+-- the same in one.
 use Rattle.std.specs.Prelude.{ℕ, ◌+◌, List, [], ◌++◌, codes}
 use Rattle.std.specs.Fmt.{decimal}
 use Rattle.bpf_code.specs.declared.insn.Insn.{Insn}

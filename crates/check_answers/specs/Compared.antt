@@ -1,4 +1,4 @@
--- What is printed where two filters are compared, this project's own: docs/SEMANTICS.md, "Programs".
+-- The output of comparing two filters, this project's own: docs/SEMANTICS.md, "Programs".
 use Rattle.std.specs.Prelude.{ℕ, false, List, ◌++◌, codes, slice_index}
 use Rattle.std.specs.Fmt.{decimal, digits}
 use Rattle.action.specs.Verdict.{name_of, verdict_of}

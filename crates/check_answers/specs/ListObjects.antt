@@ -1,5 +1,5 @@
--- What is printed as objects of JSON (RFC 8259), one a line, for each item of a list, this project's own:
--- docs/SEMANTICS.md, "Programs".
+-- JSON objects (RFC 8259), one per line, for each item of a list, this project's own: docs/SEMANTICS.md,
+-- "Programs".
 use Rattle.std.specs.Prelude.{ℕ, ◌+◌, List, [], ◌++◌, slice_index_or, codes}
 use Rattle.std.specs.Prelude.{Bool, true, false, Option, Some, None}
 use Rattle.std.specs.Fmt.{decimal}
@@ -47,7 +47,7 @@ abbrev pub record_objects : Naming → Outcome → List ℕ
 record_objects naming outcome = lines_text (entry_object naming) 0 outcome.entries ++ codes "{\"exit\":"
     ++ decimal outcome.code ++ codes "}\n"
 
--- the places that an instruction may go to, if it is a jump: where its test holds, and where it fails
+-- the targets of a jump; of a conditional one, first if its test holds, then if it fails; empty for others
 abbrev pub arrow_member : Flow → ℕ → Insn → List ℕ
 arrow_member Jumps place insn = codes ",\"to\":[" ++ (decimal (place + 1 + insn.k) ++ codes "]")
 arrow_member Branches place insn = codes ",\"to\":[" ++ (decimal (place + 1 + insn.jt) ++ (codes ","
@@ -59,7 +59,7 @@ abbrev pub name_member : Option (List ℕ) → List ℕ
 name_member None = []
 name_member (Some name) = codes ",\"name\":\"" ++ (name ++ codes "\"")
 
--- of a comparison of the call's number the name that it has, if it has one
+-- the name of the number in a comparison of the call's number, if it has one
 abbrev pub comment_member : Bool → ℕ → List ℕ
 comment_member true nr = name_member (name_of_call nr)
 comment_member false nr = []
@@ -69,7 +69,7 @@ commented_object is_number_test place insn =
     codes "{\"place\":" ++ (decimal place ++ (codes ",\"instruction\":\"" ++ (text_of insn ++ (codes "\""
     ++ (arrow_member (flow_of insn.op) place insn ++ (comment_member is_number_test insn.k ++ codes "}"))))))
 
--- an instruction, of which it is said whether it compares the call's number
+-- an instruction, given which ones compare the call's number
 abbrev pub insn_object : List Bool → ℕ → Insn → List ℕ
 insn_object number_tests place insn =
     commented_object (slice_index_or number_tests place false) place insn

@@ -1,5 +1,5 @@
--- What is printed as objects of JSON (RFC 8259), one a line, this project's own: docs/SEMANTICS.md,
--- "Programs". No text of these has a byte that JSON would escape.
+-- Answers as JSON objects (RFC 8259), one per line, this project's own: docs/SEMANTICS.md, "Programs". No
+-- text of these has a byte that JSON would escape.
 use Rattle.std.specs.Prelude.{ℕ, List, ◌++◌, codes}
 use Rattle.std.specs.Fmt.{decimal}
 use Rattle.action.specs.Verdict.{name_of, verdict_of}
@@ -9,15 +9,15 @@ use Rattle.check_answers.specs.Compared.{arg_text}
 use Rattle.check_answers.specs.declared.compared.Difference.{Difference}
 use Rattle.check_answers.specs.declared.judging.Judged.{Judged}
 
--- a sound filter of so many instructions
+-- a sound filter of this many instructions
 abbrev pub accepted_object : ℕ → List ℕ
 accepted_object count = codes "{\"answer\":\"accepted\",\"instructions\":" ++ decimal count ++ codes "}\n"
 
--- a profile's filter, of so many instructions
+-- a profile's filter, of this many instructions
 abbrev pub compiled_object : ℕ → List ℕ
 compiled_object count = codes "{\"answer\":\"compiled\",\"instructions\":" ++ decimal count ++ codes "}\n"
 
--- how many instructions a run takes at most
+-- the most instructions that a run takes
 abbrev pub longest_object : ℕ → List ℕ
 longest_object most = codes "{\"longest\":" ++ decimal most ++ codes "}\n"
 

@@ -1,5 +1,5 @@
--- What is printed of a pod: for each container, init ones first, the profile that it gets. This project's
--- own: docs/SEMANTICS.md, "Programs".
+-- The output for a pod: for each container, init ones first, the profile that it gets. This project's own:
+-- docs/SEMANTICS.md, "Programs".
 use Rattle.std.specs.Prelude.{ℕ, List, ◌++◌, codes, Bool, Option}
 use Rattle.manifest.specs.declared.containers.Container.{Container}
 use Rattle.manifest.specs.declared.pods.Pod.{Pod}

@@ -1,5 +1,4 @@
--- What is printed of the containers of a pod that were played, this project's own: docs/SEMANTICS.md,
--- "Programs".
+-- The output for the played containers of a pod, this project's own: docs/SEMANTICS.md, "Programs".
 use Rattle.std.specs.Prelude.{ℕ, List, ◌++◌, codes, Option, Some, None}
 use Rattle.std.specs.Fmt.{decimal}
 use Rattle.action.specs.Verdict.{name_of}
@@ -11,7 +10,7 @@ use Rattle.check_answers.specs.declared.pod_play.DeniedCall.{DeniedCall}
 use Rattle.check_answers.specs.ListObjects.{call_value, profile_members}
 use Rattle.check_answers.specs.PickText.{profile_text}
 
--- what of the profile denied a call, or that it was not the profile
+-- the part of the profile that denied a call, or that it was not the profile
 abbrev pub by_text : Option Decider → List ℕ
 by_text None = codes "another filter"
 by_text (Some decider) = decider_text decider

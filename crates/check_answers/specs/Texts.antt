@@ -1,4 +1,4 @@
--- What is printed of a filter, this project's own: docs/SEMANTICS.md, "Programs".
+-- The output for a filter, this project's own: docs/SEMANTICS.md, "Programs".
 use Rattle.std.specs.Prelude.{ℕ, ◌+◌, ◌-◌, List, [], ◌∷◌, ◌++◌, length, replicate, slice_index_or, codes}
 use Rattle.std.specs.Prelude.{Bool, true, false, Option, Some, None}
 use Rattle.std.specs.Fmt.{decimal, digits}
@@ -21,19 +21,19 @@ judged_text judged =
     eight_digits judged.value ++ (codes " " ++ (name_of judged.verdict.action ++ (codes " "
     ++ (decimal judged.verdict.ret_data ++ (codes " steps " ++ decimal judged.steps)))))
 
--- what is said of a sound filter of so many instructions
+-- the answer for a sound filter of this many instructions
 abbrev pub accepted_text : ℕ → List ℕ
 accepted_text count = codes "accepted " ++ decimal count ++ codes " instructions\n"
 
--- what is said of a profile's filter, of so many instructions
+-- the answer for a profile's filter, of this many instructions
 abbrev pub compiled_text : ℕ → List ℕ
 compiled_text count = codes "compiled " ++ decimal count ++ codes " instructions\n"
 
--- how many instructions a run takes at most
+-- the most instructions that a run takes
 abbrev pub longest_text : ℕ → List ℕ
 longest_text most = codes "longest " ++ decimal most ++ codes "\n"
 
--- the places that an instruction may go to, if it is a jump: where its test holds, and where it fails
+-- the targets of a jump; of a conditional one, first if its test holds, then if it fails; empty for others
 abbrev pub arrow_text : Flow → ℕ → Insn → List ℕ
 arrow_text Jumps place insn = codes " -> " ++ decimal (place + 1 + insn.k)
 arrow_text Branches place insn = codes " -> " ++ decimal (place + 1 + insn.jt) ++ codes ", "
@@ -41,11 +41,11 @@ arrow_text Branches place insn = codes " -> " ++ decimal (place + 1 + insn.jt) +
 arrow_text Returns place insn = []
 arrow_text Continues place insn = []
 
--- an instruction, its place in front and where it may go behind it
+-- an instruction, with its place before it and its targets after it
 abbrev pub insn_text : ℕ → Insn → List ℕ
 insn_text place insn = decimal place ++ codes ": " ++ text_of insn ++ arrow_text (flow_of insn.op) place insn
 
--- one line an item, each with its place
+-- one line per item, each with its place
 abbrev pub lines_text : {A : Type 0} → (ℕ → A → List ℕ) → ℕ → List A → List ℕ
 lines_text line place [] = []
 lines_text line place (x ∷ xs) = line place x ++ codes "\n" ++ lines_text line (place + 1) xs
@@ -55,7 +55,7 @@ abbrev pub comment_of : Option (List ℕ) → List ℕ
 comment_of None = []
 comment_of (Some name) = codes " ; " ++ name
 
--- behind a comparison of the call's number the name that it has, if it has one
+-- after a comparison of the call's number, the name of that number, if it has one
 abbrev pub comment_text : Bool → ℕ → List ℕ
 comment_text true nr = comment_of (name_of_call nr)
 comment_text false nr = []
@@ -63,7 +63,7 @@ comment_text false nr = []
 abbrev pub commented_text : Bool → ℕ → Insn → List ℕ
 commented_text is_number_test place insn = insn_text place insn ++ comment_text is_number_test insn.k
 
--- an instruction, of which it is said whether it compares the call's number
+-- an instruction, given which ones compare the call's number
 abbrev pub line_text : List Bool → ℕ → Insn → List ℕ
 line_text number_tests place insn = commented_text (slice_index_or number_tests place false) place insn
 

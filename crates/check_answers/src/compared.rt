@@ -1,4 +1,4 @@
-//! How two filters compare, as it is printed.
+//! The printed result of comparing two filters.
 ghost use Rattle.std.specs.Prelude.{◌≡◌, IfOk, string_bytes};
 ghost use Rattle.check_answers.specs.Compared.{reason_of, same_text};
 
@@ -67,7 +67,7 @@ pub fn reason(doubt: Doubt) -> &'static str
     }
 }
 
-/// The line that is printed of filters that are the same on the calls that were asked about.
+/// The line for filters that are the same on the calls of this scope.
 pub fn same_line(alloc: Global, scope: Scope) -> Result<String, AllocError>
     ensures { IfOk result (λ text. string_bytes text ≡ same_text scope) }
 {

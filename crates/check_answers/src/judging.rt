@@ -9,7 +9,7 @@ use bpf_verify::Filter;
 use call_data::SysCall;
 use std::fmt;
 
-/// What a filter says of a call.
+/// A filter's answer to a call.
 #[derive(Clone, Copy, Debug, PartialEq, Eq)]
 pub struct Judged {
     /// The value that the filter returns.
@@ -20,7 +20,7 @@ pub struct Judged {
     pub steps: u32,
 }
 
-/// The line that is printed of it: `7fff0000 ALLOW 0 steps 3`, the value in eight hexadecimal digits.
+/// The printed line: `7fff0000 ALLOW 0 steps 3`, the value in eight hexadecimal digits.
 impl fmt::Display for Judged {
     ghost use Rattle.std.specs.Prelude.{Some};
     ghost use Rattle.check_answers.specs.Texts.{judged_text};
@@ -34,7 +34,7 @@ impl fmt::Display for Judged {
     }
 }
 
-/// Runs a filter on a call and says what its value means.
+/// Runs a filter on a call and interprets its value.
 ///
 /// Every filter that the verifier accepts, on any call's data, ends within its own instruction count,
 /// reads only the 64 data bytes and scratch words that it stored, and returns an action.

@@ -1,8 +1,19 @@
-//! What `seccheck` answers: of a filter, of a call, of two filters, of a script and of a pod, as lines of
-//! text or as objects of JSON (RFC 8259), one a line.
+//! The answers of `seccheck`: about a filter, a call, two filters, a script and a pod, as lines of text or as
+//! JSON objects (RFC 8259), one per line.
 //!
-//! Each answer's bytes stand in `specs/`. `judging` runs a filter on a call, and `playing` plays the cell of
-//! a script to its end; neither prints anything.
+//! `specs/` defines each answer's bytes. `judging` runs a filter on a call, and `playing` plays the cell of a
+//! script to its end; neither prints anything.
+//!
+//! # What is proved
+//!
+//! - The headline's first clause, whole: `judge` (sound, run, ends, reads, acts).
+//! - A played script has its outcome: every judged call, performed or not, and the code: `play`,
+//!   `Outcome::entries`, `code`.
+//! - The text of what is judged, shown, compared, played and picked, byte by byte: `Display` of `Judged`,
+//!   `Difference`, `reason`, `same_line`, `accepted_line`, `compiled_line`, `longest_line`, `judged_line`,
+//!   `code_lines`, `outcome_lines`, `picked_lines`.
+//! - Its JSON objects, byte by byte: `Display` of `DifferenceObject`, `accepted_object`, `compiled_object`,
+//!   `longest_object`, `judged_object`, `same_object`, `record_objects`, `code_objects`, `picked_objects`.
 #![tactic(auto)]
 
 mod compared;

@@ -9,35 +9,35 @@ use runtime_cell::JudgedCall;
 use std::alloc::{AllocError, Global};
 use std::fmt;
 
-/// The line that is printed of a sound filter of so many instructions.
+/// The line for a sound filter of this many instructions.
 pub fn accepted_line(alloc: Global, count: usize) -> Result<String, AllocError>
     ensures { IfOk result (λ text. string_bytes text ≡ accepted_text count) }
 {
     format!(in alloc; "accepted {count} instructions\n")
 }
 
-/// The line that is printed of a filter that was compiled, of so many instructions.
+/// The line for a compiled filter of this many instructions.
 pub fn compiled_line(alloc: Global, count: usize) -> Result<String, AllocError>
     ensures { IfOk result (λ text. string_bytes text ≡ compiled_text count) }
 {
     format!(in alloc; "compiled {count} instructions\n")
 }
 
-/// The line that is printed of a filter whose runs take so many steps at most.
+/// The line for a filter whose runs take at most this many steps.
 pub fn longest_line(alloc: Global, most: u32) -> Result<String, AllocError>
     ensures { IfOk result (λ text. string_bytes text ≡ longest_text most) }
 {
     format!(in alloc; "longest {most}\n")
 }
 
-/// The line that is printed of what a filter says.
+/// The line for a filter's answer.
 pub fn judged_line(alloc: Global, judged: &Judged) -> Result<String, AllocError>
     ensures { IfOk result (λ text. string_bytes text ≡ judged_text judged.now ++ codes "\n") }
 {
     format!(in alloc; "{judged}\n")
 }
 
-/// A judged call as it is printed: `PLACE NR ACTION DATA performed`, or `denied`, by its name where that is
+/// A judged call as it is printed: `PLACE NR ACTION DATA performed`, or `denied`, with its name if that is
 /// wanted.
 #[derive(Clone, Copy)]
 pub(crate) struct Line {

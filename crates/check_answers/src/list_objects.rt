@@ -1,4 +1,4 @@
-//! What is printed as objects of JSON (RFC 8259), one a line, for each item of a list.
+//! JSON objects (RFC 8259), one per line, for each item of a list.
 ghost use Rattle.std.specs.Prelude.{◌≡◌, ◌++◌, ◌≤◌, IfOk, codes, length, string_bytes};
 ghost use Rattle.bpf_code.specs.declared.limits.TheConstants.{MAX_INSNS};
 ghost use Rattle.profile_pick.specs.Choice.{choice_seen};
@@ -16,7 +16,7 @@ use serde_json::Value;
 use std::alloc::{AllocError, Global};
 use std::fmt;
 
-/// A call: its number, or its name where that is wanted and there is one.
+/// A call: its number, or its name if that is wanted and there is one.
 #[derive(Clone, Copy)]
 pub(crate) struct CallValue(pub(crate) CallWord);
 
@@ -83,7 +83,7 @@ pub fn record_objects(
     Ok(text)
 }
 
-/// Where an instruction may go, as a member.
+/// The targets of an instruction, as a member.
 #[derive(Clone, Copy)]
 struct ArrowMember(Arrow);
 
@@ -123,7 +123,7 @@ impl fmt::Display for NameMember {
     }
 }
 
-/// An instruction, where it may go, and a call's name.
+/// An instruction, its targets, and a call's name.
 #[derive(Clone, Copy)]
 struct ShownObject(Shown);
 
@@ -174,7 +174,7 @@ pub fn picked_objects(alloc: Global, pod: &Pod, seccomp_default: bool) -> Result
     Ok(text)
 }
 
-/// A container with what it gets.
+/// A container with the profile that it gets.
 fn picked_object(
     alloc: Global,
     container: &Container,
@@ -188,7 +188,7 @@ fn picked_object(
     format!(in alloc; "{{\"container\":\"{name}\",\"profile\":{members}}}")
 }
 
-/// The name of a profile, and behind it the path of one that has a file. A path may have any byte.
+/// The name of a profile, followed by the path of one that has a file. A path may have any byte.
 pub(crate) fn profile_members(alloc: Global, choice: Choice<'_>) -> Result<String, AllocError>
     ensures { IfOk result (λ text. string_bytes text ≡ profile_members (choice_seen choice.entry)) }
 {

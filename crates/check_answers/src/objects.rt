@@ -1,4 +1,4 @@
-//! What is printed as an object of JSON (RFC 8259). No text of these has a byte that JSON would escape.
+//! Answers as JSON objects (RFC 8259). No text of these has a byte that JSON would escape.
 ghost use Rattle.std.specs.Prelude.{◌≡◌, IfOk, string_bytes};
 ghost use Rattle.check_answers.specs.Objects.{accepted_object, compiled_object};
 ghost use Rattle.check_answers.specs.Objects.{judged_object, longest_object};
@@ -11,28 +11,28 @@ use bpf_compare::Scope;
 use std::alloc::{AllocError, Global};
 use std::fmt;
 
-/// The object of a sound filter of so many instructions.
+/// The object for a sound filter of this many instructions.
 pub fn accepted_object(alloc: Global, count: usize) -> Result<String, AllocError>
     ensures { IfOk result (λ text. string_bytes text ≡ accepted_object count) }
 {
     format!(in alloc; "{{\"answer\":\"accepted\",\"instructions\":{count}}}\n")
 }
 
-/// The object of a filter that was compiled, of so many instructions.
+/// The object for a compiled filter of this many instructions.
 pub fn compiled_object(alloc: Global, count: usize) -> Result<String, AllocError>
     ensures { IfOk result (λ text. string_bytes text ≡ compiled_object count) }
 {
     format!(in alloc; "{{\"answer\":\"compiled\",\"instructions\":{count}}}\n")
 }
 
-/// The object of a filter whose runs take so many steps at most.
+/// The object for a filter whose runs take at most this many steps.
 pub fn longest_object(alloc: Global, most: u32) -> Result<String, AllocError>
     ensures { IfOk result (λ text. string_bytes text ≡ longest_object most) }
 {
     format!(in alloc; "{{\"longest\":{most}}}\n")
 }
 
-/// The object of what a filter says.
+/// The object for a filter's answer.
 pub fn judged_object(alloc: Global, judged: &Judged) -> Result<String, AllocError>
     ensures { IfOk result (λ text. string_bytes text ≡ judged_object judged.now) }
 {
@@ -43,7 +43,7 @@ pub fn judged_object(alloc: Global, judged: &Judged) -> Result<String, AllocErro
     )
 }
 
-/// The object of filters that are the same on the calls that were asked about.
+/// The object for filters that are the same on the calls of this scope.
 pub fn same_object(alloc: Global, scope: Scope) -> Result<String, AllocError>
     ensures { IfOk result (λ text. string_bytes text ≡ same_object scope) }
 {

@@ -42,7 +42,7 @@ pub fn picked_lines(alloc: Global, pod: &Pod, seccomp_default: bool) -> Result<S
     Ok(text)
 }
 
-/// A container with what it gets.
+/// A container with the profile that it gets.
 pub(crate) fn named<'p>(container: &'p Container, choice: Choice<'p>) -> Picked<'p>
     ensures { line_text result ≡ container.now.name
         ++ (codes " " ++ profile_text (choice_seen choice.entry)) }

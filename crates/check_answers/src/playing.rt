@@ -10,8 +10,7 @@ use std::alloc::{AllocError, Global};
 use std::marker::Model;
 use verdict::Stack;
 
-/// What came of a script: its judged calls, in order, the filters that it added, and the code with which
-/// it ended.
+/// The outcome of a script: its judged calls, in order, the filters that it added, and its exit code.
 #[derive(Drop)]
 pub struct Outcome {
     cell: Cell,
@@ -34,7 +33,7 @@ impl Outcome {
         self.cell.record()
     }
 
-    /// The code with which the script ended.
+    /// The script's exit code.
     pub fn code(&self) -> u8
         ensures { result ≡ self.now.code }
     {
@@ -42,8 +41,8 @@ impl Outcome {
     }
 }
 
-/// Plays the script under the stack of filters, from its first step to its end. A call is performed
-/// exactly where the filters, and those that the script added before, together allow it.
+/// Plays the script under the stack of filters, from its first step to its end. A call is performed exactly
+/// if the filters, and those that the script added before, together allow it.
 pub fn play(
     alloc: Global,
     script: Script,
@@ -57,7 +56,7 @@ pub fn play(
     Ok(Outcome { cell, code })
 }
 
-/// Plays a cell's script to its end, and gives the code with which it ended.
+/// Plays a cell's script to its end, and returns its exit code.
 fn play_out(cell: &mut Cell) -> u8
     requires { IsPlaying cell.old.state }
     ensures kept { cell.new.making ≡ cell.old.making }

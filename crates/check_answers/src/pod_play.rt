@@ -19,7 +19,7 @@ use runtime_cell::JudgedCall;
 use std::alloc::{AllocError, Global};
 use std::fmt;
 
-/// What of the profile gives the call the verdict that it has. None if another filter does.
+/// The part of the profile that decides the call's verdict. None if another filter does.
 pub fn decided_by(
     alloc: Global,
     profile: &Profile,
@@ -69,7 +69,7 @@ pub fn ended_object(
     format!(in alloc; "{{\"container\":\"{name}\",\"profile\":{members},\"exit\":{code}}}\n")
 }
 
-/// A denied call of a container, and what of its profile denied it.
+/// A denied call of a container, and the part of its profile that denied it.
 #[derive(Clone, Copy)]
 pub struct DeniedCall {
     /// The step that makes the call, from 0.

@@ -11,12 +11,12 @@ use bpf_code::{Flow, Insn};
 use std::alloc::{AllocError, Global};
 use std::fmt;
 
-/// Where an instruction may go.
+/// The targets of an instruction.
 #[derive(Clone, Copy)]
 pub(crate) enum Arrow {
     /// To this place.
     To(u64),
-    /// To the one place where the test holds, to the other where it fails.
+    /// To the first place if the test holds, to the second if it fails.
     Either(u64, u64),
     /// Nowhere, or to the next place.
     Nothing,
@@ -37,7 +37,7 @@ impl fmt::Display for Arrow {
     }
 }
 
-/// The name of a call that an instruction asks about, behind it.
+/// The name of a call that an instruction asks about, after it.
 #[derive(Clone, Copy)]
 pub(crate) struct Comment {
     pub(crate) is_number_test: bool,
@@ -61,7 +61,7 @@ impl fmt::Display for Comment {
     }
 }
 
-/// An instruction as it is shown, with its place in front, and where it may go and a call's name behind it.
+/// An instruction as it is shown, with its place before it, and its targets and a call's name after it.
 #[derive(Clone, Copy)]
 pub(crate) struct Shown {
     pub(crate) place: usize,
@@ -83,8 +83,8 @@ impl fmt::Display for Shown {
     }
 }
 
-/// One line an instruction: its place, its text, behind a jump the places that it may go to, and behind a
-/// comparison of the call's number, which these tell, the name that it has.
+/// One line per instruction: its place, its text, after a jump its targets, and after a comparison of the
+/// call's number, marked in `number_tests`, the name of that number.
 pub fn code_lines(alloc: Global, code: &[Insn], number_tests: &[bool]) -> Result<String, AllocError>
     requires short { length code.now ≤ MAX_INSNS }
     requires as_many { length number_tests.now ≡ length code.now }
@@ -114,7 +114,7 @@ pub(crate) fn shown_at(place: usize, insn: Insn, is_number_test: bool) -> Shown
     }
 }
 
-/// Where the instruction at this place may go.
+/// The targets of the instruction at this place.
 fn ways_on(place: usize, insn: &Insn) -> Arrow
     requires { place < MAX_INSNS }
     ensures { result ≡ arrow_of (flow_of insn.now.op) place insn.now }
@@ -129,7 +129,7 @@ fn ways_on(place: usize, insn: &Insn) -> Arrow
     }
 }
 
-/// The place to which a jump goes that skips so many instructions.
+/// The target of a jump that skips this many instructions.
 fn target(place: usize, skipped: u32) -> u64
     requires { place < MAX_INSNS }
     ensures { result ≡ place + 1 + skipped }

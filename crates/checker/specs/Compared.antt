@@ -2,8 +2,8 @@
 use Rattle.std.specs.Prelude.{⊤, Result, Ok, Err}
 use Rattle.bpf_compare.specs.declared.comparison.Comparison.{Comparison}
 use Rattle.bpf_compare.specs.declared.comparison.Comparison.TheVariants.{Same, Differs, Undecided}
-use Rattle.checker.specs.declared.stop.Stop.{Stop}
-use Rattle.checker.specs.declared.stop.Stop.TheVariants as why
+use Rattle.check_stops.specs.declared.stop.Stop.{Stop}
+use Rattle.check_stops.specs.declared.stop.Stop.TheVariants as why
 
 abbrev pub told_of : Comparison → Result ⊤ Stop
 told_of Same = Ok tt

@@ -1,10 +1,6 @@
-pub mod AnswerObjects
-pub mod BadWords
 pub mod CallWords
 pub mod Compared
 pub mod LintText
-pub mod NoteText
 pub mod ProfileLines
-pub mod StopText
-pub mod Stops
 pub mod Words
+pub mod Written

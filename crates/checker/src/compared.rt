@@ -3,9 +3,9 @@ ghost use Rattle.std.specs.Prelude.{◌≡◌};
 ghost use Rattle.fault_notes.specs.Starts.{begins_object};
 ghost use Rattle.checker.specs.Compared.{told_of};
 
-use crate::stop::Stop;
 use bpf_compare::Comparison;
 use check_answers::Difference;
+use check_stops::Stop;
 use fault_notes::begins_object;
 
 /// How many instructions are followed at most, which takes seconds.

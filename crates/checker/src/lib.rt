@@ -1,28 +1,32 @@
-//! What `seccheck` does: compiles, lints, resolves and explains profiles, judges calls by filters, shows and
-//! compares filters, plays scripts under them, picks the profiles of pods, and adds up what was denied.
+//! The work of `seccheck`: compiles, lints, resolves, explains, learns and writes profiles, judges calls by
+//! filters, shows and compares filters, plays scripts under them, picks the profiles of pods, and adds up what
+//! was denied.
 //!
 //! The functions are generic over the runtime and over the writers for standard output and standard
-//! error. What is answered is made by `check_answers`, `explain` and the crates of profiles; what ends the
-//! program before its work is done is a `Stop`, whose text stands in `specs/`.
+//! error. Answers come from `check_answers`, `container_answers`, `explain` and the crates of profiles. A `Stop`
+//! of `check_stops` is why the program ends before its work is done.
+//!
+//! # What is proved
+//!
+//! - RuntimeDefault as it is printed reads as RuntimeDefault.
+//! - The file that is read as a profile when two are compared: `is_profile`, `same_or_stop`.
+//! - The call that a command line writes, by number or name, over clap's matches: `call_at`, `attempt_at`.
+//! - The settings of a template that words spell: `settings_of` (caps, arch, kernel).
+//! - The bytes of a filter's file, also as Base64: `file_bytes`.
+//!
+//! Only tested: files; that what is printed reaches the writers; the command lines that clap refuses; which
+//! words are no settings; that a template's profile and the names left out are those of `profile_template`.
 #![tactic(auto)]
 
-mod answer_object;
-mod bad_words;
 mod call_words;
 mod compared;
-mod denying;
 mod file;
-mod form;
 mod linting;
-mod notes;
-mod pod_playing;
 mod profiles;
 mod resolving;
 mod seccheck;
-mod stop;
-mod told;
-mod used_profiles;
 mod words;
+mod written;
 
 pub use check_answers::{Judged, Outcome, judge, play};
 pub use seccheck::seccheck_run;

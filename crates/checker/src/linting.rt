@@ -2,10 +2,7 @@
 ghost use Rattle.std.specs.Prelude.{◌≡◌, IfOk, string_bytes};
 ghost use Rattle.checker.specs.LintText.{count_text};
 
-use crate::form::Form;
-use crate::seccheck::bytes_at;
-use crate::stop::{Stop, profile_stop};
-use crate::told::Told;
+use check_stops::{Form, Output, Stop, bytes_at, profile_stop};
 use fault_notes::ShownPath;
 use oci_profile::Profile;
 use profile_lint::{findings, lint_lines, lint_objects, passed_in};
@@ -13,11 +10,11 @@ use std::alloc::{AllocError, Global};
 use std::rt;
 
 /// What is told of the profile in a file, with status 1 where there is something.
-pub(crate) fn lint_told<'a, R: rt::Files + AllocGlobal>(
+pub(crate) fn lint_output<'a, R: rt::Files + AllocGlobal>(
     rt: &R,
     path: &'a str,
     form: Form,
-) -> Result<Told, Stop<'a>> {
+) -> Result<Output, Stop<'a>> {
     let alloc = rt.alloc();
     let bytes = bytes_at(rt, path)?;
     let profile = oci_profile::read_placed(alloc, &bytes).map_err(|found| profile_stop(
@@ -32,7 +29,7 @@ pub(crate) fn lint_told<'a, R: rt::Files + AllocGlobal>(
         Form::Text => lint_lines(alloc, passed, found)?,
         Form::Json => lint_objects(alloc, passed, found)?,
     };
-    Ok(Told::found(alloc, text))
+    Ok(Output::found(alloc, text))
 }
 
 /// What is told beside the filter of this profile, which the bytes of a file are: how much `lint` tells.

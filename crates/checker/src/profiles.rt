@@ -2,10 +2,8 @@
 ghost use Rattle.std.specs.Prelude.{IfOk, string_bytes};
 ghost use Rattle.checker.specs.ProfileLines.{IsDefaultLine};
 
-use crate::form::Form;
-use crate::seccheck::bytes_at;
-use crate::stop::{Stop, profile_stop};
 use call_data::SysCall;
+use check_stops::{Form, Stop, bytes_at, profile_stop};
 use explain::{explain, explanation_lines, explanation_objects};
 use profile_text::default_text;
 use std::alloc::{AllocError, Global};

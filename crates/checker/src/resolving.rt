@@ -3,11 +3,7 @@ ghost use Rattle.std.specs.Prelude.{◌≡◌, IfOk, codes, option_map, unwrap_o
 ghost use Rattle.std.specs.Prelude.{option_and_then};
 ghost use Rattle.profile_template.specs.Version.{version_of};
 
-use crate::bad_words::WordFault;
-use crate::notes::FileLine;
-use crate::seccheck::bytes_at;
-use crate::stop::{Stop, template_stop};
-use crate::told::Told;
+use check_stops::{FileLine, Output, Stop, WordFault, bytes_at, template_stop};
 use fault_notes::left_out_note;
 use json_place::{Place, Step, stands_at};
 use oci_profile::ProfileFault;
@@ -24,7 +20,7 @@ pub(crate) fn resolve_text<'a, R: rt::Files + AllocGlobal>(
     rt: &R,
     path: &'a str,
     settings: &Settings<'_>,
-) -> Result<Told, Stop<'a>> {
+) -> Result<Output, Stop<'a>> {
     let alloc = rt.alloc();
     let bytes = bytes_at(rt, path)?;
     let template = profile_template::read(alloc, &bytes, settings).map_err(|found| template_stop(
@@ -34,7 +30,7 @@ pub(crate) fn resolve_text<'a, R: rt::Files + AllocGlobal>(
     let text = template
         .write(alloc)
         .map_err(|fault| write_stop(path, fault))?;
-    Ok(Told::with_aside(ended(text)?, aside))
+    Ok(Output::with_aside(ended(text)?, aside))
 }
 
 /// The text as a line.

@@ -1,19 +1,10 @@
-use crate::answer_object::AnswerObject;
 use crate::compared::{BUDGET, is_profile, same_or_stop};
-use crate::denying::{Asked, denied_told};
 use crate::file::is_same_file;
-use crate::form::Form;
-use crate::linting::{beside, lint_told};
-use crate::notes::tell_note;
-use crate::pod_playing::{PodAsked, pod_told};
+use crate::linting::{beside, lint_output};
 use crate::profiles::{default_line, explain_text};
 use crate::resolving::{resolve_text, settings_of};
-use crate::stop::{
-    Stop, compile_stop, filter_stop, manifest_stop, profile_stop, script_stop, stack_filter_stop,
-    stack_stop, stop_at,
-};
-use crate::told::Told;
 use crate::words::{attempt_at, call_at, command, word_at};
+use crate::written::{file_bytes, unit_output};
 use bpf_compare::{Scope, compare};
 use bpf_verify::{Filter, Refusal, filter_of};
 use call_data::SysCall;
@@ -23,21 +14,27 @@ use check_answers::{
     compiled_object, judge, judged_line, judged_object, longest_line, longest_object,
     outcome_lines, picked_lines, picked_objects, play, record_objects, same_line, same_object,
 };
+use check_stops::{
+    AnswerObject, Form, Output, Stop, bytes_at, compile_stop, filter_at, filter_stop,
+    manifest_stop, print_note, profile_stop, script_stop, stack_filter_stop, stack_stop, stop_at,
+};
 use clap::ArgMatches;
 use clap::error::ErrorKind;
 use compile::compile;
+use container_answers::{DeniedAsked, PodAsked, denied_output, pod_output};
 use host_io::replace;
+use log_answers::{LearnAsked, audit_output, learn_output};
 use node_io::{Cause, MAX_FILE_BYTES, read_file};
 use oci_profile::Profile;
+use profile_learn::Wanted;
 use std::alloc::{AllocError, Global};
 use std::io::Write;
 use std::rt;
 use verdict::Stack;
 
-/// The program `seccheck`: compiles, lints, resolves and explains profiles, looks at filters, runs and
-/// compares them, plays scripts under them, and picks the profiles of pods. `words` are the command line's,
-/// the program's name first. The answer is the program's status: 0 done, 1 input refused, 2 command line
-/// refused, 3 file fault, 4 out of memory. What can't be written counts as a file fault.
+/// The program `seccheck`. `words` are those of the command line, the program's name first. Returns the
+/// program's status: 0 done, 1 input refused, 2 command line refused, 3 file fault, 4 out of memory. Output that
+/// can't be written is a file fault.
 pub fn seccheck_run<R: rt::Files + AllocGlobal, O: Write, E: Write>(
     rt: &R,
     words: &[String],
@@ -46,39 +43,39 @@ pub fn seccheck_run<R: rt::Files + AllocGlobal, O: Write, E: Write>(
 ) -> u8 {
     let (name, matches) = match asked(rt, words) {
         Ok(asked) => asked,
-        Err(stop) => return tell(&stop, err),
+        Err(stop) => return report(&stop, err),
     };
     let form = if matches.get_flag("json") {
         Form::Json
     } else {
         Form::Text
     };
-    let stop = match told_of(rt, name, &matches, form) {
-        Ok(told) => match out.write_all(told.text.as_bytes()) {
+    let stop = match output_of(rt, name, &matches, form) {
+        Ok(output) => match out.write_all(output.text.as_bytes()) {
             Ok(()) => {
-                let _ = err.write_all(told.aside.as_bytes());
-                return told.status;
+                let _ = err.write_all(output.aside.as_bytes());
+                return output.status;
             }
             Err(error) => Stop::Unwritten(Cause::of(&error)),
         },
         Err(stop) => stop,
     };
     if !stop.is_answer() {
-        return tell(&stop, err);
+        return report(&stop, err);
     }
     let written = match form {
         Form::Text => write!(out, "{stop}"),
         Form::Json => write!(out, "{}", AnswerObject(&stop)),
     };
     if let Err(error) = written {
-        return tell(&Stop::Unwritten(Cause::of(&error)), err);
+        return report(&Stop::Unwritten(Cause::of(&error)), err);
     }
-    tell_note(rt, &stop, err);
+    print_note(rt, &stop, err);
     stop.status()
 }
 
 /// Prints the reason to standard error (best effort), and returns the exit status.
-fn tell<E: Write>(stop: &Stop, err: &mut E) -> u8 {
+fn report<E: Write>(stop: &Stop, err: &mut E) -> u8 {
     let _ = write!(err, "{stop}");
     stop.status()
 }
@@ -100,13 +97,13 @@ fn asked<'a, R: rt::Files + AllocGlobal>(
     }
 }
 
-/// What the program tells where nothing stops it.
-fn told_of<'a, R: rt::Files + AllocGlobal>(
+/// What the program prints if nothing stops it.
+fn output_of<'a, R: rt::Files + AllocGlobal>(
     rt: &R,
     name: &str,
     matches: &ArgMatches<'a>,
     form: Form,
-) -> Result<Told, Stop<'a>> {
+) -> Result<Output, Stop<'a>> {
     match name {
         "resolve" => {
             let caps = matches.get_strs("cap").unwrap_or(&[]);
@@ -118,23 +115,45 @@ fn told_of<'a, R: rt::Files + AllocGlobal>(
         }
         "compile" => {
             let (path, out) = (word_at(matches, "PROFILE"), word_at(matches, "OUT"));
-            compile_told(rt, path, out, form)
+            compile_output(rt, path, out, matches.get_flag("base64"), form)
         }
-        "lint" => lint_told(rt, word_at(matches, "PROFILE"), form),
-        "play" if matches.get_str("pod").is_some() => pod_told(rt, pod_asked(matches, form)?),
+        "write" => unit_output(rt, word_at(matches, "PROFILE")),
+        "explain" if matches.get_str("audit").is_some() => {
+            let log = matches.get_str("audit").unwrap_or("");
+            audit_output(rt, word_at(matches, "PROFILE"), log, form)
+        }
+        "lint" => lint_output(rt, word_at(matches, "PROFILE"), form),
+        "play" if matches.get_str("pod").is_some() => pod_output(rt, pod_asked(matches, form)?),
         "denied" => {
-            let asked = Asked {
+            let asked = DeniedAsked {
                 by_call: matches.get_flag("by-call"),
                 profiles: matches.get_str("profiles"),
                 form,
             };
-            denied_told(rt, matches.get_strs("FILE").unwrap_or(&[]), asked)
+            denied_output(rt, matches.get_strs("FILE").unwrap_or(&[]), asked)
         }
-        _ => Ok(Told::plain(rt.alloc(), text_of(rt, name, matches, form)?)),
+        "learn" => {
+            let files = matches.get_strs("FILE").unwrap_or(&[]);
+            learn_output(rt, files, learn_asked(matches))
+        }
+        _ => Ok(Output::plain(rt.alloc(), text_of(rt, name, matches, form)?)),
     }
 }
 
-/// What `play` is asked of a pod.
+/// The options of `learn`.
+fn learn_asked<'a>(matches: &ArgMatches<'a>) -> LearnAsked<'a> {
+    LearnAsked {
+        base: matches.get_str("base"),
+        default: matches.get_str("default"),
+        wanted: Wanted {
+            args: matches.get_flag("args"),
+            needed: matches.get_flag("needed"),
+        },
+        is_strict: matches.get_flag("strict"),
+    }
+}
+
+/// The options of `play --pod`.
 fn pod_asked<'a>(matches: &ArgMatches<'a>, form: Form) -> Result<PodAsked<'a>, Stop<'a>> {
     Ok(PodAsked {
         manifest: matches.get_str("pod").unwrap_or(""),
@@ -205,20 +224,22 @@ fn text_of<'a, R: rt::Files + AllocGlobal>(
     }
 }
 
-/// That the profile was compiled and its filter written, and beside it how much `lint` tells of it. Once
-/// there is a filter, it replaces the old file as a whole.
-fn compile_told<'a, R: rt::Files + AllocGlobal>(
+/// Compiles a profile, and replaces the old file of the filter as a whole. Beside the answer is the number of
+/// `lint`'s findings.
+fn compile_output<'a, R: rt::Files + AllocGlobal>(
     rt: &R,
     path: &'a str,
     out: &'a str,
+    is_base64: bool,
     form: Form,
-) -> Result<Told, Stop<'a>> {
+) -> Result<Output, Stop<'a>> {
     let alloc = rt.alloc();
     let bytes = bytes_at(rt, path)?;
     let profile = profile_of(alloc, path, &bytes)?;
     let filter = compile(alloc, &profile).map_err(|fault| compile_stop(path, fault))?;
     let aside = beside(alloc, path, &bytes, &profile)?;
     let code = bpf_code::write(alloc, filter.insns())?;
+    let code = file_bytes(alloc, code, is_base64)?;
     if is_same_file(rt, path, out) {
         return Err(Stop::SameFile(out));
     }
@@ -227,7 +248,7 @@ fn compile_told<'a, R: rt::Files + AllocGlobal>(
         Form::Text => compiled_line(alloc, filter.len())?,
         Form::Json => compiled_object(alloc, filter.len())?,
     };
-    Ok(Told::with_aside(text, aside))
+    Ok(Output::with_aside(text, aside))
 }
 
 /// How many instructions a run of the filter takes at most.
@@ -365,15 +386,6 @@ fn stack_at<'a, R: rt::Files + AllocGlobal>(rt: &R, paths: &[&'a str]) -> Result
     Ok(stack)
 }
 
-/// The filter in a file.
-pub(crate) fn filter_at<'a, R: rt::Files + AllocGlobal>(
-    rt: &R,
-    path: &'a str,
-) -> Result<Filter, Stop<'a>> {
-    let bytes = bytes_at(rt, path)?;
-    filter_of(rt.alloc(), &bytes).map_err(|refusal| filter_stop(path, refusal))
-}
-
 /// The filter in a file, or that of the profile in it.
 fn filter_or_profile_at<'a, R: rt::Files + AllocGlobal>(
     rt: &R,
@@ -401,12 +413,4 @@ fn profile_filter<'a, R: rt::Files + AllocGlobal>(
 /// The profile that these bytes of a file are.
 fn profile_of<'a>(alloc: Global, path: &'a str, bytes: &[u8]) -> Result<Profile, Stop<'a>> {
     oci_profile::read_placed(alloc, bytes).map_err(|found| profile_stop(path, found))
-}
-
-/// The bytes of a file.
-pub(crate) fn bytes_at<'a, R: rt::Files + AllocGlobal>(
-    rt: &R,
-    path: &'a str,
-) -> Result<Vec<u8>, Stop<'a>> {
-    read_file(rt, path, MAX_FILE_BYTES).map_err(|fault| stop_at(path, fault))
 }

@@ -42,7 +42,9 @@ pub(crate) fn command<'a>(alloc: Global) -> Result<Command<'a>, AllocError> {
         .subcommand(compare(alloc)?)?
         .subcommand(play(alloc)?)?
         .subcommand(pick(alloc)?)?
-        .subcommand(denied(alloc)?)
+        .subcommand(denied(alloc)?)?
+        .subcommand(learn(alloc)?)?
+        .subcommand(write(alloc)?)
 }
 
 fn compile<'a>(alloc: Global) -> Result<Command<'a>, AllocError> {
@@ -50,6 +52,11 @@ fn compile<'a>(alloc: Global) -> Result<Command<'a>, AllocError> {
         .about("Compile a seccomp profile to a filter")
         .arg(given(alloc, "PROFILE", "Profile, the JSON of OCI's linux.seccomp"))?
         .arg(given(alloc, "OUT", "Filter file to write"))?
+        .arg(flag(
+            alloc,
+            "base64",
+            "Write the filter in Base64, as an annotation of crun takes it",
+        ))?
         .arg(json(alloc))
 }
 
@@ -106,23 +113,37 @@ fn run<'a>(alloc: Global) -> Result<Command<'a>, AllocError> {
         alloc,
         Command::new(alloc, "run")
             .about("Run a filter on a call")
-            .arg(given(alloc, "FILTER", "Filter file"))?,
+            .arg(given(alloc, "FILTER", "Filter file"))?
+            .arg(given(alloc, "CALL", CALL_HELP))?,
     )
 }
 
 fn explain<'a>(alloc: Global) -> Result<Command<'a>, AllocError> {
-    of_call(
+    let audit = option(
         alloc,
-        Command::new(alloc, "explain")
-            .about("Print the entry of a profile that decides a call, and why no earlier one does")
-            .arg(given(alloc, "PROFILE", "Profile"))?,
+        "audit",
+        "LOG",
+        "Explain the calls that the kernel's log reports as denied",
     )
+    .conflicts_with("CALL")?
+    .conflicts_with("arch")?
+    .conflicts_with("ip")?;
+    let command = Command::new(alloc, "explain")
+        .about("Print the entry of a profile that decides a call, and why no earlier one does")
+        .arg(given(alloc, "PROFILE", "Profile"))?
+        .arg(
+            Arg::new(alloc, "CALL")
+                .required_unless_present("audit")?
+                .help(CALL_HELP),
+        )?;
+    of_call(alloc, command)?.arg(audit)
 }
 
-/// The words of a call.
+const CALL_HELP: &str = "Number or name of the call";
+
+/// The words of a call after its number or name.
 fn of_call<'a>(alloc: Global, command: Command<'a>) -> Result<Command<'a>, AllocError> {
     command
-        .arg(given(alloc, "CALL", "Number or name of the call"))?
         .arg(
             Arg::new(alloc, "ARG")
                 .num_args(0..=6)
@@ -256,6 +277,64 @@ fn denied<'a>(alloc: Global) -> Result<Command<'a>, AllocError> {
             "Folder of the profiles: print what of a profile denied each call",
         ))?
         .arg(json(alloc))
+}
+
+fn learn<'a>(alloc: Global) -> Result<Command<'a>, AllocError> {
+    Command::new(alloc, "learn")
+        .about("Print a profile that allows the calls seen in logs")
+        .arg(
+            Arg::new(alloc, "FILE").num_args(1..).required(true).help(
+                "Logs of strace, audit lines, records of containers, or lists of names",
+            ),
+        )?
+        .arg(option(
+            alloc,
+            "default",
+            "ACTION",
+            "Action of other calls, such as 'ERRNO 38' [default: ERRNO 1]",
+        )
+        .conflicts_with("base")?)?
+        .arg(option(
+            alloc,
+            "base",
+            "PROFILE",
+            "Profile to which the calls are added",
+        ))?
+        .arg(flag(
+            alloc,
+            "args",
+            "Compare socket's domain and the like, if at most four numbers were seen",
+        ))?
+        .arg(flag(
+            alloc,
+            "needed",
+            "Also allow calls that any program may need, such as exit_group",
+        ))?
+        .arg(flag(
+            alloc,
+            "strict",
+            "Refuse the first broken line instead of leaving it out",
+        ))
+}
+
+fn write<'a>(alloc: Global) -> Result<Command<'a>, AllocError> {
+    Command::new(alloc, "write")
+        .about("Print a profile in the form of another program")
+        .arg(given(alloc, "PROFILE", "Profile without conditions"))?
+        .arg(flag(
+            alloc,
+            "systemd",
+            "Print the lines of a unit of systemd, with SystemCallFilter=",
+        )
+        .required(true))
+}
+
+/// A word without a value.
+fn flag<'a>(alloc: Global, id: &'static str, help: &'static str) -> Arg<'a> {
+    Arg::new(alloc, id)
+        .long(id)
+        .action(ArgAction::SetTrue)
+        .help(help)
 }
 
 /// Has the answer written as JSON.

@@ -1,4 +1,4 @@
--- std's parser and the test of a numeral agree, where there is no sign.
+-- std's parser and the test of a numeral agree if there is no sign.
 use Rattle.std.proofs.Common.{◌≡◌, eqb, ltb, ℕ, ◌<◌, ◌^◌, ◌&&◌, Bool, true, false, cond, List, [], ◌∷◌}
 use Rattle.std.proofs.Common.{length, Some, None, Result, Ok, Err, refl, ap, subst, arith, slice_index}
 use Rattle.std.specs.Result.{OkIff, result_ok}
@@ -65,7 +65,7 @@ no_digit : (base d : ℕ) (ds : List ℕ) → base < 36 → d ≡ 43
     → list_all (λ digit. ltb (digit_value digit) base) (d ∷ ds) ≡ false
 no_digit base d ds small is = rw is (grind (arith, nat_tests))
 
--- a sign is no digit
+-- a sign is not a digit
 pub signed : (base : ℕ) (digits : List ℕ) → eqb (slice_index digits 0) 43 ≡ true → base < 36
     → None ≡ numeral (2 ^ 64) base digits
 unfolding numeral

@@ -1,4 +1,4 @@
--- What the getters of matches read, by the rows that clap's definition of a simple command gives.
+-- What the getters of matches read, by the rows in clap's definition of a simple command.
 use Rattle.std.proofs.Common.{◌≡◌, List, ℕ, option_map}
 use Rattle.clap.specs.Matches.{first_value, matched_of, raw_values}
 use Rattle.clap.specs.Walk.{all_of, first_of, rows_of}

@@ -1,4 +1,4 @@
--- The programs' command lines are of those for which clap says what the matches are, and which faults.
+-- The programs' command lines are simple ones: clap defines their matches and their faults.
 use Rattle.std.proofs.Common.{◌≡◌, true, refl}
 use Rattle.clap.specs.Faults.{is_simple_and_free}
 use Rattle.clap.specs.Simple.{is_simple}

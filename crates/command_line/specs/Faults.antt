@@ -21,13 +21,12 @@ misfit_text NothingToTell = codes "NothingToTell"
 misfit_text WithoutRecords = codes "WithoutRecords"
 misfit_text Missing = codes "Missing"
 
--- want of memory is told as that, wherever it comes
+-- out of memory is reported as such, wherever it occurs
 abbrev pub IsOfClap : Error → LineFault → Type 0
 IsOfClap error fault = (kind_of error ≡ kind.OutOfMemory → fault ≡ Memory)
     × (kind_of error ≢ kind.OutOfMemory → fault ≡ Refused error)
 
--- a refusal of clap's is of one of these kinds, which are none where clap takes the words; or memory is
--- wanted
+-- a refusal by clap is of one of these kinds, and there are none if clap takes the words; or memory ran out
 abbrev pub IsRefusal : Kinds → LineFault → Type 0
 IsRefusal kinds (BadNumber word) = ⊥
 IsRefusal kinds (UnknownCommand word) = ⊥
@@ -35,8 +34,8 @@ IsRefusal kinds (Unfit word why) = ⊥
 IsRefusal kinds (Refused error) = (kind_of error ≢ kind.OutOfMemory) × IsAmong (kind_of error) kinds
 IsRefusal kinds Memory = Unit {0}
 
--- where clap takes the words, one that does not go with the others is told first, and then the first word
--- that writes no number of its range
+-- if clap takes the words, one that does not go with the others is reported first, and then the first word
+-- that is not a number in its range
 abbrev pub TellsFault : {Said : Type 0} → Kinds → Option (List ℕ × Misfit) → Result Said (List ℕ) → LineFault
     → Type 0
 TellsFault kinds misfit said (Unfit word why) = (kinds ≡ []) × (misfit ≡ Some (word.now, why))

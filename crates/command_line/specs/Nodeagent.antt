@@ -1,7 +1,7 @@
 -- The line `nodeagent --socket PATH [--with-runtime] [--scripts DIR] [--profiles DIR] [--baseline FILTER]
 -- [--seccomp-default] [--records FILE] [--records-all] [--workers N] [--settle] [--until S] [--cri N]
--- [--history N] [--pods DIR] [--run NAME] [--state FILE] [--remove] [--reasons] [--fail] [--watch] [--json]
--- [--verbose] [MANIFEST]..`, this project's own: docs/SEMANTICS.md, "Programs".
+-- [--history N] [--pods DIR] [--run NAME] [--state FILE] [--remove] [--reasons] [--counts] [--fail] [--watch]
+-- [--json] [--verbose] [MANIFEST]..`, this project's own: docs/SEMANTICS.md, "Programs".
 use Rattle.std.specs.Prelude.{ℕ, ◌^◌, ◌&&◌, List, Bool, not, if◌then◌else◌, codes, map, Option, Some, None}
 use Rattle.std.specs.Prelude.{Result, Ok, Err, option_map}
 use Rattle.clap.specs.Simple.{App, new_app, with_rule}
@@ -33,8 +33,9 @@ coming app = with_rule (with_rule (with_rule app (option_rule (codes "pods"))) (
     (option_rule (codes "state"))
 
 abbrev pub ending : App → App
-ending app = with_rule (with_rule (with_rule app (flag_rule (codes "remove"))) (flag_rule (codes "reasons")))
-    (flag_rule (codes "fail"))
+ending app =
+    with_rule (with_rule (with_rule (with_rule app (flag_rule (codes "remove"))) (flag_rule (codes "reasons")))
+    (flag_rule (codes "counts"))) (flag_rule (codes "fail"))
 
 abbrev pub telling : App → App
 telling app = with_rule (with_rule app (flag_rule (codes "watch"))) (flag_rule (codes "json"))
@@ -61,8 +62,8 @@ numbers_of (Ok workers) (Ok until) (Ok cri) (Err word) = Err word
 numbers_of (Ok workers) (Ok until) (Ok cri) (Ok history) =
     Ok (record { workers = workers; until = until; cri = cri; history = history })
 
--- workers from 1 to 64, 4 where none is named; the version 1 or 2, 2 where none is named; from 1,024 to
--- 1,048,576 entries, 65,536 where none is named
+-- workers from 1 to 64, by default 4; the version 1 or 2, by default 2; from 1,024 to 1,048,576 entries, by
+-- default 65,536
 abbrev pub numbers_in : List Row → Result Numbers (List ℕ)
 numbers_in rows =
     numbers_of (written_within 1 64 4 (first_of (codes "workers") rows))
@@ -70,7 +71,7 @@ numbers_in rows =
     (written_within 1 2 2 (first_of (codes "cri") rows))
     (written_within 1024 1048576 65536 (first_of (codes "history") rows))
 
--- what the line says
+-- the values of a line
 pub record Nodeagent : Type 0 where
   pub socket : List ℕ
   pub with_runtime : Bool
@@ -87,6 +88,7 @@ pub record Nodeagent : Type 0 where
   pub state : Option (List ℕ)
   pub remove : Bool
   pub reasons : Bool
+  pub counts : Bool
   pub fail : Bool
   pub watch : Bool
   pub json : Bool
@@ -111,6 +113,7 @@ nodeagent_with rows (Ok numbers) = Ok (record {
   state = first_of (codes "state") rows;
   remove = is_set (codes "remove") rows;
   reasons = is_set (codes "reasons") rows;
+  counts = is_set (codes "counts") rows;
   fail = is_set (codes "fail") rows;
   watch = is_set (codes "watch") rows;
   json = is_set (codes "json") rows;
@@ -142,6 +145,8 @@ misfit_of_end rows =
     if not (settles rows) && is_set (codes "remove") rows then Some (codes "--remove", WithoutSettle)
     else if not (settles rows) && (not (is_set (codes "watch") rows) && is_set (codes "reasons") rows)
     then Some (codes "--reasons", WithoutSettle)
+    else if not (settles rows) && (not (is_set (codes "watch") rows) && is_set (codes "counts") rows)
+    then Some (codes "--counts", WithoutSettle)
     else if not (settles rows) && is_set (codes "fail") rows then Some (codes "--fail", WithoutSettle)
     else if settles rows && is_set (codes "watch") rows then Some (codes "--watch", WithSettle)
     else if not (settles rows) && (not (is_set (codes "watch") rows) && is_set (codes "json") rows)
@@ -170,11 +175,11 @@ misfit_in rows =
     else if reads_nothing (codes "records") rows then Some (codes "--records", WithoutRuntime)
     else or_else (misfit_of_records rows) (or_else (misfit_of_folder rows) (misfit_of_rest rows))
 
--- what the matches of a line say, or the first word that writes no number of its range
+-- the values of a line by its matches, or the first word that is not a number in its range
 abbrev pub nodeagent_in : List Row → Result Nodeagent (List ℕ)
 nodeagent_in rows = nodeagent_with rows (numbers_in rows)
 
--- the texts that a line lends
+-- the borrowed texts of a line
 abbrev pub nodeagent_of : NodeagentLine → Nodeagent
 nodeagent_of line = record {
   socket = line.socket.now;
@@ -192,6 +197,7 @@ nodeagent_of line = record {
   state = option_map (λ w. w.now) line.state;
   remove = line.remove;
   reasons = line.reasons;
+  counts = line.counts;
   fail = line.fail;
   watch = line.watch;
   json = line.json;

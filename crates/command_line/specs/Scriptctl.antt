@@ -1,4 +1,5 @@
--- The line `scriptctl --socket PATH [--json] COMMAND UID..`, this project's own: docs/SEMANTICS.md, "Programs".
+-- The line `scriptctl --socket PATH [--json] COMMAND UID..`, this project's own: docs/SEMANTICS.md,
+-- "Programs".
 use Rattle.std.specs.Prelude.{◌≡◌, ◌⊎◌, ℕ, if◌then◌else◌, List, [], ◌∷◌, codes, map, Option, Some, None}
 use Rattle.std.specs.Str.{bytes_eq}
 use Rattle.clap.specs.Kinds.{Kinds}
@@ -33,7 +34,7 @@ command_named word =
     else if bytes_eq word (codes "rm") then Some Rm
     else None
 
--- what the words say that stand by themselves: a command, and behind it at least one uid
+-- the positional words: a command, followed by at least one uid
 pub data Spoken : Type 0 where
   NoCommand : Spoken
   Unknown : List ℕ → Spoken
@@ -52,7 +53,7 @@ spoken (word ∷ uids) = spoken_of word uids (command_named word)
 abbrev pub spoken_in : List Row → Spoken
 spoken_in rows = spoken (words_of (codes "COMMAND") rows)
 
--- what the line says
+-- the values of a line
 pub record IsScriptctl (rows : List Row) (line : ScriptctlLine) : Type 0 where
   pub socket : line.socket.now ≡ word_of (codes "socket") rows
   pub json : line.json ≡ is_set (codes "json") rows
@@ -63,7 +64,7 @@ abbrev pub IsMissing : Spoken → List ℕ → Misfit → Type 0
 IsMissing spoken word why = (why ≡ Missing) × (((spoken ≡ NoCommand) × (word ≡ codes "COMMAND"))
     ⊎ ((spoken ≡ NoPods) × (word ≡ codes "UID")))
 
--- where clap takes the words, the word that is missing or is no command is told
+-- if clap takes the words, the word that is missing or is not a command is reported
 abbrev pub TellsSpoken : Kinds → Spoken → LineFault → Type 0
 TellsSpoken kinds spoken (Unfit word why) = (kinds ≡ []) × IsMissing spoken word.now why
 TellsSpoken kinds spoken (UnknownCommand word) = (kinds ≡ []) × (spoken ≡ Unknown word.now)

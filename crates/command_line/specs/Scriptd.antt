@@ -29,13 +29,13 @@ stepping app = with_rule (recording (with_rule app (option_rule (codes "runners"
 unfoldable pub scriptd : App
 scriptd = stepping (serving (versioned (new_app (codes "scriptd"))))
 
--- what the line says
+-- the values of a line
 pub record Scriptd : Type 0 where
   pub socket : List ℕ
   pub scripts : List ℕ
   pub profiles : List ℕ
   pub baseline : Option (List ℕ)
-  -- from 1 to 64, 4 where none is named
+  -- from 1 to 64, by default 4
   pub runners : ℕ
   -- the file of the records, and whether they list performed calls too
   pub records : Option (List ℕ)
@@ -55,18 +55,18 @@ scriptd_with rows (Ok runners) = Ok (record {
   verbose = is_set (codes "verbose") rows;
 })
 
--- what the matches of a line say, or the word that writes no number of its range
+-- the values of a line by its matches, or the word that is not a number in its range
 abbrev pub scriptd_in : List Row → Result Scriptd (List ℕ)
 scriptd_in rows = scriptd_with rows (written_within 1 64 4 (first_of (codes "runners") rows))
 
--- what records list is of no use without a file for them
+-- the choice of what records list is of no use without a file for them
 abbrev pub misfit_of_records : List Row → Option (List ℕ × Misfit)
 misfit_of_records rows =
     if is_set (codes "records-all") rows && not (is_there (codes "records") rows)
     then Some (codes "--records-all", WithoutRecords)
     else None
 
--- the texts that a line lends
+-- the borrowed texts of a line
 abbrev pub scriptd_of : ScriptdLine → Scriptd
 scriptd_of line = record {
   socket = line.socket.now;

@@ -12,11 +12,11 @@ pub enum Misfit {
     WithSettle,
     /// The option is for a folder of pods, which the line does not name.
     WithoutPods,
-    /// The option says how something is printed, and nothing is.
+    /// The option is about the form of what is printed, and nothing is printed.
     NothingToTell,
-    /// The option says what records list, and the line names no file for them.
+    /// The option selects what records list, and the line names no file for them.
     WithoutRecords,
-    /// The line requires such a word.
+    /// The line requires this word.
     Missing,
 }
 

@@ -1,4 +1,4 @@
-// What the matches of a command line hold.
+// The values in the matches of a command line.
 ghost use Rattle.std.specs.Prelude.{◌≡◌, map, option_map};
 ghost use Rattle.clap.specs.Matches.{found_of};
 ghost use Rattle.clap.specs.Walk.{all_of, first_of, rows_of};
@@ -28,7 +28,7 @@ pub(crate) fn folder_at<'a>(matches: &ArgMatches<'a>, id: &str) -> &'a str
     word_at(matches, id).unwrap_or(".")
 }
 
-/// Whether a flag is given. clap gives it the value true or false.
+/// Whether a flag is set. clap sets it to true or false.
 pub(crate) fn is_set(matches: &ArgMatches, id: &str) -> bool
     ensures { result ≡ is_set id.now (rows_of (found_of matches.now)) }
 {

@@ -33,7 +33,7 @@ pub struct Numbers {
     pub history: u32,
 }
 
-/// What the command line of `nodeagent` says.
+/// The values on the command line of `nodeagent`.
 #[derive(Debug, Drop)]
 pub struct NodeagentLine<'a> {
     /// The path of the runtime's socket.
@@ -57,7 +57,7 @@ pub struct NodeagentLine<'a> {
     pub settle: bool,
     /// The folder of manifests whose pods come and go with the files.
     pub pods: Option<&'a str>,
-    /// The suffix of uids that no manifest gives.
+    /// The suffix of uids that no manifest sets.
     pub run: Option<&'a str>,
     /// The file that keeps the uids of admitted pods, so that the next start can remove them.
     pub state: Option<&'a str>,
@@ -65,6 +65,8 @@ pub struct NodeagentLine<'a> {
     pub remove: bool,
     /// Whether the table, or the changes, show why containers wait.
     pub reasons: bool,
+    /// Whether the table, or the changes, show how many calls of each container were performed and denied.
+    pub counts: bool,
     /// Whether a pod of the table that is Failed makes the status 1.
     pub fail: bool,
     /// Whether each change of a pod or a container is printed.
@@ -244,6 +246,12 @@ fn ending<'a>(alloc: Global, command: Command<'a>) -> Result<Command<'a>, AllocE
         "reasons",
         "Print why each unfinished container waits (with --settle or --watch)",
     )?;
+    let command = with_flag(
+        alloc,
+        command,
+        "counts",
+        "Print how many calls of each container were performed and denied (with --settle or --watch)",
+    )?;
     with_flag(
         alloc,
         command,
@@ -336,6 +344,8 @@ fn misfit_of_end(matches: &ArgMatches) -> Option<(&'static str, Misfit)>
         Some(("--remove", Misfit::WithoutSettle))
     } else if !settles && !is_set(matches, "watch") && is_set(matches, "reasons") {
         Some(("--reasons", Misfit::WithoutSettle))
+    } else if !settles && !is_set(matches, "watch") && is_set(matches, "counts") {
+        Some(("--counts", Misfit::WithoutSettle))
     } else if !settles && is_set(matches, "fail") {
         Some(("--fail", Misfit::WithoutSettle))
     } else if settles && is_set(matches, "watch") {
@@ -396,6 +406,7 @@ fn said<'a>(
         state: word_at(matches, "state"),
         remove: is_set(matches, "remove"),
         reasons: is_set(matches, "reasons"),
+        counts: is_set(matches, "counts"),
         fail: is_set(matches, "fail"),
         watch: is_set(matches, "watch"),
         json: is_set(matches, "json"),

@@ -15,7 +15,7 @@ use crate::scriptd::matches_in;
 use clap::{ArgMatches, Command};
 use std::alloc::{AllocError, Global};
 
-/// What is asked of a runtime about pods.
+/// A command to a runtime about pods.
 #[derive(Clone, Copy, Debug, PartialEq, Eq)]
 pub enum PodCommand {
     /// The statuses of their containers.
@@ -26,7 +26,7 @@ pub enum PodCommand {
     Rm,
 }
 
-/// What the command line of `scriptctl` says.
+/// The values on the command line of `scriptctl`.
 #[derive(Debug, Drop)]
 pub struct ScriptctlLine<'a> {
     /// The path of the runtime's socket.
@@ -101,7 +101,7 @@ fn said<'a>(alloc: Global, matches: &ArgMatches<'a>) -> Result<ScriptctlLine<'a>
     })
 }
 
-// What is asked, and about which pods.
+// The command, and its pods.
 #[derive(Drop)]
 struct AskedPods<'a> {
     command: PodCommand,

@@ -16,7 +16,7 @@ use crate::written::number_within;
 use clap::{ArgMatches, Command};
 use std::alloc::{AllocError, Global};
 
-/// What the command line of `scriptd` says.
+/// The values on the command line of `scriptd`.
 #[derive(Clone, Copy, Debug)]
 pub struct ScriptdLine<'a> {
     /// The path of the socket.

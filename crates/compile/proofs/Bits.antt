@@ -1,4 +1,4 @@
--- What masks leave of a word.
+-- Words under masks.
 use Rattle.compile.proofs.Common.{◌≡◌, ◌≢◌, ℕ, zero, suc, ◌⊎◌, inl, inr, ◌<◌, ◌≤◌, ◌==◌, ◌^◌, ◌*◌, ◌+◌, ◌-◌}
 use Rattle.compile.proofs.Common.{◌/◌, ◌%◌, Bool, not, true, false, cond, refl, sym, ap, subst, ◌∙◌, arith}
 use Rattle.compile.proofs.Common.{bit_and, nat_le, div-add-mod', ne_eqb, nat_tests, seen, WHOLE}
@@ -38,7 +38,7 @@ either_turned true false one other word = refl
 either_turned false true one other word = refl
 either_turned false false one other word = masked_turned word other one
 
--- two masks may be put on in either order
+-- two masks may be applied in either order
 pub seen_turned : (one other word : ℕ) → seen one (seen other word) ≡ seen other (seen one word)
 seen_turned one other word = either_turned (one == WHOLE) (other == WHOLE) one other word
 
@@ -58,7 +58,7 @@ none_or_all : (x power : ℕ) → (x ≡ 0) ⊎ (x ≡ power) → 0 < power → 
 none_or_all x power (inl none) some = grind (arith, nat_tests)
 none_or_all x power (inr all) some = grind (arith, nat_tests)
 
--- of a mask of one bit a word has all or none
+-- a word has all or none of a mask of one bit
 one_bit : (word k : ℕ) → 0 < 2 ^ k
     → (bit_and word (2 ^ k) == 2 ^ k) ≡ not (bit_and word (2 ^ k) == 0)
 one_bit word k some =
@@ -72,7 +72,7 @@ power_bit word mask k is =
     let P : ℕ → Type 0 = λ m. not (bit_and word m == 0) ≡ (bit_and word m == m) in
     subst P (sym is) (sym (one_bit word k (pow_pos k)))
 
--- a number with bits outside of a mask is not what the mask leaves
+-- a number with bits outside of a mask equals no word under the mask
 pub never_masked : (word mask with : ℕ) → bit_and with mask ≢ with → (bit_and word mask == with) ≡ false
 never_masked word mask with outside =
     ne_eqb (bit_and word mask) with (λ here. outside (ap (λ n. bit_and n mask) (sym here)
@@ -92,7 +92,7 @@ none_left (suc many) rest power word is less =
     grind (arith, nat_tests)) in
     some ∙ ap not (sym above)
 
--- what has none of the bits from one on is below that one
+-- a number without the bits from one on is below that one
 pub none_above : (word k mask : ℕ) → k ≤ 32 → word < 2 ^ 32 → mask ≡ 2 ^ 32 - 2 ^ k
     → (bit_and word mask == 0) ≡ not (nat_le (2 ^ k) word)
 none_above word k mask within below is =

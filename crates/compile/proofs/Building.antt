@@ -12,7 +12,7 @@ use Rattle.compile.specs.Tests.{operation_of}
 use Rattle.compile.specs.declared.code.Test.{Test}
 use Rattle.compile.specs.declared.code.Test.TheVariants.{Equal, GreaterOrEqual, AnyBit}
 
--- each instruction of the old code stands in the new one at the same place
+-- each instruction of the old code is in the new code at the same place
 pub record StandsStill (old new : List Insn) : Type 0 where
   pub still : (at : ℕ) (insn : Insn) → slice_get old at ≡ Some insn → slice_get new at ≡ Some insn
 
@@ -61,7 +61,7 @@ builds_pushed old insn =
     let puts = puts_pushed old insn in
     record { keeps = puts.keeps; extends = extends_pushed old insn; grows = omega (arith, puts.longer) }
 
--- what stands in code with one instruction in front
+-- the instructions of code with one more in front
 stands_pushed : (old : List Insn) (insn : Insn) (at : ℕ) (other : Insn)
     → slice_get (old ++ insn ∷ []) at ≡ Some other
     → (slice_get old at ≡ Some other) ⊎ ((at ≡ length old) × (insn ≡ other))
@@ -106,7 +106,7 @@ gives_more code call at a value most more (ends insn stands op is some) larger =
 gives_more code call at a value most more (leads insn stands to b left to_is less on) larger =
     leads insn stands to b left to_is (omega arith) on
 
--- at a return nothing but its value is given
+-- a return returns nothing but its value
 pub return_value : (code : List Insn) (call : SysCall) (at a value most : ℕ) (insn : Insn)
     → slice_get code at ≡ Some insn → insn.op ≡ ReturnK → Gives code call at a value most → value ≡ insn.k
 return_value code call at a value most insn stands op (ends other other_stands other_op is some) =
@@ -117,7 +117,7 @@ return_value code call at a value most insn stands op (leads other other_stands 
     let P : Operation → Type 0 = λ o. LeadsTo o call other at a to b in
     absurd (subst P returns to_is)
 
--- at a load nothing is given but what is given behind it with the word in A
+-- a load returns only what the code after it returns with the word in A
 pub load_past : (code : List Insn) (call : SysCall) (at a value most : ℕ) (insn : Insn)
     → slice_get code at ≡ Some insn → insn.op ≡ LoadData → Gives code call at a value most
     → (less : ℕ) × (less < most) × Gives code call (at - 1) (data_word call insn.k) value less
@@ -136,7 +136,7 @@ load_past code call at a value most insn stands op (leads other other_stands to 
     let R : ℕ → Type 0 = λ w. Gives code call to w value left in
     (left, less, subst Q before (subst R word on))
 
--- a copy of a return that stands further behind
+-- a copy of a return further back
 pub copy_gives : (insn : Insn) (old new : List Insn) (call : SysCall) (at a value most : ℕ)
     → Puts insn old new → slice_get old at ≡ Some insn → insn.op ≡ ReturnK
     → Gives old call at a value most → Gives new call (length old) a value (most + 1)
@@ -144,7 +144,7 @@ copy_gives insn old new call at a value most puts stands op gives =
     put_return insn old new call a value (most + 1) puts op
     (return_value old call at a value most insn stands op gives) (omega arith)
 
--- a fact of the place that was put is a fact of the place that is answered
+-- a fact about the new place is a fact about the returned place
 pub at_is : (P : ℕ → Type 0) (n : ℕ) (r : Result ℕ AllocError) → IfOk r (λ at. at ≡ n) → OnOk r (P n)
     → IfOk r P
 at_is P n (Ok at) is p = subst P (sym is) p
@@ -177,7 +177,7 @@ jump_gives test insn old new call a hit miss value most puts op hit_in miss_in j
     front_gives insn old new call a (cond (holds_of test insn.k a) hit miss) a value most puts
     (subst P (sym op) (branch_leads test call insn (length old) a hit miss hit_in miss_in jt jf)) on
 
--- where a branch stands already
+-- an existing branch
 pub branch_gives : (test : Test) (insn : Insn) (code : List Insn) (call : SysCall)
     (at a hit miss value most : ℕ)
     → slice_get code at ≡ Some insn → insn.op ≡ operation_of test → hit < at → miss < at
@@ -189,7 +189,7 @@ branch_gives test insn code call at a hit miss value most stands op hit_in miss_
     leads insn stands (cond (holds_of test insn.k a) hit miss) a most
     (subst P (sym op) (branch_leads test call insn at a hit miss hit_in miss_in jt jf)) (omega arith) on
 
--- where a load does
+-- an existing load
 pub load_gives : (insn : Insn) (code : List Insn) (call : SysCall) (at a value most : ℕ)
     → slice_get code at ≡ Some insn → insn.op ≡ LoadData → PointsInside insn.op insn at
     → Gives code call (at - 1) (data_word call insn.k) value most → Gives code call at a value (most + 1)
@@ -236,7 +236,7 @@ steady_load code call at a b value most insn stands op (leads other other_stands
     let Q : Operation → Type 0 = λ o. LeadsTo o call other at b to x in
     leads other other_stands to x left (subst Q (sym loads) (subst P loads to_is)) less on
 
--- the same of the place in front
+-- the same for the place in front
 pub front_is : (P : ℕ → Type 0) (new : List Insn) (r : Result ℕ AllocError)
     → IfOk r (λ at. at + 1 ≡ length new) → OnOk r (P (length new - 1)) → IfOk r P
 front_is P new (Ok at) is p = let same : length new - 1 ≡ at = omega arith in subst P same p

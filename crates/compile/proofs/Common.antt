@@ -1,4 +1,4 @@
--- The names that most proofs of this crate cite, passed on from one place. Declares nothing.
+-- Re-exports the names that most proofs of this crate cite. Declares nothing.
 pub use Rattle.std.proofs.Common.{All, Bool, Err, Global, IfOk, IfSome, IsSome, IsTrue, List, None, Ok, OnOk}
 pub use Rattle.std.proofs.Common.{Option, Result, Some, Vec, [], add-one, ap, arith, bit_and, cond, drop}
 pub use Rattle.std.proofs.Common.{false, get_or, get_or-drop, get_or-take, inl, inr, length, min}

@@ -1,4 +1,4 @@
--- Equal clauses hold of the same calls, and a rule that holds makes those behind it needless.
+-- Equal clauses hold for the same calls, and a rule that holds makes those after it needless.
 use Rattle.compile.proofs.Common.{◌≡◌, ℕ, ◌<◌, ◌&&◌, List, [], ◌∷◌, cond, drop, get_or, length, take, refl}
 use Rattle.compile.proofs.Common.{sym, ap, ◌∙◌, Bool, true, false, true≢false, take-append-drop, SysCall, Ask}
 use Rattle.compile.proofs.Common.{Atom, View, Clause, Literal, Known, Asked, Rule, clause_holds, clauses_hold}
@@ -47,7 +47,7 @@ clause_is one other same =
     ∙ ap (λ (l : Literal). record { one = other.one; other = l })
     (literal_is one.other other.other (second_so _ _ same))
 
--- equal clauses hold of the same calls
+-- equal clauses hold for the same calls
 pub clauses_are : (some others : List Clause) (call : SysCall)
     → pointwise (clause_eq.eq-value.it) some others ≡ true
     → clauses_hold some call ≡ clauses_hold others call
@@ -58,7 +58,7 @@ clauses_are (one ∷ some) (other ∷ others) call same =
     ap (λ c. clause_holds c call && clauses_hold some call) (clause_is one other (first_so _ _ same))
     ∙ ap (λ b. clause_holds other call && b) (clauses_are some others call (second_so _ _ same))
 
--- where one of the rules holds, it does not matter what comes behind them
+-- if one of the rules holds, what comes after them does not matter
 pub hidden_at : (rules : List Rule) (at one other : ℕ) (call : SysCall) (rule : Rule) → at < length rules
     → rule ≡ get_or rules at rule → clauses_hold rule.clauses.items call ≡ true
     → first_value rules one call ≡ first_value rules other call

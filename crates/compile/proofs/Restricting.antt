@@ -11,7 +11,7 @@ first_append [] others other call = refl
 first_append (rule ∷ rules) others other call =
     ap (λ n. cond (clauses_hold rule.clauses.items call) rule.value n) (first_append rules others other call)
 
--- the rules from one place on, behind those before it
+-- the rules from one place on, after those before it
 pub first_parted : (rules : List Rule) (at other : ℕ) (call : SysCall)
     → first_value (take at rules) (first_value (take (length rules - at) (drop at rules)) other call) call
     ≡ first_value rules other call
@@ -41,7 +41,7 @@ left_some {X} found x P is holds =
     let Q : Option X → Type 0 = λ o. IfSome o P in
     subst Q is holds
 
--- a rule in front returns what those behind it do
+-- a rule in front returns what those after it return
 pub certain_from : (rules : List Rule) (at other value : ℕ) (call : SysCall) (rule : Rule) → at < length rules
     → rule ≡ get_or rules at rule → rule.value ≡ value → first_value (drop (at + 1) rules) other call ≡ value
     → first_value (drop at rules) other call ≡ value

@@ -1,4 +1,4 @@
--- Clauses that are added, and what they say.
+-- Added clauses, and what they require.
 use Rattle.compile.proofs.Common.{◌≡◌, ℕ, ◌+◌, ◌≤◌, ◌==◌, ◌&&◌, ◌/◌, ◌%◌, Bool, true, false, not, cond, List}
 use Rattle.compile.proofs.Common.{[], ◌∷◌, ◌++◌, refl, sym, ap, ◌∙◌, arith, ◌||◌, All, bit_and, nat_le}
 use Rattle.compile.proofs.Common.{nat_lt, nat_tests, SysCall, IsCall, Cond, Entry, all_hold, all_of, Clause}
@@ -61,7 +61,7 @@ says_as old new one other m n says larger same = record {
   within = says.within;
 }
 
--- where the upper half is above, it is at least as large
+-- if the upper half is above, it is at least as large
 not_large : (above from lower : Bool) → (above ≡ true → from ≡ true)
     → (not above && (not from || not lower)) ≡ not (from && (above || lower))
 not_large true true lower implies = refl

@@ -1,4 +1,4 @@
--- What A comes to hold before a branch.
+-- What is in A before a branch.
 use Rattle.compile.proofs.Common.{◌≡◌, ◌≢◌, ℕ, ◌+◌, ◌<◌, List, sym, ap, subst, ◌∙◌, arith, bit_and, Insn}
 use Rattle.compile.proofs.Common.{SysCall, Gives, data_word, asks, atom_holds, seen, shown, GivesWith, told}
 use Rattle.compile.proofs.Common.{Atom, Probe, WHOLE, View}
@@ -6,7 +6,7 @@ use Rattle.bpf_code.specs.declared.limits.TheConstants.{DATA_LEN}
 use Rattle.compile.specs.Ways.{Covers, HasView, IsProbe}
 use Rattle.compile.proofs.Bits.{seen_masked, seen_whole}
 
--- a view that is held is the one that is needed
+-- the view in A is the one that is needed
 pub held : (base view : View) (code : List Insn) (call : SysCall) (at value most : ℕ) → base.offset < DATA_LEN
     → view ≡ base → Gives code call at (shown base call) value most
     → GivesWith view code call at value (most + 0)
@@ -28,7 +28,7 @@ pub masked_of : (base : View) (call : SysCall) → base.mask ≢ WHOLE
     → shown base call ≡ bit_and (data_word call base.offset) base.mask
 masked_of base call masked = seen_masked base.mask (data_word call base.offset) masked
 
--- and so is what was held before, if it covers that
+-- and so is the view that was in A before, if it covers that
 pub part_of : (base view : View) (call : SysCall) (a : ℕ) → base.offset < DATA_LEN → base.mask ≢ WHOLE
     → Covers view base → HasView view call a → shown base call ≡ bit_and a base.mask
 part_of base view call a known masked covers has =

@@ -9,7 +9,7 @@ use Rattle.oci_profile.specs.Entries.{IsFit}
 use Rattle.compile.proofs.Leaves.{counted_most}
 use Rattle.compile.specs.Sizes.{IsAsLong}
 
--- how many numbers below this one stand in a list, each counted once
+-- how many numbers below this one are in a list, each counted once
 once_in : List ℕ → ℕ → ℕ
 once_in numbers zero = 0
 once_in numbers (suc n) = cond (list_any (λ number. number == n) numbers) 1 0 + once_in numbers n
@@ -165,7 +165,7 @@ light_fits profile n big limit end fit few short light =
       | inr some ↦ omega arith
     ]
 
--- a filter that is no longer than these ranges ask for is no longer than the weight
+-- a filter that is no longer than these ranges need is no longer than the weight
 pub no_heavier : (profile : Profile) (n big limit end long : ℕ) → AreEntries profile.entries
     → n ≤ 2 + 2 * named_below profile.entries limit
     → big ≤ 3 * n + added_below profile.entries end → IsAsLong big long → long ≤ weight profile

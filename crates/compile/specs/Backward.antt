@@ -1,5 +1,5 @@
--- This project's own: code that is built from its end. A place counts the instructions behind it, so what
--- is put in front moves no place. Only private functions cite this.
+-- This project's own: code that is built from its end. A place counts the instructions after it, so what is
+-- put in front moves no place. Only private functions cite this.
 use Rattle.std.specs.Prelude.{◌≡◌, ℕ, ◌+◌, ◌%◌, ◌<◌, ◌≤◌, ◌==◌, nat_lt, nat_le, Bool, if◌then◌else◌}
 use Rattle.std.specs.Prelude.{List, Some, slice_get, take, length, bit_and, not}
 use Rattle.bpf_code.specs.declared.insn.Insn.{Insn}
@@ -12,7 +12,7 @@ use Rattle.call_data.specs.declared.sys_call.SysCall.{SysCall}
 use Rattle.call_data.specs.CallData.{word_at}
 use Rattle.compile.specs.declared.code.TheConstants.{RECENT}
 
--- an instruction that leads to places behind its own, and reads a word of the call's data
+-- an instruction that leads to places after its own, and reads a word of the call's data
 abbrev pub PointsInside : Operation → Insn → ℕ → Type 0
 PointsInside LoadData insn at = (insn.k < DATA_LEN) × (insn.k % 4 ≡ 0) × (0 < at)
 PointsInside AndK insn at = 0 < at
@@ -24,7 +24,7 @@ PointsInside Jump insn at = insn.k < at
 PointsInside ReturnK insn at = Unit {0}
 PointsInside _ insn at = ⊥
 
--- code of such instructions alone
+-- code of only such instructions
 abbrev pub IsBackward : List Insn → Type 0
 IsBackward code = (at : ℕ) (insn : Insn) → slice_get code at ≡ Some insn → PointsInside insn.op insn at
 
@@ -47,7 +47,7 @@ LeadsTo JumpAnyBitK call insn at a to b = BranchesTo (not (bit_and a insn.k == 0
 LeadsTo Jump call insn at a to b = (to + 1 + insn.k ≡ at) × (b ≡ a)
 LeadsTo _ call insn at a to b = ⊥
 
--- from this place, with a in A, the code gives the value in so many steps at most
+-- from this place, with a in A, the code returns the value in at most this many steps
 pub data Gives (code : List Insn) (call : SysCall) : ℕ → ℕ → ℕ → ℕ → Type 0 where
   ends : {at a value most : ℕ} → (insn : Insn) → slice_get code at ≡ Some insn → insn.op ≡ ReturnK
       → value ≡ insn.k → 0 < most → Gives code call at a value most
@@ -59,12 +59,12 @@ pub data Gives (code : List Insn) (call : SysCall) : ℕ → ℕ → ℕ → ℕ
 abbrev pub GivesAlways : List Insn → SysCall → ℕ → ℕ → ℕ → Type 0
 GivesAlways code call at value most = (a : ℕ) → Gives code call at a value most
 
--- what the old code gave the new one gives
+-- the new code returns what the old code does
 abbrev pub Keeps : List Insn → List Insn → Type 0
 Keeps old new = (call : SysCall) (at a value most : ℕ) → Gives old call at a value most
     → Gives new call at a value most
 
--- what the old code begins with the new one does
+-- the new code begins with what the old one does
 abbrev pub Extends : List Insn → List Insn → Type 0
 Extends old new = (begin : List Insn) → take (length begin) old ≡ begin → take (length begin) new ≡ begin
 

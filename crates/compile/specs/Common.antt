@@ -1,4 +1,4 @@
--- The names that contracts of this crate cite, passed on from one place. Declares nothing.
+-- Re-exports the names that contracts of this crate cite. Declares nothing.
 pub use Rattle.bpf_code.specs.declared.insn.Insn.{Insn}
 pub use Rattle.bpf_code.specs.declared.limits.TheConstants.{DATA_LEN, MAX_INSNS}
 pub use Rattle.bpf_machine.specs.Runs.{Runs}

@@ -1,4 +1,4 @@
--- This project's own: what is left to decide of a number, as entries of clauses over words of a call's data.
+-- This project's own: what is left to decide on a number, as entries of clauses over words of a call's data.
 -- Only private functions cite this.
 use Rattle.std.specs.Prelude.{ℕ, ◌==◌, nat_le, bit_and, not, ◌||◌, Bool, if◌then◌else◌, List, [], ◌∷◌}
 use Rattle.std.specs.List.{list_all}
@@ -14,15 +14,15 @@ use Rattle.compile.specs.declared.clause.Literal.TheVariants.{Known, Asked}
 use Rattle.compile.specs.declared.clause.Clause.{Clause}
 use Rattle.compile.specs.declared.clause.Rule.{Rule}
 
--- what a mask leaves of a word
+-- a word under a mask
 abbrev pub seen : ℕ → ℕ → ℕ
 seen mask word = if mask == WHOLE then word else bit_and word mask
 
--- what a view shows of a call
+-- the word of a call under the mask of a view
 abbrev pub shown : View → SysCall → ℕ
 shown view call = seen view.mask (data_word call view.offset)
 
--- what is asked of a number
+-- the answer to a question about a number
 abbrev pub asks : Ask → ℕ → Bool
 asks (Equal k) number = number == k
 asks (AtLeast k) number = nat_le k number
@@ -40,7 +40,7 @@ clause_holds clause call = literal_holds clause.one call || literal_holds clause
 abbrev pub clauses_hold : List Clause → SysCall → Bool
 clauses_hold clauses call = list_all (λ clause. clause_holds clause call) clauses
 
--- what the first rule returns all of whose clauses hold, else this
+-- the value of the first rule whose clauses all hold, else this value
 abbrev pub first_value : List Rule → ℕ → SysCall → ℕ
 first_value [] other call = other
 first_value (rule ∷ rules) other call =

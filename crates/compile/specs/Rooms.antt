@@ -11,7 +11,7 @@ use Rattle.call_data.specs.CallData.{IsCall}
 use Rattle.compile.specs.Residuals.{clauses_hold}
 use Rattle.compile.specs.declared.atom.TheConstants.{WHOLE}
 
--- the instructions of a test behind anything, and the steps through it
+-- the instructions of a test after anything, and the steps through it
 abbrev pub size_of_literal : Literal → ℕ
 size_of_literal (Known holds) = 0
 size_of_literal (Asked atom wanted) = if atom.view.mask == WHOLE then 2 else 3
@@ -27,7 +27,7 @@ abbrev pub size_of_rules : List Rule → ℕ
 size_of_rules [] = 0
 size_of_rules (rule ∷ rules) = size_of_clauses rule.clauses.items + size_of_rules rules
 
--- it asks a word that the data has
+-- it asks about a word of the data
 abbrev pub IsWithinLiteral : Literal → Type 0
 IsWithinLiteral (Known holds) = 0 ≤ 0
 IsWithinLiteral (Asked atom wanted) = (atom.view.offset < DATA_LEN) × (atom.view.offset % 4 ≡ 0)
@@ -39,13 +39,13 @@ IsWithin clause = IsWithinLiteral clause.one × IsWithinLiteral clause.other
 abbrev pub IsPossible : Clause → Type 0
 IsPossible clause = clause.one ≡ Known false → clause.other ≡ Known false → ⊥
 
--- a rule that is near to what follows it, whatever it returns
+-- a rule near to the code after it, whatever it returns
 pub record IsFit (rule : Rule) : Type 0 where
   pub possible : All IsPossible rule.clauses.items
   pub within : All IsWithin rule.clauses.items
   pub short : size_of_clauses rule.clauses.items ≤ 36
 
--- the tests of a literal, of which there are so many at most
+-- the tests of a literal, at most this many
 pub record IsSmall (n : ℕ) (literal : Literal) : Type 0 where
   pub within : IsWithinLiteral literal
   pub short : size_of_literal literal ≤ n
@@ -54,13 +54,13 @@ pub record IsSmallClause (n : ℕ) (clause : Clause) : Type 0 where
   pub within : IsWithin clause
   pub short : size_of_clause clause ≤ n
 
--- clauses were added that say this of a call, in so many tests at most
+-- clauses were added that require this of a call, in at most this many tests
 pub record Says (old new : List Clause) (holds : SysCall → Bool) (n : ℕ) : Type 0 where
   pub same : (call : SysCall) → IsCall call → clauses_hold new call ≡ (clauses_hold old call && holds call)
   pub longer : size_of_clauses new ≤ size_of_clauses old + n
   pub within : All IsWithin old → All IsWithin new
 
--- how an argument is compared: that it is large, a number itself being so or not, or that it is not
+-- how an argument is compared: that it is large, with or without the number itself, or that it is not
 abbrev pub is_large : Bool → ℕ → ℕ → Bool
 is_large includes value arg = if includes then nat_le value arg else nat_lt value arg
 

@@ -31,8 +31,8 @@ fn all_arguments(rules: &[Rule]) -> u32 {
     found
 }
 
-/// Up to this many rules part only where the rules before and after have no argument in common. More rules
-/// part where the next one asks about none of the arguments that all rules before it share.
+/// Up to this many rules part only where the rules before and after share no argument. More rules part where
+/// the next one asks about none of the arguments that all rules before it share.
 const FEW: usize = 4;
 
 /// Whether the rules part at a place, given the arguments that all rules since the last parting share.
@@ -105,7 +105,7 @@ fn exchange(rules: &mut [Rule], at: usize)
     }
 }
 
-/// Takes a rule to an earlier place, past rules that return the same value.
+/// Moves a rule to an earlier place, past rules that return the same value.
 fn bring(rules: &mut [Rule], from: usize, to: usize)
     requires { from < length rules.old }
     ensures same { (call : SysCall) (other : ℕ) → first_value rules.new other call
@@ -119,8 +119,8 @@ fn bring(rules: &mut [Rule], from: usize, to: usize)
     }
 }
 
-/// The place of the rule to come next, among those from `at` on that return the same value: the first that
-/// asks about one of these arguments, else the one that is best tried first.
+/// The place of the rule that comes next, among those from `at` on that return the same value: the first that
+/// asks about one of these arguments, else the best one to try first.
 fn next(rules: &[Rule], at: usize, asked: u32) -> usize
     requires { at < length rules.now }
     ensures { result < length rules.now }
@@ -135,8 +135,8 @@ fn next(rules: &[Rule], at: usize, asked: u32) -> usize
     at + best(&rest[..many], NOWHERE)
 }
 
-/// Puts rules in an order that leads to fewer steps: rules about one argument side by side, and those that
-/// hold most often first. Only neighbours that return the same value are exchanged.
+/// Orders rules for fewer steps: rules about one argument side by side, and those that hold most often first.
+/// Only neighbours that return the same value are exchanged.
 fn order(rules: &mut [Rule])
     ensures same { (call : SysCall) (other : ℕ) → first_value rules.new other call
         ≡ first_value rules.old other call }

@@ -14,7 +14,7 @@ pub(crate) struct View {
     pub(crate) mask: u32,
 }
 
-/// Stands for unknown contents of A: its offset lies outside of the data.
+/// Means that the contents of A are unknown: its offset is outside the data.
 pub(crate) const NOWHERE: View = View {
     offset: DATA_LEN,
     mask: WHOLE,
@@ -34,7 +34,7 @@ pub(crate) struct Atom {
     pub(crate) ask: Ask,
 }
 
-/// The branch that asks a question: what A must hold, the test, and whether a hit means no.
+/// The branch that asks a question: the view that A must have, the test, and whether a hit means no.
 #[derive(Clone, Copy)]
 pub(crate) struct Probe {
     pub(crate) base: View,
@@ -61,7 +61,7 @@ impl Ask {
         }
     }
 
-    /// The test that asks it.
+    /// The test that asks this question.
     pub(crate) fn test(self) -> (Test, u32)
         ensures { (number : ℕ) → holds_of result.0 result.1 number ≡ asks self number }
     {
@@ -161,8 +161,8 @@ impl Atom {
         }
     }
 
-    /// The branch that asks this, given what A holds. Whether bits are clear takes no mask: any view that
-    /// determines them will do.
+    /// The branch that asks this, given the view in A. To ask whether bits are clear takes no mask: any view
+    /// that determines them will do.
     pub(crate) fn probe(&self, view: View) -> Probe
         ensures { IsProbe self.now result }
     {

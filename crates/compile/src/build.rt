@@ -17,10 +17,10 @@ pub(crate) struct Way {
     pub(crate) most: usize,
 }
 
-/// A way through what was put in front; None if that takes too many tests. An error if memory runs out.
+/// A way through the new code; None if that takes too many tests. An error if memory runs out.
 pub(crate) type Built = Result<Option<Way>, AllocError>;
 
-/// The steps that a test takes, given what A holds.
+/// The steps of a test, given the view in A.
 pub(crate) fn cost(atom: &Atom, view: View) -> usize {
     let base = atom.probe(view).base;
     if base.is(view) {
@@ -56,8 +56,8 @@ fn nearer(code: &mut Code, way: Way, reach: usize) -> Built
     }
 }
 
-/// Where to enter the branch at `front - 1`, given what A holds. If A does not hold what the branch needs,
-/// the instructions from `front` on must bring it.
+/// Where to enter the branch at `front - 1`, given the view in A. If A does not have what the branch needs,
+/// the instructions from `front` on must load it.
 fn brought_at(code: &Code, front: usize, base: View, view: View) -> Option<Way>
     requires some { 0 < front }
     requires inside { front ≤ length code.now }
@@ -92,7 +92,7 @@ fn brought_at(code: &Code, front: usize, base: View, view: View) -> Option<Way>
     })
 }
 
-/// A recent branch with the same test and the same targets, and where to enter it, given what A holds.
+/// A recent branch with the same test and targets, and where to enter it, given the view in A.
 fn twin(code: &Code, probe: &Probe, hit: usize, miss: usize, view: View) -> Option<Way>
     requires { probe.now.base.offset < DATA_LEN }
     ensures gives { IfSome result (λ way. (call : SysCall) (value most : ℕ)
@@ -112,7 +112,7 @@ fn twin(code: &Code, probe: &Probe, hit: usize, miss: usize, view: View) -> Opti
     None
 }
 
-/// Puts in front what brings a view into A, given what A holds, and returns how many steps that takes.
+/// Puts code in front that loads a view into A, given the view in A now, and returns how many steps it takes.
 fn bring(code: &mut Code, base: View, view: View) -> Result<usize, AllocError>
     requires some { 0 < length code.old }
     requires known { base.offset < DATA_LEN }
@@ -137,7 +137,7 @@ fn bring(code: &mut Code, base: View, view: View) -> Result<usize, AllocError>
     Ok(2)
 }
 
-/// A way that makes the test and goes on by its outcome, given what A holds.
+/// A way that makes the test and goes on by its outcome, given the view in A.
 fn branch(code: &mut Code, probe: &Probe, hit: Way, miss: Way, view: View) -> Built
     requires known { probe.now.base.offset < DATA_LEN }
     requires aligned { probe.now.base.offset % 4 ≡ 0 }
@@ -176,7 +176,7 @@ fn branch(code: &mut Code, probe: &Probe, hit: Way, miss: Way, view: View) -> Bu
     }
 }
 
-/// Where to go on when no test is left, given what A holds.
+/// Where to go on when no test is left, given the view in A.
 fn arrived(code: &Code, last: Way, view: View) -> Way
     requires { last.at < length code.now }
     ensures gives { (call : SysCall) (value : ℕ) → WayGives NOWHERE code.now call last value
@@ -192,10 +192,10 @@ fn arrived(code: &Code, last: Way, view: View) -> Way
     }
 }
 
-/// Emits the rules as tests of words, given what A holds: the value of the first rule that holds, else what
-/// `last` gives. None if that takes too many tests. Rules without a common argument come one after another.
-/// Otherwise a question is chosen, and the code for either answer is built from what it leaves of the rules.
-/// Any question is right, so nothing is required of the choice.
+/// Emits the rules as tests of words, given the view in A: the value of the first rule that holds, else that
+/// of `last`. None if that takes too many tests. Rules without a common argument come one after another.
+/// Otherwise a question is chosen, and the code for each answer is built from the rules it leaves. Any
+/// question is right, so nothing is required of the choice.
 pub(crate) fn build(
     code: &mut Code,
     alloc: Global,

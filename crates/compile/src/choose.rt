@@ -5,10 +5,10 @@ use crate::build::cost;
 use crate::clause::{Clause, Literal, Rule};
 use std::alloc::{AllocError, Global};
 
-/// If a word is compared with this many numbers, the middle one parts them.
+/// If a word is compared with this many numbers, the middle one splits them.
 const MANY: usize = 4;
 
-/// How many rules are looked at to count those that need a literal.
+/// How many rules are searched for those that need a literal.
 const SHARING: usize = 16;
 
 /// The question for rules that ask nothing.
@@ -17,7 +17,7 @@ const ANY: Atom = Atom {
     ask: Ask::Equal(0),
 };
 
-/// Odds that are worse than any other.
+/// Odds worse than any other.
 const WORST: Odds = Odds { share: 0, steps: 1 };
 
 /// The number of rules at the front that return the same value. It does not matter which of them holds.
@@ -32,7 +32,7 @@ pub(crate) fn alike(rules: &[Rule]) -> usize
     end
 }
 
-/// The place of the rule that is best tried first.
+/// The place of the best rule to try first.
 pub(crate) fn best(rules: &[Rule], view: View) -> usize
     ensures { 0 < length rules.now → result < length rules.now }
 {
@@ -61,8 +61,8 @@ fn needing(rules: &[Rule], literal: &Literal) -> u64 {
     many
 }
 
-/// The clause of a rule that is best tried first: the one that fails most often. If the rules return
-/// different values, a failure counts once for each rule that needs the clause.
+/// The best clause of a rule to try first: the one that fails most often. If the rules return different
+/// values, a failure counts once for each rule that needs the clause.
 fn first_clause(rule: &Rule, rules: &[Rule], is_alike: bool, view: View) -> Option<Clause> {
     let mut best = rule.clauses.as_slice().first().copied();
     let mut odds = WORST;
@@ -85,7 +85,7 @@ fn first_clause(rule: &Rule, rules: &[Rule], is_alike: bool, view: View) -> Opti
     best
 }
 
-/// The literal of a clause that is best tried first.
+/// The best literal of a clause to try first.
 fn first_literal(clause: &Clause, view: View) -> Literal {
     let one = literal_odds(&clause.one, view);
     let other = literal_odds(&clause.other, view);
@@ -133,7 +133,7 @@ impl Cuts {
     }
 }
 
-/// The literal that is best tried first.
+/// The best literal to try first.
 fn first_of(rules: &[Rule], view: View) -> Option<Literal> {
     let prefix = &rules[..alike(rules)];
     let rule = prefix.get(best(prefix, view))?;
@@ -141,8 +141,8 @@ fn first_of(rules: &[Rule], view: View) -> Option<Literal> {
     Some(first_literal(&clause, view))
 }
 
-/// The next question, given what A holds. Any question is right; this one should lead to few steps and little
-/// code.
+/// The next question, given the view in A. Any question is right; this one should lead to few steps and
+/// little code.
 pub(crate) fn choose(alloc: Global, rules: &[Rule], view: View) -> Result<Atom, AllocError> {
     match first_of(rules, view) {
         Some(Literal::Asked(best, wanted)) => parted(alloc, rules, best, wanted),
@@ -150,7 +150,7 @@ pub(crate) fn choose(alloc: Global, rules: &[Rule], view: View) -> Result<Atom, 
     }
 }
 
-/// A question about the view of the best one.
+/// A question about the best one's view.
 fn parted(alloc: Global, rules: &[Rule], best: Atom, wanted: bool) -> Result<Atom, AllocError> {
     if !wanted && matches!(best.ask, Ask::Equal(_)) {
         return Ok(best);
@@ -170,7 +170,7 @@ fn parted(alloc: Global, rules: &[Rule], best: Atom, wanted: bool) -> Result<Ato
     Ok(Atom { view, ask })
 }
 
-/// Whether a word is at least this number. For 1 that is asked as clauses do: whether it is 0.
+/// Whether a word is at least this number. For 1 it asks, as clauses do, whether the word is 0.
 fn from(k: u32) -> Ask {
     if k > 1 {
         Ask::AtLeast(k)
@@ -182,7 +182,7 @@ fn from(k: u32) -> Ask {
 /// Shares of the calls are counted in parts of this number.
 const ALL: u64 = 1024;
 
-/// A guess: on how many of 1,024 calls something holds, and the steps that all of them take to find out.
+/// A guess: for how many of 1,024 calls something holds, and the steps that all of them take to find out.
 #[derive(Clone, Copy)]
 struct Odds {
     share: u64,
@@ -215,7 +215,7 @@ fn share_of(atom: &Atom) -> u64 {
     }
 }
 
-/// The odds of a literal, given what A holds.
+/// The odds of a literal, given the view in A.
 fn literal_odds(literal: &Literal, view: View) -> Odds {
     match *literal {
         Literal::Known(holds) => Odds {

@@ -9,7 +9,7 @@ use crate::atom::{Ask, Atom, View, WHOLE};
 use call_data::words_of_fields;
 use std::alloc::{AllocError, Global};
 
-/// A question with the wanted answer, or an answer that is known already.
+/// A question with the wanted answer, or a known answer.
 #[derive(Clone, Copy, PartialEq, Eq)]
 pub(crate) enum Literal {
     Known(bool),
@@ -105,8 +105,8 @@ impl Literal {
         }
     }
 
-    /// The word under a mask is this number. That all high bits are clear is asked as an order, and that one
-    /// bit is set as the opposite of that it is clear.
+    /// The word under a mask is this number. Whether all high bits are clear is asked as an order, and
+    /// whether one bit is set as the opposite of whether it is clear.
     pub(crate) fn masked(word: u32, mask: u32, with: u32) -> Literal
         ensures holds { (call : SysCall) → data_word call word < 2 ^ 32
             → literal_holds result call ≡ (bit_and (data_word call word) mask == with) }

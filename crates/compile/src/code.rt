@@ -13,8 +13,8 @@ use std::marker::Model;
 /// How many instructions a branch can skip.
 pub(crate) const REACH: usize = 255;
 
-/// How many of the latest instructions are searched for a return to share. Branches that are put in front
-/// next still reach it.
+/// How many of the latest instructions are searched for a return to share. The branches put in front next
+/// still reach it.
 pub(crate) const RECENT: usize = 200;
 
 /// The place of what was put in front, unless memory runs out.
@@ -193,8 +193,8 @@ impl Code {
         })
     }
 
-    /// A place that does the same, with at most `reach` instructions between it and the next one that is put
-    /// in front.
+    /// A place with the same effect, with at most `reach` instructions between it and the next one that is
+    /// put in front.
     pub(crate) fn near(&mut self, place: usize, reach: usize) -> Placed
         requires inside { place < length self.old }
         requires within { reach ≤ REACH }
@@ -225,7 +225,7 @@ impl Code {
         })
     }
 
-    /// Whether a branch with this test and these targets stands at a place.
+    /// Whether the instruction at a place is a branch with this test and these targets.
     pub(crate) fn branches(&self, place: usize, test: Test, k: u32, hit: usize, miss: usize) -> bool
         requires inside { place < length self.now }
         ensures { IsTrue result → (call : SysCall) (a value most : ℕ)
@@ -242,7 +242,7 @@ impl Code {
         place - 1 - miss == insn.jf as usize
     }
 
-    /// Whether a place gives the same whatever A holds.
+    /// Whether the code from a place returns the same value whatever is in A.
     pub(crate) fn is_steady(&self, place: usize) -> bool
         requires inside { place < length self.now }
         ensures { IsTrue result → (call : SysCall) (a value most : ℕ) → Gives self.now call place a value most

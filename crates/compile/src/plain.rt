@@ -10,7 +10,7 @@ use crate::clause::{Clause, Literal, Rule};
 use crate::code::{Code, Placed, REACH, RECENT};
 use std::alloc::AllocError;
 
-/// Puts a question in front, whatever A holds.
+/// Puts a question in front, for anything in A.
 fn ask(code: &mut Code, atom: &Atom, hit: usize, miss: usize) -> Placed
     requires known { atom.now.view.offset < DATA_LEN }
     requires aligned { atom.now.view.offset % 4 ≡ 0 }
@@ -36,7 +36,7 @@ fn ask(code: &mut Code, atom: &Atom, hit: usize, miss: usize) -> Placed
     code.load(atom.view.offset)
 }
 
-/// Puts the test of a literal in front, whatever A holds.
+/// Puts the test of a literal in front, for anything in A.
 fn test_literal(code: &mut Code, literal: &Literal, hit: usize, miss: usize) -> Placed
     requires within { IsWithinLiteral literal.now }
     requires hit_inside { hit < length code.old }
@@ -76,7 +76,7 @@ fn test_literal(code: &mut Code, literal: &Literal, hit: usize, miss: usize) -> 
     }
 }
 
-/// Puts the tests of a clause in front, whatever A holds.
+/// Puts the tests of a clause in front, for anything in A.
 fn test_clause(code: &mut Code, clause: &Clause, hit: usize, miss: usize) -> Placed
     requires within { IsWithin clause.now }
     requires possible { IsPossible clause.now }
@@ -101,8 +101,8 @@ fn test_clause(code: &mut Code, clause: &Clause, hit: usize, miss: usize) -> Pla
     test_literal(code, &clause.one, hit, rest)
 }
 
-/// Puts the tests of the clauses from one on in front, the last one first. None of them is known to fail, so
-/// the place is recent.
+/// Puts the tests of the clauses from this one on in front, the last one first. None of them is known to
+/// fail, so the place is recent.
 pub(crate) fn test_clauses(
     code: &mut Code,
     clauses: &[Clause],
@@ -133,7 +133,7 @@ pub(crate) fn test_clauses(
     test_clause(code, &clauses[from], rest, miss)
 }
 
-/// Puts the rules from one on in front of what follows them, one after another, the last one first.
+/// Puts the rules from this one on in front of the code after them, one after another, the last one first.
 pub(crate) fn plain(code: &mut Code, rules: &[Rule], from: usize, last: usize) -> Placed
     requires fit { All IsFit rules.now }
     requires from_in { from ≤ length rules.now }

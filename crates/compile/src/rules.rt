@@ -25,7 +25,7 @@ fn add(clauses: &mut Vec<Clause>, clause: Clause) -> Added
     Ok(())
 }
 
-/// Adds that both literals hold.
+/// Adds the clauses that both literals hold.
 fn add_both(clauses: &mut Vec<Clause>, one: Literal, other: Literal) -> Added
     ensures { OnOk result ((n : ℕ) → IsSmall n one → IsSmall n other
         → Says clauses.old.items clauses.new.items
@@ -35,7 +35,7 @@ fn add_both(clauses: &mut Vec<Clause>, one: Literal, other: Literal) -> Added
     add(clauses, Clause::of(other))
 }
 
-/// Adds that one of the literals holds.
+/// Adds the clause that one of the literals holds.
 fn add_either(clauses: &mut Vec<Clause>, one: Literal, other: Literal) -> Added
     ensures { OnOk result ((n : ℕ) → IsSmall n one → IsSmall n other
         → Says clauses.old.items clauses.new.items
@@ -44,8 +44,8 @@ fn add_either(clauses: &mut Vec<Clause>, one: Literal, other: Literal) -> Added
     add(clauses, Clause::either(one, other))
 }
 
-/// Adds that an argument is large: its upper half is large enough (`from`), and either exceeds the bound
-/// (`above`) or its lower half is large too.
+/// Adds the clauses that an argument is large: its upper half is large enough (`from`), and either exceeds
+/// the bound (`above`) or its lower half is large too.
 fn add_large(clauses: &mut Vec<Clause>, from: Literal, above: Literal, lower: Literal) -> Added
     ensures { OnOk result (IsSmall 2 from → IsSmall 2 above → IsSmall 2 lower
         → Says clauses.old.items clauses.new.items
@@ -55,7 +55,7 @@ fn add_large(clauses: &mut Vec<Clause>, from: Literal, above: Literal, lower: Li
     add_either(clauses, above, lower)
 }
 
-/// Adds that an argument is not large.
+/// Adds the clauses that an argument is not large.
 fn add_small(clauses: &mut Vec<Clause>, from: Literal, above: Literal, lower: Literal) -> Added
     ensures { OnOk result (IsSmall 2 from → IsSmall 2 above → IsSmall 2 lower
         → ((call : SysCall) → IsCall call → literal_holds above call ≡ true → literal_holds from call ≡ true)
@@ -108,7 +108,7 @@ pub(crate) fn add_order(
     }
 }
 
-/// Adds that a condition holds.
+/// Adds the clauses that a condition holds.
 fn add_cond(clauses: &mut Vec<Clause>, cond: &Cond) -> Added
     requires { cond.now.index < 6 }
     ensures { OnOk result (Says clauses.old.items clauses.new.items (λ call. holds_on cond.now call) 6) }
@@ -126,7 +126,7 @@ fn add_cond(clauses: &mut Vec<Clause>, cond: &Cond) -> Added
     }
 }
 
-/// Adds that an argument equals a number.
+/// Adds the clauses that an argument equals a number.
 pub(crate) fn add_equal(clauses: &mut Vec<Clause>, index: u32, value: u64) -> Added
     requires { index < 6 }
     ensures { OnOk result (Says clauses.old.items clauses.new.items
@@ -186,7 +186,7 @@ pub(crate) fn is_void(clauses: &[Clause]) -> bool
     false
 }
 
-/// Whether one of the rules has just these clauses, so that a later rule with them is never reached.
+/// Whether one of the rules has exactly these clauses, so that a later rule with them is never reached.
 fn is_hidden(rules: &[Rule], clauses: &[Clause]) -> bool
     ensures { IsTrue result → (call : SysCall) (one other : ℕ) → clauses_hold clauses.now call ≡ true
         → first_value rules.now one call ≡ first_value rules.now other call }
@@ -200,7 +200,7 @@ fn is_hidden(rules: &[Rule], clauses: &[Clause]) -> bool
 }
 
 /// Adds an entry as a rule if it names the number, unless it decides nothing: its conditions never hold, or
-/// an entry before it has the same.
+/// an earlier entry has the same ones.
 fn add_named(rules: &mut Vec<Rule>, alloc: Global, entry: &Entry, nr: u32) -> Added
     ensures holds { OnOk result ((call : SysCall) (other : ℕ) → IsCall call
         → first_value rules.new.items other call ≡ first_value rules.old.items

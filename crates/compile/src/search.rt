@@ -18,7 +18,7 @@ pub(crate) struct Point {
     value: u32,
 }
 
-/// The place of a number among those in order; None if it is there already.
+/// The place for a number among those in order; None if it is already there.
 fn place_for(points: &[Point], number: u64) -> Option<usize>
     requires { IsRising points.now }
     ensures fits { IfSome result (λ at. Fits points.now at number) }
@@ -37,7 +37,7 @@ fn place_for(points: &[Point], number: u64) -> Option<usize>
     Some(points.len())
 }
 
-/// Adds a number with its value to those in order, unless it is there already: the first value counts.
+/// Adds a number with its value to those in order, unless it is already there: the first value counts.
 fn add(points: &mut Vec<Point>, number: u64, value: u32) -> Result<(), AllocError>
     requires rising { IsRising points.old.items }
     ensures rising { OnOk result (IsRising points.new.items) }
@@ -72,7 +72,7 @@ fn asked(entries: &[Entry], nr: u32) -> u32
     0
 }
 
-/// The number that this argument has to equal, if that is the only condition of the entry.
+/// The number that this argument must equal, if that is the only condition of the entry.
 fn equality(entry: &Entry, index: u32) -> Option<u64>
     ensures index_in { IfSome result (λ _. index < 6) }
     ensures one { IfSome result (λ _. length entry.now.conds ≡ 1) }
@@ -96,8 +96,8 @@ fn equality(entry: &Entry, index: u32) -> Option<u64>
 /// Up to this many equalities are tested one after another.
 const FEW: usize = 6;
 
-/// The argument that the entries of a number compare, and the numbers that it may equal, in their order, if
-/// each entry has just one condition, an equality of this argument, and there are many entries.
+/// The argument that the entries of a number compare, and the numbers that it may equal, in order, if each
+/// entry has exactly one condition, an equality of this argument, and there are many entries.
 pub(crate) fn points_for(
     alloc: Global,
     entries: &[Entry],
@@ -163,7 +163,7 @@ fn few(code: &mut Code, alloc: Global, index: u32, points: &[Point], other: u32)
 /// This many numbers are searched by halves.
 const MANY: usize = 10;
 
-/// Emits the values of numbers in their order, and the value of all others: by halves, down to a few.
+/// Emits the values of numbers in order, and the value of all others: by halves, down to a few.
 pub(crate) fn search(
     code: &mut Code,
     alloc: Global,

@@ -1,4 +1,4 @@
--- A reason for a refusal that holds of another one's.
+-- A refusal for one reason, with another reason that follows from it.
 use Rattle.std.proofs.Common.{Result, Ok, Err, IfErr}
 
 pub refused_so : {A E : Type 0} {P Q : E → Type 0} (result : Result A E) → ((e : E) → P e → Q e)

@@ -27,7 +27,7 @@ refusal_of fault.TooLarge = Internal
 refusal_of fault.Failed = Internal
 refusal_of fault.Memory = Memory
 
--- the bytes of a file that is needed; an answer that isn't there counts as a failed read
+-- the bytes of a required file; a missing result counts as a failed read
 abbrev pub bytes_in : Option (Result (List ℕ) FileFault) → Result (List ℕ) Refusal
 bytes_in None = Err Internal
 bytes_in (Some (Err f)) = Err (refusal_of f)
@@ -69,7 +69,7 @@ choice_by (Some path) profile = Localhost path
 choice_by None (Some profile) = RuntimeDefault
 choice_by None None = Unconfined
 
--- which profile was asked for
+-- the requested profile
 abbrev pub choice_of : Making → SeccompProfile
 choice_of making = choice_by making.label.path making.profile
 

@@ -24,7 +24,7 @@ LacksIn (Err why) refusal = refusal ≡ why
 LacksIn (Ok bytes) refusal = ((profile : Profile) → ReadsProfile bytes profile → MAX_INSNS < weight profile)
     × (refusal ≡ InvalidArgument)
 
--- the filter says of every call what the profile says
+-- on every call the filter returns the profile's value
 abbrev pub IsCompiled : CompiledProfile → Type 0
 IsCompiled compiled = GivesMeaning compiled.filter compiled.profile
 

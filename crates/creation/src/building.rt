@@ -31,7 +31,7 @@ fn refusal_of(fault: FileFault) -> Refusal
     }
 }
 
-/// The contents of a file that is needed.
+/// The contents of a required file.
 fn contents_in<T: ReadAs + Drop>(answer: FileAnswer<T>) -> Result<Contents<T>, Refusal>
     ensures { result ≡ bytes_in answer }
 {
@@ -181,8 +181,8 @@ fn label_of(
     })
 }
 
-/// The cell that a request makes, or why it makes none. Its script and its profile are those that the files
-/// were prepared with, if they were, and RuntimeDefault is the one that is ready.
+/// Makes the cell of a request, or returns why not. Uses the script and the profile that the files were
+/// prepared with, if they were, and the RuntimeDefault that is ready.
 pub fn built_cell(
     alloc: Global,
     ready: &ReadyDefault,

@@ -10,8 +10,8 @@ use script::Script;
 use std::alloc::Global;
 use std::marker::Model;
 
-/// The bytes of a file that was read. Contracts see the list. The result of reading these bytes as a script or
-/// profile may be kept beside them.
+/// The bytes of a file that was read. Contracts see the list. The result of reading these bytes as a script
+/// or profile may be kept with them.
 #[derive(Drop)]
 pub struct Contents<T: ReadAs + Drop> {
     bytes: Vec<u8>,
@@ -29,12 +29,12 @@ impl<T: ReadAs + Drop> Model for Contents<T> {
 
     ghost view = { λ c. c.bytes.items };
 
-    // What is kept is what the bytes give.
+    // The value is the result of reading the bytes.
     ghost invariant = { λ c. IfSome c.value (IsReading T.is_of T.lacks c.bytes.items) };
 }
 
 impl<T: ReadAs + Drop> Contents<T> {
-    /// The contents that these bytes are.
+    /// The contents with these bytes.
     pub fn new(bytes: Vec<u8>) -> Contents<T>
         ensures { result ≡ bytes.items }
     {
@@ -104,7 +104,7 @@ impl<T: ReadAs + Drop> Contents<T> {
     }
 }
 
-/// The value of these bytes: the one that was kept, else the one that they are read as now.
+/// The value of these bytes: the kept one, else the result of reading them now.
 fn value_by<T: ReadAs + Drop>(
     alloc: Global,
     bytes: &[u8],
@@ -155,7 +155,7 @@ pub struct FileAnswers {
 
 impl FileAnswers {
     /// The same results, with script and profile already read and the profile compiled, so that a caller can
-    /// do this work before it takes a lock. What would need memory that is refused is left for later.
+    /// do this work before it takes a lock. Work for which memory runs out is left for later.
     pub fn prepared(self, alloc: Global) -> FileAnswers
         ensures { result ≡ self }
     {

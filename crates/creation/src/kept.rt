@@ -7,13 +7,13 @@ use script::Script;
 use std::alloc::Global;
 use std::marker::Model;
 
-/// At most as many scripts are kept.
+/// The greatest number of scripts that are kept.
 pub const MAX_KEPT_SCRIPTS: usize = 64;
 
-/// At most as many profiles are kept.
+/// The greatest number of profiles that are kept.
 pub const MAX_KEPT_PROFILES: usize = 16;
 
-/// The limit of the memory of the scripts that are kept, and of that of the profiles, in bytes.
+/// The memory limit of the kept scripts, and that of the kept profiles, in bytes.
 pub const MAX_KEPT_BYTES: usize = 8 << 20;
 
 // A text and its value.
@@ -120,8 +120,8 @@ impl<T: ReadAs + Drop> KeptList<T> {
         self.texts.len() < self.most && self.size().saturating_add(size) <= MAX_KEPT_BYTES
     }
 
-    // Keeps this text, and drops the oldest ones until it fits. A text that is too large, or whose place in
-    // the list would need memory that is refused, is not kept.
+    // Keeps this text, and drops the oldest ones until it fits. A text that is too large, or for which memory
+    // runs out, is not kept.
     fn add(&mut self, text: KeptText<T>) {
         let size = text.size();
         if size > MAX_KEPT_BYTES || self.texts.iter().any(|it| it.is_of(text.bytes.as_slice())) {
@@ -144,7 +144,7 @@ pub struct NewTexts {
 }
 
 impl NewTexts {
-    /// Whether there is none.
+    /// Whether there are none.
     pub fn is_empty(&self) -> bool {
         self.script.is_none() && self.profile.is_none()
     }
@@ -166,7 +166,7 @@ impl Model for KeptTexts {
 }
 
 impl KeptTexts {
-    /// None.
+    /// No texts.
     pub fn new(alloc: Global) -> KeptTexts {
         KeptTexts {
             alloc,

@@ -1,4 +1,4 @@
-//! What the texts of a container's files are read as: its script, and its profile with the filter of that.
+//! How the texts of a container's files are read: its script, and its profile with the profile's filter.
 ghost use Rattle.std.specs.Prelude.{◌≡◌, ◌≢◌, ◌⊎◌, ◌<◌, ℕ, List, Result, Ok, Err, IfOk, IfErr};
 ghost use Rattle.bpf_code.specs.declared.limits.TheConstants.{MAX_INSNS};
 ghost use Rattle.oci_profile.specs.declared.profile.Profile.{Profile};

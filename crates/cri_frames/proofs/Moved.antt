@@ -1,4 +1,4 @@
--- One call after another moves what both move.
+-- Two calls in a row move the bytes of both.
 use Rattle.std.proofs.Common.{◌≡◌, ℕ, ◌+◌, ◌≤◌, List, ◌++◌, Option, length, take, drop, sym, ap, ◌∙◌, subst}
 use Rattle.std.proofs.Math.Seq.{take-add, take-append-add}
 use Rattle.std.proofs.lemmas.List.{length-take-le, take-append-le}
@@ -15,7 +15,7 @@ written_more old mid new bytes left count more is first second =
     ∙ ap (λ rest. take count bytes ++ take more rest) (sym is)))
     (Appends-trans old mid new _ _ first second)
 
--- what stands in front of a part that was written, and the front of that part
+-- the bytes before a part that was written, and the front of that part
 front_of_part : (buf part : List ℕ) (count room more : ℕ) → count ≤ length buf → more ≤ length part
     → take (count + more) (put_mid count room buf part) ≡ take count buf ++ take more part
 front_of_part buf part count room more within fits =

@@ -1,4 +1,4 @@
--- Where a text's bytes were not read behind its head, no frame was.
+-- If the bytes of a text were not read after its head, no frame was read.
 use Rattle.std.proofs.Common.{ℕ, ◌<◌, ◌≤◌, List, ◌++◌, Option, Result, Ok, Err, IfErr, length, refl, inr}
 use Rattle.std.proofs.Common.{arith}
 use Rattle.std.proofs.KnownBytes.{Consumes-trans}

@@ -1,4 +1,4 @@
--- Where the text of a frame is no reply to a call, so it is told.
+-- If the text of a frame is no reply to a call, this is reported.
 use Rattle.std.proofs.Common.{ℕ, List, Option, None, Some, Result, Ok, Err, IfErr, length, inr, sym, ◌∙◌}
 use Rattle.std.specs.Io.KnownBytes.{Consumes, Keeps}
 use Rattle.cri_msgs.specs.declared.replies.Reply.{Reply}

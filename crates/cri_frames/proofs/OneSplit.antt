@@ -18,7 +18,7 @@ same_length : (n m : ℕ) → IsLength n → IsLength m → n / 65536 % 256 ≡ 
     → n / 256 % 256 ≡ m / 256 % 256 → n % 256 ≡ m % 256 → n ≡ m
 same_length n m fit fit' high middle low = omega arith
 
--- a frame is told by the bytes that begin with it
+-- a frame is determined by the bytes that begin with it
 pub same_frame : (version version' : Version) (text text' more more' : List ℕ) → IsLength (length text)
     → IsLength (length text') → frame_of version text ++ more ≡ frame_of version' text' ++ more'
     → (version ≡ version') × (text ≡ text') × (more ≡ more')
@@ -37,7 +37,7 @@ same_frame version version' text text' more more' fit fit' same =
           ∙ drop_at text' more' (length text) (sym count),
     )
 
--- what stands behind the first frame
+-- the bytes after the first frame
 front : (frame : Frame) (frames : List Frame) (rest : List ℕ)
     → stream_of (frame ∷ frames) rest ≡ frame_of frame.0 frame.1 ++ stream_of frames rest
 front frame frames rest = append_assoc (bytes_of frame) (flat_map bytes_of frames) rest

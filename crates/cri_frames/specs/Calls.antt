@@ -1,5 +1,5 @@
--- A call over a wire, this project's own: docs/SEMANTICS.md, "Calls over a wire". What is said of bytes is
--- said of wires that tell them.
+-- A call over a wire, this project's own: docs/SEMANTICS.md, "Calls over a wire". Claims about bytes are for
+-- wires whose model has them.
 use Rattle.std.specs.Prelude.{◌≢◌, ◌⊎◌, ℕ, ◌<◌, List, Option, ⊤, length, take}
 use Rattle.std.specs.Io.KnownBytes.{Appends, Consumes, IsAtEnd, Keeps}
 use Rattle.cri_msgs.specs.declared.calls.Request.{Request}
@@ -37,8 +37,7 @@ pub record TakesOther (version : Version) (id : ℕ) (old new : Option (List ℕ
   pub takes : TakesReply version old new reply
   pub other : reply.id ≢ id
 
--- what was written where a call was lost: all of the request's frame, but where a write failed or memory ran
--- out
+-- what a lost call wrote: all of the request's frame, unless a write failed or memory ran out
 abbrev pub Sends : Version → Request → Option (List ℕ) → Option (List ℕ) → Lost → Type 0
 Sends version request old new (WriteFailed count) = (count < length (frame_of_request version request))
     × Appends old new (take count (frame_of_request version request))
@@ -48,7 +47,7 @@ Sends version request old new BadFrame = Appends old new (frame_of_request versi
 Sends version request old new WrongNumber = Appends old new (frame_of_request version request)
 Sends version request old new Memory = Keeps old new ⊎ Appends old new (frame_of_request version request)
 
--- what was taken where a call was lost
+-- what a lost call took
 abbrev pub Takes : Version → ℕ → Option (List ℕ) → Option (List ℕ) → Lost → Type 0
 Takes version id old new (WriteFailed count) = Keeps old new
 Takes version id old new ReadFailed = TakesPart version old new

@@ -22,7 +22,7 @@ head_of version length = first_byte version ∷ big_bytes 3 length
 abbrev pub frame_of : Version → List ℕ → List ℕ
 frame_of version text = head_of version (length text) ++ text
 
--- no whole frame stands at the front of these bytes
+-- these bytes begin with no whole frame
 pub record BeginsNone (bytes : List ℕ) : Type 0 where
   pub none : (version : Version) (text more : List ℕ) → IsLength (length text)
       → bytes ≢ frame_of version text ++ more

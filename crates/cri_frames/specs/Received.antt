@@ -1,11 +1,11 @@
--- What is read where a frame of one version should come, this project's own: docs/SEMANTICS.md, "Calls over
--- a wire". The bytes are those that were taken from the wire, where it tells them.
+-- What is read where a frame of one version is expected, this project's own: docs/SEMANTICS.md, "Calls over a
+-- wire". The bytes are those that were taken from the wire, if its model has them.
 use Rattle.std.specs.Prelude.{◌≡◌, ◌≢◌, ◌⊎◌, ℕ, ◌+◌, ◌<◌, List, Option, length, take}
 use Rattle.std.specs.Io.KnownBytes.{Consumes}
 use Rattle.cri_msgs.specs.declared.version.Version.{Version}
 use Rattle.cri_frames.specs.Frames.{IsLength, head_of}
 
--- less than a head, or a head of the version and fewer bytes than it says
+-- less than a head, or a head of the version and fewer bytes than its length
 abbrev pub IsCutOff : Version → List ℕ → Type 0
 IsCutOff version bytes = (length bytes < 4) ⊎ ((count : ℕ) × IsLength count
     × (take 4 bytes ≡ head_of version count) × (length bytes < 4 + count))

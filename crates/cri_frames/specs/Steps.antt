@@ -1,4 +1,4 @@
--- Why a step of a call over a wire came to nothing, which private functions cite.
+-- Why a step of a call over a wire failed, which private functions cite.
 use Rattle.std.specs.Prelude.{◌≢◌, ℕ, ◌<◌, List, Option, ⊤, length, take}
 use Rattle.std.specs.Io.KnownBytes.{Appends, Consumes, IsAtEnd, Keeps}
 use Rattle.node_io.specs.Counts.{HasRisen}
@@ -14,23 +14,23 @@ use Rattle.cri_frames.specs.declared.moving.Stop.TheVariants as stop
 use Rattle.cri_frames.specs.Calls.{frame_of_request}
 use Rattle.cri_frames.specs.Received.{HasNoHead, TakesPart}
 
--- fewer bytes than so many were taken
+-- fewer bytes than this were taken
 pub record TakesFewer (count : ℕ) (old new : Option (List ℕ)) : Type 0 where
   pub bytes : List ℕ
   pub taken : Consumes old new bytes
   pub fewer : length bytes < count
 
--- a read failed, or the input was at its end, behind fewer bytes than there is room for
+-- a read failed, or the input ended, after fewer bytes than there is room for
 abbrev pub Stops : ℕ → Option (List ℕ) → Option (List ℕ) → ℕ → ℕ → Stop → Type 0
 Stops count old new failures failures' stop.Failed = TakesFewer count old new × HasRisen failures failures'
 Stops count old new failures failures' stop.Ended = TakesFewer count old new × IsAtEnd new
 
--- what a call that stops so is lost by
+-- the cause of a call that is lost by this stop
 abbrev pub lost_by : Stop → Lost
 lost_by stop.Failed = ReadFailed
 lost_by stop.Ended = Ended
 
--- why so many bytes were not read
+-- why this many bytes were not read
 abbrev pub IsNotFilled : ℕ → Option (List ℕ) → Option (List ℕ) → ℕ → ℕ → Lost → Type 0
 IsNotFilled count old new failures failures' (WriteFailed _) = ⊥
 IsNotFilled count old new failures failures' ReadFailed = TakesFewer count old new

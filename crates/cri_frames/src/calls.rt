@@ -27,7 +27,7 @@ pub fn call_over<W: Wire>(
     ensures read { IfOk result (TakesReply version (W.input wire.old) (W.input wire.new)) }
     ensures number { IfOk result (λ reply. reply.id ≡ request.now.id) }
 
-    // Otherwise the cause says what was written and what was read.
+    // Otherwise the cause states what was written and what was read.
     ensures sent { IfErr result (Sends version request.now (W.output wire.old) (W.output wire.new)) }
     ensures taken { IfErr result (Takes version request.now.id (W.input wire.old) (W.input wire.new)) }
 

@@ -39,7 +39,7 @@ impl From<AllocError> for FeedFault {
     }
 }
 
-/// Why a call got no reply. In each case the wire is of no further use.
+/// Why a call got no reply. In each case the wire can't be used again.
 #[derive(Clone, Copy, Debug, PartialEq, Eq, Error)]
 pub enum Lost {
     /// A write failed after this many bytes of the request's frame.
@@ -48,7 +48,7 @@ pub enum Lost {
     ReadFailed,
     /// The input ended before a whole frame was read.
     Ended,
-    /// What came is not a frame of the request's version, or its text is not a reply.
+    /// The input is not a frame of the request's version, or its text is not a reply.
     BadFrame,
     /// The reply has another number than the request.
     WrongNumber,

@@ -80,7 +80,7 @@ impl Feed {
         Some((version, text))
     }
 
-    /// Whether four bytes were pushed that are where a frame begins and are not a frame's head.
+    /// Whether four bytes were pushed where a frame begins that are not a frame's head.
     pub fn has_failed(&self) -> bool
         ensures { IsTrue result ↔ HasBadRest self.now }
     {
@@ -104,7 +104,7 @@ fn drop_front(bytes: &mut Vec<u8>, count: usize)
     bytes.drain(..count);
 }
 
-// Appends a piece to what has come of the next frame, and returns whether the rest is bad. A failed
+// Appends a piece to the received part of the next frame, and returns whether the rest is bad. A failed
 // allocation changes nothing.
 fn take_in(
     alloc: Global,

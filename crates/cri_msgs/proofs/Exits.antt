@@ -1,4 +1,4 @@
--- Which exit code a list of statuses tells.
+-- Which exit code a list of statuses reports.
 use Rattle.std.proofs.Common.{◌≡◌, ℕ, zero, suc, ◌+◌, ◌<◌, ◌≤◌, List, [], ◌∷◌, length, get_or, take, Option}
 use Rattle.std.proofs.Common.{Some, None, sym, subst, arith}
 use Rattle.std.specs.Prelude.{IfNone}
@@ -35,7 +35,7 @@ silent_all container list n enough all code told =
     let whole = subst (AllByRecursion (IsSilentOn container)) (take_all n list enough) all in
     silent_at container code list told.0 told.1 whole told.2 told.3 told.4
 
--- where a list tells none, neither does a pair with it
+-- if a list reports none, neither does a pair with it
 pub silent_pair : (P : Type 0) (T : ℕ → Type 0) (r : Option ℕ) → IfNone r ((code : ℕ) → T code → ⊥)
     → IfNone r ((code : ℕ) → P × T code → ⊥)
 silent_pair P T None h = λ code both. h code both.1

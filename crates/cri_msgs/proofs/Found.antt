@@ -1,4 +1,4 @@
--- What is read of a request is so: each reading, where it goes on, gives what the tree has.
+-- A request that is read is right: each reading that succeeds returns what the tree has.
 use Rattle.std.proofs.Common.{◌≡◌, ℕ, eqb, List, not, codes, cond, Bool, true, false, Option, Some, None}
 use Rattle.std.proofs.Common.{Result, Ok, Err, refl, subst, ◌∙◌, eqb-true}
 use Rattle.std.specs.Str.{bytes_eq}
@@ -32,7 +32,7 @@ use Rattle.cri_msgs.specs.Requests.{HasUid, HasContainer, HasKey, HasProfile, Ha
 same_bytes : (one other : List ℕ) → bytes_eq one other ≡ true → one ≡ other
 same_bytes one other h = (bytes_eq-Decides one other).0 h
 
--- what a chain of tests answers is so where each answer is
+-- the answer of a chain of tests is right if each answer is
 pub one_of : {A E : Type 0} (P : A → Type 0) (test : Bool) (one others : Result A E)
     → (test ≡ true → (y : A) → one ≡ Ok y → P y) → ((y : A) → others ≡ Ok y → P y) → (y : A)
     → cond test one others ≡ Ok y → P y

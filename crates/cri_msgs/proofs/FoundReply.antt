@@ -1,4 +1,4 @@
--- What is read of a reply is so: each reading, where it goes on, gives what the tree has.
+-- A reply that is read is right: each reading that succeeds returns what the tree has.
 use Rattle.std.proofs.Common.{◌≡◌, ◌≤◌, ℕ, eqb-true, ltb, List, length, not, codes, cond, Bool, true, false}
 use Rattle.std.proofs.Common.{Result, Ok, refl, sym, subst}
 use Rattle.std.proofs.lemmas.Bool.{ltb-true, ltb-false}
@@ -142,7 +142,7 @@ by_test : {A E : Type 0} (P : A → Type 0) (test : Bool) (one others : Result A
 by_test P true one others here rest y h = here y h
 by_test P false one others here rest y h = rest refl y h
 
--- a chain of look-ups: where none was there, the rest decides
+-- a chain of look-ups: if a member is absent, the rest decides
 by_member : {A E : Type 0} (P : A → Type 0) (key : List ℕ) (tree : Data) (one others : Result A E)
     → ((y : A) → one ≡ Ok y → P y) → (Lacks key tree → (y : A) → others ≡ Ok y → P y) → (y : A)
     → cond (has key tree) one others ≡ Ok y → P y

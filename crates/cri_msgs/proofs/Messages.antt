@@ -1,4 +1,4 @@
--- What is read of a text, over what is read of its tree.
+-- Reading a text, given the reading of its tree.
 use Rattle.std.proofs.Common.{◌≡◌, ℕ, Option, Some, None, unwrap_or, option_and_then, Result, Ok, Err, refl}
 use Rattle.serde_json.specs.Data.{Data}
 use Rattle.json_tree.specs.Reading.{as_fault}

@@ -1,4 +1,4 @@
--- What is a request is read: where the tree has it, each reading goes on and gives it.
+-- Every request is read: each reading of its tree succeeds and returns what the tree has.
 use Rattle.std.proofs.Common.{◌≡◌, ℕ, List, codes, Bool, true, Option, Ok, refl, eq-eqb}
 use Rattle.serde_json.specs.Data.{Data}
 use Rattle.json_tree.specs.Tree.{object, text, whole, word}

@@ -1,4 +1,4 @@
--- What is a reply is read: where the tree has it, each reading goes on and gives it.
+-- Every reply is read: each reading of its tree succeeds and returns what the tree has.
 use Rattle.std.proofs.Common.{◌≡◌, ◌≤◌, ℕ, List, length, codes, true, Some, Ok, refl}
 use Rattle.std.proofs.lemmas.Bool.{lt-ltb, le-ltb}
 use Rattle.serde_json.specs.Data.{Data}

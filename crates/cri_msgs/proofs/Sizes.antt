@@ -7,7 +7,7 @@ use Rattle.serde_json.specs.Data.{Members, no_members, member}
 use Rattle.serde_json.specs.Written.{compact_text, comma_if, items_text, members_text, number_text}
 use Rattle.serde_json.proofs.OnLiterals.{serde_json_on_literals}
 
--- at most so many bytes, where each byte of a text takes six
+-- an upper bound of the bytes, if each byte of a text takes six
 abbrev mutual
   pub size : Data → ℕ
   size null = 4
@@ -25,7 +25,7 @@ abbrev mutual
   members_size no_members = 0
   members_size (member k d ms) = 6 * length k + size d + members_size ms + 4
 
--- a byte stands there as itself, as an escape of two, or by its number
+-- a byte is written as itself, as an escape of two, or by its number
 at_most : (short low : Bool) (letter high digit x : ℕ)
     → length (34 ∷ ((cond short (92 ∷ letter ∷ [])
     (cond low (92 ∷ 117 ∷ 48 ∷ 48 ∷ high ∷ digit ∷ []) (x ∷ [])) ++ []) ++ 34 ∷ [])) ≤ 8
@@ -37,7 +37,7 @@ byte_size : (x : ℕ) → length (compact_text (string (x ∷ []))) ≤ 8
 unfolding serde_json_on_literals
 byte_size x = at_most _ _ _ _ _ x
 
--- a text in quotes, each byte of which stands there as at most six
+-- a text in quotes, each byte of which takes at most six
 in_quotes : (written : ℕ → List ℕ) → ((x : ℕ) → length (34 ∷ ((written x ++ []) ++ 34 ∷ [])) ≤ 8)
     → (s : List ℕ) → length (34 ∷ (flat_map written s ++ 34 ∷ [])) ≤ 6 * length s + 2
 in_quotes written short [] = omega arith

@@ -1,4 +1,4 @@
--- The tree that is written of a reply says that reply.
+-- The written tree of a reply is a tree of that reply.
 use Rattle.std.proofs.Common.{◌≡◌, ◌<◌, ◌≤◌, ℕ, suc, List, [], ◌∷◌, length, map, codes, false, Some, None}
 use Rattle.std.proofs.Common.{Result, Ok, Err, Vec, Global, refl, sym, ap, subst, arith}
 use Rattle.std.specs.Prelude.{IfOk}
@@ -132,7 +132,7 @@ statuses_are version items fits known = (
   known,
 )
 
--- what each reply has
+-- the members of each reply
 record HasHead (version : Version) (id : ℕ) (tree : Data) : Type 0 where
   v : get (codes "v") tree ≡ Some (whole_number (version_number version))
   id_there : get (codes "id") tree ≡ Some (whole_number id)
@@ -250,7 +250,7 @@ reply_is version reply fits known =
       answer = answer_is version reply.id reply.answer fits known;
     }
 
--- what is written of a reply reads as it
+-- the text of a reply reads as that reply
 pub reads : (version : Version) (reply : Reply) (tree : Data) (r : Result (Vec ℕ Global) AllocError)
     → tree ≡ answer_tree version reply.id reply.answer → FitsAnswer reply.answer
     → IfOk r (λ b. IsUtf8 b.items)

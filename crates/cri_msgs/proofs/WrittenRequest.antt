@@ -1,4 +1,4 @@
--- The tree that is written of a request says that request.
+-- The written tree of a request is a tree of that request.
 use Rattle.std.proofs.Common.{◌≡◌, ◌<◌, ◌≤◌, ◌^◌, ℕ, List, length, codes, false, Some, None, Result, Ok, Err}
 use Rattle.std.proofs.Common.{Vec, Global, refl, sym, subst, arith}
 use Rattle.std.proofs.lemmas.Bool.{lt-ltb}
@@ -146,7 +146,7 @@ fields_are version id (call.ListContainers uid) fits = uid_is version id (codes 
 fields_are version id (call.ContainerStatuses uid) fits =
     uid_is version id (codes "ContainerStatuses") uid fits
 
--- what each request has
+-- the members of each request
 pub record HasHead (version : Version) (id : ℕ) (c : Call) (tree : Data) : Type 0 where
   pub v : get (codes "v") tree ≡ Some (whole_number (version_number version))
   pub id_there : get (codes "id") tree ≡ Some (whole_number id)
@@ -214,7 +214,7 @@ shallow version id (call.ContainerStatus key) = omega arith
 shallow version id (call.ListContainers uid) = omega arith
 shallow version id (call.ContainerStatuses uid) = omega arith
 
--- what is written of a request reads as it
+-- the text of a request reads as that request
 pub reads : (version : Version) (request : Request) (tree : Data) (r : Result (Vec ℕ Global) AllocError)
     → tree ≡ call_tree version request.id request.call → FitsCall request.call → IfOk r (λ b. IsUtf8 b.items)
     → IfOk r (λ b. depth tree ≤ max_depth → read b.items ≡ Some tree) → IsCallOf version request.call

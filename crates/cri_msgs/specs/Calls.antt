@@ -6,7 +6,7 @@ use Rattle.cri_msgs.specs.declared.calls.Call.TheVariants.{CreateContainer, Star
 use Rattle.cri_msgs.specs.declared.calls.Call.TheVariants.{RemoveContainer, ContainerStatus, ListContainers}
 use Rattle.cri_msgs.specs.declared.calls.Call.TheVariants.{ContainerStatuses}
 
--- the pod that a call is about, whose sandbox it names
+-- the pod whose sandbox a call names
 abbrev pub uid_of : Call → List ℕ
 uid_of (RunPodSandbox uid) = uid
 uid_of (StopPodSandbox uid grace) = uid

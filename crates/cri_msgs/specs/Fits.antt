@@ -1,4 +1,4 @@
--- What the types of a message keep of its texts and numbers: this project's own.
+-- The limits that the types of a message ensure for its texts and numbers: this project's own.
 use Rattle.std.specs.Prelude.{◌<◌, ◌≤◌, ◌^◌, ℕ, List, length, IsTrue}
 use Rattle.std.specs.List.{AllByRecursion}
 use Rattle.manifest.specs.declared.profiles.SeccompProfile.{SeccompProfile}

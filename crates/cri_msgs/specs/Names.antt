@@ -1,6 +1,6 @@
 -- The names and the numbers in messages. The names of calls, and (less their prefix) of states, are those of
--- CRI v1, `ContainerStatuses` is this project's own. The numbers of refusals are gRPC's status codes, save
--- 14, which is this project's own want of memory.
+-- CRI v1, `ContainerStatuses` is this project's own. The numbers of refusals are gRPC's status codes, except
+-- 14, this project's own for running out of memory.
 use Rattle.std.specs.Prelude.{ℕ, List, codes}
 use Rattle.cri_msgs.specs.declared.calls.Call.{Call}
 use Rattle.cri_msgs.specs.declared.calls.Call.TheVariants.{RunPodSandbox, StopPodSandbox, RemovePodSandbox}

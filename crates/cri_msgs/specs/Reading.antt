@@ -1,5 +1,5 @@
--- What the readers of this crate find in a tree, part by part: this project's own. A message has one fault
--- alone, so which of these is found first says nothing.
+-- What the readers of this crate find in a tree, part by part: this project's own. A message has only one
+-- fault, so it does not matter which of these is found first.
 use Rattle.std.specs.Prelude.{ℕ, ◌==◌, List, length, codes, Bool, not, nat_lt, if◌then◌else◌, Option, Some}
 use Rattle.std.specs.Prelude.{None, unwrap_or, Result, Ok, Err}
 use Rattle.std.specs.Str.{bytes_eq}
@@ -63,7 +63,7 @@ abbrev pub without_path : SeccompProfile → Option (List ℕ) → Result Seccom
 without_path profile None = Ok profile
 without_path profile (Some path) = Err WrongType
 
--- the type that takes one
+-- the type that takes a path
 abbrev pub with_path : Option (List ℕ) → Result SeccompProfile FieldFault
 with_path None = Err WrongType
 with_path (Some path) = if is_descending path then Ok (Localhost path) else Err WrongType
@@ -100,13 +100,13 @@ call_named text =
     else if bytes_eq text (codes "ContainerStatuses") then Ok name.ContainerStatuses
     else Err WrongType
 
--- a call that has a uid alone
+-- a call with only a uid
 unfoldable pub by_uid : (List ℕ → Call) → Data → Result Call FieldFault
 by_uid make tree = do
   uid ← fitting is_uid (codes "uid") tree
   Ok (make uid)
 
--- a call that has a key alone
+-- a call with only a key
 unfoldable pub by_key : (Key → Call) → Data → Result Call FieldFault
 by_key make tree = do
   key ← key_of tree
@@ -294,7 +294,7 @@ message_fault id field.Missing = NoMessage id
 message_fault id field.WrongType = NoMessage id
 message_fault id field.Memory = Memory
 
--- what is read of a text's tree, if it has one
+-- the reading of a text's tree, if it has one
 abbrev pub from_tree : {A : Type 0} → (Data → Result A FieldFault) → Option Data → Result A MessageFault
 from_tree of_tree None = Err (NoMessage 0)
 from_tree of_tree (Some tree) = as_fault (message_fault (unwrap_or (number_in tree) 0)) (of_tree tree)

@@ -20,7 +20,7 @@ use Rattle.cri_msgs.specs.Requests.{HasContainer}
 abbrev pub Lacks : List ℕ → Data → Type 0
 Lacks key tree = member key tree ≡ None
 
--- "exit" is a code, up to 255, where the container has exited, and null or not there where it has not
+-- "exit" is a code, up to 255, if the container has exited, and null or absent if it has not
 abbrev pub HasExit : Data → State → Type 0
 HasExit tree Created = Lacks (codes "exit") tree
 HasExit tree Running = Lacks (codes "exit") tree
@@ -42,7 +42,7 @@ pub record IsListedStatus (tree : Data) (listed : ListedStatus) : Type 0 where
   pub container : HasContainer tree listed.container
   pub status : HasStatus tree listed.status
 
--- a list of so many of these
+-- a list of these items, at most MAX_LISTED
 pub record HasList {A : Type 0} (IsItem : Data → A → Type 0) (key : List ℕ) (tree : Data)
     (items : List A) : Type 0 where
   pub trees : List Data
@@ -55,7 +55,7 @@ abbrev pub IsAnswerOf : Version → Answer → Type 0
 IsAnswerOf version (answer.Statuses items) = version ≡ V2
 IsAnswerOf version said = Unit {0}
 
--- which members "ok" has: the first of "container", "containers", "state" and "statuses" says what it is
+-- which members "ok" has: the first of "container", "containers", "state" and "statuses" decides what it is
 abbrev pub IsOk : Version → Data → Answer → Type 0
 IsOk version ok (answer.Refused refusal) = ⊥
 IsOk version ok (answer.Container id) = HasField whole (codes "container") ok id
@@ -69,7 +69,7 @@ IsOk version ok (answer.Statuses items) = Lacks (codes "container") ok × Lacks 
 IsOk version ok answer.Done = Lacks (codes "container") ok × Lacks (codes "containers") ok
     × Lacks (codes "state") ok × Lacks (codes "statuses") ok
 
--- "refused" decides where it is there
+-- "refused" decides if it is present
 abbrev pub HasAnswer : Version → Data → Answer → Type 0
 HasAnswer version tree (answer.Refused refusal) =
     HasField whole (codes "refused") tree (refusal_number refusal)

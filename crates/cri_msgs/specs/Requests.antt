@@ -82,7 +82,7 @@ pub record ReadsRequest (version : Version) (bytes : List ℕ) (request : Reques
   pub is : tree_of bytes ≡ Some tree
   pub says : IsRequest version tree request
 
--- the number of a text, also of one that is no message: 0 where none can be read
+-- the number of a text, even if it is no message; 0 if none can be read
 abbrev pub number_in : Data → Option ℕ
 number_in tree = option_and_then whole (get (codes "id") tree)
 

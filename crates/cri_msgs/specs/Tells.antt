@@ -1,5 +1,5 @@
--- Which exit codes the reply to a call tells: this project's own. Laws on the codes that an agent keeps
--- rest on it.
+-- Which exit codes the reply to a call reports: this project's own. Laws on the codes that an agent keeps
+-- depend on it.
 use Rattle.std.specs.Prelude.{◌≡◌, ℕ}
 use Rattle.std.specs.List.{Any}
 use Rattle.cri_msgs.specs.declared.calls.Call.{Call}
@@ -14,8 +14,8 @@ use Rattle.cri_msgs.specs.declared.states.State.TheVariants.{Exited}
 abbrev pub IsExitOf : ContainerMetadata → ℕ → ListedStatus → Type 0
 IsExitOf container code listed = (listed.container ≡ container) × (listed.status.state ≡ Exited code)
 
--- A status tells the exit of the container that was asked for, a list of statuses that of each listed
--- container of the sandbox, and nothing else tells one.
+-- A status reports the exit of the requested container, a list of statuses that of each listed container of
+-- the sandbox, and no other answer reports one.
 abbrev pub TellsExit : Call → Answer → Key → ℕ → Type 0
 TellsExit (ContainerStatus asked) (Status status) key code = (asked ≡ key) × (status.state ≡ Exited code)
 TellsExit (ContainerStatuses uid) (Statuses listed) key code = (uid ≡ key.uid)

@@ -183,10 +183,10 @@ impl Request {
 
     /// Reads the request in the text of a frame of this version. Any other text is reported with its number.
     pub fn read(alloc: Global, version: Version, bytes: &[u8]) -> Result<Request, MessageFault>
-        // What is read is the text's request.
+        // The result is the text's request.
         ensures found { IfOk result (λ request. ReadsRequest version bytes.now request) }
 
-        // What is a request is read, unless memory runs out.
+        // Every request is read, unless memory runs out.
         ensures only { (request : Request) → ReadsRequest version bytes.now request
             → Gives MessageFault.Memory (λ r. r) result (Ok request) }
 
@@ -198,12 +198,12 @@ impl Request {
     }
 
     /// The text of the request in a frame of this version: compact JSON, keys in the order of their bytes.
-    /// Version 1 has no ContainerStatuses: what is written of that call then does not read as a message.
+    /// Version 1 has no ContainerStatuses: the text of that call then does not read as a message.
     #[tactic(auto, using(crate::proofs::WrittenRequest::no_float))]
     pub fn write(&self, alloc: Global, version: Version) -> Result<Vec<u8>, AllocError>
         ensures text { IfOk result (λ bytes. bytes.items ≡ request_text version self.now) }
 
-        // What is written reads as this request.
+        // The text reads as this request.
         ensures reads { IsCallOf version self.now.call
             → IfOk result (λ bytes. ReadsRequest version bytes.items self.now) }
 

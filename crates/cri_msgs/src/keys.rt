@@ -23,7 +23,7 @@ impl ContainerMetadata {
         self.attempt == other.attempt && self.name.as_str() == other.name.as_str()
     }
 
-    /// A copy of it.
+    /// A copy of the metadata.
     pub fn try_clone(&self, alloc: Global) -> Result<ContainerMetadata, AllocError>
         ensures { IfOk result (λ copy. copy ≡ self.now) }
     {

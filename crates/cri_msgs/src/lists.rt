@@ -31,7 +31,7 @@ impl ListedContainer {
         self.state == other.state && self.container.same(&other.container)
     }
 
-    /// A copy of it.
+    /// A copy of the entry.
     pub fn try_clone(&self, alloc: Global) -> Result<ListedContainer, AllocError>
         ensures { IfOk result (λ copy. copy ≡ self.now) }
     {
@@ -51,7 +51,7 @@ impl ListedStatus {
         self.status.same(&other.status) && self.container.same(&other.container)
     }
 
-    /// A copy of it.
+    /// A copy of the entry.
     pub fn try_clone(&self, alloc: Global) -> Result<ListedStatus, AllocError>
         ensures { IfOk result (λ copy. copy ≡ self.now) }
     {

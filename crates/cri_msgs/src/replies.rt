@@ -19,7 +19,7 @@ use crate::version::Version;
 use json_tree::TextFault;
 use std::alloc::{AllocError, Global};
 
-/// What a runtime answers.
+/// The answer of a runtime.
 #[derive(Debug, Drop)]
 pub enum Answer {
     Refused(Refusal),
@@ -82,10 +82,10 @@ impl Reply {
 
     /// Reads the reply in the text of a frame of this version. Any other text is reported with its number.
     pub fn read(alloc: Global, version: Version, bytes: &[u8]) -> Result<Reply, MessageFault>
-        // What is read is the text's reply.
+        // The result is the text's reply.
         ensures found { IfOk result (λ reply. ReadsReply version bytes.now reply) }
 
-        // What is a reply is read, unless memory runs out.
+        // Every reply is read, unless memory runs out.
         ensures only { (reply : Reply) → ReadsReply version bytes.now reply
             → Gives MessageFault.Memory (λ r. r) result (Ok reply) }
 
@@ -97,12 +97,12 @@ impl Reply {
     }
 
     /// The text of the reply in a frame of this version: compact JSON, keys in the order of their bytes.
-    /// Version 1 has no statuses: what is written of them then does not read as a message.
+    /// Version 1 has no statuses: their text then does not read as a message.
     #[tactic(auto, using(crate::proofs::WrittenReply::no_float))]
     pub fn write(&self, alloc: Global, version: Version) -> Result<Vec<u8>, AllocError>
         ensures text { IfOk result (λ bytes. bytes.items ≡ reply_text version self.now) }
 
-        // What is written reads as this reply.
+        // The text reads as this reply.
         ensures reads { IsAnswerOf version self.now.answer
             → IfOk result (λ bytes. ReadsReply version bytes.items self.now) }
 

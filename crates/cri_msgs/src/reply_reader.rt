@@ -55,7 +55,7 @@ fn ok_in(alloc: Global, version: Version, tree: &Value) -> Result<Answer, FieldF
     ok(alloc, version, found)
 }
 
-// The first of these members says what the answer is.
+// The first of these members decides what the answer is.
 #[tactic(auto, unfolding(crate::specs::Reading::ok_of, crate::specs::Reading::id_in, crate::specs::Reading::status_in))]
 fn ok(alloc: Global, version: Version, tree: &Value) -> Result<Answer, FieldFault>
     ensures { Gives FieldFault.Memory (λ a. a) result (ok_of version (view tree.now)) }

@@ -19,7 +19,7 @@ use crate::version::Version;
 use serde_json::Value;
 use std::alloc::{AllocError, Global};
 
-// The trees of replies. Besides its tree, each contract states what the types keep of the answer.
+// The trees of replies. Each contract also states the limits that the answer's types ensure.
 
 #[tactic(auto, unfolding(crate::specs::Written::answer_tree))]
 pub(crate) fn answer_tree(

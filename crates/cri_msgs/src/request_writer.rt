@@ -16,7 +16,7 @@ use manifest::{DescendingPath, SeccompProfile, Uid};
 use serde_json::Value;
 use std::alloc::{AllocError, Global};
 
-// The trees of requests. Besides its tree, each contract states what the types keep of the call.
+// The trees of requests. Each contract also states the limits that the call's types ensure.
 
 #[tactic(auto, unfolding(crate::specs::Written::call_tree))]
 pub(crate) fn call_tree(
@@ -47,7 +47,7 @@ pub(crate) fn call_tree(
     }
 }
 
-// What each request has.
+// The members of each request.
 fn with_head(object: Object, version: Version, id: u64, call: &str) -> Result<Object, AllocError>
     ensures { IfOk result (λ o. members_view o.members.entries
         ≡ put (codes "v") (whole_number (version_number version))
@@ -61,7 +61,7 @@ fn with_head(object: Object, version: Version, id: u64, call: &str) -> Result<Ob
     Ok(object)
 }
 
-// What each call of a container has.
+// The members of each call for a container.
 fn with_key(object: Object, key: &Key) -> Result<Object, AllocError>
     ensures members { IfOk result (λ o. members_view o.members.entries
         ≡ put (codes "attempt") (whole_number key.now.container.attempt)

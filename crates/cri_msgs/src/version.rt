@@ -1,7 +1,7 @@
 ghost use Rattle.std.specs.Prelude.{◌≡◌};
 ghost use Rattle.cri_msgs.specs.Names.{version_number};
 
-/// The most bytes of a frame's text.
+/// The greatest length of a frame's text in bytes.
 pub const MAX_TEXT: usize = 1_048_576;
 
 /// The version of a frame and of the text in it. Version 2 has the call ContainerStatuses, version 1 does

@@ -9,16 +9,25 @@ use Rattle.oci_profile.specs.declared.profile.Entry.{Entry}
 use Rattle.oci_profile.specs.declared.profile.Profile.{Profile}
 use Rattle.explain.specs.declared.explanation.Decider.{Decider}
 use Rattle.explain.specs.declared.explanation.Decider.TheVariants as by
-use Rattle.denied_calls.specs.declared.sighting.Sighting.{Sighting}
+use Rattle.action.specs.Verdict.{verdict_of, rank_of}
+use Rattle.denied_calls.specs.declared.deciding.DeniedCall.{DeniedCall}
+use Rattle.denied_calls.specs.declared.deciding.Returned.{Returned}
+use Rattle.denied_calls.specs.declared.deciding.Returned.TheVariants.{Value, ActionOf}
 
-abbrev pub gives : Decision → ℕ → Bool
-gives decision value = value_of decision == value
+-- the action of a value
+abbrev pub rank_in : ℕ → ℕ
+rank_in value = rank_of (verdict_of value).action
+
+-- a filter that decides so returns this
+abbrev pub gives : Decision → Returned → Bool
+gives decision (Value value) = value_of decision == value
+gives decision (ActionOf value) = rank_in (value_of decision) == rank_in value
 
 -- the entries from this place on that name the call and give its verdict
-abbrev pub of_entries : Sighting → ℕ → List Entry → List Decider
+abbrev pub of_entries : DeniedCall → ℕ → List Entry → List Decider
 of_entries call place [] = []
 of_entries call place (entry ∷ entries) =
-    if names entry call.nr && gives entry.decision call.value
+    if names entry call.nr && gives entry.decision call.returned
     then by.Entry place ∷ of_entries call (place + 1) entries else of_entries call (place + 1) entries
 
 -- this one, if it gives the call's verdict
@@ -26,14 +35,14 @@ abbrev pub one_if : Bool → Decider → List Decider
 one_if true decider = decider ∷ []
 one_if false decider = []
 
-abbrev pub or_default : Profile → Sighting → List Decider → List Decider
-or_default profile call [] = one_if (gives profile.default call.value) by.Default
+abbrev pub or_default : Profile → DeniedCall → List Decider → List Decider
+or_default profile call [] = one_if (gives profile.default call.returned) by.Default
 or_default profile call (first ∷ others) = first ∷ others
 
 -- 0xc000003e is AUDIT_ARCH_X86_64 of linux/audit.h, 0x40000000 the bit of x32 of asm/unistd.h
-abbrev pub deciders : Profile → Sighting → List Decider
+abbrev pub deciders : Profile → DeniedCall → List Decider
 deciders profile call =
     if call.arch == 0xc000003e then (
-    if nat_le 0x40000000 call.nr then one_if (gives KillProcess call.value) by.X32Bit
+    if nat_le 0x40000000 call.nr then one_if (gives KillProcess call.returned) by.X32Bit
     else or_default profile call (of_entries call 0 profile.entries))
-    else one_if (gives KillProcess call.value) by.Architecture
+    else one_if (gives KillProcess call.returned) by.Architecture

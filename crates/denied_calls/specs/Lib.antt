@@ -1,3 +1,4 @@
+pub mod Audited
 pub mod Deciding
 pub mod Faults
 pub mod Firsts

@@ -4,8 +4,8 @@ use call_data::NATIVE_ARCH;
 use call_names::{CallWord, Naming};
 use std::fmt;
 
-/// A call: its name, or its number if the call table has no name; behind the number of another architecture
-/// stands which one, `26 --arch 1073741827`.
+/// A call: its name, or its number if the call table has no name. The number of another architecture's call
+/// has the architecture beside it: `26 --arch 1073741827`.
 #[derive(Clone, Copy)]
 pub(crate) struct CallText {
     pub nr: u32,
@@ -46,5 +46,21 @@ impl fmt::Display for VerdictText {
         let verdict = Verdict::of_value(self.0);
         let (action, ret_data) = (verdict.action, verdict.ret_data);
         write!(f, "{action} {ret_data}")
+    }
+}
+
+/// The action of a filter's value: `ERRNO`.
+#[derive(Clone, Copy)]
+pub(crate) struct ActionText(pub u32);
+
+impl fmt::Display for ActionText {
+    ghost use Rattle.std.specs.Prelude.{Some};
+    ghost use Rattle.denied_calls.specs.Audited.{action_text};
+
+    ghost output = { λ value. Some (action_text value.0) };
+
+    fn fmt<W: fmt::Write>(&self, f: &mut fmt::Formatter<W>) -> fmt::Result {
+        let action = Verdict::of_value(self.0).action;
+        write!(f, "{action}")
     }
 }

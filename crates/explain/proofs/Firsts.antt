@@ -1,4 +1,4 @@
--- What the first entry that applies decides is what all of them together decide.
+-- The decision of the first entry that applies is that of all entries together.
 use Rattle.std.proofs.Common.{◌≡◌, ℕ, zero, suc, ◌<◌, ◌≤◌, List, [], ◌∷◌, ◌&&◌, length, Bool, true, false}
 use Rattle.std.proofs.Common.{refl, ◌∙◌, arith}
 use Rattle.std.proofs.lemmas.Option.{slice_get_within}
@@ -8,7 +8,7 @@ use Rattle.oci_profile.specs.declared.profile.Entry.{Entry}
 use Rattle.oci_profile.specs.Meaning.{decision_of}
 use Rattle.explain.specs.Explained.{AppliesFirst, NoneApplies, applies}
 
--- an entry that does not apply leaves the decision to those behind it
+-- an entry that does not apply leaves the decision to those after it
 passed : (entry : Entry) (entries : List Entry) (default : Decision) (call : SysCall)
     → applies call entry ≡ false → decision_of (entry ∷ entries) default call.nr call
     ≡ decision_of entries default call.nr call
@@ -43,7 +43,7 @@ first_means (here ∷ entries) default call (suc place) decision first =
       before = λ k other below there. first.before (suc k) other (omega arith) there;
     })
 
--- what decides is one of the list
+-- the deciding entry is one of the list
 pub within : (entries : List Entry) (call : SysCall) (place : ℕ) (decision : Decision)
     → AppliesFirst entries call place decision → place ≤ length entries
 within entries call place decision first = let h : place < length entries =

@@ -1,6 +1,6 @@
 -- What decides a call under a profile, and what is passed over before it: OCI runtime-spec 1.1, config-linux,
--- seccomp. This project's own are the order of the entries, and what is said of other architectures and of
--- the x32 interface: docs/SEMANTICS.md, "Profiles".
+-- seccomp. This project's own are the order of the entries, and the rules for other architectures and for the
+-- x32 interface: docs/SEMANTICS.md, "Profiles".
 use Rattle.std.specs.Prelude.{◌≡◌, ◌≢◌, ◌<◌, ◌≤◌, ℕ, Bool, true, false, not, ◌&&◌, if◌then◌else◌, List, find}
 use Rattle.std.specs.Prelude.{filter_map, length, slice_get, slice_index, take, Option, Some, None}
 use Rattle.std.specs.List.{enumerate_from}
@@ -43,7 +43,7 @@ NoneApplies entries call = (k : ℕ) (other : Entry) → slice_get entries k ≡
 abbrev pub IsJudged : SysCall → Type 0
 IsJudged call = (call.arch ≡ 0xc000003e) × (call.nr < 0x40000000)
 
--- the decision is this one's
+-- this decider makes this decision
 abbrev pub Decides : Profile → SysCall → Decider → Decision → Type 0
 Decides profile call by.Architecture decision = (call.arch ≢ 0xc000003e) × (decision ≡ KillProcess)
 Decides profile call by.X32Bit decision = (call.arch ≡ 0xc000003e) × (0x40000000 ≤ call.nr)
@@ -60,7 +60,7 @@ IsWithin entries by.X32Bit = Unit {0}
 IsWithin entries (by.Entry place) = place ≤ length entries
 IsWithin entries by.Default = Unit {0}
 
--- what is told of an entry: nothing where it does not name the number
+-- what is listed for an entry: nothing if it does not name the number
 abbrev pub failing_at : SysCall → ℕ → Option Cond → Option PassedOver
 failing_at call place None = None
 failing_at call place (Some cond) = Some

@@ -1,5 +1,4 @@
--- An explanation as objects of JSON (RFC 8259), one a line, this project's own: docs/SEMANTICS.md,
--- "Programs".
+-- An explanation as JSON objects (RFC 8259), one per line, this project's own: docs/SEMANTICS.md, "Programs".
 -- No text of it has a byte that JSON would escape.
 use Rattle.std.specs.Prelude.{ℕ, List, [], ◌∷◌, ◌++◌, codes}
 use Rattle.std.specs.Fmt.{decimal}
@@ -13,12 +12,12 @@ use Rattle.explain.specs.declared.explanation.Explanation.{Explanation}
 use Rattle.explain.specs.declared.explanation.PassedOver.{PassedOver}
 use Rattle.explain.specs.Text.{decider_text, op_text}
 
--- what is behind the mask
+-- the value after the mask
 abbrev pub masked_member : Op → ℕ → List ℕ
 masked_member MaskedEqual two = codes ",\"valueTwo\":" ++ decimal two
 masked_member _ two = []
 
--- an entry's place, the argument that was looked at, and what its condition wants of it
+-- an entry's place, the argument that was compared, and what its condition wants
 abbrev pub passed_object : PassedOver → List ℕ
 passed_object passed =
     codes "{\"not\":\"syscalls[" ++ (decimal passed.place
@@ -34,7 +33,7 @@ decided_object decision decider =
     ++ (decimal (verdict_of decision).ret_data ++ (codes ",\"by\":\"" ++ (decider_text decider
     ++ codes "\"}\n")))))
 
--- one line an entry
+-- one line per entry
 abbrev pub passed_objects : List PassedOver → List ℕ
 passed_objects [] = []
 passed_objects (passed ∷ others) = passed_object passed ++ (codes "\n" ++ passed_objects others)

@@ -1,4 +1,4 @@
--- What is printed of an explanation, this project's own: docs/SEMANTICS.md, "Programs".
+-- The printed lines of an explanation, this project's own: docs/SEMANTICS.md, "Programs".
 use Rattle.std.specs.Prelude.{ℕ, List, [], ◌∷◌, ◌++◌, codes}
 use Rattle.std.specs.Fmt.{decimal}
 use Rattle.action.specs.Verdict.{name_of}
@@ -21,12 +21,12 @@ op_text GreaterOrEqual = codes "GE"
 op_text Greater = codes "GT"
 op_text MaskedEqual = codes "MASKED_EQ"
 
--- what is behind the mask
+-- the value after the mask
 abbrev pub masked_text : Op → ℕ → List ℕ
 masked_text MaskedEqual two = codes " " ++ decimal two
 masked_text _ two = []
 
--- an entry's place, the argument that was looked at, and what its condition wants of it
+-- an entry's place, the argument that was compared, and what its condition wants
 abbrev pub passed_text : PassedOver → List ℕ
 passed_text passed =
     codes "not syscalls[" ++ (decimal passed.place
@@ -47,7 +47,7 @@ decided_text decision decider =
     name_of (verdict_of decision).action ++
     (codes " " ++ (decimal (verdict_of decision).ret_data ++ (codes " by " ++ decider_text decider)))
 
--- one line an entry
+-- one line per entry
 abbrev pub passed_lines : List PassedOver → List ℕ
 passed_lines [] = []
 passed_lines (passed ∷ others) = passed_text passed ++ (codes "\n" ++ passed_lines others)

@@ -32,7 +32,7 @@ pub(crate) fn first_failing(entry: &Entry, call: &SysCall) -> Option<Cond>
     None
 }
 
-// Whether the condition holds of the call's argument.
+// Whether the condition holds for the call's argument.
 fn holds(cond: &Cond, call: &SysCall) -> bool
     requires { cond.now.index < 6 }
     ensures { result ≡ holds_on cond.now call.now }

@@ -11,12 +11,12 @@ use call_data::{NATIVE_ARCH, SysCall};
 use oci_profile::{Decision, Entry, Profile, X32_BIT};
 use std::alloc::{AllocError, Global};
 
-/// Explains what the profile says of the call.
+/// Explains the profile's decision on the call.
 pub fn explain(alloc: Global, profile: &Profile, call: &SysCall) -> Result<Explanation, AllocError>
     // Another architecture, the bit of x32, the first entry that applies, or the default.
     ensures decides { IfOk result (λ e. Decides profile.now call.now e.decider e.decision) }
 
-    // What is decided is what the profile means, and so what its filter returns.
+    // The decision is the profile's meaning, so its filter returns it.
     ensures means { IfOk result (λ e. value_of e.decision ≡ meaning profile.now call.now) }
 
     // Each earlier entry that names the number is listed, with its first condition that fails.
@@ -31,7 +31,7 @@ pub fn explain(alloc: Global, profile: &Profile, call: &SysCall) -> Result<Expla
     })
 }
 
-/// What decides the call, and what it decides.
+/// What decides the call, and the decision.
 #[tactic(auto, unfolding(oci_profile::specs::Meaning::meaning, oci_profile::specs::Meaning::chosen), using(crate::proofs::Firsts::first_means, crate::proofs::Firsts::none_means, crate::proofs::Firsts::within))]
 fn decided(profile: &Profile, call: &SysCall) -> (Decider, Decision)
     ensures decides { Decides profile.now call.now result.0 result.1 }

@@ -43,7 +43,7 @@ pub(crate) fn op_text(op: Op) -> &'static str
     }
 }
 
-/// What decides, as it stands in a profile: `syscalls[3]`, `defaultAction`.
+/// What decides, as named in a profile: `syscalls[3]`, `defaultAction`.
 impl fmt::Display for Decider {
     ghost use Rattle.std.specs.Prelude.{Some};
     ghost use Rattle.explain.specs.Text.{decider_text};

@@ -7,7 +7,7 @@ use oci_profile::{Cond, Op};
 use std::alloc::{AllocError, Global};
 use std::fmt;
 
-/// The member `valueTwo` of a condition with a mask, and nothing of others.
+/// The member `valueTwo` of a condition with a mask; empty for others.
 #[derive(Clone, Copy)]
 struct Masked(Cond);
 
@@ -48,7 +48,7 @@ impl fmt::Display for Object {
     }
 }
 
-/// What [`explanation_lines`](crate::explanation_lines) says, as one JSON object (RFC 8259) per line:
+/// The content of [`explanation_lines`](crate::explanation_lines), as one JSON object (RFC 8259) per line:
 /// `{"action":"ERRNO","data":13,"by":"syscalls[3]"}`.
 pub fn explanation_objects(alloc: Global, explanation: &Explanation) -> Result<String, AllocError>
     ensures { IfOk result (λ text. string_bytes text ≡ explanation_objects explanation.now) }

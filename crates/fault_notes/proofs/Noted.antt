@@ -1,4 +1,4 @@
--- What is told of a place, from what was read and what is shown.
+-- The note on a place, from what was read and what is shown.
 use Rattle.std.proofs.Common.{◌≡◌, ℕ, List, Option, Some, None, option_and_then, Result, Ok, Err, refl, sym}
 use Rattle.std.proofs.Common.{subst}
 use Rattle.std.specs.Prelude.{◌≢◌, IfOk, IfSome, string_bytes}
@@ -29,7 +29,7 @@ shows : {Y E : Type 0} (told : Result (String Y) E) (bytes : List ℕ) (fault : 
 shows (Ok text) bytes fault place shown is h = (shown, is, h)
 shows (Err e) bytes fault place shown is h = tt
 
--- what stands in the tree of the text
+-- the value in the tree of the text
 pub in_tree : {Y E : Type 0} (told : Result (String Y) E) (bytes : List ℕ) (fault : Named) (place : List Part)
     (shown : Option standing.Shown) (tree : Data)
     → document bytes ≡ Ok tree → IsShownOf (stands_at place tree) shown
@@ -45,7 +45,7 @@ no_tree : (o : Option Data) → or_else NotJson o ≡ Err NotJson → o ≡ None
 no_tree None h = refl
 no_tree (Some tree) h = absurd cc
 
--- nothing stands in what is no JSON
+-- a text that is not JSON has no values
 pub in_none : {Y E : Type 0} (told : Result (String Y) E) (bytes : List ℕ) (fault : Named) (place : List Part)
     → (NotJson ≢ Memory → document bytes ≡ Err NotJson)
     → IfOk told (λ text. Says place fault None (string_bytes text))

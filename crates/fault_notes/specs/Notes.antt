@@ -1,5 +1,4 @@
--- What is told of a text that is refused, behind the name of its file: this project's own,
--- docs/SEMANTICS.md, "Programs".
+-- The note on a refused text, after the name of its file: this project's own, docs/SEMANTICS.md, "Programs".
 use Rattle.std.specs.Prelude.{◌≡◌, ℕ, List, [], ◌∷◌, ◌++◌, ◌==◌, length, Bool, true, false, if◌then◌else◌}
 use Rattle.std.specs.Prelude.{codes, Option, Some, None, option_map, option_and_then, IfSome}
 use Rattle.std.specs.Fmt.{decimal}
@@ -33,7 +32,7 @@ named_text LeftOut = codes "LeftOut"
 named_text (Manifest fault) = pod_fault_text fault
 named_text (Script fault) = script_fault_text fault
 
--- what of a text can be told beside a fault of it
+-- what a note can show besides the fault
 abbrev pub kind_of : Named → Kind
 kind_of (Profile profile.NotJson) = kind.NoJson
 kind_of (Template (template.Profile profile.NotJson)) = kind.NoJson
@@ -43,12 +42,12 @@ kind_of (Profile profile.TooLarge) = kind.TooLarge
 kind_of (Template (template.Profile profile.TooLarge)) = kind.TooLarge
 kind_of _ = kind.Placed
 
--- behind the fault of a text that is no JSON
+-- the hint after the fault of a text that is not JSON
 abbrev pub yaml_text : Bool → List ℕ
 yaml_text true = codes " (this looks like YAML; only JSON is read)"
 yaml_text false = []
 
--- where it ceases to be JSON
+-- where a text stops being JSON
 abbrev pub spot_text : Spot → List ℕ
 spot_text Whole = []
 spot_text (At line column) = codes ": line " ++ (decimal line ++ (codes ", column " ++ decimal column))
@@ -59,37 +58,37 @@ no_json_text spot fault is_yaml = spot_text spot ++ (codes ": " ++ (named_text f
 abbrev pub text_note : TextNote → List ℕ
 text_note note = no_json_text note.spot note.fault note.hint.is_yaml
 
--- the place behind the file's path, unless it is the whole text's
+-- the place after the file's path, unless it is that of the whole text
 abbrev pub behind_text : List Part → List ℕ
 behind_text [] = []
 behind_text (part ∷ parts) = codes ": " ++ place_text (part ∷ parts)
 
--- what was wanted, behind what joins it to the words before it
+-- what was wanted, after the text that joins it to the words before it
 abbrev pub wanted_text : List ℕ → List ℕ → List ℕ
 wanted_text join wanted = if length wanted == 0 then [] else join ++ (codes "wanted " ++ wanted)
 
--- what stands there, if it is a text or a number, and what was wanted
+-- the value there, if it is a text or a number, and what was wanted
 abbrev pub standing_text : Option standing.Shown → List ℕ → Option (List ℕ)
 standing_text None wanted = Some (wanted_text (codes ": ") wanted)
 standing_text (Some shown) wanted = option_map
     (λ text. codes ": " ++ (text ++ wanted_text (codes ", ") wanted)) (shown_text shown)
 
--- the place in the file, the fault's name, what stands there and what was wanted
+-- the place in the file, the fault's name, the value there and what was wanted
 abbrev pub place_note : List Part → Named → Option standing.Shown → List ℕ → Option (List ℕ)
 place_note place fault shown wanted = option_map
     (λ text. behind_text place ++ (codes ": " ++ (named_text fault ++ text))) (standing_text shown wanted)
 
--- nothing is said where a number's text is serde_json's
+-- nothing is claimed if a number's text is serde_json's
 abbrev pub Says : List Part → Named → Option standing.Shown → List ℕ → Type 0
 Says place fault shown text = (wanted : List ℕ)
     × IfSome (place_note place fault shown wanted) (λ known. text ≡ known)
 
--- what of something that may stand somewhere is shown
+-- what is shown of a value that may be there
 abbrev pub IsShownOf : Option Data → Option standing.Shown → Type 0
 IsShownOf None shown = shown ≡ None
 IsShownOf (Some found) shown = IsShown found shown
 
--- what stands at the fault's place in the text's tree is shown
+-- the value at the fault's place in the text's tree is shown
 abbrev pub IsPlaceNote : List ℕ → Named → List Part → List ℕ → Type 0
 IsPlaceNote bytes fault place text = (shown : Option standing.Shown)
     × IsShownOf (option_and_then (stands_at place) (tree_of bytes)) shown × Says place fault shown text
@@ -100,6 +99,6 @@ IsNoteBy kind.NoJson bytes fault place text = (spot : Spot)
 IsNoteBy kind.TooLarge bytes fault place text = text ≡ codes ": " ++ named_text fault
 IsNoteBy kind.Placed bytes fault place text = IsPlaceNote bytes fault place text
 
--- what is told of these bytes, which are refused for this fault at this place
+-- the note on these bytes, which are refused for this fault at this place
 abbrev pub IsNote : List ℕ → Named → List Part → List ℕ → Type 0
 IsNote bytes fault place text = IsNoteBy (kind_of fault) bytes fault place text

@@ -6,7 +6,7 @@ use Rattle.cri_msgs.specs.declared.refusals.Refusal.TheVariants.{InvalidArgument
 use Rattle.cri_msgs.specs.declared.refusals.Refusal.TheVariants.{ResourceExhausted, FailedPrecondition}
 use Rattle.cri_msgs.specs.declared.refusals.Refusal.TheVariants.{Internal, Memory}
 
--- the names of gRPC's status codes, and of want of memory
+-- the names of gRPC's status codes, and of running out of memory
 abbrev pub refusal_text : Refusal → List ℕ
 refusal_text InvalidArgument = codes "InvalidArgument"
 refusal_text NotFound = codes "NotFound"

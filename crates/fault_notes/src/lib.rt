@@ -1,8 +1,19 @@
-//! The note on a text that is refused, for a person, after the name of its file: where in the text the fault
-//! is, the fault's name, the value there, and what was wanted.
+//! The note on a refused text, for a person, after the name of its file: where in the text the fault is, the
+//! fault's name, the value there, and what was wanted.
 //!
 //! Texts are profiles, manifests and scripts. All programs print the same lines, which `specs/` defines, and
-//! show the names of files and of refusals alike.
+//! show the names of files and of refusals in the same way.
+//!
+//! # What is proved
+//!
+//! - The note on a refused text has the fault's name, its place, and the value there as it is in the text's
+//!   own tree: `profile_note`, `template_note`, `manifest_note`, `script_note`.
+//! - For a text that is not JSON, the note shows whether it begins as YAML: `begins_object`.
+//! - The name of a file, each character escaped: `ShownPath`.
+//! - The name of each refusal: `refusal_name`.
+//!
+//! Only tested: the line and the column at which a text stops being JSON, and the words for what was wanted
+//! at a place.
 #![tactic(auto)]
 
 mod named;

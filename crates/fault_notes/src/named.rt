@@ -7,12 +7,12 @@ use profile_template::TemplateFault;
 use script::ScriptFault;
 use std::fmt;
 
-/// The fault that a text is refused for, by its name.
+/// The fault of a refused text, by its name.
 #[derive(Clone, Copy)]
 pub enum Named {
     Profile(ProfileFault),
     Template(TemplateFault),
-    /// A name that a template's profile is written without.
+    /// A name that is left out of a template's profile.
     LeftOut,
     Manifest(PodFault),
     Script(ScriptFault),
@@ -35,7 +35,7 @@ impl fmt::Display for Named {
     }
 }
 
-/// What can be said of a text besides its fault.
+/// What a note can show besides the fault.
 #[derive(Clone, Copy)]
 pub(crate) enum Kind {
     /// The text is not JSON: where it stops being JSON.
@@ -46,7 +46,7 @@ pub(crate) enum Kind {
     Placed,
 }
 
-/// What can be said besides this fault.
+/// What a note on this fault can show besides it.
 pub(crate) fn kind_of(fault: Named) -> Kind
     ensures { result ≡ kind_of fault }
 {

@@ -39,8 +39,8 @@ pub fn template_note(
     note(alloc, bytes, Named::Template(found.fault), &found.place)
 }
 
-/// The note after the name of a template's file, which has this tree, on a name that the profile is written
-/// without: `: syscalls[6].names[0]: LeftOut: "umount"`.
+/// The note after the name of a template's file, which has this tree, on a name that is left out of the
+/// profile: `: syscalls[6].names[0]: LeftOut: "umount"`.
 pub fn left_out_note(alloc: Global, tree: &Value, place: &Place) -> Result<String, AllocError> {
     place_line(alloc, Named::LeftOut, place, shown_at(tree, place))
 }
@@ -71,7 +71,7 @@ fn note(alloc: Global, bytes: &[u8], fault: Named, place: &Place) -> Result<Stri
     }
 }
 
-// The text is parsed again, to show the value there.
+// Parses the text again to show the value there.
 fn noted_place(
     alloc: Global,
     bytes: &[u8],

@@ -36,7 +36,7 @@ impl fmt::Display for Behind<'_> {
     }
 }
 
-/// What was wanted, if that is said, and what joins it to the words before it.
+/// What was wanted, if that is shown, and the text that joins it to the words before it.
 #[derive(Clone, Copy)]
 struct Wanted(&'static str, &'static str);
 

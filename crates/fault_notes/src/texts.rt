@@ -10,7 +10,7 @@ use std::fmt;
 /// Where a text stops being JSON.
 #[derive(Clone, Copy, Debug, PartialEq, Eq)]
 pub(crate) enum Spot {
-    /// The parser gives no position.
+    /// The parser has no position.
     Whole,
     /// At this line and this column, from 1.
     At(usize, usize),
@@ -30,7 +30,7 @@ impl fmt::Display for Spot {
     }
 }
 
-/// What else is said of a text that is not JSON: that it begins like YAML, if it does.
+/// A hint on a text that is not JSON: that it begins like YAML, if it does.
 #[derive(Clone, Copy)]
 pub(crate) struct Hint {
     pub(crate) is_yaml: bool,

@@ -1,4 +1,4 @@
--- What is kept once a name beside a path was used.
+-- What is kept after a name beside a path was used.
 use Rattle.std.proofs.Common.{◌≡◌, ◌++◌, ℕ, List, Option, None, Some, codes, length, length-append}
 use Rattle.std.proofs.Common.{arith, sym, ap, ◌<◌}
 use Rattle.std.specs.Fmt.{decimal}

@@ -16,9 +16,9 @@ pub enum NewFault {
     Unfinished(CausedFault),
 }
 
-/// A disk that files are written to. A call that fails leaves what its clauses say.
+/// A disk that files are written to. The clauses state what a failed call leaves.
 pub trait Disk {
-    // What is held, if that is known.
+    // The disk's contents, if they are known.
     ghost held: { Self → Option Held } = { λ _. None };
 
     /// Makes a file with these bytes at a path where nothing is.

@@ -17,7 +17,7 @@ pub struct MemoryDisk {
 }
 
 impl MemoryDisk {
-    /// No file is there, and no call fails.
+    /// A disk without files, on which no call fails.
     pub fn new(alloc: Global) -> MemoryDisk {
         MemoryDisk {
             files: BTreeMap::new(alloc),
@@ -27,7 +27,7 @@ impl MemoryDisk {
         }
     }
 
-    /// Makes the call with this number fail, counted from 1 for the next. All other calls work.
+    /// Makes the call with this number fail, counted from 1 for the next one. All other calls work.
     pub fn fail_call(&mut self, number: u64)
         ensures { self.new.files ≡ self.old.files }
     {
@@ -50,7 +50,7 @@ impl MemoryDisk {
         }
     }
 
-    // Counts a call, and returns whether it is to fail.
+    // Counts a call, and returns whether it must fail.
     fn fails(&mut self) -> bool
         ensures { self.new.files ≡ self.old.files }
     {
@@ -58,7 +58,7 @@ impl MemoryDisk {
         self.calls == self.failing
     }
 
-    /// Puts a file with these bytes at a path, in the place of what is there.
+    /// Puts a file with these bytes at a path, replacing what is there.
     #[tactic(auto, using(std::proofs::lemmas::Map::Text::text_keys))]
     pub fn put(&mut self, path: &str, bytes: &[u8]) -> Result<(), AllocError>
         ensures kept { OnErr result ((q : List ℕ) → held_on self.new.files q ≡ held_on self.old.files q) }
@@ -83,7 +83,7 @@ impl MemoryDisk {
     }
 }
 
-// The fault of a call that was to fail.
+// The fault of a call that was made to fail.
 fn failure() -> CausedFault {
     CausedFault::failed(Cause::Device)
 }

@@ -10,9 +10,9 @@ use std::{fs, rt};
 /// How many symbolic links are followed, one after the other: path_resolution(7).
 pub(crate) const LINKS: u32 = 40;
 
-/// Writes a file of the system whole, or leaves it as it was. Where the path is a symbolic link, that is the
-/// file that it leads to. A file that is replaced keeps its permissions; a new one gets those that the
-/// process gives to new files. A device or a pipe is written directly, since it holds nothing to lose.
+/// Writes a file of the system completely, or leaves it as it was. If the path is a symbolic link, that is
+/// the file to which it leads. A replaced file keeps its permissions; a new one gets those that the process
+/// gives to new files. A device or a pipe is written directly, since it has no contents to lose.
 pub fn replace<R: rt::Files + AllocGlobal>(
     rt: &R,
     path: &str,
@@ -33,7 +33,7 @@ pub fn replace<R: rt::Files + AllocGlobal>(
     }
 }
 
-// What the path leads to, if anything is there.
+// The metadata of the file to which the path leads, if there is one.
 fn about<R: rt::Files>(rt: &R, path: &str) -> Result<Option<Metadata>, CausedFault> {
     match fs::metadata(rt, path) {
         Ok(about) => Ok(Some(about)),
@@ -67,7 +67,7 @@ fn is_link<R: rt::Files>(rt: &R, path: &str) -> io::Result<bool> {
     }
 }
 
-// The path to which a link leads: what it holds, from the link's own folder unless it begins at the root.
+// The path to which a link leads: its text, relative to the link's own folder unless it begins at the root.
 fn next_of<R: rt::Files + AllocGlobal>(rt: &R, link: &str) -> Result<String, CausedFault> {
     let to = fs::read_link(rt, link)?.into_string();
     match link.rsplit_once('/') {

@@ -10,9 +10,9 @@ const LAST_STREAM: i32 = 2;
 // How many standard streams there are.
 const STREAMS: u32 = 3;
 
-/// Opens each standard stream that is closed on the null device, so that no file that is opened later gets
-/// its number. It is opened for reading: a read of standard input ends at once, and a write to standard
-/// output or error still fails, as if it were closed. To be called before any other file is opened.
+/// Opens each closed standard stream on the null device, so that no file that is opened later gets its
+/// number. It is opened for reading: a read of standard input ends at once, and a write to standard output or
+/// error still fails, as if it were closed. Call this before any other file is opened.
 pub fn open_closed<R: rt::Files<File = File>>(rt: &R) -> io::Result<()> {
     // The system gives the lowest number that is free.
     for _ in 0..=STREAMS {

@@ -5,8 +5,8 @@ use std::io::{self, ErrorKind, Write};
 use std::os::unix::fs::{MetadataExt, OpenOptionsExt, lchown};
 use std::{fs, rt};
 
-/// The system's files. A new one gets the owner, as far as the user may give it, and the permissions of the
-/// file that it is like, if there is one.
+/// The system's files. A new one gets the permissions of the file that it is like, if there is one, and its
+/// owner, if the user may set it.
 #[derive(Drop)]
 pub(crate) struct SystemDisk<'a, R> {
     rt: &'a R,
@@ -33,7 +33,7 @@ impl<'a, R: rt::Files> SystemDisk<'a, R> {
         if let Some(like) = &self.like {
             let own = file.metadata()?;
             if own.uid() != like.uid() || own.gid() != like.gid() {
-                // Only root may give files away. A link that was put there meanwhile is not followed.
+                // Only root may give files away. A link put there meanwhile is not followed.
                 let _ = lchown(self.rt, path, Some(like.uid()), Some(like.gid()));
             }
             file.set_permissions(like.permissions())?;

@@ -1,4 +1,4 @@
-//! A file is written whole, or stays as it was.
+//! Writes a file completely, or leaves it as it was.
 ghost use Rattle.std.specs.Prelude.{◌≡◌, ◌++◌, Some, None, IfOk, IfErr, OnOk, OnErr, string_bytes, codes};
 ghost use Rattle.host_io.specs.Places.{IsAt, IsFree, KeepsAll, KeepsAt, KeepsOthers, Spares, name_beside};
 
@@ -6,15 +6,15 @@ use crate::disk::{Disk, NewFault};
 use node_io::{Cause, CausedFault};
 use std::alloc::{AllocError, Global};
 
-/// How many names beside a path are tried. Earlier runs may have left some of them.
+/// How many names beside a path are tried. Earlier runs may have left files at some of them.
 pub const NAMES: u32 = 100;
 
 // EEXIST of errno(3): each name beside the path is taken.
 const EXISTS: u32 = 17;
 
-/// Writes a file whole: its bytes go to a new file beside it, named PATH.new0 to PATH.new99, which then takes
-/// its place. If anything fails, the file stays as it was, and so does everything else; only the new file may
-/// be left, if it can't be removed either.
+/// Writes a file completely: its bytes go to a new file beside it, named PATH.new0 to PATH.new99, which then
+/// replaces it. If anything fails, the file stays as it was, and so does everything else; only the new file
+/// may be left, if it can't be removed either.
 pub fn put_whole<D: Disk>(
     alloc: Global,
     disk: &mut D,

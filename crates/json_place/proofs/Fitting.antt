@@ -1,4 +1,4 @@
--- What is shown of a text, character by character.
+-- A text as shown, character by character.
 use Rattle.std.proofs.Common.{◌≡◌, ℕ, ◌-◌, ◌^◌, ◌<◌, ◌≤◌, List, [], ◌++◌, length, false, IsUtf8, chars, codes}
 use Rattle.std.proofs.Common.{encode_utf8, append_assoc, refl, ap, ◌∙◌, arith}
 use Rattle.std.specs.Prelude.{replicate}
@@ -39,7 +39,7 @@ padded_to_four numeral =
     ap (λ (n : ℕ). replicate n 48 ++ (numeral ++ [])) (omega arith)
     ∙ ap (λ (t : List ℕ). replicate (4 - length numeral) 48 ++ t) (append-nil numeral)
 
--- what is written behind what was written
+-- text written after other text
 pub put_more : {W : Type 0} (took : W → List ℕ → W → Type 0) (f g h : Formatter W) (done more : List ℕ)
     → HasWritten took f done g → HasWritten took g more h → HasWritten took f (done ++ more) h
 put_more took f g h done more before here = put_two took f g h done more (done ++ more) before here refl

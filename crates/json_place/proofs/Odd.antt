@@ -1,4 +1,4 @@
--- Where the first item is of which something holds, told of the items and of what they stand for.
+-- The index of the first item that passes a test, for items and for what they represent.
 use Rattle.std.proofs.Common.{◌≡◌, ℕ, ◌+◌, List, [], ◌∷◌, Bool, not, cond, map, refl, ap}
 use Rattle.std.specs.Prelude.{position}
 use Rattle.std.specs.List.{prefix_len}

@@ -1,4 +1,4 @@
--- A field that was read is there, and one that is there is read, wherever its faults would be.
+-- A field that was read is present, and a present field is read, wherever its faults would be.
 use Rattle.std.proofs.Common.{◌≡◌, ℕ, List, Option, Result, Ok, refl}
 use Rattle.serde_json.specs.Data.{Data}
 use Rattle.json_tree.specs.Reading.{as_fault, HasField, MayHaveField}

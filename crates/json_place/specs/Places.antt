@@ -10,7 +10,7 @@ abbrev pub part_of : Step → Part
 part_of (step.Member key) = Member key.now
 part_of (step.Item index) = Item index
 
--- the place of what stands at this place of what stands under the step
+-- the place, from the outer tree, of a value at this place under the step
 abbrev pub within : Part → List Part → List Part
 within part place = take MAX_STEPS (part ∷ place)
 

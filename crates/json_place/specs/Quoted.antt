@@ -1,5 +1,5 @@
--- A text as it is shown to a person: characters escaped as in JSON (RFC 8259, section 7), and where it is
--- cut, this project's own.
+-- A text as it is shown to a person: characters escaped as in JSON (RFC 8259, section 7), and where the text
+-- is cut, this project's own.
 use Rattle.std.specs.Prelude.{ℕ, ◌-◌, ◌==◌, List, [], ◌∷◌, ◌++◌, length, replicate, false, chars, codes}
 use Rattle.std.specs.Prelude.{encode_utf8, nat_le, if◌then◌else◌}
 use Rattle.std.specs.Fmt.{digits}
@@ -20,7 +20,7 @@ escaped c =
     else if is_control c then coded c
     else encode_utf8 c
 
--- those of the characters that fit into the bytes that are left, and the end: behind a cut it is marked
+-- the characters that fit into the bytes left, and the end: a cut is marked
 abbrev pub fitting : ℕ → List ℕ → List ℕ
 fitting room [] = codes "\""
 fitting room (c ∷ cs) = if nat_le (len_utf8 c) room then escaped c ++ fitting (room - len_utf8 c) cs

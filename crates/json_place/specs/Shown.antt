@@ -1,4 +1,4 @@
--- What stands at a place of a JSON tree (RFC 8259), and what of it is shown to a person: this project's own.
+-- The value at a place of a JSON tree (RFC 8259), and what of it is shown to a person: this project's own.
 use Rattle.std.specs.Prelude.{◌≡◌, ℕ, List, [], ◌∷◌, slice_get, Option, Some, None, option_and_then}
 use Rattle.std.specs.Fmt.{decimal}
 use Rattle.serde_json.specs.Data.{Data}
@@ -10,17 +10,17 @@ use Rattle.json_place.specs.Quoted.{quoted_text}
 use Rattle.json_place.specs.declared.shown.Shown as shown
 use Rattle.json_place.specs.declared.shown.Shown.TheVariants.{Text, Whole, Other}
 
--- what stands under one step
+-- the value under one step
 abbrev pub step_into : Part → Data → Option Data
 step_into (Member key) tree = get key tree
 step_into (Item index) tree = option_and_then (λ items. slice_get items index) (list tree)
 
--- what stands under all of them, one after the other
+-- the value under all steps, one after the other
 abbrev pub stands_at : List Part → Data → Option Data
 stands_at [] tree = Some tree
 stands_at (part ∷ parts) tree = option_and_then (stands_at parts) (step_into part tree)
 
--- nothing is said of the text of a number that is negative or not whole: it is serde_json's
+-- nothing is claimed about the text of a number that is negative or not whole: it is serde_json's
 abbrev pub shown_text : shown.Shown → Option (List ℕ)
 shown_text (Text text) = Some (quoted_text text.now)
 shown_text (Whole number) = Some (decimal number)

@@ -9,7 +9,7 @@ use crate::place::{Place, Step};
 use json_tree::FieldFault;
 use serde_json::Value;
 
-// The fields of an object, as `json_tree` reads them. A fault is placed at its field.
+// The fields of an object, as `json_tree` reads them. A fault has the place of its field.
 
 /// What is wrong with a field, and where.
 #[derive(Debug, Drop)]
@@ -65,7 +65,7 @@ pub fn required_object<'v>(tree: &'v Value, key: &'static str) -> Result<&'v Val
     json_tree::required_object(tree, key).map_err(|fault| FieldFaultAt::of_member(key, fault))
 }
 
-/// The value, whatever it is but null, of a required field.
+/// The value of a required field, of any type but null.
 #[tactic(auto, unfolding(crate::specs::Fields::required))]
 pub fn required_value<'v>(tree: &'v Value, key: &'static str) -> Result<&'v Value, FieldFaultAt>
     ensures { as_read (λ v. view v.now) result ≡ required kind.value key.now (view tree.now) }

@@ -13,8 +13,8 @@ use json_tree::{FieldFault, list, text, whole};
 use serde_json::Value;
 use std::alloc::Global;
 
-// Fields that are lists with items of one type. If items have another type, the fault is placed at the first
-// of them.
+// Fields that are lists with items of one type. If items have another type, the fault has the place of the
+// first of them.
 
 /// The items of the list of texts of a required field.
 #[tactic(auto, unfolding(crate::specs::Fields::required_each))]

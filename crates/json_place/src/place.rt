@@ -57,8 +57,8 @@ impl Place {
         self.steps.is_empty()
     }
 
-    /// The same place, seen from the outer tree that has this one under `step`. Beyond [`MAX_STEPS`] the
-    /// innermost steps are dropped.
+    /// The same place in the outer tree that has this tree under `step`. Beyond [`MAX_STEPS`] the innermost
+    /// steps are dropped.
     pub fn within(self, step: Step) -> Place
         ensures { result ≡ within (part_of step) self }
     {
@@ -132,7 +132,7 @@ impl fmt::Display for Rest<'_> {
     }
 }
 
-/// `syscalls[1].names[2]`, and nothing for the whole text.
+/// `syscalls[1].names[2]`; empty for the whole text.
 impl fmt::Display for Place {
     ghost use Rattle.std.specs.Prelude.{Some};
     ghost use Rattle.json_place.specs.Places.{place_text};

@@ -1,10 +1,10 @@
 use std::fmt;
 
-/// The most bytes of a text that are shown.
+/// How many bytes of a text are shown at most.
 pub const MAX_SHOWN: usize = 64;
 
-/// A text as it is shown to a person: in quotes, `"`, `\` and control characters escaped as JSON escapes them
-/// (RFC 8259). Of a text longer than [`MAX_SHOWN`] bytes the characters that fit are shown, and the cut is
+/// A text as shown to a person: in quotes, with `"`, `\` and control characters escaped as in JSON (RFC
+/// 8259). If it is longer than [`MAX_SHOWN`] bytes, only the characters that fit are shown, and the cut is
 /// marked: `"aaaa"..`.
 #[derive(Clone, Copy)]
 pub struct Quoted<'a>(pub &'a str);

@@ -9,7 +9,7 @@ use json_tree::{list, text, whole};
 use serde_json::{Number, Value};
 use std::fmt;
 
-/// What of a tree is shown to a person: a text, as [`Quoted`] shows it, or a number.
+/// The part of a tree that is shown to a person: a text, as [`Quoted`] shows it, or a number.
 #[derive(Clone, Copy)]
 pub enum Shown<'v> {
     Text(&'v str),

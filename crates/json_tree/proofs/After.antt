@@ -1,4 +1,4 @@
--- A list read item by item, where what was read before an item may matter to it.
+-- A list read item by item, if what was read before an item may matter to it.
 use Rattle.std.proofs.Common.{◌≡◌, ℕ, suc, ◌+◌, ◌<◌, ◌≤◌, List, [], ◌∷◌, ◌++◌, length, get_or, map, drop}
 use Rattle.std.proofs.Common.{append_assoc, append-nil, add-one, Result, Ok, Err, refl, sym, ap, subst, ◌∙◌}
 use Rattle.std.proofs.Math.Seq.{drop-cons}
@@ -36,7 +36,7 @@ pub after_ends : {V A B E : Type 0} (f : List B → A → Result B E) (h : V →
 after_ends f h vs i ys all past so_far = sym so_far
     ∙ ap (λ rest. in_order_after f ys (map h rest)) (drop_all i vs past)
 
--- What was read keeps what each item keeps, and is read item by item.
+-- The list that was read keeps what each item keeps, and is read item by item.
 pub after_found : {A B E : Type 0} (f : List B → A → Result B E) (K : List B → Type 0) (R : A → B → Type 0)
     → ((done : List B) (x : A) (y : B) → K done → f done x ≡ Ok y → K (done ++ y ∷ []) × R x y)
     → (done : List B) (xs : List A) (all : List B) → K done → in_order_after f done xs ≡ Ok all → K all
@@ -50,7 +50,7 @@ after_found {B = B} f K R one done (x ∷ xs) all kept h =
     let rest = after_found f K R one (done ++ first.0 ∷ []) xs all here.0 first.2 in
     (rest.0, (first.0 ∷ rest.1.0, rest.1.1 ∙ append_assoc done (first.0 ∷ []) rest.1.0, (here.1, rest.1.2)))
 
--- What is so item by item, and is kept as a whole, is read.
+-- A list that is right item by item, and is kept as a whole, is read.
 pub after_only : {A B E : Type 0} (f : List B → A → Result B E) (K : List B → Type 0) (R : A → B → Type 0)
     → ((done : List B) (x : A) (y : B) (rest : List B) → K (done ++ y ∷ rest) → R x y → f done x ≡ Ok y)
     → (done : List B) (xs : List A) (ys : List B) → K (done ++ ys) → Both R xs ys

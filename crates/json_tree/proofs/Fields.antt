@@ -1,4 +1,4 @@
--- A field that was read is there, and one that is there is read.
+-- A field that was read is present, and a present field is read.
 use Rattle.std.proofs.Common.{◌≡◌, ℕ, List, [], ◌∷◌, Bool, true, false, Option, Some, None, Result, Ok, Err}
 use Rattle.std.proofs.Common.{refl, ap, ◌∙◌}
 use Rattle.std.specs.Bool.{⊤}

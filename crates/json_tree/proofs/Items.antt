@@ -7,12 +7,12 @@ use Rattle.serde_json.specs.declared.value.Value.{Value}
 use Rattle.json_tree.specs.Tree.{items_list, each}
 use Rattle.json_tree.proofs.Loops.{map_more, map_parts}
 
--- The list of the items is the list of what each item stands for.
+-- The list of the items is the list of the values that they represent.
 pub items_list_view : (items : List Value) → items_list (items_view items) ≡ map view items
 items_list_view [] = refl
 items_list_view (v ∷ vs) = ap (λ ds. view v ∷ ds) (items_list_view vs)
 
--- what went on had a first value
+-- a reading that succeeded had a first value
 pub and_then_some : {A B : Type 0} (f : A → Option B) (o : Option A) (y : B) → option_and_then f o ≡ Some y
     → (x : A) × (o ≡ Some x) × (f x ≡ Some y)
 and_then_some f None y h = absurd cc
@@ -51,7 +51,7 @@ pub each_more : {V A : Type 0} (kind : Data → Option A) (h : V → Data) (vs :
 each_more kind h vs i v xs x lt is so_far here =
     rw (map_more h vs i v lt is) (each_push kind (map h (take i vs)) (h v) xs x so_far here)
 
--- one item is not, so not each is
+-- one item is not of the kind, so not each is
 pub each_stops : {V A : Type 0} (kind : Data → Option A) (h : V → Data) (vs : List V) (i : ℕ) (v : V)
     → i < length vs → v ≡ get_or vs i v → kind (h v) ≡ None → each kind (map h vs) ≡ None
 each_stops kind h vs i v lt is here = rw (map_parts h vs i v lt is)
@@ -61,7 +61,7 @@ some_of : {A : Type 0} (o : Option A) → is_some o ≡ true → (x : A) × (o �
 some_of None h = absurd cc
 some_of (Some x) h = (x, refl)
 
--- the same where what they are does not matter
+-- one more item, if its value does not matter
 pub each_goes_on : {A : Type 0} (kind : Data → Option A) (vs : List Value) (i : ℕ) (v : Value) → i < length vs
     → v ≡ get_or vs i v
     → is_some (each kind (map view (take i vs))) ≡ true → is_some (kind (view v)) ≡ true

@@ -20,7 +20,7 @@ map_parts h vs i v lt is =
     ap (map h) (parts vs i v lt) ∙ map-append h (take i vs) (get_or vs i v ∷ drop (i + 1) vs)
     ∙ ap (λ x. map h (take i vs) ++ h x ∷ map h (drop (i + 1) vs)) (sym is)
 
--- what went on had a first value
+-- a reading that succeeded had a first value
 pub bind_ok : {A B E : Type 0} (r : Result A E) (f : A → Result B E) (y : B) → (r >>= f) ≡ Ok y → (x : A)
     × (r ≡ Ok x) × (f x ≡ Ok y)
 bind_ok (Ok x) f y h = (x, refl, h)
@@ -65,7 +65,7 @@ pub in_order_stops : {V A B E : Type 0} (f : A → Result B E) (h : V → A) (vs
 in_order_stops f h vs i v ys e lt is so_far here =
     rw (map_parts h vs i v lt is) (in_order_stop f (map h (take i vs)) (h v) _ ys e so_far here)
 
--- the same where the items are numbers, and stand for themselves
+-- the next item, if the items are numbers, which represent themselves
 pub in_order_next : {A B E : Type 0} (f : A → Result B E) (xs : List A) (i : ℕ) (d : A) (ys : List B) (y : B)
     → i < length xs
     → in_order f (take i xs) ≡ Ok ys → f (get_or xs i d) ≡ Ok y
@@ -99,12 +99,12 @@ same_more xs ys i d e lt below before here = take_more xs i d lt
     ∙ ap (λ front. front ++ get_or xs i d ∷ []) before ∙ ap (λ x. take i ys ++ x ∷ []) here
     ∙ sym (take_more ys i e below)
 
--- where an item differs, the lists do
+-- if an item differs, the lists do
 pub same_stops : {A : Type 0} (xs ys : List A) (i : ℕ) (d e : A) → i < length ys
     → (get_or xs i d ≡ get_or ys i e → ⊥) → xs ≡ ys → ⊥
 same_stops xs ys i d e lt apart same = apart (ap (λ zs. get_or zs i d) same ∙ get_or_default ys i d e lt)
 
--- where all items are the same, the lists are
+-- if all items are the same, the lists are
 pub same_ends : {A : Type 0} (xs ys : List A) (n : ℕ) → length xs ≤ n → length xs ≡ length ys
     → take n xs ≡ take n ys → xs ≡ ys
 same_ends xs ys n enough as_many same = sym (take_all n xs enough) ∙ same

@@ -1,4 +1,4 @@
--- The test of UTF-8 and the fact.
+-- The test for UTF-8, and the property.
 use Rattle.std.proofs.Common.{◌≡◌, ℕ, List, true, false, cond, Some, None, refl}
 use Rattle.std.specs.Str.{IsUtf8, is_utf8}
 use Rattle.std.proofs.lemmas.Str.{IsUtf8-from_is_utf8, is_utf8-from_IsUtf8}
@@ -11,7 +11,7 @@ pub told : (bytes : List ℕ) (tree : Data) → IsUtf8 bytes → read bytes ≡ 
 unfolding tree_of
 told bytes tree utf8 is = rw (is_utf8-from_IsUtf8 bytes utf8) is
 
--- what was refused has no tree
+-- a refused text has no tree
 pub untold : (bytes : List ℕ) → (IsUtf8 bytes → read bytes ≡ None) → tree_of bytes ≡ None
 unfolding tree_of
 untold bytes refused =

@@ -1,4 +1,4 @@
--- What a tree of one kind is not, and which members are there.
+-- Kinds that a tree of one kind is not, and which members are present.
 use Rattle.std.proofs.Common.{◌≡◌, ℕ, List, true, false, is_some, Option, Some, None, refl}
 use Rattle.serde_json.specs.Data.{Data, null, boolean, number, string, array, object as an_object}
 use Rattle.serde_json.specs.Find.{get}

@@ -1,5 +1,5 @@
--- How a tree is read: what it gives, or the first fault in the order of reading. That order is this
--- project's own, written by each reader as a do-block.
+-- How a tree is read: the result, or the first fault in the order of reading. That order is this project's
+-- own, written by each reader as a do-block.
 use Rattle.std.specs.Prelude.{◌≡◌, ◌≢◌, ℕ, List, [], ◌∷◌, ◌++◌, Bool, true, false, ⊤, Option, Some, None}
 use Rattle.std.specs.Prelude.{Result, Ok, Err}
 use Rattle.serde_json.specs.Data.{Data}
@@ -20,7 +20,7 @@ abbrev pub ◌>>◌ : {A B E : Type 0} → Result A E → Result B E → Result 
 (Ok x) >> r = r
 (Err e) >> r = Err e
 
--- nothing is wrong where the test is false
+-- no fault if the test is false
 abbrev pub refuse_if : {E : Type 0} → Bool → E → Result ⊤ E
 refuse_if true fault = Err fault
 refuse_if false fault = Ok tt
@@ -29,7 +29,7 @@ abbrev pub or_else : {A E : Type 0} → E → Option A → Result A E
 or_else fault None = Err fault
 or_else fault (Some x) = Ok x
 
--- what is read where a value is there
+-- the reading of a value, if there is one
 abbrev pub if_there : {A B E : Type 0} → (A → Result B E) → Option A → Result (Option B) E
 if_there f None = Ok None
 if_there f (Some x) = f x >>= λ y. Ok (Some y)
@@ -39,22 +39,22 @@ abbrev pub in_order : {A B E : Type 0} → (A → Result B E) → List A → Res
 in_order f [] = Ok []
 in_order f (x ∷ xs) = f x >>= λ y. in_order f xs >>= λ ys. Ok (y ∷ ys)
 
--- each item in order, where what was read before it may matter
+-- each item in order, if what was read before it may matter
 abbrev pub in_order_after : {A B E : Type 0} → (List B → A → Result B E) → List B → List A → Result (List B) E
 in_order_after f done [] = Ok done
 in_order_after f done (x ∷ xs) = f done x >>= λ y. in_order_after f (done ++ y ∷ []) xs
 
--- the result, its fault named as this reader names it
+-- the result, with its fault as this reader names it
 abbrev pub as_fault : {A D E : Type 0} → (D → E) → Result A D → Result A E
 as_fault f (Ok x) = Ok x
 as_fault f (Err e) = Err (f e)
 
--- the result, its value seen as what it stands for
+-- the result, with the value that it represents
 abbrev pub as_read : {X Y E : Type 0} → (X → Y) → Result X E → Result Y E
 as_read view (Ok x) = Ok (view x)
 as_read view (Err e) = Err e
 
--- A call gives this reading, memory aside: `memory` is the fault that says that a growth was refused.
+-- A call returns this reading, or the fault `memory` if an allocation failed.
 abbrev pub Gives : {X Y E : Type 0} → E → (X → Y) → Result X E → Result Y E → Type 0
 Gives memory view (Ok x) reading = reading ≡ Ok (view x)
 Gives memory view (Err e) reading = e ≢ memory → reading ≡ Err e
@@ -73,19 +73,19 @@ abbrev pub allowed : {A : Type 0} → (Data → Option A) → Option Data → Re
 allowed kind None = Ok None
 allowed kind (Some found) = typed kind found >>= λ x. Ok (Some x)
 
--- a field that has to be there, of this kind: null is of no kind
+-- a required field of this kind: null is of no kind
 unfoldable pub required : {A : Type 0} → (Data → Option A) → List ℕ → Data → Result A FieldFault
 required kind key tree = needed kind (get key tree)
 
--- a field that may be left out, also as null
+-- an optional field, which may be null
 unfoldable pub optional : {A : Type 0} → (Data → Option A) → List ℕ → Data → Result (Option A) FieldFault
 optional kind key tree = allowed kind (member key tree)
 
--- the required field is there, and is this
+-- the required field is present, and is this
 abbrev pub HasField : {A : Type 0} → (Data → Option A) → List ℕ → Data → A → Type 0
 HasField kind key tree x = (found : Data) × (get key tree ≡ Some found) × (kind found ≡ Some x)
 
--- the optional field is this, or it is not there
+-- the optional field is this, or it is absent
 abbrev pub MayHaveField : {A : Type 0} → (Data → Option A) → List ℕ → Data → Option A → Type 0
 MayHaveField kind key tree None = member key tree ≡ None
 MayHaveField kind key tree (Some x) = (found : Data) × (member key tree ≡ Some found) × (kind found ≡ Some x)

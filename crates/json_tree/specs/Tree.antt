@@ -1,5 +1,5 @@
--- What a reader asks of a JSON tree (RFC 8259): of the tree that `serde_json` reads of a text.
--- A kind says what a tree is, if it is that: `Data → Option A`.
+-- What a reader tests of a JSON tree (RFC 8259): of the tree that `serde_json` reads from a text. A kind
+-- returns a tree's value if the tree is of that kind: `Data → Option A`.
 use Rattle.std.specs.Prelude.{ℕ, ◌^◌, List, [], ◌∷◌, Bool, nat_lt, if◌then◌else◌, is_some, Option, Some, None}
 use Rattle.std.specs.Prelude.{option_map, option_and_then}
 use Rattle.std.specs.Str.{is_utf8}
@@ -51,7 +51,7 @@ items_list (json.item d ds) = d ∷ items_list ds
 unfoldable pub list : Data → Option (List Data)
 list tree = option_map items_list (as_array tree)
 
--- what each tree is, if each is of this kind
+-- the value of each tree, if each is of this kind
 abbrev pub each : {A : Type 0} → (Data → Option A) → List Data → Option (List A)
 each kind [] = Some []
 each kind (d ∷ ds) = option_and_then (λ x. option_map (λ xs. x ∷ xs) (each kind ds)) (kind d)
@@ -64,7 +64,7 @@ wholes tree = option_and_then (each whole) (list tree)
 unfoldable pub text_list : Data → Option (List Data)
 text_list tree = option_and_then (λ items. if is_some (each text items) then Some items else None) (list tree)
 
--- the member with this key: one that is null is not there
+-- the member with this key; one that is null counts as absent
 unfoldable pub member : List ℕ → Data → Option Data
 member key tree = option_and_then value (get key tree)
 

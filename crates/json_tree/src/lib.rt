@@ -3,6 +3,12 @@
 //!
 //! An optional member that is null counts as left out; a required one then has the wrong type. Unknown
 //! members are ignored. A whole number is one that `serde_json` reads as `u64`.
+//!
+//! # What is proved
+//!
+//! - A field is present unless null, and has its type, exactly in both directions: `read`, `member`, `has`,
+//!   the kinds, `required_..`, `optional_..` (value).
+//! - A missing field or a wrong type is reported even if memory runs out: the same calls (told).
 #![tactic(auto)]
 
 mod document;

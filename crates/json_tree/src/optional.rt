@@ -11,8 +11,8 @@ use crate::members::member;
 use serde_json::Value;
 use std::alloc::Global;
 
-// Each returns `WrongType` if the field is there and has another type. Those that allocate return `Memory` if
-// an allocation fails, but a fault of the field is reported even if memory runs out.
+// Each returns `WrongType` if the field is present and has another type. Those that allocate return `Memory`
+// if an allocation fails, but a fault of the field is reported even if memory runs out.
 
 /// The `bool` of an optional field, which may be null.
 #[tactic(auto, unfolding(crate::specs::Reading::optional))]

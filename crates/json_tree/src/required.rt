@@ -10,9 +10,9 @@ use crate::lists::wholes;
 use serde_json::Value;
 use std::alloc::Global;
 
-// Each returns `Missing` if the field is not there, and `WrongType` if it has another type, such as null.
-// Those that allocate return `Memory` if an allocation fails, but a fault of the field is reported even if
-// memory runs out.
+// Each returns `Missing` if the field is absent, and `WrongType` if it has another type, such as null. Those
+// that allocate return `Memory` if an allocation fails, but a fault of the field is reported even if memory
+// runs out.
 
 /// The whole number of a required field.
 #[tactic(auto, unfolding(crate::specs::Reading::required))]
@@ -71,7 +71,7 @@ pub fn required_wholes(alloc: Global, tree: &Value, key: &str) -> Result<Vec<u64
     wholes(alloc, found)?.ok_or(FieldFault::WrongType)
 }
 
-/// The value, whatever it is but null, of a required field.
+/// The value of a required field, of any type but null.
 #[tactic(auto, unfolding(crate::specs::Reading::required))]
 pub fn required_value<'v>(tree: &'v Value, key: &str) -> Result<&'v Value, FieldFault>
     ensures { as_read (λ v. view v.now) result ≡ required kind.value key.now (view tree.now) }

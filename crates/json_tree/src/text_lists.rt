@@ -9,9 +9,9 @@ use crate::lists::are_texts;
 use crate::members::member;
 use serde_json::Value;
 
-// The items of a list of texts are borrowed as they are, so nothing is allocated.
+// The items of a list of texts are borrowed, so nothing is allocated.
 
-/// The items of the list of texts of a required field. `Missing` if the field is not there, `WrongType` if it
+/// The items of the list of texts of a required field. `Missing` if the field is absent, `WrongType` if it
 /// has another type.
 #[tactic(auto, unfolding(crate::specs::Reading::required))]
 pub fn required_text_list<'v>(tree: &'v Value, key: &str) -> Result<&'v [Value], FieldFault>
@@ -22,8 +22,8 @@ pub fn required_text_list<'v>(tree: &'v Value, key: &str) -> Result<&'v [Value],
     text_list(found).ok_or(FieldFault::WrongType)
 }
 
-/// The items of the list of texts of an optional field, which may be null. `WrongType` if it is there and has
-/// another type.
+/// The items of the list of texts of an optional field, which may be null. `WrongType` if it is present and
+/// has another type.
 #[tactic(auto, unfolding(crate::specs::Reading::optional))]
 pub fn optional_text_list<'v>(tree: &'v Value, key: &str) -> Result<Option<&'v [Value]>, FieldFault>
     ensures { as_read (option_map (λ items. map view items.now)) result

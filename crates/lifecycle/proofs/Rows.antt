@@ -21,7 +21,7 @@ row_on row (run ∷ runs) short =
     row_on (row + 1) runs (All-tail IsShort run runs short) in
     rw head (rest ∙ omega arith)
 
--- a long one begins it
+-- a long run begins the row
 pub row_begins : (earlier later : List Run) (run : Run) → 600 ≤ lasted run
     → All (λ after. lasted after < 600) later → row_of (earlier ++ run ∷ later) ≡ length later + 1
 row_begins earlier later run long short =
@@ -29,7 +29,7 @@ row_begins earlier later run long short =
     fold-append next_row 0 earlier (run ∷ later) ∙ ap (λ row. fold next_row row later) head
     ∙ row_on 1 later short
 
--- where one test holds of each, so does it or another
+-- if one test holds for each, so does it or another
 pub all_either : {X : Type 0} (one other : X → Bool) (xs : List X) → All (λ x. one x ≡ true) xs
     → list_all (λ x. one x || other x) xs ≡ true
 all_either one other [] all = refl

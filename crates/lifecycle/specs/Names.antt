@@ -1,5 +1,4 @@
--- What is printed for phases and states: Kubernetes 1.27, pod lifecycle, "Pod phase" and "Container
--- states".
+-- The printed names of phases and states: Kubernetes 1.27, pod lifecycle, "Pod phase" and "Container states".
 use Rattle.std.specs.Prelude.{ℕ, List, codes}
 use Rattle.lifecycle.specs.declared.phases.Phase.{Phase}
 use Rattle.lifecycle.specs.declared.phases.Phase.TheVariants as phase

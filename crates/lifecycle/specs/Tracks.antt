@@ -1,5 +1,5 @@
--- What became of a container: Kubernetes 1.27, pod lifecycle, "Container states". When it counts as
--- finished is this project's own.
+-- The history of a container: Kubernetes 1.27, pod lifecycle, "Container states". When it counts as finished
+-- is this project's own.
 use Rattle.std.specs.Prelude.{ℕ, ◌+◌, ◌==◌, nat_lt, Bool, true, false, not, if◌then◌else◌, List, length}
 use Rattle.std.specs.Prelude.{Option, Some, None}
 use Rattle.std.specs.Option.{option_map}
@@ -12,7 +12,7 @@ use Rattle.lifecycle.specs.declared.state.ContainerState.TheVariants.{Waiting, R
 use Rattle.lifecycle.specs.BackOff.{Run, last_of}
 use Rattle.lifecycle.specs.Restart.{may_restart}
 
--- the code of the last run, where no further one is going on
+-- the exit code of the last run, if no further run is going on
 abbrev pub ended_in : Stage → List Run → Option ℕ
 ended_in (stage.Running attempt started polled) runs = None
 ended_in s runs = option_map (λ (run : Run). run.code) (last_of runs)
@@ -20,7 +20,7 @@ ended_in s runs = option_map (λ (run : Run). run.code) (last_of runs)
 abbrev pub ended_code : Track → Option ℕ
 ended_code t = ended_in t.stage t.runs
 
--- how many attempts were started: each that ended, and the one that is going on
+-- how many attempts were started: each that ended, and the current one
 abbrev pub started_in : Stage → List Run → ℕ
 started_in (stage.Running attempt started polled) runs = length runs + 1
 started_in s runs = length runs

@@ -3,10 +3,10 @@ ghost use Rattle.lifecycle.specs.BackOff.{later, next_row, ready_at, row_of, wai
 
 use crate::past_run::PastRun;
 
-// A run of so many seconds or more begins the back-off anew.
+// A run of at least this many seconds restarts the back-off.
 const LONG_RUN: u64 = 600;
 
-// How many runs count with one more.
+// How many runs count after one more.
 pub(crate) fn next_row(row: usize, run: &PastRun) -> usize
     requires { row < 2 ^ 64 - 1 }
     ensures { result ≡ next_row row run.now }
@@ -25,7 +25,7 @@ fn row(runs: &[PastRun]) -> usize
     row
 }
 
-// How many seconds to wait behind so many runs in a row.
+// How many seconds to wait after this many runs in a row.
 fn wait(row: usize) -> u64
     ensures { result ≡ wait_of row }
 {
@@ -39,16 +39,16 @@ fn wait(row: usize) -> u64
     }
 }
 
-// So long behind the last of so many runs in a row.
+// The moment at which the wait after the last of this many runs in a row ends.
 pub(crate) fn ready_behind(last: &PastRun, row: usize) -> u64
     ensures { result ≡ later last.now.recorded (wait_of row) }
 {
     last.recorded().saturating_add(wait(row))
 }
 
-/// The moment from which on the next attempt may be made, in seconds: behind the moment at which the last
-/// exit was recorded by 10, 20, 40, 80, 160 and from then on 300 seconds, the more the more runs there
-/// were since the latest one that lasted ten minutes. A sum past the greatest moment is that moment.
+/// The moment, in seconds, from which the next attempt may be made: that at which the last exit was recorded,
+/// plus 10, 20, 40, 80, 160 and from then on 300 seconds, the more the more runs there were since the latest
+/// one that lasted ten minutes. A sum above the greatest moment is that moment.
 pub fn ready_at(runs: &[PastRun]) -> u64
     requires { 0 < length runs.now }
     ensures { result ≡ ready_at runs.now }

@@ -1,4 +1,4 @@
-//! The whole list of past runs, which clauses alone see.
+//! The whole list of past runs, which only clauses see.
 ghost use Rattle.std.specs.Prelude.{◌≡◌, List, [], ◌∷◌, ◌++◌};
 ghost use Rattle.std.specs.Borrow.{ftrue};
 ghost use Rattle.lifecycle.specs.BackOff.{Run};
@@ -19,14 +19,14 @@ impl Model for History {
 unsafe impl Send for History {}
 
 impl History {
-    /// None yet.
+    /// No runs yet.
     pub(crate) fn none() -> History
         ensures { result.runs ≡ [] }
     {
         History {}
     }
 
-    /// These and one more.
+    /// These runs and one more.
     pub(crate) fn and(&self, run: &PastRun) -> History
         ensures { result.runs ≡ self.now.runs ++ run.now ∷ [] }
     {

@@ -13,8 +13,8 @@ pub fn finished_init_stays_finished()
     ensures { (policy : RestartPolicy) → may_restart policy true 0 ≡ false }
 {}
 
-/// What the back-off counts: the latest run of ten minutes or more and those behind it, or all runs where
-/// none lasted so long.
+/// The back-off counts the latest run of ten minutes or more and those after it, or all runs if none lasted
+/// so long.
 pub fn back_off_counts_from_the_last_long_run()
     ensures long { (earlier later : List Run) (run : Run) → 600 ≤ lasted run
         → All (λ after. lasted after < 600) later
@@ -22,15 +22,15 @@ pub fn back_off_counts_from_the_last_long_run()
     ensures none_long { (runs : List Run) → All (λ run. lasted run < 600) runs → row_of runs ≡ length runs }
 {}
 
-/// A pod with no other containers than init containers has succeeded, unless one of them failed.
+/// A pod with only init containers has succeeded, unless one of them failed.
 pub fn init_containers_alone_succeed()
     ensures { (policy : RestartPolicy) (lost : Bool) (tracks : List Track)
         → All (λ track. track.init ≡ true) tracks
         → has_failed_init policy tracks ≡ false → phase_of policy lost tracks ≡ Phase.Succeeded }
 {}
 
-/// What the constants of this crate are.
+/// The values of this crate's constants.
 pub fn constants_are_as_stated()
-    // that many, and one more that is going on, are below 2 ^ 64
+    // this many runs, and one more that is going on, are below 2 ^ 64
     ensures { MAX_RUNS + 2 ≡ 2 ^ 64 }
 {}

@@ -3,8 +3,8 @@ ghost use Rattle.lifecycle.specs.BackOff.{Run, lasted};
 
 use std::marker::Model;
 
-/// A run of a container that ended: when its start was answered, the code with which it ended, and when
-/// that exit was recorded. It was not recorded before it was started.
+/// A run of a container that ended: when its start was answered, its exit code, and when that exit was
+/// recorded. It was not recorded before it was started.
 #[derive(Drop)]
 pub struct PastRun {
     started: u64,
@@ -44,7 +44,7 @@ impl PastRun {
         self.started
     }
 
-    /// The code with which it ended.
+    /// Its exit code.
     pub fn code(&self) -> u8
         ensures { result ≡ self.now.code }
     {

@@ -1,6 +1,6 @@
 use std::fmt;
 
-/// Where a pod is in its life.
+/// The phase of a pod's life.
 #[derive(Clone, Copy, Debug, PartialEq, Eq)]
 pub enum Phase {
     /// An init container is not finished, or a container was never started.
@@ -11,7 +11,7 @@ pub enum Phase {
     Succeeded,
     /// All containers are finished, one with another code; or an init container is.
     Failed,
-    /// The last call for the pod was lost, so nobody knows.
+    /// The last call for the pod was lost, so the phase is not known.
     Unknown,
 }
 

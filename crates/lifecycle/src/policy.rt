@@ -12,8 +12,8 @@ pub enum RestartPolicy {
     Never,
 }
 
-/// Whether a container may be started again after it ended with this code. An init container under
-/// `RestartPolicy::Always` goes by `RestartPolicy::OnFailure`: it has to succeed only once.
+/// Whether a container may be started again after it ended with this code. For an init container
+/// `RestartPolicy::Always` counts as `RestartPolicy::OnFailure`: it has to succeed only once.
 pub fn may_restart(policy: RestartPolicy, init: bool, code: u8) -> bool
     ensures { result ≡ may_restart policy init code }
 {

@@ -35,9 +35,9 @@ fn is_pending(policy: RestartPolicy, tracks: &[Track]) -> bool
     })
 }
 
-/// The phase of the pod of these containers, where `lost` says that the last call for it was lost or
-/// abandoned. The first rule that applies gives it: an init container failed; all others are finished;
-/// the last call was lost; an init container is not finished, or another was never started.
+/// The phase of the pod of these containers; `lost` is whether the last call for it was lost or abandoned.
+/// The first rule that applies decides: an init container failed; all others are finished; the last call was
+/// lost; an init container is not finished, or another was never started.
 pub fn phase(tracks: &[Track], policy: RestartPolicy, lost: bool) -> Phase
     ensures { result ≡ phase_of policy lost tracks.now }
 {

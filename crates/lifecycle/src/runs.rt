@@ -10,11 +10,11 @@ use crate::past_run::PastRun;
 use std::alloc::AllocError;
 use std::marker::Model;
 
-/// So many runs of a container can be counted, and one more that is going on. No container comes near it.
+/// This many runs of a container can be counted, and one more that is going on. No container comes near it.
 pub const MAX_RUNS: usize = usize::MAX - 1;
 
-/// The runs of a container that ended, the oldest first. However many they are, they take no memory: what is
-/// kept is how many there are, the last one, and how many of them the back-off counts.
+/// The runs of a container that ended, the oldest first. However many they are, they take no memory: only
+/// their count, the last one, and how many of them the back-off counts are kept.
 #[derive(Drop)]
 pub struct Runs {
     count: usize,
@@ -36,7 +36,7 @@ impl Model for Runs {
         × (r.row ≡ row_of r.all.runs) × (r.row ≤ r.count) × (r.last ≡ last_of r.all.runs) };
 }
 
-// These runs and one more, with what is kept of them.
+// The history of these runs and one more.
 fn one_more(earlier: &History, run: &PastRun) -> History
     ensures all { result.runs ≡ earlier.now.runs ++ run.now ∷ [] }
     ensures last { last_of result.runs ≡ Some run.now }
@@ -47,7 +47,7 @@ fn one_more(earlier: &History, run: &PastRun) -> History
 }
 
 impl Runs {
-    /// None yet.
+    /// No runs yet.
     pub fn new() -> Runs
         ensures { result ≡ [] }
     {
@@ -59,8 +59,8 @@ impl Runs {
         }
     }
 
-    /// Adds the latest run. That takes no memory; it is refused as if it did where there are [`MAX_RUNS`],
-    /// and then the run is dropped and the rest is as it was.
+    /// Adds the latest run. That takes no memory, but if there are [`MAX_RUNS`] it fails as if memory ran
+    /// out: the run is dropped and nothing else changes.
     pub fn push(&mut self, run: PastRun) -> Result<(), AllocError>
         ensures ok { OnOk result (self.new ≡ self.old ++ run ∷ []) }
         ensures err { OnErr result (self.new ≡ self.old) }
@@ -102,7 +102,7 @@ impl Runs {
         self.last.as_ref()
     }
 
-    /// What [`ready_at`](crate::ready_at) says of them, and 0 where there are none.
+    /// The result of [`ready_at`](crate::ready_at) for them, and 0 if there are none.
     pub fn ready_at(&self) -> u64
         ensures { result ≡ ready_at self.now }
     {

@@ -6,7 +6,7 @@ use crate::policy::{RestartPolicy, may_restart};
 use crate::runs::Runs;
 use crate::state::ContainerState;
 
-/// How far the current attempt of a container has come, as far as it was told. Attempts count from 0.
+/// The last known stage of a container's current attempt. Attempts count from 0.
 #[derive(Clone, Copy, Debug, PartialEq, Eq)]
 pub enum Stage {
     /// No attempt was made.
@@ -21,7 +21,7 @@ pub enum Stage {
         started: u64,
         polled: Option<u64>,
     },
-    /// It ended, as the last of the runs says, and was not removed.
+    /// It ended, as recorded in the last of the runs, and was not removed.
     Exited {
         attempt: u32,
     },
@@ -31,7 +31,7 @@ pub enum Stage {
     },
 }
 
-/// What became of a container of a pod.
+/// The history of a container of a pod.
 #[derive(Drop)]
 pub struct Track {
     /// Whether it is an init container.
@@ -44,7 +44,7 @@ pub struct Track {
 }
 
 impl Track {
-    /// The code with which its last run ended, where no further one is going on.
+    /// The exit code of its last run, if no further run is going on.
     pub fn ended_code(&self) -> Option<u8>
         ensures { result ≡ ended_code self.now }
     {
@@ -54,7 +54,7 @@ impl Track {
         }
     }
 
-    /// How many attempts were started: each run that ended, and the one that is going on.
+    /// How many attempts were started: each run that ended, and the current one.
     pub fn started(&self) -> usize
         ensures { result ≡ started_of self.now }
     {
@@ -101,7 +101,7 @@ impl Track {
         }
     }
 
-    /// The state that it is in.
+    /// Its state.
     pub fn state(&self, policy: RestartPolicy) -> ContainerState
         ensures { result ≡ state_of policy self.now }
     {

@@ -1,4 +1,4 @@
--- The uid that a pod has by default is one.
+-- The default uid of a pod is a uid.
 use Rattle.std.proofs.Common.{◌≡◌, ℕ, ◌+◌, ◌≤◌, List, [], ◌∷◌, ◌++◌, length, codes, ◌&&◌, Bool, true, false}
 use Rattle.std.proofs.Common.{length-append, leb, refl, ap, ◌∙◌, arith}
 use Rattle.std.specs.Prelude.{IsTrue}

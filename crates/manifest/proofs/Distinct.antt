@@ -45,7 +45,7 @@ apart_push done c apart new =
     all_pairs_push (λ (one other : Container). one.name ≢ other.name) done c apart (λ k d lt.
     other_bytes _ _ (any_at (λ (x : Container). bytes_eq x.name c.name) done k d new lt))
 
--- a container that stands behind others has a new name
+-- a container after others has a new name
 pub apart_at : (done : List Container) (c : Container) (rest : List Container) → AreApart (done ++ c ∷ rest)
     → is_taken done c.name ≡ false
 unfolding is_taken

@@ -1,4 +1,4 @@
--- What is read is so: each reading, where it goes on, gives what the tree has.
+-- What is read is right: each reading that succeeds returns what the tree has.
 use Rattle.std.proofs.Common.{◌≡◌, ℕ, List, not, codes, cond, Bool, true, false, Option, Some, None}
 use Rattle.std.proofs.Common.{unwrap_or, Result, Ok, Err, refl, sym, ap, subst, ◌∙◌}
 use Rattle.std.specs.Bool.{⊤}
@@ -44,7 +44,7 @@ passed false h = absurd cc
 same_bytes : (name other : List ℕ) → bytes_eq name other ≡ true → name ≡ other
 same_bytes name other h = (bytes_eq-Decides name other).0 h
 
--- what a chain of tests answers is so where each answer is
+-- the answer of a chain of tests is right if each answer is
 one_of : {A E : Type 0} (P : A → Type 0) (test : Bool) (one others : Result A E)
     → (test ≡ true → (y : A) → one ≡ Ok y → P y) → ((y : A) → others ≡ Ok y → P y) → (y : A)
     → cond test one others ≡ Ok y → P y
@@ -54,7 +54,7 @@ one_of P false one others here rest y h = rest y h
 abbrev pub IsRead : {A E : Type 0} → Result A E → A → Type 0
 IsRead r x = r ≡ Ok x
 
--- what was read of what stands under a step
+-- the reading of the value under a step
 pub under_ok : {A : Type 0} (part : Part) (r : Result A PodFaultAt) (x : A) → under part r ≡ Ok x → r ≡ Ok x
 under_ok part r x h = as_fault_ok (fault_within part) r x h
 

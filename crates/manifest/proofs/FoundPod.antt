@@ -1,4 +1,4 @@
--- What is read of the containers and of the whole is so.
+-- The containers and the pod that are read are right.
 use Rattle.std.proofs.Common.{◌≡◌, ℕ, ◌+◌, ◌-◌, ◌<◌, ◌≤◌, List, [], ◌∷◌, ◌++◌, length, length-append, codes}
 use Rattle.std.proofs.Common.{eqb, ltb, true, false, Option, Some, None, unwrap_or, Result, Ok, Err, refl}
 use Rattle.std.proofs.Common.{sym, ap, subst, ◌∙◌, arith}
@@ -285,7 +285,7 @@ pod_found tree pod h =
       };
     }) containers.2
 
--- what is given is the text's pod
+-- the returned pod is the text's pod
 pub found : (bytes : List ℕ) (result : Result Pod PodFaultAt) → Reads (λ pod. pod) result (reading_of bytes)
     → IfOk result (ReadsPod bytes)
 unfolding reading_of document

@@ -1,4 +1,4 @@
--- What is so is read: where the tree has it, each reading goes on and gives it.
+-- Every pod is read: each reading of its tree succeeds and returns what the tree has.
 use Rattle.std.proofs.Common.{◌≡◌, ℕ, ◌+◌, ◌<◌, List, [], ◌∷◌, ◌++◌, length, length-append, codes, eqb, Bool}
 use Rattle.std.proofs.Common.{true, false, Option, Some, None, unwrap_or, Result, Ok, Err, refl, sym, ap}
 use Rattle.std.proofs.Common.{subst, ◌∙◌, arith}
@@ -169,7 +169,7 @@ after_length f done (x ∷ xs) ys h =
     let grown : length (done ++ one.0 ∷ []) ≡ length done + 1 = simp length-append refl in
     omega (arith, rest, grown)
 
--- where an item's place makes no difference, the lists are read alike
+-- if an item's place makes no difference, the lists are read alike
 same_read : {A B E : Type 0} (f g : List B → A → Result B E)
     → ((done : List B) (x : A) (y : B) → f done x ≡ Ok y → g done x ≡ Ok y)
     → (done : List B) (xs : List A) (ys : List B) → in_order_after f done xs ≡ Ok ys

@@ -1,5 +1,5 @@
 -- The containers of a pod (Kubernetes 1.27, `PodSpec`). That names differ over both lists is the API's rule;
--- how many there may be is this project's own.
+-- the greatest number of containers is this project's own.
 use Rattle.std.specs.Prelude.{◌≢◌, ℕ, ◌<◌, ◌≤◌, List, length, AllPairs}
 use Rattle.manifest.specs.declared.containers.Container.{Container}
 use Rattle.manifest.specs.declared.containers.TheConstants.{MAX_CONTAINERS}

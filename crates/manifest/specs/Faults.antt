@@ -1,4 +1,4 @@
--- The faults of fields and of texts, as faults of manifests, where they are, and the names of faults as
+-- The faults of fields and of texts, as faults of manifests with their places, and the names of faults as
 -- programs print them: this project's own.
 use Rattle.std.specs.Prelude.{ℕ, List, [], ◌∷◌, codes, Result}
 use Rattle.json_tree.specs.declared.faults.FieldFault.{FieldFault}
@@ -31,18 +31,18 @@ fault_here fault = record { fault = fault; place = [] }
 abbrev pub fault_at : List ℕ → PodFault → PodFaultAt
 fault_at key fault = record { fault = fault; place = Member key ∷ [] }
 
--- of what stands under a step of it
+-- of the value under a step of it
 abbrev pub fault_within : Part → PodFaultAt → PodFaultAt
 fault_within part found = record { fault = found.fault; place = within part found.place }
 
 abbrev pub fault_of_field_at : FieldFaultAt → PodFaultAt
 fault_of_field_at found = record { fault = fault_of_field found.fault; place = found.place }
 
--- what was made of the member with this key
+-- the result for the member with this key
 abbrev pub at : {A : Type 0} → List ℕ → Result A PodFault → Result A PodFaultAt
 at key made = as_fault (fault_at key) made
 
--- what was read of what stands under the step
+-- the result for the value under the step
 abbrev pub under : {A : Type 0} → Part → Result A PodFaultAt → Result A PodFaultAt
 under part read = as_fault (fault_within part) read
 

@@ -1,6 +1,6 @@
 -- Manifests of pods as JSON trees: Kubernetes 1.27, API reference, `Pod` v1, the fields that this project
--- runs. Which tree is which pod, field by field; nothing here knows of an order in which the fields are read.
--- This project's own are the uid of a pod that has none, that an image is a descending path, and the limits.
+-- runs. Which tree is which pod, field by field, in no order of reading. This project's own are the uid of a
+-- pod that has none, that an image is a descending path, and the limits.
 use Rattle.std.specs.Prelude.{◌≡◌, ℕ, List, [], ◌++◌, length, codes, Bool, false, IsTrue, Option, Some, None}
 use Rattle.std.specs.Prelude.{unwrap_or}
 use Rattle.serde_json.specs.Data.{Data}
@@ -16,7 +16,7 @@ use Rattle.manifest.specs.Containers.{AreContainers}
 use Rattle.manifest.specs.Heads.{default_uid}
 use Rattle.manifest.specs.Texts.{is_descending, is_label, is_pod_name, is_uid}
 
--- what "metadata" says
+-- the content of "metadata"
 pub record HasIdentity (tree : Data) (namespace name uid : List ℕ) : Type 0 where
   pub name_there : HasField text (codes "name") tree name
   pub name_fits : IsTrue (is_pod_name name)
@@ -29,7 +29,7 @@ pub record HasIdentity (tree : Data) (namespace name uid : List ℕ) : Type 0 wh
   pub uid_is : uid ≡ unwrap_or given_uid (default_uid namespace name)
   pub uid_fits : IsTrue (is_uid uid)
 
--- Always where nothing is said
+-- Always if there is none
 abbrev pub IsPolicyOf : RestartPolicy → Option (List ℕ) → Type 0
 IsPolicyOf Always given = unwrap_or given (codes "Always") ≡ codes "Always"
 IsPolicyOf OnFailure given = given ≡ Some (codes "OnFailure")
@@ -45,7 +45,7 @@ pub record HasGrace (spec : Data) (grace : ℕ) : Type 0 where
   pub there : MayHaveField whole (codes "terminationGracePeriodSeconds") spec given
   pub is : grace ≡ unwrap_or given 30
 
--- the type and the path that the profile has
+-- the type and the path of the profile
 abbrev pub IsWritten : SeccompProfile → List ℕ → Option (List ℕ) → Type 0
 IsWritten RuntimeDefault name path = (name ≡ codes "RuntimeDefault") × (path ≡ None)
 IsWritten (Localhost file) name path = (name ≡ codes "Localhost") × (path ≡ Some file)
@@ -60,7 +60,7 @@ pub record IsProfile (tree : Data) (profile : SeccompProfile) : Type 0 where
   pub path_there : MayHaveField text (codes "localhostProfile") tree path
   pub written : IsWritten profile name path
 
--- both are there, and one is the other's, or neither is
+-- both are present, and one is the other's, or neither is
 abbrev pub SameWhere : {A B : Type 0} → (A → B → Type 0) → Option A → Option B → Type 0
 SameWhere R None None = Unit {0}
 SameWhere R None (Some y) = ⊥
@@ -104,7 +104,7 @@ pub record IsContainer (tree : Data) (container : Container) : Type 0 where
   pub context_there : MayHaveField object (codes "securityContext") tree context
   pub settings : HasSettingsWithin context container.privileged container.profile
 
--- what "spec" says of the containers
+-- the content of "spec" for the containers
 pub record HasContainers (spec : Data) (all : List Container) (inits : ℕ) : Type 0 where
   pub given : Option (List Data)
   pub inits_there : MayHaveField list (codes "initContainers") spec given

@@ -6,13 +6,13 @@ use Rattle.manifest.specs.declared.profiles.SeccompProfile.{SeccompProfile}
 use Rattle.manifest.specs.declared.profiles.SeccompProfile.TheVariants.{RuntimeDefault, Localhost, Unconfined}
 use Rattle.manifest.specs.Texts.{is_descending}
 
--- the profile that the text stands for
+-- the profile that the text represents
 abbrev pub profile_seen : ProfileText → SeccompProfile
 profile_seen read.RuntimeDefault = RuntimeDefault
 profile_seen (read.Localhost path) = Localhost path.now
 profile_seen read.Unconfined = Unconfined
 
--- its path, where it has one, is descending
+-- its path, if it has one, is descending
 abbrev pub HasFitPath : Option ProfileText → Type 0
 HasFitPath None = Unit {0}
 HasFitPath (Some read.RuntimeDefault) = Unit {0}

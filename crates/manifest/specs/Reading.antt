@@ -1,5 +1,5 @@
--- Which fault of a manifest is found first: docs/SEMANTICS.md, "Manifests", has the order. Each definition
--- says what is read of a tree, its faults in that order, each with the place that it has in the tree.
+-- Which fault of a manifest is found first: docs/SEMANTICS.md, "Manifests", has the order. Each definition is
+-- the reading of a tree, with its faults in that order, each with its place in the tree.
 use Rattle.std.specs.Prelude.{ℕ, ◌==◌, ◌+◌, ◌-◌, List, [], length, codes, Bool, false, not, nat_lt}
 use Rattle.std.specs.Prelude.{if◌then◌else◌, Option, Some, None, option_map, unwrap_or, Result, Ok, Err, ⊤}
 use Rattle.std.specs.List.{list_any}
@@ -31,7 +31,7 @@ use Rattle.manifest.specs.Texts.{is_descending, is_label, is_pod_name, is_uid}
 abbrev pub here : {A : Type 0} → Result A FieldFaultAt → Result A PodFaultAt
 here r = as_fault fault_of_field_at r
 
--- a call gives this reading, or memory ran out
+-- a call returns this reading, or memory ran out
 abbrev pub Reads : {X Y : Type 0} → (X → Y) → Result X PodFaultAt → Result Y PodFaultAt → Type 0
 Reads view result reading = GivesAt (λ found. found.fault) Memory view result reading
 
@@ -59,7 +59,7 @@ checked_uid given = do
   refuse_if (not (is_uid given)) (fault_at (codes "uid") BadName)
   Ok given
 
--- the uid that is given, if one is
+-- the uid, if there is one
 unfoldable pub uid_of : Data → Result (Option (List ℕ)) PodFaultAt
 uid_of tree = do
   given ← here (optional text (codes "uid") tree)
@@ -98,7 +98,7 @@ abbrev pub without_path : SeccompProfile → Option (List ℕ) → Result Seccom
 without_path profile None = Ok profile
 without_path profile (Some path) = Err (fault_at (codes "localhostProfile") BadProfile)
 
--- the type that takes one
+-- the type that takes a path
 abbrev pub with_path : Option (List ℕ) → Result SeccompProfile PodFaultAt
 with_path None = Err (fault_at (codes "localhostProfile") BadProfile)
 with_path (Some path) = if is_descending path then Ok (Localhost path)
@@ -124,7 +124,7 @@ profile_in context = do
   found ← here (optional object (codes "seccompProfile") context)
   under (Member (codes "seccompProfile")) (if_there profile_of found)
 
--- the same where the `securityContext` may be left out
+-- the profile of an optional `securityContext`
 abbrev pub profile_within : Option Data → Result (Option SeccompProfile) PodFaultAt
 profile_within None = Ok None
 profile_within (Some context) = profile_in context
@@ -152,7 +152,7 @@ others_of spec = do
   refuse_if (length others == 0) (fault_at (codes "containers") Missing)
   Ok others
 
--- both lists as they stand there
+-- both lists as written there
 unfoldable pub lists_of : Data → Result Lists PodFaultAt
 lists_of spec = do
   inits ← inits_of spec
@@ -170,7 +170,7 @@ named_of tree = do
   metadata ← here (required object (codes "metadata") tree)
   under (Member (codes "metadata")) (identity_of metadata)
 
--- what is judged before a container is looked at
+-- the parts that are read before the containers
 unfoldable pub head_of : Data → Result Head PodFaultAt
 head_of whole_tree = do
   tree ← or_else (fault_here WrongType) (object whole_tree)
@@ -201,7 +201,7 @@ abbrev pub settings_within : Option Data → Result Context PodFaultAt
 settings_within None = Ok (record { privileged = false; profile = None })
 settings_within (Some context) = settings_in context
 
--- what a container's `securityContext` says
+-- the content of a container's `securityContext`
 unfoldable pub context_of : Data → Result Context PodFaultAt
 context_of tree = do
   context ← here (optional object (codes "securityContext") tree)
@@ -215,11 +215,11 @@ container_of done item = do
   context ← context_of tree
   Ok (record { name = name; image = image; privileged = context.privileged; profile = context.profile })
 
--- as the item of its list behind those that were read, of which so many are of another list
+-- as the item of its list after those that were read, this many of which are of another list
 abbrev pub container_at : ℕ → List Container → Data → Result Container PodFaultAt
 container_at others done item = under (Item (length done - others)) (container_of done item)
 
--- the containers of one list, behind those of another
+-- the containers of one list, after those of another
 abbrev pub listed_of : List ℕ → List Container → List Data → Result (List Container) PodFaultAt
 listed_of key done items = under (Member (codes "spec"))
     (under (Member key) (in_order_after (container_at (length done)) done items))
@@ -257,6 +257,6 @@ reading_of bytes = do
 abbrev pub first_fault_at : List ℕ → Option PodFaultAt
 first_fault_at bytes = result_err (reading_of bytes)
 
--- the same without the place
+-- the first fault without its place
 abbrev pub first_fault : List ℕ → Option PodFault
 first_fault bytes = option_map (λ found. found.fault) (first_fault_at bytes)

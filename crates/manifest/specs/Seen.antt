@@ -1,4 +1,4 @@
--- What is lent by the tree of a manifest stands for this: this project's own.
+-- The values that the borrowed parts of a manifest's tree represent: this project's own.
 use Rattle.std.specs.Prelude.{map, option_map, unwrap_or}
 use Rattle.serde_json.specs.View.{view}
 use Rattle.manifest.specs.declared.lent.ContextText.{ContextText}

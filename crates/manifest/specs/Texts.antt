@@ -6,7 +6,7 @@ use Rattle.std.specs.Prelude.{ℕ, ◌==◌, ◌-◌, List, length, codes, Bool,
 use Rattle.std.specs.List.{list_all, list_any, slice_split}
 use Rattle.std.specs.Str.{bytes_eq}
 
--- the byte lies between these, both included
+-- the byte is between these, both included
 abbrev pub is_between : ℕ → ℕ → ℕ → Bool
 is_between low high byte = nat_le low byte && nat_le byte high
 
@@ -23,7 +23,7 @@ is_upper byte = is_between 65 90 byte
 abbrev pub is_plain_byte : ℕ → Bool
 is_plain_byte byte = is_lower byte || is_digit byte
 
--- that or a dash
+-- a lower-case letter, a digit or a dash
 abbrev pub is_label_byte : ℕ → Bool
 is_label_byte byte = is_plain_byte byte || byte == 45
 
@@ -35,7 +35,7 @@ is_pod_byte byte = is_label_byte byte || byte == 46
 abbrev pub is_uid_byte : ℕ → Bool
 is_uid_byte byte = is_pod_byte byte || is_upper byte
 
--- at least one byte, and at most so many
+-- at least one byte, and at most this many
 abbrev pub has_length_to : ℕ → List ℕ → Bool
 has_length_to most bytes = nat_le 1 (length bytes) && nat_le (length bytes) most
 

@@ -10,7 +10,7 @@ pub enum PodFault {
     NotJson,
     /// A required field is missing, or all containers are init containers.
     Missing,
-    /// A field has the wrong type, or is not one of the texts that it may be.
+    /// A field has the wrong type, or is not one of its allowed texts.
     WrongType,
     /// A name, a namespace, a uid or an image is invalid.
     BadName,

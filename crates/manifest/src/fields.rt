@@ -15,7 +15,7 @@ use serde_json::Value;
 
 // The fields that more than one part of a manifest has. Nothing is allocated.
 
-// The field is this text.
+// Checks that the field is this text.
 #[tactic(auto, unfolding(crate::specs::Reading::says))]
 pub(crate) fn says(tree: &Value, key: &'static str, want: &str) -> Result<(), PodFaultAt>
     ensures { result ≡ says key.now want.now (view tree.now) }
@@ -62,7 +62,7 @@ pub(crate) fn path<'v>(tree: &'v Value, key: &'static str) -> Result<&'v str, Po
     Ok(path)
 }
 
-// The `seccompProfile` of a `securityContext` that may be left out.
+// The `seccompProfile` of an optional `securityContext`.
 pub(crate) fn profile_within<'v>(
     context: Option<&'v Value>,
 ) -> Result<Option<ProfileText<'v>>, PodFaultAt>

@@ -25,8 +25,8 @@ use json_tree::object;
 use lifecycle::RestartPolicy;
 use serde_json::Value;
 
-// What a manifest has besides its containers. Nothing is allocated, so each fault is reported even if memory
-// runs out.
+// The parts of a manifest besides its containers. Nothing is allocated, so each fault is reported even if
+// memory runs out.
 
 #[tactic(auto, unfolding(crate::specs::Reading::head_of))]
 pub(crate) fn head(tree: &Value) -> Result<HeadText<'_>, PodFaultAt>

@@ -7,9 +7,9 @@ use crate::profiles::ProfileText;
 use lifecycle::RestartPolicy;
 use serde_json::Value;
 
-// What is read of a manifest, borrowed from its tree.
+// The parts read from a manifest, borrowed from its tree.
 
-// What `metadata` says.
+// The content of `metadata`.
 #[derive(Clone, Copy)]
 pub(crate) struct IdentityText<'v> {
     pub(crate) namespace: &'v str,
@@ -20,7 +20,7 @@ pub(crate) struct IdentityText<'v> {
     ghost uid_fits: { ForSome uid (λ t. IsTrue (rule.is_uid t.now)) },
 }
 
-// What `spec` says of the pod as a whole.
+// The content of `spec` for the pod as a whole.
 #[derive(Clone, Copy)]
 pub(crate) struct TermsText<'v> {
     pub(crate) policy: RestartPolicy,
@@ -44,7 +44,7 @@ pub(crate) struct HeadText<'v> {
     pub(crate) lists: ListsText<'v>,
 }
 
-// What a container's `securityContext` says.
+// The content of a container's `securityContext`.
 #[derive(Clone, Copy)]
 pub(crate) struct ContextText<'v> {
     pub(crate) privileged: bool,

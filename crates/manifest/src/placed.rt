@@ -48,7 +48,7 @@ impl PodFaultAt {
     }
 }
 
-/// The result of reading the member with this key, a fault placed at that member.
+/// The result of reading the member with this key, with a fault placed at that member.
 pub(crate) fn at<T>(key: &'static str, made: Result<T, PodFault>) -> Result<T, PodFaultAt>
     ensures { result ≡ at key.now made }
 {
@@ -58,7 +58,7 @@ pub(crate) fn at<T>(key: &'static str, made: Result<T, PodFault>) -> Result<T, P
     }
 }
 
-/// The result of reading what is under a step, a fault placed under that step.
+/// The result of reading the value under a step, with a fault placed under that step.
 pub(crate) fn under<T>(step: Step, read: Result<T, PodFaultAt>) -> Result<T, PodFaultAt>
     ensures { result ≡ under (part_of step) read }
 {

@@ -17,7 +17,7 @@ pub struct Pod {
     pub policy: RestartPolicy,
     /// The termination grace period of its containers, in seconds.
     pub grace: u64,
-    /// The `seccompProfile` of those containers that have none.
+    /// The `seccompProfile` of the containers that have none.
     pub profile: Option<SeccompProfile>,
     pub containers: Containers,
 }

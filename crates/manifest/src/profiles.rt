@@ -68,7 +68,7 @@ pub(crate) fn copied(
     }
 }
 
-// A profile as it stands in a text that is being read.
+// A profile as written in a text that is being read.
 #[derive(Clone, Copy)]
 pub(crate) enum ProfileText<'v> {
     RuntimeDefault,

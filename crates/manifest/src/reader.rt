@@ -36,13 +36,13 @@ use std::alloc::{AllocError, Global};
 /// docs/SEMANTICS.md, and of the containers in order, init ones first. Unknown fields are ignored. If an
 /// allocation fails, the result is `Memory`.
 pub fn read(alloc: Global, bytes: &[u8]) -> Result<Pod, PodFault>
-    // What is read is the text's pod.
+    // The result is the text's pod.
     ensures found { IfOk result (ReadsPod bytes.now) }
 
-    // What is a pod is read, unless memory runs out.
+    // Every pod is read, unless memory runs out.
     ensures only { (pod : Pod) → ReadsPod bytes.now pod → Gives PodFault.Memory (λ p. p) result (Ok pod) }
 
-    // A text that is read has no fault, and one that is refused has this first.
+    // A text that is read has no fault, and a refused one has this fault first.
     ensures no_fault { IfOk result (λ _. first_fault bytes.now ≡ None) }
     ensures first { IfErr result (λ fault. fault ≢ PodFault.Memory
         → first_fault bytes.now ≡ Some fault) }
@@ -50,7 +50,7 @@ pub fn read(alloc: Global, bytes: &[u8]) -> Result<Pod, PodFault>
     Ok(read_placed(alloc, bytes)?)
 }
 
-/// Reads a manifest as [`read`] does, and gives the place of the first fault in the text.
+/// Reads a manifest as [`read`] does, and returns the place of the first fault in the text.
 pub fn read_placed(alloc: Global, bytes: &[u8]) -> Result<Pod, PodFaultAt>
     ensures found { IfOk result (ReadsPod bytes.now) }
     ensures only { (pod : Pod) → ReadsPod bytes.now pod → Reads (λ p. p) result (Ok pod) }
@@ -73,7 +73,7 @@ fn reading(alloc: Global, bytes: &[u8]) -> Result<Pod, PodFaultAt>
 fn pod(alloc: Global, tree: &Value) -> Result<Pod, PodFaultAt>
     ensures value { Reads (λ p. p) result (pod_of (view tree.now)) }
 
-    // What is found before a container is looked at is reported even if memory runs out.
+    // A fault found before the containers are read is reported even if memory runs out.
     ensures told { (fault : PodFaultAt) → head_of (view tree.now) ≡ Err fault → result ≡ Err fault }
 {
     let head = head(tree)?;
@@ -163,7 +163,7 @@ fn is_taken(done: &[Container], name: &str) -> bool
     done.iter().any(|container| container.name.as_str() == name)
 }
 
-// The pod of what was read.
+// The pod of the parts that were read.
 fn gathered(alloc: Global, head: HeadText<'_>, containers: Containers) -> Result<Pod, AllocError>
     requires { HasFitPath head.terms.profile }
     ensures { IfOk result (λ pod. pod ≡ pod_from (head_seen head.entry) containers) }

@@ -74,7 +74,7 @@ impl Trial for Feeds {
         }
     }
 
-    // What the feed has is seen by what is taken after the next push.
+    // The feed's contents show after the next push.
     fn is_unchanged(&mut self) -> bool {
         !self.feed.has_failed()
     }
@@ -110,7 +110,7 @@ impl Trial for Takes {
 /// The reply to `RUN`.
 const DONE: &str = "\x02\0\0\x16{\"id\":1,\"ok\":{},\"v\":2}";
 
-/// A wire that takes whatever is written, and gives a reply for each request. Allocates nothing.
+/// A wire that takes whatever is written, and returns a reply for each request. Allocates nothing.
 #[derive(Clone, Copy)]
 struct Line {
     taken: usize,

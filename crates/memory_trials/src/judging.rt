@@ -52,7 +52,7 @@ impl Judges {
         })
     }
 
-    /// What a filter of the code says of getpid, by itself and in a stack, if the filter is sound.
+    /// The verdicts on getpid of a filter of the code, by itself and in a stack, if the filter is sound.
     fn judged(&mut self) -> Option<(Verdict, Verdict)> {
         let filter = verify(self.codes.pop()?).ok()?;
         let ran = run(&filter, &GETPID);

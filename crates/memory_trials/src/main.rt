@@ -43,7 +43,7 @@ fn told(rt: &HostRuntime, name: &str, given: &str) -> Option<Told> {
     serving::told(rt, name, given)
 }
 
-/// Tries a call of what judges calls.
+/// Tries a call for judging calls.
 fn of_filters(rt: &HostRuntime, name: &str) -> Option<Told> {
     if let Some(told) = filters::told(rt, name) {
         return Some(told);
@@ -63,7 +63,7 @@ fn of_filters(rt: &HostRuntime, name: &str) -> Option<Told> {
     scripts::told(rt, name)
 }
 
-/// Tries a call of what is read and written between a user, an agent and a runtime.
+/// Tries a call for what is read and written between a user, an agent and a runtime.
 fn of_messages(rt: &HostRuntime, name: &str) -> Option<Told> {
     if let Some(told) = manifests::told(rt, name) {
         return Some(told);

@@ -31,8 +31,8 @@ const BEFORE: &str = r#"{"call":"RunPodSandbox","id":1,"uid":"u1","v":2}
 {"call":"RunPodSandbox","id":9,"uid":"u3","v":2}
 {"call":"RemovePodSandbox","id":10,"uid":"u3","v":2}"#;
 
-/// What shows the state of a runtime and changes nothing: a creation without a script tells whether the
-/// sandbox is ready, stopped, removed or unknown, and a start of what doesn't exist tells whether it ever
+/// Requests that show the state of a runtime and change nothing: a creation without a script shows whether
+/// the sandbox is ready, stopped, removed or unknown, and a start of what doesn't exist shows whether it ever
 /// did.
 const PROBES: &str = r#"{"call":"ContainerStatuses","id":1,"uid":"u1","v":2}
 {"attempt":9,"call":"CreateContainer","id":2,"image":"a","name":"a","profile":{"type":"Unconfined"},"uid":"u1","v":2}
@@ -70,7 +70,7 @@ fn prepared(alloc: Global, texts: &mut KeptTexts, files: FileAnswers) -> FileAns
     files
 }
 
-/// `Runtime::serve`: a runtime, another one like it, and the inputs of two calls, which may be prepared first.
+/// `Runtime::serve`: a runtime, one like it, and the inputs of two calls, which may be prepared first.
 #[derive(Drop)]
 struct Serves {
     alloc: Global,

@@ -84,8 +84,7 @@ fn there_and_back(rt: HostRuntime) {
     }
 }
 
-// What the members of a reply say together: the text that is written of what was read, none if it is not a
-// message.
+// The members of a reply together: the text that is written after reading it, none if it is not a message.
 const SAID: &str = r#"{"refused":3,"ok":{},"v":2,"id":5}=>{"id":5,"refused":3,"v":2}
 {"refused":3,"ok":1,"v":2,"id":5}=>{"id":5,"refused":3,"v":2}
 {"refused":null,"ok":{},"v":2,"id":5}=>{"id":5,"ok":{},"v":2}
@@ -155,7 +154,7 @@ fn key(alloc: Global) -> Option<Key> {
     })
 }
 
-// Whether the answer to the call reports this of the exit of attempt 1.
+// Whether the answer to the call reports this about the exit of attempt 1.
 fn tells(alloc: Global, answer: &Answer, call: &Call, want: &str) -> bool {
     match key(alloc) {
         Some(key) => is_code(answer.exit_told(call, &key), want),
@@ -174,7 +173,7 @@ fn tells_asked(alloc: Global, answer: &Answer, asked: &str, want: &str) -> bool 
     }
 }
 
-// The same of a text, where nothing is wanted of one that is not a message.
+// The same for a text; nothing is wanted if it is not a message.
 fn is_told(alloc: Global, text: &str, asked: &str, want: &str) -> bool {
     match Reply::read(alloc, Version::V2, text.as_bytes()) {
         Ok(reply) => tells_asked(alloc, &reply.answer, asked, want),

@@ -46,7 +46,7 @@ fn take_all(feed: &mut Feed, taken: &mut Vec<u8>) -> Result<(), AllocError> {
     Ok(())
 }
 
-// Pushes a piece and adds what is whole then.
+// Pushes a piece and adds the frames that are whole then.
 fn pass(feed: &mut Feed, piece: &[u8], taken: &mut Vec<u8>) -> bool {
     push(feed, piece).is_ok() && take_all(feed, taken).is_ok()
 }

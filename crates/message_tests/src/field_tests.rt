@@ -84,7 +84,7 @@ fn each_field(rt: HostRuntime) {
     }
 }
 
-// Texts that are not messages, and the number that is reported of them.
+// Texts that are not messages, and the number that is reported for them.
 const NONE: &str = r#"=>0
 {"id":7,"v":2=>0
 null=>0

@@ -2,7 +2,7 @@ use lifecycle::RestartPolicy;
 use manifest::*;
 use std::alloc::{AllocError, Global};
 
-// The smallest manifest that says something: all the rest is left to the defaults.
+// The smallest manifest: all the rest is left to the defaults.
 const SMALLEST: &str = "{\"apiVersion\":\"v1\",\"kind\":\"Pod\",\"metadata\":{\"name\":\"p\"},
     \"spec\":{\"containers\":[{\"name\":\"a\",\"image\":\"a.json\"}]}}";
 

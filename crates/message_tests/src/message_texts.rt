@@ -1,15 +1,15 @@
 use cri_msgs::*;
 use std::alloc::Global;
 
-// What tests of messages share. None owns two messages at once, and tables are texts with a row a line, which
-// cost the prover less than arrays do.
+// Helpers of the tests of messages. None owns two messages at once, and tables are texts with one row per
+// line, which cost the prover less than arrays do.
 
 // The two parts of a row.
 pub(crate) fn halves(row: &str) -> (&str, &str) {
     row.split_once("=>").unwrap_or((row, ""))
 }
 
-// What is written of a request, if its copy is the same.
+// The text of a request, if its copy is the same.
 fn written(alloc: Global, request: &Request, to: Version) -> Option<Vec<u8>> {
     if is_copied(alloc, request) {
         request.write(alloc, to).ok()

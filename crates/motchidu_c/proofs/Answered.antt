@@ -1,4 +1,4 @@
--- What a number tells: which comparison, and of which refusals it tells none.
+-- The meaning of a number: which comparison, and which refusals it does not mean.
 use Rattle.std.proofs.Common.{◌≡◌, refl, arith}
 use Rattle.bpf_compare.specs.declared.comparison.Comparison.{Comparison}
 use Rattle.bpf_compare.specs.declared.comparison.Comparison.TheVariants.{Same, Differs, Undecided}
@@ -15,7 +15,7 @@ is_same (Differs call one other) e = absurd (omega (arith, e))
 is_same (Undecided Budget) e = absurd (omega (arith, e))
 is_same (Undecided Arithmetic) e = absurd (omega (arith, e))
 
--- no refusal is told as Lengths
+-- no refusal has the number of Lengths
 pub is_not_lengths : (refusal : Refusal) → number_of (status_of refusal) ≡ 13 → ⊥
 is_not_lengths (Code text.Length) e = omega (arith, e)
 is_not_lengths (Code text.TooLong) e = omega (arith, e)

@@ -1,2 +1,5 @@
 mod Answered
+mod Ascii
 mod Bytes
+mod CapNames
+mod TooLarge

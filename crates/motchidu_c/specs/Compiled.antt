@@ -1,5 +1,5 @@
--- Bytes that are a profile's filter: they spell sound code whose value is, on every call, what the profile
--- says of it. Profiles are those of OCI runtime-spec 1.1, filters those of seccomp(2).
+-- Bytes that are a profile's filter: they spell sound code whose value on every call is the profile's.
+-- Profiles are those of OCI runtime-spec 1.1, filters those of seccomp(2).
 use Rattle.std.specs.Prelude.{◌≡◌, ℕ, ◌<◌, ◌≤◌, List, length, take, drop}
 use Rattle.bpf_code.specs.declared.insn.Insn.{Insn}
 use Rattle.bpf_machine.specs.Runs.{Runs}
@@ -17,19 +17,19 @@ pub record IsFilterOf (profile : Profile) (bytes : List ℕ) : Type 0 where
   pub sound : IsSound code
   pub means : (call : SysCall) → IsCall call → (steps : ℕ) × Runs code call (meaning profile call) steps
 
--- the bytes are a filter of the profile that the text is
+-- the bytes are a filter of the text's profile
 pub record IsFilterOfText (text bytes : List ℕ) : Type 0 where
   pub profile : Profile
   pub reads : ReadsProfile text profile
   pub filter : IsFilterOf profile bytes
 
--- the first bytes of the room are the filter of the profile that the text is, and the others are as before
+-- the first bytes of the room are the filter of the text's profile, and the others are unchanged
 pub record IsCompiled (text old new : List ℕ) (len : ℕ) : Type 0 where
   pub inside : len ≤ length old
   pub filter : IsFilterOfText text (take len new)
   pub rest : drop len new ≡ drop len old
 
--- a filter of the profile that the text is takes so many bytes, for which there is no room
+-- a filter of the text's profile takes this many bytes, for which there is no room
 pub record NeedsRoom (text room : List ℕ) (len : ℕ) : Type 0 where
   pub bytes : List ℕ
   pub filter : IsFilterOfText text bytes

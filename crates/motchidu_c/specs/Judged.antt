@@ -1,12 +1,12 @@
--- What the machine makes of calls that are given as their bytes, struct seccomp_data of seccomp(2), 64
--- bytes each, one after the other.
+-- The machine's results on calls given as bytes, struct seccomp_data of seccomp(2), 64 bytes each, one after
+-- the other.
 use Rattle.std.specs.Prelude.{◌≡◌, ℕ, ◌+◌, ◌*◌, ◌<◌, ◌≤◌, List, length, slice_index, slice_range}
 use Rattle.bpf_code.specs.declared.insn.Insn.{Insn}
 use Rattle.bpf_machine.specs.Runs.{NeverStuck, Runs}
 use Rattle.call_data.specs.CallData.{IsCall, bytes_of_call}
 use Rattle.call_data.specs.declared.sys_call.SysCall.{SysCall}
 
--- the run of the code on the call with these bytes: it gives this value after so many steps, ends within
+-- the run of the code on the call with these bytes: it returns this value after this many steps, ends within
 -- the code's length, and is never stuck
 pub record IsJudged (code : List Insn) (bytes : List ℕ) (value steps : ℕ) : Type 0 where
   pub call : SysCall

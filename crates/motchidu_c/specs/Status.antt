@@ -1,5 +1,5 @@
--- What C is told of a filter, or of two: a number, and a place where the fault has one. This project's own;
--- the numbers are those of enum motchidu_status in include/motchidu.h.
+-- The answer for C about a filter, or about two: a number, and a place if the fault has one. This project's
+-- own; the numbers are those of enum motchidu_status in include/motchidu.h.
 use Rattle.std.specs.Prelude.{ℕ, Option, Some, None}
 use Rattle.bpf_code.specs.declared.fault.CodeFault.{CodeFault}
 use Rattle.bpf_code.specs.declared.fault.CodeFault.TheVariants as text
@@ -15,6 +15,10 @@ use Rattle.compile.specs.declared.fault.CompileFault.{CompileFault}
 use Rattle.compile.specs.declared.fault.CompileFault.TheVariants as compiler
 use Rattle.oci_profile.specs.declared.faults.ProfileFault.{ProfileFault}
 use Rattle.oci_profile.specs.declared.faults.ProfileFault.TheVariants as profile
+use Rattle.profile_template.specs.declared.faults.TemplateFault.{TemplateFault}
+use Rattle.profile_template.specs.declared.faults.TemplateFault.TheVariants as template
+use Rattle.profile_text.specs.declared.faults.WriteFault.{WriteFault}
+use Rattle.profile_text.specs.declared.faults.WriteFault.TheVariants as written
 use Rattle.motchidu_c.specs.declared.status.Status.{Status}
 use Rattle.motchidu_c.specs.declared.status.Status.TheVariants.{Accepted, Length, TooLong, BadCode, Empty}
 use Rattle.motchidu_c.specs.declared.status.Status.TheVariants.{BadOffset, BadJump, BadWord, BadShift}
@@ -24,7 +28,7 @@ use Rattle.motchidu_c.specs.declared.status.Status.TheVariants.{WrongType, Unkno
 use Rattle.motchidu_c.specs.declared.status.Status.TheVariants.{EmptyNames, RepeatedIndex, ErrnoNotAllowed}
 use Rattle.motchidu_c.specs.declared.status.Status.TheVariants.{ErrnoTooLarge, UnknownCall, Notify, TooLarge}
 use Rattle.motchidu_c.specs.declared.status.Status.TheVariants.{TooHeavy, NoRoom, Same, Differ, Budget}
-use Rattle.motchidu_c.specs.declared.status.Status.TheVariants.{Arithmetic}
+use Rattle.motchidu_c.specs.declared.status.Status.TheVariants.{Arithmetic, Both, UnknownErrno, BadKernel}
 
 abbrev pub number_of : Status → ℕ
 number_of Accepted = 0
@@ -61,6 +65,9 @@ number_of Same = 30
 number_of Differ = 31
 number_of Budget = 32
 number_of Arithmetic = 33
+number_of Both = 34
+number_of UnknownErrno = 35
+number_of BadKernel = 36
 
 -- the status of a fault of the text
 abbrev pub status_of_text : CodeFault → Status
@@ -104,6 +111,19 @@ abbrev pub status_of_compile : CompileFault → Status
 status_of_compile compiler.TooLong = TooHeavy
 status_of_compile compiler.Memory = Memory
 
+-- the status of a fault of a template
+abbrev pub status_of_template : TemplateFault → Status
+status_of_template (template.Profile fault) = status_of_profile fault
+status_of_template template.Both = Both
+status_of_template template.UnknownErrno = UnknownErrno
+status_of_template template.BadKernel = BadKernel
+
+-- why the profile of a template is not written: no template's profile is without a name
+abbrev pub status_of_write : WriteFault → Status
+status_of_write written.NoName = TooLarge
+status_of_write written.TooLarge = TooLarge
+status_of_write written.Memory = Memory
+
 -- why two filters were not compared to the end
 abbrev pub status_of_doubt : Doubt → Status
 status_of_doubt doubt.Budget = Budget
@@ -130,7 +150,7 @@ place_of (Filter (fault.ZeroDivisor at)) = Some at
 place_of (Filter (fault.Unstored at)) = Some at
 place_of _ = None
 
--- that place, or what stood there before
+-- that place, or the old value
 abbrev pub or_before : Option ℕ → ℕ → ℕ
 or_before (Some at) before = at
 or_before None before = before

@@ -28,7 +28,7 @@ fn run_on(filter: &Filter, bytes: &[u8]) -> Ran
 }
 
 /// The call with these bytes.
-fn call_of(bytes: &[u8]) -> SysCall
+pub(crate) fn call_of(bytes: &[u8]) -> SysCall
     requires { length bytes.now ≡ 64 }
     ensures { bytes_of_call result ≡ bytes.now }
 {

@@ -17,9 +17,9 @@ use bpf_compare::{Comparison, Doubt, Scope, compare};
 use bpf_verify::{Filter, filter_of};
 use std::alloc::Global;
 
-/// Checks two filters and compares them on every call, or on every native one, by following so many
-/// instructions at most. Where they differ, the call is one on which they do, and the values are what the
-/// first and the second return on it.
+/// Checks two filters and compares them on every call, or on every native one, following at most this many
+/// instructions. If they differ, the call is one on which they do, and the values are those that the first
+/// and the second return on it.
 #[unsafe(no_mangle)]
 pub extern "C" fn motchidu_compare(
     alloc: Global,
@@ -38,22 +38,22 @@ pub extern "C" fn motchidu_compare(
     ensures call_kept { result ≢ number_of Differ → call.new ≡ call.old }
     ensures values_kept { result ≢ number_of Differ → values.new ≡ values.old }
 
-    // Any other answer is of a filter that is refused, of the second one only where the first is sound.
+    // Any other answer is that of a refused filter, of the second one only if the first is sound.
     ensures refused { ¬ IsOfComparison result → TellsRefusal first.now second.now result }
 
-    // A first text with a fault is refused for that, whether there is memory or not.
+    // A first text with a fault is refused for it, even if memory runs out.
     ensures first_told { (fault : CodeFault) → HasFault first.now fault
         → result ≡ number_of (status_of_text fault) }
     ensures first_fault { (fault : Fault) → SpellsFault first.now fault
         → result ≢ number_of Memory → result ≡ number_of (status_of_code fault) }
 
-    // Beside a first filter that is sound the second's fault is told, where there is memory.
+    // If the first filter is sound, the second's fault is reported, unless memory runs out.
     ensures second_told { IsFilter first.now → (fault : CodeFault) → HasFault second.now fault
         → result ≢ number_of Memory → result ≡ number_of (status_of_text fault) }
     ensures second_fault { IsFilter first.now → (fault : Fault) → SpellsFault second.now fault
         → result ≢ number_of Memory → result ≡ number_of (status_of_code fault) }
 
-    // Sound code is compared, where there is memory.
+    // Sound code is compared, unless memory runs out.
     ensures accepts { IsFilter first.now → IsFilter second.now
         → result ≢ number_of Memory → IsOfComparison result }
 {
@@ -66,7 +66,7 @@ pub extern "C" fn motchidu_compare(
     }
 }
 
-/// How the filters compare that these bytes spell, or why they are not compared.
+/// How the filters in these bytes compare, or why they are not compared.
 fn found_of(
     alloc: Global,
     first: &[u8],
@@ -100,7 +100,7 @@ fn found_of(
     }
 }
 
-/// The filter that these bytes spell, or what is told of its fault.
+/// The filter in these bytes, or the status of its fault.
 fn checked(alloc: Global, bytes: &[u8]) -> Result<Filter, Status>
     ensures text { IfOk result (IsTextOf bytes.now) }
     ensures sound { IfOk result IsSound }
@@ -127,7 +127,7 @@ fn show(found: Comparison, call: &mut [u8; 64], values: &mut [u32; 2])
     }
 }
 
-/// Which calls are asked about.
+/// The calls on which to compare.
 fn scope_of(native: bool) -> Scope
     ensures { result ≡ scope_of native }
 {
@@ -138,7 +138,7 @@ fn scope_of(native: bool) -> Scope
     }
 }
 
-/// What a comparison is for C.
+/// The status of a comparison for C.
 fn status_of_comparison(found: Comparison) -> Status
     ensures { result ≡ status_of_comparison found }
 {
@@ -149,7 +149,7 @@ fn status_of_comparison(found: Comparison) -> Status
     }
 }
 
-/// What a doubt is for C.
+/// The status of a doubt for C.
 fn status_of_doubt(doubt: Doubt) -> Status
     ensures { result ≡ status_of_doubt doubt }
 {

@@ -19,8 +19,8 @@ use crate::status::Status;
 use bpf_verify::{Refusal, filter_of};
 use std::alloc::Global;
 
-/// Checks a filter. What is told of a refused one is its first fault, and `at` is set where that has
-/// a place; else it is left alone.
+/// Checks a filter. A refused filter is reported by its first fault; `at` is set if that fault has a place,
+/// and is unchanged otherwise.
 #[unsafe(no_mangle)]
 pub extern "C" fn motchidu_verify(alloc: Global, filter: &[u8], at: &mut usize) -> u32
     ensures sound { result ≡ number_of Accepted → (code : List Insn) × IsTextOf filter.now code
@@ -29,11 +29,11 @@ pub extern "C" fn motchidu_verify(alloc: Global, filter: &[u8], at: &mut usize) 
     ensures refused { result ≢ number_of Accepted → (refusal : Refusal) × IsRefused filter.now refusal
         × (result ≡ number_of (status_of refusal)) × (at.new ≡ place_or refusal at.old) }
 
-    // A text with a fault is refused for that, whether there is memory or not.
+    // A text with a fault is refused for it, even if memory runs out.
     ensures told { (fault : CodeFault) → HasFault filter.now fault
         → result ≡ number_of (status_of_text fault) }
 
-    // Sound code is accepted, and of other code the first fault is told, where there is memory.
+    // Sound code is accepted, and other code is reported by its first fault, unless memory runs out.
     ensures accepts { (code : List Insn) → IsTextOf filter.now code → IsSound code
         → result ≢ number_of Memory → result ≡ number_of Accepted }
     ensures first { (code : List Insn) (fault : Fault) → IsTextOf filter.now code → length code ≤ MAX_INSNS
@@ -46,8 +46,8 @@ pub extern "C" fn motchidu_verify(alloc: Global, filter: &[u8], at: &mut usize) 
     }
 }
 
-/// Checks a filter and runs it on each of the calls, which are given as their 64 bytes each. Nothing
-/// is written unless the filter is accepted.
+/// Checks a filter and runs it on each of the calls, given as 64 bytes each. Nothing is written unless the
+/// filter is accepted.
 #[unsafe(no_mangle)]
 pub extern "C" fn motchidu_run_all(
     alloc: Global,
@@ -62,11 +62,11 @@ pub extern "C" fn motchidu_run_all(
     ensures refused { result ≢ number_of Accepted → result ≢ number_of Lengths
         → (refusal : Refusal) × IsRefused filter.now refusal × (result ≡ number_of (status_of refusal)) }
 
-    // A text with a fault is refused for that, whether there is memory or not.
+    // A text with a fault is refused for it, even if memory runs out.
     ensures told { HaveRoom calls.now values.old steps.old
         → (fault : CodeFault) → HasFault filter.now fault → result ≡ number_of (status_of_text fault) }
 
-    // Sound code is run, and of other code the first fault is told, where there is memory.
+    // Sound code is run, and other code is reported by its first fault, unless memory runs out.
     ensures accepts { HaveRoom calls.now values.old steps.old → (code : List Insn) → IsTextOf filter.now code
         → IsSound code
         → result ≢ number_of Memory → result ≡ number_of Accepted }
@@ -91,9 +91,8 @@ pub extern "C" fn motchidu_run_all(
     }
 }
 
-/// Checks a filter, and says how many instructions a run of it takes at most, whatever the call: as many
-/// as the longest way through it has. What is told of a refused one is its first fault, as by
-/// `motchidu_verify`.
+/// Checks a filter, and writes how many instructions a run of it takes at most, whatever the call: those of
+/// the longest way through it. A refused filter is reported by its first fault, as by `motchidu_verify`.
 #[unsafe(no_mangle)]
 pub extern "C" fn motchidu_longest(
     alloc: Global,
@@ -109,7 +108,7 @@ pub extern "C" fn motchidu_longest(
     ensures refused { result ≢ number_of Accepted → (refusal : Refusal) × IsRefused filter.now refusal
         × (result ≡ number_of (status_of refusal)) × (at.new ≡ place_or refusal at.old) }
 
-    // As of `motchidu_verify`.
+    // As for `motchidu_verify`.
     ensures told { (fault : CodeFault) → HasFault filter.now fault
         → result ≡ number_of (status_of_text fault) }
     ensures accepts { (code : List Insn) → IsTextOf filter.now code → IsSound code
@@ -127,7 +126,7 @@ pub extern "C" fn motchidu_longest(
     }
 }
 
-/// What is told of a refused filter: its fault, and the place of that if it has one.
+/// Reports a refused filter: its fault, and the fault's place if it has one.
 fn tell(refusal: Refusal, at: &mut usize) -> u32
     ensures number { result ≡ number_of (status_of refusal) }
     ensures place { at.new ≡ place_or refusal at.old }

@@ -5,7 +5,7 @@ use crate::status::Status;
 use bpf_code::CodeFault;
 use bpf_verify::{Fault, Refusal};
 
-/// What a refusal is for C.
+/// The status of a refusal for C.
 pub(crate) fn status_of(refusal: Refusal) -> Status
     ensures { result ≡ status_of refusal }
 {
@@ -26,7 +26,7 @@ pub(crate) fn status_of(refusal: Refusal) -> Status
     }
 }
 
-/// The place that a refusal has, counted in instructions from 0.
+/// The place of a refusal, if it has one, counted in instructions from 0.
 pub(crate) fn place_of(refusal: Refusal) -> Option<usize>
     ensures { result ≡ place_of refusal }
 {

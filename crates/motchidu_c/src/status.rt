@@ -1,12 +1,12 @@
 ghost use Rattle.std.specs.Prelude.{◌≡◌};
 ghost use Rattle.motchidu_c.specs.Status.{number_of};
 
-/// What an export answers. The numbers are those of `enum motchidu_status` in the header.
+/// The answer of an export. The numbers are those of `enum motchidu_status` in the header.
 #[derive(Clone, Copy, Debug, PartialEq, Eq)]
 pub enum Status {
     /// The filter is sound.
     Accepted = 0,
-    /// The filter's length in bytes is no multiple of 8.
+    /// The filter's length in bytes is not a multiple of 8.
     Length = 1,
     /// The filter has more than 4,096 instructions.
     TooLong = 2,
@@ -24,21 +24,21 @@ pub enum Status {
     BadShift = 8,
     /// A division by the constant 0.
     ZeroDivisor = 9,
-    /// The last instruction is no return.
+    /// The last instruction is not a return.
     NoFinalReturn = 10,
     /// A load of a scratch word that some walk to it did not store.
     Unstored = 11,
-    /// There was no memory. It says nothing of the filter.
+    /// Memory ran out. This says nothing about the filter.
     Memory = 12,
     /// The lengths of the calls, the values and the steps don't agree.
     Lengths = 13,
-    /// The text is no JSON.
+    /// The text is not JSON.
     NotJson = 14,
-    /// It is no object.
+    /// It is not an object.
     NotObject = 15,
-    /// A field that has to be there is not.
+    /// A required field is missing.
     Missing = 16,
-    /// A field is of another kind.
+    /// A field has the wrong type.
     WrongType = 17,
     /// No action has this name.
     UnknownAction = 18,
@@ -52,7 +52,7 @@ pub enum Status {
     RepeatedIndex = 22,
     /// An errno is given for an action that takes none.
     ErrnoNotAllowed = 23,
-    /// An errno is above what its action takes.
+    /// An errno is above its action's limit.
     ErrnoTooLarge = 24,
     /// An entry that is stricter than the default names a call that is not in the table.
     UnknownCall = 25,
@@ -64,18 +64,24 @@ pub enum Status {
     TooHeavy = 28,
     /// The filter is longer than the room for it.
     NoRoom = 29,
-    /// Two filters return the same value on every call that was asked about.
+    /// Two filters return the same value on every call of the comparison.
     Same = 30,
     /// On one of those calls they return different values.
     Differ = 31,
-    /// Comparing them takes more instructions than were to be followed.
+    /// Comparing them takes more instructions than the limit.
     Budget = 32,
     /// They were not compared to the end: one of them computes with loaded data, other than by masks.
     Arithmetic = 33,
+    /// Both of two exclusive fields of a template are given.
+    Both = 34,
+    /// A template names an errno that does not exist.
+    UnknownErrno = 35,
+    /// A template has an invalid kernel version.
+    BadKernel = 36,
 }
 
 impl Status {
-    /// The number that C is given.
+    /// Its number in C.
     pub fn number(self) -> u32
         ensures { result ≡ number_of self }
     {

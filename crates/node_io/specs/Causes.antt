@@ -1,5 +1,5 @@
--- Why the system refuses a call on a file, a folder or a socket, by its number (errno(3)) or the kind that
--- std makes of that, and the words for it, this project's own: docs/SEMANTICS.md, "Programs".
+-- Why the system refuses a call on a file, a folder or a socket, by its number (errno(3)) or by std's kind of
+-- that, and the words for it, this project's own: docs/SEMANTICS.md, "Programs".
 use Rattle.std.specs.Prelude.{ℕ, ℤ, ◌==◌, ◌||◌, unsigned_abs, if◌then◌else◌, List, ◌++◌, codes, Option, Some}
 use Rattle.std.specs.Prelude.{None}
 use Rattle.std.specs.Fmt.{decimal}
@@ -45,7 +45,7 @@ cause_of kind.ConnectionReset number = Gone
 cause_of kind.TimedOut number = TimedOut
 cause_of _ number = by_number number
 
--- of a stream that may be waited for so long
+-- the cause on a stream with a time limit
 abbrev pub waited : Cause → Cause
 waited WouldBlock = TimedOut
 waited cause = cause

@@ -12,7 +12,7 @@ pub record Stored : Type 0 where
   pub path : List ℕ
   pub bytes : List ℕ
 
--- the files, how many reads there were, the read from 1 that is to fail (0 for none), and the failures
+-- the files, how many reads there were, the read from 1 that must fail (0 for none), and the failures
 pub record Disk : Type 0 where
   pub files : List Stored
   pub reads : ℕ
@@ -24,11 +24,11 @@ abbrev pub held_in : List Stored → Held
 held_in files path = option_map (λ (file : Stored). file.bytes)
     (find (λ (file : Stored). bytes_eq file.path path) files)
 
--- the next read is the one that is to fail
+-- the next read is the one that must fail
 abbrev pub fails_next : Disk → Bool
 fails_next disk = one_more disk.reads == disk.failing
 
--- the fault of reading what stands there
+-- the fault of reading these contents
 abbrev pub fault_in : Option (List ℕ) → ℕ → Option FileFault
 fault_in None limit = Some NotFound
 fault_in (Some bytes) limit = if nat_lt limit (length bytes) then Some TooLarge else None

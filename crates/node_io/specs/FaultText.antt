@@ -12,7 +12,7 @@ fault_text TooLarge = codes "TooLarge"
 fault_text Failed = codes "Failed"
 fault_text Memory = codes "Memory"
 
--- behind a name
+-- the cause after a name
 abbrev pub with_cause : List ℕ → Option Cause → List ℕ
 with_cause name None = name
 with_cause name (Some cause) = name ++ (codes " (" ++ (cause_text cause ++ codes ")"))

@@ -4,7 +4,7 @@ use Rattle.std.specs.Prelude.{length, slice_index}
 use Rattle.std.specs.List.{list_any, slice_split}
 use Rattle.std.specs.Str.{bytes_eq}
 
--- the folder below which all of them lie, if it is not the whole system, and how many failures there were
+-- the folder that they are all below, if it is not the whole system, and how many failures there were
 pub record System : Type 0 where
   pub folder : Option (List ℕ)
   pub failures : ℕ
@@ -13,11 +13,11 @@ pub record System : Type 0 where
 unfoldable pub climbs : List ℕ → Bool
 climbs path = list_any (λ part. bytes_eq part (codes "..")) (slice_split (λ byte. byte == 47) path)
 
--- it has a byte, does not begin at the root, and never climbs
+-- it is not empty, does not begin at the root, and never climbs
 abbrev pub descends : List ℕ → Bool
 descends path = not (length path == 0) && not (slice_index path 0 == 47) && not (climbs path)
 
--- the path that is opened: below a folder, none of an empty folder, and none for a path that leads elsewhere
+-- the path that is opened; none below a folder with an empty path, or for a path that does not descend
 abbrev pub opened_in : Option (List ℕ) → List ℕ → Option (List ℕ)
 opened_in None path = Some path
 opened_in (Some folder) path = if not (length folder == 0) && descends path

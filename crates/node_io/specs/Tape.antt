@@ -3,9 +3,8 @@ use Rattle.std.specs.Prelude.{ℕ, ◌==◌, ◌&&◌, ◌||◌, ◌-◌, Bool, 
 use Rattle.std.specs.Prelude.{nat_lt}
 use Rattle.node_io.specs.Counts.{one_more}
 
--- the bytes that are left to be read, those that were written, for how many more there is place, how many a
--- call moves at most, how many calls there were, the call from 1 that is to fail (0 for none), and the
--- failures
+-- the bytes left to read, those that were written, the room for more of them, how many bytes a call moves at
+-- most, how many calls there were, the call from 1 that must fail (0 for none), and the failures
 pub record Tape : Type 0 where
   pub input : List ℕ
   pub written : List ℕ
@@ -15,11 +14,11 @@ pub record Tape : Type 0 where
   pub failing : ℕ
   pub failures : ℕ
 
--- the next call is the one that is to fail
+-- the next call is the one that must fail
 abbrev pub fails_next : Tape → Bool
 fails_next tape = one_more tape.calls == tape.failing
 
--- after a call that moved nothing: a failure that was asked for comes once
+-- after a call that moved nothing: a requested failure happens once
 abbrev pub counted : Tape → Tape
 counted tape =
     if fails_next tape then record {
@@ -43,11 +42,11 @@ counted tape =
       failures = tape.failures;
     }
 
--- a write of so many bytes fails: it is told to, or there is no place left for any of them
+-- a write of this many bytes fails: it is made to, or there is no room for any of them
 abbrev pub write_fails : Tape → ℕ → Bool
 write_fails tape count = fails_next tape || (nat_lt 0 count && tape.place == 0)
 
--- after one more failure, for want of place
+-- after one more failure, for lack of room
 abbrev pub failed_more : Tape → Tape
 failed_more tape = record {
   input = tape.input;
@@ -60,15 +59,15 @@ failed_more tape = record {
   failures = one_more tape.failures;
 }
 
--- how many bytes a read into so much room moves
+-- how many bytes a read into this much room moves
 abbrev pub readable : Tape → ℕ → ℕ
 readable tape room = min (min room tape.piece) (length tape.input)
 
--- how many of so many bytes a write moves
+-- how many of this many bytes a write moves
 abbrev pub writable : Tape → ℕ → ℕ
 writable tape count = min (min count tape.piece) tape.place
 
--- with so many bytes read
+-- with this many bytes read
 abbrev pub with_read : Tape → ℕ → Tape
 with_read tape n = record {
   input = drop n tape.input;

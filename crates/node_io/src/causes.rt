@@ -5,20 +5,20 @@ ghost use Rattle.node_io.specs.Causes.{by_number, cause_numbered, cause_of};
 use std::fmt;
 use std::io::{self, ErrorKind};
 
-/// Why the system refused a call on a file, a folder or a socket: what it says by errno(3).
+/// Why the system refused a call on a file, a folder or a socket, by errno(3).
 #[derive(Clone, Copy, Debug, PartialEq, Eq)]
 pub enum Cause {
     /// Nothing is at the path.
     NotFound,
-    /// The folder of the path is not there.
+    /// The path's folder does not exist.
     NoFolder,
     /// The user may not do that.
     PermissionDenied,
-    /// A folder is where a file was meant.
+    /// A folder was found instead of a file.
     IsFolder,
     /// A part of the path, or what should be a folder, is not a folder.
     NotFolder,
-    /// What is there is neither a regular file nor a folder.
+    /// The path leads to neither a regular file nor a folder.
     NotRegular,
     /// A link leads out of the folder.
     Outside,

@@ -14,7 +14,7 @@ pub enum FileFault {
     NotFound,
     /// It has more bytes than were allowed.
     TooLarge,
-    /// The device failed, or what is there is not a regular file.
+    /// The device failed, or the path does not lead to a regular file.
     Failed,
     /// An allocation failed, or the system had no memory to open the file.
     Memory,

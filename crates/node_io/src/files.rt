@@ -5,12 +5,12 @@ ghost use Rattle.node_io.specs.Held.{Held, Tells};
 
 use crate::faults::FileFault;
 
-/// The most bytes of a file that is read whole.
+/// The greatest size in bytes of a file that is read completely.
 pub const MAX_FILE_BYTES: u64 = 1_048_576;
 
-/// Files that can be read whole, by path.
+/// Files that can be read completely, by path.
 pub trait Files {
-    // What is held, if that is known.
+    // The contents of the files, if they are known.
     ghost held: { Self → Option Held } = { λ _. None };
 
     // How many failures of the device there were.

@@ -126,7 +126,7 @@ impl Files for MemoryFiles {
             → fault_of self.old path.now limit ≡ Some fault) }
         ensures after { self.new ≡ after_read self.old }
 
-        // What each device promises.
+        // The promises of each device.
         ensures bytes { IfOk result (λ bytes. held_in self.old.files path.now ≡ Some bytes.items) }
         ensures within { IfOk result (λ bytes. length bytes.items ≤ limit) }
         ensures not_found { IfErr result (λ fault. fault ≡ FileFault.NotFound

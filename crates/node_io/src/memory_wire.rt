@@ -154,14 +154,14 @@ impl Wire for MemoryWire {
     ghost failed = { λ w. w.failures };
 
     fn read(&mut self, buf: &mut [u8]) -> Result<usize, WireFault>
-        // It fails where it is made to, and then moves nothing.
+        // It fails if it is made to, and then moves nothing.
         ensures fails { IsErr result ↔ (fails_next self.old ≡ true) }
         ensures err { OnErr result (self.new ≡ counted self.old) }
         ensures count { IfOk result (λ n. n ≡ readable self.old (length buf.old)) }
         ensures moved { IfOk result (λ n. take n buf.new ≡ take n self.old.input) }
         ensures ok { IfOk result (λ n. self.new ≡ with_read (counted self.old) n) }
 
-        // What each device promises.
+        // The promises of each device.
         ensures within { IfOk result (λ n. n ≤ length buf.new) }
         ensures room { length buf.new ≡ length buf.old }
         ensures input { ReadConsumes (Some self.old.input) (Some self.new.input) result buf.new }
@@ -178,14 +178,14 @@ impl Wire for MemoryWire {
     }
 
     fn write(&mut self, bytes: &[u8]) -> Result<usize, WireFault>
-        // It fails where it is made to, and where it is full, and then moves nothing.
+        // It fails if it is made to or is full, and then moves nothing.
         ensures fails { IsErr result ↔ (write_fails self.old (length bytes.now) ≡ true) }
         ensures err { OnErr result (self.new ≡ (if fails_next self.old then counted self.old
             else failed_more (counted self.old))) }
         ensures count { IfOk result (λ n. n ≡ writable self.old (length bytes.now)) }
         ensures ok { IfOk result (λ n. self.new ≡ with_written (counted self.old) (take n bytes.now)) }
 
-        // What each device promises.
+        // The promises of each device.
         ensures within { IfOk result (λ n. n ≤ length bytes.now) }
         ensures some { IfOk result (λ n. 0 < length bytes.now → 0 < n) }
         ensures output { WriteAppends (Some self.old.written) (Some self.new.written) result bytes.now }

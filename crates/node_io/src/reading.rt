@@ -9,8 +9,8 @@ use std::io::Read;
 // How many bytes are read at once.
 const PIECE: usize = 4096;
 
-// All remaining bytes, if they are no more than the limit. A read that is interrupted counts as failed. Each
-// read but the last gives at least one byte, so limit + 1 reads without an end show that there are too many.
+// All remaining bytes, if they are no more than the limit. An interrupted read counts as failed. Each read
+// but the last returns at least one byte, so limit + 1 reads without an end show that there are too many.
 pub(crate) fn read_all<S: Read>(
     alloc: Global,
     source: &mut S,

@@ -55,7 +55,7 @@ impl<S: Read + Write> StreamWire<S> {
     }
 }
 
-// WouldBlock is TimedOut here: a call on a stream with a time limit fails so when it would have to wait
+// WouldBlock is TimedOut here: a call on a stream with a time limit fails with it if it would have to wait
 // longer.
 fn cause_of(error: &io::Error) -> Option<Cause>
     ensures { result ≡ Some (waited (cause_of (error_kind error.now) (raw_os_error error.now))) }

@@ -91,7 +91,7 @@ impl<'a, R: rt::Files + AllocGlobal> SystemFiles<'a, R> {
     }
 }
 
-// Whether a path leads to something below where it starts.
+// Whether a path stays below the folder where it starts.
 fn descends(path: &str) -> bool
     ensures { result ≡ descends path.now }
 {
@@ -166,7 +166,7 @@ impl<'a, R: rt::Files + AllocGlobal> Files for SystemFiles<'a, R> {
         ensures outside { opened_in self.old.folder path.now ≡ None → result ≡ Err FileFault.NotFound }
         ensures folder { self.new.folder ≡ self.old.folder }
 
-        // What each device promises. What the system holds is not known, so the first three say nothing.
+        // The promises of each device. The system's contents are not known, so the first three claim nothing.
         ensures bytes { IfOk result (λ bytes. Tells None path.now (λ found. found ≡ Some bytes.items)) }
         ensures not_found { IfErr result (λ fault. fault ≡ FileFault.NotFound
             → Tells None path.now (λ found. found ≡ None)) }

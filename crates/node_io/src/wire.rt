@@ -23,7 +23,7 @@ impl fmt::Display for WireFault {
 
 /// A stream of bytes from a peer, and one to it. A call moves some bytes, or fails and moves none.
 pub trait Wire {
-    // The bytes that are left to be read up to the end, if they are known.
+    // The bytes left to read up to the end, if they are known.
     ghost input: { Self → Option (List ℕ) } = { λ _. None };
 
     // The bytes that were written, if they are known.

@@ -23,7 +23,7 @@ growing kept (Report worker reported) grows = refl
 growing kept (Tick now) grows = refl
 growing kept (Abandon worker) grows = absurd cc
 
--- the end of a claim that is held has its room already
+-- the end of a held claim has its room already
 pub giving_up : (kept : KeptNode) (event : AgentEvent) → gives_up kept event ≡ true
     → (is_abandon event ≡ true) × (room_for kept event ≡ 0)
 giving_up kept (Admit pod) gives = absurd cc

@@ -19,7 +19,7 @@ leads_push first [] last next e same step = (next, rw same step, refl)
 leads_push first (x ∷ es) last next e leads step =
     (leads.0, leads.1, leads_push leads.0 es last next e leads.2 step)
 
--- whatever went
+-- whatever earlier parts are gone
 pub ends_pushed : (settings : Settings) (gone history now : List Entry) (old new : KeptNode)
     (event : AgentEvent) (e : Entry) → EndsAt settings (gone ++ history) old
     → IsStep old event e.answer new → e.event ≡ event → now ≡ history ++ e ∷ []
@@ -32,8 +32,8 @@ ends_pushed settings gone history now old new event e ends step same longer =
       next.2,
     ))
 
--- what a book keeps stays kept behind an entry, where there was room for it and for the ends of the claims
--- that are held then
+-- what a book keeps stays kept after an entry, if there was room for it and for the ends of the claims held
+-- then
 pub kept_on : (settings : Settings) (before : ℕ) (history now whole whole_now : List Entry)
     (old new : KeptNode) (event : AgentEvent) (e : Entry)
     (total total_now limit capacity capacity_now ahead : ℕ)
@@ -61,7 +61,7 @@ kept_on settings before history now whole whole_now old new event e total total_
       room = omega (arith, longer, held, room);
     }
 
--- what was found to have room fits
+-- an event that was found to have room fits
 pub fits : (seen now : Books) (event : AgentEvent) (ahead : ℕ) (has : Bool) → seen ≡ now
     → ahead ≡ held_in now.node.slots + room_for now.node event
     → has ≡ nat_le (needed now event) now.limit → has ≡ true → length seen.history + ahead ≤ seen.limit
@@ -70,7 +70,7 @@ fits seen now event ahead has same ahead_is has_is has_room =
       within : nat_le (needed now event) now.limit ≡ true → needed now event ≤ now.limit
       within is = grind (arith, nat_tests)
 
--- a part that ended went too, and the next one has no entry yet
+-- an ended part is gone too, and the next one has no entry yet
 pub part_ended : (settings : Settings) (before : ℕ) (history : List Entry) (node : KeptNode)
     → (whole : List Entry) → GoesOn settings before history whole node
     → GoesOn settings (before + length history) [] whole node

@@ -44,7 +44,7 @@ held_set (z ∷ zs) zero x y here =
     rw same (omega arith)
 held_set (z ∷ zs) (suc place) x y here = let rest = held_set zs place x y here in omega (arith, rest)
 
--- whatever is put there, at most one pod more is held
+-- whatever is put there, at most one more pod is held
 held_more : (f : Slot → Slot) (xs : List Slot) (place : ℕ) (o : Option Slot) → slice_get xs place ≡ o
     → held_in (changed_to f xs place o) ≤ held_in xs + 1
 held_more f xs place None here = omega arith
@@ -52,7 +52,7 @@ held_more f xs place (Some x) here =
     let set = held_set xs place x (f x) here in
     omega (arith, set, held_at_most (f x))
 
--- where who holds it stays, as many are held
+-- if the holder stays, as many are held
 held_same : (f : Slot → Slot) → ((x : Slot) → (f x).held ≡ x.held)
     → (xs : List Slot) (place : ℕ) (o : Option Slot) → slice_get xs place ≡ o
     → held_in (changed_to f xs place o) ≡ held_in xs
@@ -102,7 +102,7 @@ ended_room kept how worker None is = omega arith
 ended_room kept how worker (Some place) is = let fewer =
     held_ended kept.moment how worker place kept.slots is in omega (arith, fewer)
 
--- the room that was there for an event is enough for its entry and for the claims that are held then
+-- the room for an event is enough for its entry and for the claims held then
 pub room_enough : (kept : KeptNode) (event : AgentEvent)
     → held_in (after_event kept event).slots + 1 ≤ held_in kept.slots + room_for kept event
 room_enough kept (Admit pod) = by_refusal (refusal_of kept pod) where

@@ -8,7 +8,7 @@ use Rattle.worker_core.specs.Nodes.{NodeState, empty_node}
 use Rattle.node_lock.specs.declared.entries.Entry.{Entry}
 use Rattle.node_lock.specs.Histories.{IsLegal, IsRunOf, Leads, Tells}
 
--- the links of a history that goes on behind other links
+-- the links of a history that continues after other links
 abbrev pub Goes : Settings → List NodeLink → List Entry → Type 0
 Goes settings before es = (links : List NodeLink) × IsNodeRun settings (links ++ before)
     × Tells (reverse links) es

@@ -18,7 +18,7 @@ pub record Books : Type 0 where
   pub node : KeptNode
   -- how many entries the earlier parts of the history had
   pub before : ℕ
-  -- the entries of the part that is there
+  -- the entries of the current part
   pub history : List Entry
   -- all entries of all parts, with those of earlier parts, which are not stored
   pub whole : List Entry
@@ -28,7 +28,7 @@ pub record Books : Type 0 where
   pub limit : ℕ
   pub closed : Bool
 
--- how many entries there are once the claims that are held have ended
+-- how many entries there are after the held claims have ended
 abbrev pub used : List Entry → KeptNode → ℕ
 used history node = length history + held_in node.slots
 
@@ -36,8 +36,8 @@ used history node = length history + held_in node.slots
 abbrev pub HasNumbers : ℕ → Type 0
 HasNumbers before = before + MAX_ENTRIES < 2 ^ 64
 
--- what a book keeps: the node is where the whole history ends, each entry of the part that is there is
--- counted, and the limit and the memory have room for the ends of all claims that are held
+-- what a book keeps: the node is where the whole history ends, each entry of the current part is counted, and
+-- the limit and the memory have room for the ends of all held claims
 pub record IsKept (settings : Settings) (node : KeptNode) (before : ℕ) (history whole : List Entry)
     (total limit capacity : ℕ) : Type 0 where
   pub goes_on : GoesOn settings before history whole node
@@ -51,19 +51,19 @@ pub record IsKept (settings : Settings) (node : KeptNode) (before : ℕ) (histor
 abbrev pub last_number : Books → ℕ
 last_number book = book.before + length book.history
 
--- a part may come to its end: it has entries, no claim is held, the receipts stand in it, and there are
--- numbers for the next part
+-- a part may end: it has entries, no claim is held, the receipts match it, and there are numbers for the next
+-- part
 pub record MayEnd (book : Books) (receipts : List Received) : Type 0 where
   pub some : 0 < length book.history
   pub free : held_in book.node.slots ≡ 0
   pub audited : All (Stands book.before book.history) receipts
   pub numbers : HasNumbers (last_number book)
 
--- how many entries there are once this event was taken, and the claims that are held then have ended
+-- how many entries there are after this event was taken, and the claims held then have ended
 abbrev pub needed : Books → AgentEvent → ℕ
 needed book event = used book.history book.node + room_for book.node event
 
--- whose the event is: worker 0 admits, deletes and tells the time
+-- the worker of the event: worker 0 admits, deletes and advances the time
 abbrev pub worker_of : AgentEvent → ℕ
 worker_of (Admit pod) = 0
 worker_of (Delete uid) = 0

@@ -9,23 +9,23 @@ use Rattle.worker_core.specs.Nodes.{IsTaken, NodeState, StandsFor, empty_node}
 use Rattle.worker_core.specs.Laws.{IsNodeRun, NodeLink}
 use Rattle.node_lock.specs.declared.entries.Entry.{Entry}
 
--- from the first node on each event is taken with the answer that the node's step gives at that point, and
--- the last node is this one. Want of memory is no such answer
+-- from the first node, each event is taken with the answer of the node's step at that point, and the last
+-- node is this one. Out of memory is not such an answer
 abbrev pub Leads : NodeState → List Entry → NodeState → Type 0
 Leads first [] last = first ≡ last
 Leads first (e ∷ es) last = (next : NodeState) × IsTaken first e.event e.answer next × Leads next es last
 
--- a legal history of a node with these settings, from the empty node on
+-- a legal history of a node with these settings, from the empty node
 abbrev pub IsLegal : Settings → List Entry → Type 0
 IsLegal settings history = (last : NodeState) × Leads (empty_node settings) history last
 
--- the history is legal, and what is kept of the node stands for where it ends
+-- the history is legal, and the kept state stands for the node at its end
 abbrev pub EndsAt : Settings → List Entry → KeptNode → Type 0
 EndsAt settings history kept = (last : NodeState) × Leads (empty_node settings) history last
     × StandsFor kept last
 
--- The same of a history that was written in parts: so many entries went before those that are there, and the
--- whole of both is legal, from the empty node on.
+-- The same for a history that was written in parts: this many entries went before the current ones, and the
+-- whole of both is legal, from the empty node.
 pub record GoesOn (settings : Settings) (before : ℕ) (history whole : List Entry)
     (kept : KeptNode) : Type 0 where
   pub gone : List Entry
@@ -33,12 +33,13 @@ pub record GoesOn (settings : Settings) (before : ℕ) (history whole : List Ent
   pub whole_is : whole ≡ gone ++ history
   pub ends : EndsAt settings whole kept
 
--- every node that was kept takes the event with this answer, and comes to one that is kept then
+-- every node that the old state stands for takes the event with this answer, and the new state stands for the
+-- next node
 abbrev pub IsStep : KeptNode → AgentEvent → Answer → KeptNode → Type 0
 IsStep old event answer new = (node : NodeState) → StandsFor old node → (next : NodeState)
     × IsTaken node event answer next × StandsFor new next
 
--- the links of a run say what the history does; the newest link stands first
+-- the links of a run match the history; the newest link is the first
 abbrev pub Tells : List NodeLink → List Entry → Type 0
 Tells [] [] = Unit {0}
 Tells [] (e ∷ es) = ⊥

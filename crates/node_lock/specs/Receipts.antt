@@ -8,7 +8,7 @@ pub record Received : Type 0 where
   pub number : ℕ
   pub entry : Entry
 
--- the entry stands at its number in the part of the history behind so many entries
+-- the entry is at its number in the part of the history after this many entries
 abbrev pub Stands : ℕ → List Entry → Received → Type 0
 Stands before history receipt = (before < receipt.number)
     × (slice_get history (receipt.number - before - 1) ≡ Some receipt.entry)

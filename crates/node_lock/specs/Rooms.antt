@@ -1,16 +1,16 @@
--- How much room of a history is kept for the claims that are held: this project's own. docs/SEMANTICS.md,
--- "The agent: the history of a node".
+-- How much room of a history is kept for the held claims: this project's own. docs/SEMANTICS.md, "The agent:
+-- the history of a node".
 use Rattle.std.specs.Prelude.{ℕ, Bool, true, false, if◌then◌else◌, Option, is_some}
 use Rattle.worker_core.specs.Kept.{KeptNode}
 use Rattle.worker_core.specs.declared.events.AgentEvent.{AgentEvent}
 use Rattle.worker_core.specs.declared.events.AgentEvent.TheVariants.{Claim, Report, Abandon}
 use Rattle.worker_core.specs.Slots.{holder_of}
 
--- the end of a claim that is held has its entry already
+-- the end of a held claim has its entry already
 abbrev pub room_to_end : Option ℕ → ℕ
 room_to_end holder = if is_some holder then 0 else 1
 
--- the entries that an event needs, beside one for each claim that is held
+-- the entries that an event needs, beside one for each held claim
 abbrev pub room_for : KeptNode → AgentEvent → ℕ
 room_for kept (Claim worker) = 2
 room_for kept (Report worker reported) = room_to_end (holder_of worker kept.slots)

@@ -12,7 +12,7 @@ fn entry_at(history: &[Entry], place: usize) -> &Entry
     &history[place]
 }
 
-// Whether the receipt's entry is where its number says.
+// Whether the receipt's entry is at its number.
 fn stands(before: u64, history: &[Entry], receipt: &Receipt) -> bool
     ensures { IsTrue result ↔ Stands before history.now receipt.now }
 {

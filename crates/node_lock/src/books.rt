@@ -103,8 +103,8 @@ impl<L: Ledger> Book<L> {
         ensures value { result.now ≡ self.now.history }
         ensures counted { self.now.total ≡ length result.now }
 
-        // With the earlier parts it is one history, which a single thread could have made, and the node is
-        // where it ends.
+        // With the earlier parts it is one history, which a single thread could have made, and which ends at
+        // the node.
         ensures legal { GoesOn self.now.settings self.now.before result.now self.now.whole self.now.node }
     {
         self.history.as_slice()
@@ -134,7 +134,7 @@ impl<L: Ledger> Book<L> {
         &self.node
     }
 
-    // How many entries still have to fit into the history: the event's, and the ends of claims.
+    // How many entries must still fit into the history: the event's, and the ends of claims.
     fn ahead(&self, event: &AgentEvent) -> usize
         ensures { result ≡ held_in self.now.node.slots + room_for self.now.node event.now }
     {
@@ -150,7 +150,7 @@ impl<L: Ledger> Book<L> {
 
     /// Applies the worker's event to the node, and appends it to the history. The receipt is for the entry,
     /// and the share counts it. A fault changes nothing. HistoryFull is reported before Memory; the end of a
-    /// claim that is held always finds room, and giving one up takes no memory.
+    /// held claim always finds room, and giving one up takes no memory.
     #[tactic(auto, using(crate::proofs::Abandons::giving_up))]
     pub fn record(
         &mut self,
@@ -161,7 +161,7 @@ impl<L: Ledger> Book<L> {
         requires part { 0 < share.old.parts }
         requires own { worker_of event ≡ worker }
 
-        // The entry is the worker's, and its answer is what the node's step gives.
+        // The entry is the worker's, and its answer is that of the node's step.
         ensures number { IfOk result (λ r. r.number ≡ last_number self.new) }
         ensures worker { IfOk result (λ r. r.entry.worker ≡ worker) }
         ensures event { IfOk result (λ r. r.entry.event ≡ event) }
@@ -170,7 +170,7 @@ impl<L: Ledger> Book<L> {
         ensures node { OnOk result (self.new.node ≡ after_event self.old.node event) }
         ensures counted { OnOk result (share.new.amount ≡ share.old.amount + 1) }
 
-        // It is the last of the whole history, and nothing else came into that.
+        // It is the last of the whole history, and nothing else was added to that.
         ensures whole { IfOk result (λ r. self.new.whole ≡ self.old.whole ++ r.entry ∷ []) }
 
         // Whatever the earlier parts were, the history goes on from them.

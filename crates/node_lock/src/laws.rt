@@ -1,4 +1,4 @@
-//! What holds of every history of a book, for the crates above.
+//! Laws of every history of a book, for the crates above.
 ghost use Rattle.std.specs.Prelude.{◌≡◌, List};
 ghost use Rattle.worker_pod.specs.declared.settings.Settings.{Settings};
 ghost use Rattle.worker_core.specs.Laws.{IsNodeRun};
@@ -6,7 +6,7 @@ ghost use Rattle.node_lock.specs.declared.entries.Entry.{Entry};
 ghost use Rattle.node_lock.specs.declared.limits.TheConstants.{MAX_ENTRIES, PARTS};
 ghost use Rattle.node_lock.specs.Histories.{IsLegal, IsRunOf};
 
-/// A legal history is a run of the node, so that what is proved of every run holds of it.
+/// A legal history is a run of the node, so the laws of every run apply to it.
 pub fn histories_are_runs()
     ensures { (settings : Settings) (history : List Entry) → IsLegal settings history
         → IsRunOf settings history }

@@ -1,4 +1,4 @@
-//! What a book asks of a node: room for an event, what is answered, and the step itself.
+//! What a book needs of a node: room for an event, the answer, and the step itself.
 ghost use Rattle.std.specs.Prelude.{◌≡◌, ◌+◌, ◌<◌, ◌≤◌, ◌++◌, [], ◌∷◌, false, length, vec_len, vec_capacity};
 ghost use Rattle.std.specs.Prelude.{IfOk, OnOk, OnErr};
 ghost use Rattle.worker_core.specs.Kept.{after_event, answer_of};
@@ -50,14 +50,14 @@ fn foreseen(node: &Node, event: &AgentEvent) -> Result<Answer, BookFault>
     Ok(answer)
 }
 
-// What an entry and its receipt are made from: the event twice, and what will be answered.
+// The parts of an entry and its receipt: the event twice, and the predicted answer.
 struct Copies {
     kept: AgentEvent,
     copy: AgentEvent,
     told: Answer,
 }
 
-// All that allocates, before the node changes.
+// Allocates everything, before the node changes.
 fn prepared(alloc: Global, node: &Node, event: &AgentEvent) -> Result<Copies, BookFault>
     ensures kept { IfOk result (λ c. c.kept ≡ event.now) }
     ensures copy { IfOk result (λ c. c.copy ≡ event.now) }
@@ -71,7 +71,7 @@ fn prepared(alloc: Global, node: &Node, event: &AgentEvent) -> Result<Copies, Bo
     Ok(Copies { kept, copy, told })
 }
 
-// Applies the event to the node. Lack of memory is reported apart from the node's answers, and is not a step.
+// Applies the event to the node. Out of memory is reported apart from the node's answers, and is not a step.
 #[tactic(auto, using(crate::proofs::Abandons::growing, crate::proofs::Rooms::room_enough))]
 fn taken(node: &mut Node, event: AgentEvent) -> Result<Answer, BookFault>
     ensures answer { IfOk result (λ answer. answer ≡ answer_of node.old event) }
@@ -103,8 +103,8 @@ fn add(history: &mut Vec<Entry>, entry: Entry)
     drop(pushed);
 }
 
-// Appends the event to the history as an entry, and returns a copy of the entry. There has to be room for it,
-// and for the ends of the claims that are held then.
+// Appends the event to the history as an entry, and returns a copy of the entry. There must be room for it,
+// and for the ends of the claims held then.
 pub(crate) fn entered(
     alloc: Global,
     node: &mut Node,

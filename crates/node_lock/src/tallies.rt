@@ -68,7 +68,7 @@ impl<L: Ledger> Tally<L> {
         Ok(())
     }
 
-    // Changes nothing. Shows that there are as many receipts as the count says, if the share is the whole.
+    // Changes nothing. Shows that there are as many receipts as counted, if the share is the whole.
     pub(crate) fn counted(&mut self, count: &mut ledger::Book<L>)
         ensures whole { self.old.parts ≡ L.parts → length self.old.receipts ≡ count.old.total }
         ensures count { count.new.total ≡ count.old.total }

@@ -1,4 +1,4 @@
-//! The whole history, which clauses alone see.
+//! The whole history, which only contracts see.
 ghost use Rattle.std.specs.Prelude.{◌≡◌, List, [], ◌∷◌, ◌++◌};
 ghost use Rattle.std.specs.Borrow.{ftrue};
 ghost use Rattle.node_lock.specs.declared.entries.Entry.{Entry};

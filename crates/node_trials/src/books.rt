@@ -109,7 +109,7 @@ impl<L: Ledger> Trial for Records<L> {
                 let answer = &receipt.entry().answer;
                 match self.foreseen.came(answer, self.book.node()) {
                     Came::Right => Came::right_if(is_last),
-                    // Lack of memory is a fault of the book, and not an answer of the node in an entry.
+                    // Out of memory is a fault of the book, and not an answer of the node in an entry.
                     _ => Came::Wrong,
                 }
             }

@@ -1,4 +1,4 @@
-//! Naming pods whose manifests give no uid, and a folder of manifests.
+//! Naming pods whose manifests set no uid, and a folder of manifests.
 use crate::nodes::pod;
 use manifest::{Pod, Uid};
 use node_io::CausedFault;
@@ -125,7 +125,7 @@ impl Trial for Counts {
     }
 }
 
-/// A listing of these many manifests, and of a file that is none.
+/// A listing of this many manifests, and of a file that is not one.
 #[derive(Drop)]
 struct Listed {
     alloc: Global,
@@ -341,7 +341,7 @@ fn is_admission(due: &Result<Due, AllocError>, uid: &str) -> bool {
     }
 }
 
-/// `Folder::next`, where a pod is to be admitted, after this many others of its name.
+/// `Folder::next`, with a pod due for admission, after this many others of its name.
 #[derive(Drop)]
 struct Asks {
     folder: Folder<'static>,

@@ -4,6 +4,7 @@
 #![tactic(auto)]
 
 mod books;
+mod counting;
 mod folders;
 mod nodes;
 mod runs;

@@ -9,7 +9,7 @@ use trials::{Came, Told, Trial, tried};
 use worker_core::{AgentEvent, Answer, Node, Reported};
 use worker_pod::{PodView, Settings};
 
-/// Tries an event of this name, which the node takes, or whose answer it foretells.
+/// Tries an event of this name, which the node takes, or whose answer it predicts.
 pub(crate) fn told(rt: &HostRuntime, name: &str, event: &str) -> Option<Told> {
     let alloc = rt.alloc();
     match name {
@@ -129,7 +129,7 @@ pub(crate) fn same_node(a: &Node, b: &Node) -> bool {
     a.held() == b.held() && a.next_due() == b.next_due()
 }
 
-/// What an event is to do to the node after the events above: the node before it and after it, and the
+/// The wanted effect of an event on the node after the events above: the node before it and after it, and the
 /// answer. The event is there twice, once for each call.
 #[derive(Drop)]
 pub(crate) struct Foreseen {
@@ -199,7 +199,7 @@ impl Trial for Applies {
     }
 }
 
-/// `Node::answer`, which says what `Node::apply` would.
+/// `Node::answer`, which returns what `Node::apply` would.
 #[derive(Drop)]
 struct Foretells {
     node: Node,
@@ -234,7 +234,7 @@ impl Trial for Foretells {
     }
 }
 
-/// What a node shows of itself and of its pods, and what is decided about them, where a container has ended.
+/// What a node shows of itself and of its pods, and what is decided about them, after a container has ended.
 /// It takes no memory.
 #[derive(Drop)]
 struct Shows {

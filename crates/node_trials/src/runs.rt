@@ -2,7 +2,7 @@
 use lifecycle::{PastRun, Runs};
 use trials::{Came, Told, Trial, tried};
 
-/// What came of the call of this name.
+/// Tries the call of this name, if it is one of this module's.
 pub(crate) fn told(rt: &HostRuntime, name: &str) -> Option<Told> {
     match name {
         "Runs::push" => Some(tried(rt, Some(Pushes { runs: Runs::new() }))),
@@ -15,7 +15,7 @@ pub(crate) fn same_run(a: &PastRun, b: &PastRun) -> bool {
     a.started() == b.started() && a.code() == b.code() && a.recorded() == b.recorded()
 }
 
-/// Whether as much is told of these runs as of those.
+/// Whether both show the same runs.
 pub(crate) fn same_runs(a: &Runs, b: &Runs) -> bool {
     let same_last = match (a.last(), b.last()) {
         (Some(run), Some(other)) => same_run(run, other),

@@ -1,4 +1,4 @@
-//! Why containers wait, as an agent tells it.
+//! Why containers wait, as an agent reports it.
 use crate::nodes::begun;
 use cri_msgs::Call;
 use manifest::Uid;
@@ -22,7 +22,7 @@ fn lost_list(alloc: Global) -> Option<Reasons> {
     let mut reasons = Reasons::new(alloc);
     let uid = Uid::new(alloc, "default.a").ok()??;
     reasons
-        .note(5, &Call::ListContainers { uid }, Some(Trouble::Lost))
+        .note(5, &Call::ListContainers { uid }, Some(Trouble::Lost), None)
         .ok()?;
     Some(reasons)
 }

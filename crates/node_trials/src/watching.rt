@@ -1,9 +1,10 @@
 //! What an agent remembers and shows of its calls and pods.
+use crate::counting::{Counting, Giving};
 use crate::nodes::begun;
 use cri_msgs::{Call, Refusal};
 use lifecycle::{ContainerState, Phase};
 use manifest::{Label, Uid};
-use node_watch::{Form, PodSeen, Reasons, Trouble, gone_line, pod_changes};
+use node_watch::{Counts, Form, PodSeen, Reasons, Trouble, gone_line, pod_changes};
 use std::alloc::{AllocError, Global};
 use trials::{Came, Told, Trial, tried};
 use worker_core::Node;
@@ -14,6 +15,8 @@ pub(crate) fn told(rt: &HostRuntime, name: &str) -> Option<Told> {
     match name {
         "Reasons::note" => Some(tried(rt, Notes::new(alloc, Some(TROUBLE)))),
         "Reasons::note in no trouble" => Some(tried(rt, Notes::new(alloc, None))),
+        "Counts::note" => Some(tried(rt, Counting::new(alloc))),
+        "Causes::note" => Some(tried(rt, Giving::new(alloc))),
         "PodSeen::of" => Some(tried(rt, Sees::new(alloc))),
         "pod_changes" => Some(tried(rt, Changes::new(alloc))),
         "gone_line" => Some(tried(rt, Goes::new(alloc))),
@@ -23,7 +26,7 @@ pub(crate) fn told(rt: &HostRuntime, name: &str) -> Option<Told> {
 
 const TROUBLE: Trouble = Trouble::Refused(Refusal::FailedPrecondition);
 
-fn uid(alloc: Global, text: &str) -> Option<Uid> {
+pub(crate) fn uid(alloc: Global, text: &str) -> Option<Uid> {
     Uid::new(alloc, text).ok()?
 }
 
@@ -38,7 +41,7 @@ fn reasons(alloc: Global) -> Option<Reasons> {
     let mut reasons = Reasons::new(alloc);
     for (moment, name) in [(3, "b"), (5, "a")] {
         reasons
-            .note(moment, &list_of(alloc, name)?, Some(Trouble::Lost))
+            .note(moment, &list_of(alloc, name)?, Some(Trouble::Lost), None)
             .ok()?;
     }
     Some(reasons)
@@ -77,7 +80,7 @@ impl Trial for Notes {
     type Answer = Result<(), AllocError>;
 
     fn call(&mut self) -> Result<(), AllocError> {
-        self.reasons.note(9, &self.call, self.trouble)
+        self.reasons.note(9, &self.call, self.trouble, None)
     }
 
     fn came(&mut self, answer: &Result<(), AllocError>) -> Came {
@@ -97,7 +100,7 @@ impl Trial for Notes {
 
 /// What is seen of the first pod of a node whose container runs.
 fn seen(alloc: Global) -> Option<PodSeen> {
-    PodSeen::of(alloc, begun(alloc)?.pod(0)?).ok()
+    PodSeen::of(alloc, begun(alloc)?.pod(0)?, &Counts::new(alloc)).ok()
 }
 
 /// `PodSeen::of`, of a node's first pod.
@@ -105,12 +108,18 @@ fn seen(alloc: Global) -> Option<PodSeen> {
 struct Sees {
     alloc: Global,
     node: Node,
+    counts: Counts,
 }
 
 impl Sees {
     fn new(alloc: Global) -> Option<Sees> {
         let node = begun(alloc)?;
-        Some(Sees { alloc, node })
+        let counts = Counts::new(alloc);
+        Some(Sees {
+            alloc,
+            node,
+            counts,
+        })
     }
 }
 
@@ -131,7 +140,7 @@ impl Trial for Sees {
     type Answer = Option<Result<PodSeen, AllocError>>;
 
     fn call(&mut self) -> Option<Result<PodSeen, AllocError>> {
-        Some(PodSeen::of(self.alloc, self.node.pod(0)?))
+        Some(PodSeen::of(self.alloc, self.node.pod(0)?, &self.counts))
     }
 
     fn came(&mut self, answer: &Option<Result<PodSeen, AllocError>>) -> Came {

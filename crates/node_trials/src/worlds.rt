@@ -17,7 +17,7 @@ pub(crate) fn told(rt: &HostRuntime, name: &str, event: &str) -> Option<Told> {
 }
 
 /// The events after which the trials begin, by their names: the container of `a` has ended, which worker 1
-/// knows and has not reported; worker 2 is to create that of `b`; nobody has claimed `d`.
+/// knows and has not reported; worker 2 has to create that of `b`; nobody has claimed `d`.
 const BEFORE: &str =
     "admit a\nclaim 1\nserve 0\nreport 1 0\nclaim 1\nserve 1\nreport 1 1\nclaim 1\nserve 2\nreport 1 2\n\
     step\nstep\nstep\nstep\nclaim 1\nserve 3\n\
@@ -123,7 +123,7 @@ impl Trial for Steps {
     }
 
     // A refusal by the node or by the runtime is an answer, and the world goes on: the event had no effect,
-    // except that the reply was given which says so.
+    // except for the reply that reports the refusal.
     fn came(&mut self, answer: &Option<Result<(), WorldFault>>) -> Came {
         match answer {
             Some(Ok(())) => {

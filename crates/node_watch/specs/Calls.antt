@@ -21,7 +21,7 @@ call_name (ContainerStatus key) = codes "ContainerStatus"
 call_name (ListContainers uid) = codes "ListContainers"
 call_name (ContainerStatuses uid) = codes "ContainerStatuses"
 
--- the container that a call is about; none where it is about all of the pod
+-- the container that a call is about; none if it is about all of the pod
 abbrev pub container_of : Call → Option (List ℕ)
 container_of (CreateContainer key image profile) = Some key.container.name
 container_of (StartContainer key) = Some key.container.name

@@ -1,4 +1,4 @@
--- The lines that tell what changed of a pod, this project's own: docs/SEMANTICS.md, "What changes". The names
+-- The lines that report changes of a pod, this project's own: docs/SEMANTICS.md, "What changes". The names
 -- are those of Kubernetes 1.27, pod lifecycle.
 use Rattle.std.specs.Prelude.{ℕ, ◌==◌, ◌&&◌, Bool, true, false, if◌then◌else◌, List, [], ◌∷◌, ◌++◌, codes}
 use Rattle.std.specs.Prelude.{Option, Some, None}
@@ -10,16 +10,18 @@ use Rattle.lifecycle.specs.declared.state.ContainerState.TheVariants.{Waiting, R
 use Rattle.lifecycle.specs.Names.{phase_name, state_name}
 use Rattle.node_watch.specs.declared.forms.Form.{Form}
 use Rattle.node_watch.specs.declared.forms.Form.TheVariants.{Text, Json}
+use Rattle.node_watch.specs.declared.counts.CallCounts.{CallCounts}
 use Rattle.node_watch.specs.declared.seen.ContainerSeen.{ContainerSeen}
+use Rattle.node_watch.specs.Counts.{counts_text, is_same_counts}
 use Rattle.node_watch.specs.declared.seen.PodSeen.{PodSeen}
 
--- the code that it ended with; none of another state
+-- its exit code; none in another state
 abbrev pub code_text : Form → ContainerState → List ℕ
 code_text form (Terminated code) = decimal code
 code_text Text state = codes "-"
 code_text Json state = codes "null"
 
--- moment, uid and what became of the pod
+-- moment, uid and what happened to the pod
 abbrev pub pod_line : Form → ℕ → List ℕ → List ℕ → List ℕ
 pod_line Text moment uid what = decimal moment ++ (codes " " ++ (uid ++ (codes " " ++ (what ++ codes "\n"))))
 pod_line Json moment uid what =
@@ -29,26 +31,31 @@ pod_line Json moment uid what =
 abbrev pub phase_line : Form → ℕ → List ℕ → Phase → List ℕ
 phase_line form moment uid phase = pod_line form moment uid (phase_name phase)
 
--- the members of a container's object: which container it is, and when
+-- the JSON members of a container: the moment, the pod and the name
 abbrev pub which_members : ℕ → List ℕ → List ℕ → List ℕ
 which_members moment uid name =
     codes "{\"moment\":" ++ (decimal moment
     ++ (codes ",\"pod\":\"" ++ (uid ++ (codes "\",\"container\":\"" ++ (name ++ codes "\"")))))
 
--- and how it is
-abbrev pub state_members : ContainerState → ℕ → List ℕ
-state_members state restarts =
+-- and its state
+abbrev pub how_members : ContainerState → ℕ → List ℕ
+how_members state restarts =
     codes ",\"state\":\"" ++ (state_name state ++ (codes "\",\"code\":" ++ (code_text Json state
-    ++ (codes ",\"restarts\":" ++ (decimal restarts ++ codes "}\n")))))
+    ++ (codes ",\"restarts\":" ++ decimal restarts))))
 
--- moment, uid, name, state, code and restarts
+abbrev pub state_members : ContainerState → ℕ → Option CallCounts → List ℕ
+state_members state restarts counts =
+    how_members state restarts ++ (counts_text Json counts ++ codes "}\n")
+
+-- moment, uid, name, state, code, restarts and the counts of calls
 abbrev pub container_line : Form → ℕ → List ℕ → ContainerSeen → List ℕ
 container_line Text moment uid seen =
     decimal moment ++ (codes " " ++ (uid ++
     (codes " " ++ (seen.name ++ (codes " " ++ (state_name seen.state ++ (codes " "
-    ++ (code_text Text seen.state ++ (codes " " ++ (decimal seen.restarts ++ codes "\n"))))))))))
+    ++ (code_text Text seen.state ++ (codes " " ++ (decimal seen.restarts
+    ++ (counts_text Text seen.counts ++ codes "\n")))))))))))
 container_line Json moment uid seen = which_members moment uid seen.name
-    ++ state_members seen.state seen.restarts
+    ++ state_members seen.state seen.restarts seen.counts
 
 -- the pod has left the node
 abbrev pub gone_line : Form → ℕ → List ℕ → List ℕ
@@ -69,9 +76,10 @@ is_same_state (Terminated code) (Terminated other) = code == other
 is_same_state old new = false
 
 abbrev pub is_same : ContainerSeen → ContainerSeen → Bool
-is_same old new = is_same_state old.state new.state && old.restarts == new.restarts
+is_same old new = is_same_state old.state new.state
+    && (old.restarts == new.restarts && is_same_counts old.counts new.counts)
 
--- the line of a container, unless it was seen just so
+-- the line of a container, unless it was seen the same before
 abbrev pub container_change : Form → ℕ → List ℕ → Option ContainerSeen → ContainerSeen → List ℕ
 container_change form moment uid None new = container_line form moment uid new
 container_change form moment uid (Some old) new = if is_same old new then []
@@ -90,7 +98,7 @@ phase_change form moment uid None new = phase_line form moment uid new
 phase_change form moment uid (Some old) new = if is_same_phase old new then []
     else phase_line form moment uid new
 
--- what changed of a pod, of which this was seen before, or nothing
+-- what changed of a pod, given how it was seen before, if it was
 abbrev pub pod_changes : Form → ℕ → Option PodSeen → PodSeen → List ℕ
 pod_changes form moment None new =
     phase_change form moment new.uid None new.phase ++ container_changes form moment new.uid

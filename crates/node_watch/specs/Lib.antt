@@ -1,5 +1,6 @@
 pub mod Calls
 pub mod Changes
+pub mod Counts
 pub mod Losses
 pub mod Reasons
 pub mod Seen

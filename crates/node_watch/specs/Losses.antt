@@ -30,7 +30,7 @@ abbrev pub when_listed : Answer → Option Loss
 when_listed (Statuses list) = if length list == 0 then Some Unknown else None
 when_listed other = None
 
--- whether an answer shows that the runtime does not have the pod's sandbox any more
+-- whether an answer shows that the runtime no longer has the pod's sandbox
 abbrev pub loss_of : Call → Answer → Option Loss
 loss_of (RunPodSandbox uid) answer = when_refused removed_by answer
 loss_of (CreateContainer key image profile) answer = when_refused loss_by answer

@@ -1,4 +1,4 @@
--- The lines that tell why containers wait: this project's own, docs/SEMANTICS.md, "Why a container waits".
+-- The lines that report why containers wait: this project's own, docs/SEMANTICS.md, "Why a container waits".
 use Rattle.std.specs.Prelude.{ℕ, ◌-◌, ◌/◌, ◌%◌, ◌==◌, Bool, true, false, if◌then◌else◌, List, [], ◌∷◌, ◌++◌}
 use Rattle.std.specs.Prelude.{codes, Option, Some, None}
 use Rattle.std.specs.Fmt.{decimal}
@@ -42,24 +42,29 @@ files_words (CreateContainer key image profile) refusal =
     if is_of_files refusal then codes ": script " ++ (shown_path image ++ profile_words profile) else []
 files_words call refusal = []
 
--- a refusal that shows that the runtime does not have the pod's sandbox says so
-abbrev pub cause_words : Option Loss → Call → Refusal → List ℕ
-cause_words (Some loss) call refusal = codes ": " ++ loss_text loss
-cause_words None call refusal = files_words call refusal
+-- what the runtime wrote about the cause, or else the files
+abbrev pub cause_or_files : Call → Refusal → Option (List ℕ) → List ℕ
+cause_or_files call refusal (Some cause) = codes ": " ++ cause
+cause_or_files call refusal None = files_words call refusal
 
-abbrev pub trouble_words : Call → Trouble → List ℕ
-trouble_words call (Refused refusal) =
+-- if a refusal shows that the runtime does not have the pod's sandbox, that is its text
+abbrev pub cause_words : Option Loss → Call → Refusal → Option (List ℕ) → List ℕ
+cause_words (Some loss) call refusal cause = codes ": " ++ loss_text loss
+cause_words None call refusal cause = cause_or_files call refusal cause
+
+abbrev pub trouble_words : Call → Trouble → Option (List ℕ) → List ℕ
+trouble_words call (Refused refusal) cause =
     codes " refused " ++ (refusal_text refusal
-    ++ cause_words (loss_of call (answer.Refused refusal)) call refusal)
-trouble_words call Lost = codes " lost"
+    ++ cause_words (loss_of call (answer.Refused refusal)) call refusal cause)
+trouble_words call Lost cause = codes " lost"
 
 abbrev pub times_words : ℕ → List ℕ
 times_words times = if times == 1 then codes "once" else decimal times ++ codes " times"
 
--- which call came to nothing, how, why, how often, and since when
+-- the failed call, how, why and how often it failed, and since when
 abbrev pub failure_text : Reason → List ℕ
 failure_text reason =
-    call_name reason.call ++ (trouble_words reason.call reason.trouble
+    call_name reason.call ++ (trouble_words reason.call reason.trouble reason.cause
     ++ (codes ", " ++ (times_words reason.times ++ (codes " since " ++ (decimal reason.since ++ codes " s")))))
 
 -- 1st, 2nd, 3rd, 4th, .., 11th, 12th, 13th, .., 21st
@@ -72,13 +77,13 @@ ending_by tens ones =
 unfoldable pub ending_of : ℕ → List ℕ
 ending_of number = ending_by (number / 10 % 10) (number % 10)
 
--- so many seconds are left
+-- with this many seconds left
 unfoldable pub back_off_text : ℕ → ℕ → ℕ → List ℕ → List ℕ
 back_off_text left code run ending =
     codes "restarts in " ++ (decimal left ++ (codes " s, last exit " ++ (decimal code
     ++ (codes ", " ++ (decimal run ++ (ending ++ codes " run"))))))
 
--- what is told of a reason at a moment
+-- the text of a reason at a moment
 abbrev pub reason_text : ℕ → WaitReason → List ℕ
 reason_text moment Setup = codes "for setup"
 reason_text moment (BackOff until code run) = back_off_text (until - moment) code run (ending_of run)
@@ -95,13 +100,13 @@ wait_line Json moment uid name reason =
     which_members moment uid name ++ (codes ",\"waits\":\"" ++ (shown_path (reason_text moment reason)
     ++ codes "\"}\n"))
 
--- it runs, or is over
+-- the container runs, or is over
 abbrev pub no_wait_line : Form → ℕ → List ℕ → List ℕ → List ℕ
 no_wait_line Text moment uid name =
     decimal moment ++ (codes " " ++ (uid ++ (codes " " ++ (name ++ codes " waits no longer\n"))))
 no_wait_line Json moment uid name = which_members moment uid name ++ codes ",\"waits\":null}\n"
 
--- that a container runs is no reason to be told
+-- that a container runs is not reported
 abbrev pub told_reason : Option WaitReason → Option WaitReason
 told_reason None = None
 told_reason (Some Runs) = None
@@ -131,7 +136,7 @@ container_waits form moment uid [] (c ∷ cs) =
 container_waits form moment uid (o ∷ os) (c ∷ cs) =
     wait_change form moment uid (Some o) c ++ container_waits form moment uid os cs
 
--- what is told anew of why the containers of a pod wait, which waited so before, or were not seen
+-- the changes in why a pod's containers wait, given how they waited before, if they were seen
 abbrev pub wait_changes : Form → ℕ → Option PodWaits → PodWaits → List ℕ
 wait_changes form moment None new = container_waits form moment new.uid [] new.containers.items
 wait_changes form moment (Some old) new =

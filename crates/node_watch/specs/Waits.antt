@@ -1,5 +1,5 @@
--- Why a container of a pod waits: this project's own, docs/SEMANTICS.md, "Why a container waits". The order of
--- init containers, restarts and their back-off are those of Kubernetes 1.27, pod lifecycle.
+-- Why a container of a pod waits: this project's own, docs/SEMANTICS.md, "Why a container waits". The order
+-- of init containers, restarts and their back-off are those of Kubernetes 1.27, pod lifecycle.
 use Rattle.std.specs.Prelude.{ℕ, ◌+◌, ◌-◌, ◌/◌, ◌==◌, ◌&&◌, ◌||◌, nat_lt, Bool, true, false, not}
 use Rattle.std.specs.Prelude.{if◌then◌else◌}
 use Rattle.std.specs.Prelude.{List, [], ◌∷◌, length, Option, Some, None}
@@ -18,14 +18,14 @@ use Rattle.node_watch.specs.declared.waits.ContainerWait.{ContainerWait}
 use Rattle.node_watch.specs.declared.waits.WaitReason.{WaitReason}
 use Rattle.node_watch.specs.declared.waits.WaitReason.TheVariants.{Setup, BackOff, Failed, Due, Runs}
 use Rattle.node_watch.specs.Calls.{call_name}
-use Rattle.node_watch.specs.Reasons.{is_same_trouble, reason_for}
+use Rattle.node_watch.specs.Reasons.{is_same_cause, is_same_trouble, reason_for}
 
--- an init container that has not succeeded: those that stand behind it wait for it
+-- an init container that has not succeeded: those after it wait for it
 abbrev pub holds_back : RestartPolicy → Track → Bool
 holds_back policy track = track.init && not (is_succeeded policy track)
 
--- the back-off behind the last run, at a moment before its end: until when, the code of that run, and the
--- number of the run that comes then
+-- the back-off after the last run, at a moment before its end: that end, the code of the run, and the number
+-- of the next run
 abbrev pub back_off_behind : ℕ → List Run → Option Run → Option WaitReason
 back_off_behind moment runs None = None
 back_off_behind moment runs (Some run) =
@@ -45,8 +45,8 @@ abbrev pub unless_backed_off : Option WaitReason → Option Reason → WaitReaso
 unless_backed_off (Some back_off) failed = back_off
 unless_backed_off None failed = unless_failed Due failed
 
--- A container in this state, whether one holds it back, its back-off, and the last call about it that came to
--- nothing: it has one reason, and none where it is over.
+-- From a container's state, whether one holds it back, its back-off, and the last failed call about it: it
+-- has one reason, and none if it is over.
 abbrev pub reason_by : ContainerState → Bool → Option WaitReason → Option Reason → Option WaitReason
 reason_by (Terminated code) is_behind back_off failed = None
 reason_by Running is_behind back_off failed = Some (unless_failed Runs failed)
@@ -63,7 +63,7 @@ container_wait policy uid reasons moment is_behind container track = record {
   reason = reason_of policy is_behind moment track (reason_for uid container.name reasons);
 }
 
--- the containers of a pod, in the order of the manifest, behind others of which one holds them back or none
+-- the containers of a pod, in the order of the manifest, after others, one of which may hold them back
 abbrev pub waits_behind : RestartPolicy → List ℕ → List Reason → ℕ → Bool → List Container → List Track
     → List ContainerWait
 waits_behind policy uid reasons moment is_behind [] ts = []
@@ -77,17 +77,17 @@ abbrev pub waits_of : RestartPolicy → List ℕ → List Reason → ℕ → Lis
 waits_of policy uid reasons moment containers tracks =
     waits_behind policy uid reasons moment false containers tracks
 
--- in which minute since the first such call the latest one came to nothing
+-- the minute in which the latest such call failed, counted from the first one
 abbrev pub minute_of : Reason → ℕ
 minute_of reason = (reason.latest - reason.since) / 60
 
--- the same call came to nothing in the same way since the same moment, and no minute has passed meanwhile
+-- the same call failed in the same way for the same cause since the same moment, and no minute has passed
 abbrev pub is_same_failure : Reason → Reason → Bool
 is_same_failure old new =
-    bytes_eq (call_name old.call) (call_name new.call) && is_same_trouble old.trouble new.trouble
-    && (old.since == new.since && minute_of old == minute_of new)
+    bytes_eq (call_name old.call) (call_name new.call) && (is_same_trouble old.trouble new.trouble
+    && (is_same_cause old.cause new.cause && (old.since == new.since && minute_of old == minute_of new)))
 
--- nothing new is to be told
+-- there is nothing new to report
 abbrev pub is_same_reason : WaitReason → WaitReason → Bool
 is_same_reason Setup Setup = true
 is_same_reason (BackOff until code run) (BackOff other_until other_code other_run) =

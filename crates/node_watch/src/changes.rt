@@ -1,10 +1,12 @@
 ghost use Rattle.std.specs.Prelude.{◌≡◌, ◌++◌, IfOk, OnOk, string_bytes, option_copied};
 ghost use Rattle.node_watch.specs.Changes.{container_change, container_changes, container_line, gone_line};
+ghost use Rattle.node_watch.specs.Changes.{how_members};
 ghost use Rattle.node_watch.specs.Changes.{is_same, is_same_phase, is_same_state, phase_change, pod_changes};
 ghost use Rattle.node_watch.specs.Changes.{pod_line, state_members, which_members};
 ghost use Rattle.lifecycle.specs.Names.{phase_name};
 ghost use Rattle.node_watch.specs.declared.forms.Form.{Form};
 
+use crate::counts::{CallCounts, add_counts, is_same_counts};
 use crate::forms::Form;
 use crate::seen::{ContainerSeen, PodSeen};
 use lifecycle::{ContainerState, Phase};
@@ -38,7 +40,9 @@ fn is_same_state(old: ContainerState, new: ContainerState) -> bool
 fn is_same(old: &ContainerSeen, new: &ContainerSeen) -> bool
     ensures { result ≡ is_same old.now new.now }
 {
-    is_same_state(old.state, new.state) && old.restarts == new.restarts
+    is_same_state(old.state, new.state)
+        && old.restarts == new.restarts
+        && is_same_counts(old.counts, new.counts)
 }
 
 fn add_pod(
@@ -90,16 +94,17 @@ fn add_words(
     let (uid, name, state) = (uid.as_str(), seen.name.as_str(), seen.state);
     let restarts = seen.restarts;
     match state {
-        ContainerState::Terminated(code) => writeln!(
+        ContainerState::Terminated(code) => write!(
             text,
             "{moment} {uid} {name} {state} {code} {restarts}"
         )?,
-        ContainerState::Waiting | ContainerState::Running => writeln!(
+        ContainerState::Waiting | ContainerState::Running => write!(
             text,
             "{moment} {uid} {name} {state} - {restarts}"
         )?,
     }
-    Ok(())
+    add_counts(text, Form::Text, seen.counts)?;
+    text.push_str("\n")
 }
 
 fn add_object(
@@ -112,7 +117,7 @@ fn add_object(
         ++ container_line Form.Json moment uid.now seen.now) }
 {
     add_which(text, moment, uid, &seen.name)?;
-    add_state(text, seen.state, seen.restarts)
+    add_state(text, seen.state, seen.restarts, seen.counts)
 }
 
 pub(crate) fn add_which(
@@ -132,17 +137,31 @@ pub(crate) fn add_which(
     Ok(())
 }
 
-fn add_state(text: &mut String, state: ContainerState, restarts: usize) -> Result<(), AllocError>
-    ensures { OnOk result (string_bytes text.new ≡ string_bytes text.old ++ state_members state restarts) }
+fn add_state(
+    text: &mut String,
+    state: ContainerState,
+    restarts: usize,
+    counts: Option<CallCounts>,
+) -> Result<(), AllocError>
+    ensures { OnOk result (string_bytes text.new ≡ string_bytes text.old
+        ++ state_members state restarts counts) }
+{
+    add_how(text, state, restarts)?;
+    add_counts(text, Form::Json, counts)?;
+    text.push_str("}\n")
+}
+
+fn add_how(text: &mut String, state: ContainerState, restarts: usize) -> Result<(), AllocError>
+    ensures { OnOk result (string_bytes text.new ≡ string_bytes text.old ++ how_members state restarts) }
 {
     match state {
-        ContainerState::Terminated(code) => writeln!(
+        ContainerState::Terminated(code) => write!(
             text,
-            ",\"state\":\"{state}\",\"code\":{code},\"restarts\":{restarts}}}"
+            ",\"state\":\"{state}\",\"code\":{code},\"restarts\":{restarts}"
         )?,
-        ContainerState::Waiting | ContainerState::Running => writeln!(
+        ContainerState::Waiting | ContainerState::Running => write!(
             text,
-            ",\"state\":\"{state}\",\"code\":null,\"restarts\":{restarts}}}"
+            ",\"state\":\"{state}\",\"code\":null,\"restarts\":{restarts}"
         )?,
     }
     Ok(())
@@ -165,7 +184,7 @@ fn add_container(
     }
 }
 
-// Place by place.
+// Adds the changes place by place.
 fn add_containers(
     text: &mut String,
     form: Form,
@@ -222,7 +241,7 @@ fn add_phase(
 }
 
 /// What changed in a pod at a moment, in seconds: a line for its phase, and one for each container whose
-/// state or restarts changed. All of them if the pod was not seen before.
+/// state, restarts or counts changed. All of them if the pod was not seen before.
 pub fn pod_changes(
     alloc: Global,
     form: Form,

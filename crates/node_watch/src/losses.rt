@@ -1,5 +1,5 @@
-//! Pods whose sandbox the runtime does not have any more: either side was started again, or another client of
-//! the runtime removed it.
+//! Pods whose sandbox the runtime no longer has: either side was started again, or another client of the
+//! runtime removed it.
 ghost use Rattle.std.specs.Prelude.{◌≡◌};
 ghost use Rattle.node_watch.specs.Losses.{loss_by, loss_of, removed_by, when_listed};
 
@@ -58,7 +58,7 @@ fn when_listed(answer: &Answer) -> Option<Loss>
     }
 }
 
-/// Whether the answer to a call shows that the runtime does not have the pod's sandbox any more.
+/// Whether the answer to a call shows that the runtime no longer has the pod's sandbox.
 pub fn loss_of(call: &Call, answer: &Answer) -> Option<Loss>
     ensures { result ≡ loss_of call.now answer.now }
 {

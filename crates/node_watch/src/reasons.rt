@@ -1,11 +1,13 @@
 ghost use Rattle.std.specs.Prelude.{◌≡◌, ◌<◌, ◌∷◌, [], IfOk, OnOk, OnErr, None, Some, Ok, option_copied};
 ghost use Rattle.std.specs.Prelude.{vec_len, vec_capacity};
-ghost use Rattle.node_watch.specs.Reasons.{at_place, goes_on, is_same_trouble, noted, place_of, reason_for};
+ghost use Rattle.node_watch.specs.Reasons.{at_place, goes_on, is_same_cause, is_same_trouble, noted};
+ghost use Rattle.node_watch.specs.Reasons.{place_of, reason_for};
 ghost use Rattle.node_watch.specs.Reasons.{since_of, times_of, without_at, without_pod};
 
 use crate::calls::{are_about_one, call_name, concerns, uid_of};
 use cri_msgs::{Call, Refusal};
 use manifest::{Label, Uid};
+use refusal_causes::CauseText;
 use std::alloc::{AllocError, Global};
 use std::marker::Model;
 
@@ -23,6 +25,8 @@ pub enum Trouble {
 pub struct Reason {
     pub call: Call,
     pub trouble: Trouble,
+    /// What the runtime wrote about the cause, if it is known.
+    pub cause: Option<CauseText>,
     /// The moment, in seconds, since which each such call has failed in the same way.
     pub since: u64,
     /// How many such calls have failed since then.
@@ -32,17 +36,27 @@ pub struct Reason {
 }
 
 impl Reason {
-    /// A copy of it.
+    /// A copy of the failed call.
     pub fn try_clone(&self, alloc: Global) -> Result<Reason, AllocError>
         ensures { IfOk result (λ copy. copy ≡ self.now) }
     {
         Ok(Reason {
             call: self.call.try_clone(alloc)?,
             trouble: self.trouble,
+            cause: cause_copy(alloc, self.cause.as_ref())?,
             since: self.since,
             times: self.times,
             latest: self.latest,
         })
+    }
+}
+
+fn cause_copy(alloc: Global, cause: Option<&CauseText>) -> Result<Option<CauseText>, AllocError>
+    ensures { IfOk result (λ copy. copy ≡ option_copied cause.entry) }
+{
+    match cause {
+        None => Ok(None),
+        Some(cause) => Ok(Some(cause.try_clone(alloc)?)),
     }
 }
 
@@ -73,26 +87,45 @@ pub(crate) fn is_same_trouble(trouble: Trouble, other: Trouble) -> bool
     }
 }
 
-fn goes_on(call: &Call, trouble: Trouble, reason: &Reason) -> bool
-    ensures { result ≡ goes_on call.now trouble reason.now }
+pub(crate) fn is_same_cause(cause: Option<&CauseText>, other: Option<&CauseText>) -> bool
+    ensures { result ≡ is_same_cause (option_copied cause.entry) (option_copied other.entry) }
 {
-    call_name(&reason.call) == call_name(call) && is_same_trouble(reason.trouble, trouble)
+    match (cause, other) {
+        (None, None) => true,
+        (Some(cause), Some(other)) => cause.as_str() == other.as_str(),
+        (None, Some(_)) | (Some(_), None) => false,
+    }
 }
 
-fn since_of(moment: u64, call: &Call, trouble: Trouble, was: Option<&Reason>) -> u64
-    ensures { result ≡ since_of moment call.now trouble (option_copied was.entry) }
+fn goes_on(call: &Call, trouble: Trouble, cause: Option<&CauseText>, reason: &Reason) -> bool
+    ensures { result ≡ goes_on call.now trouble (option_copied cause.entry) reason.now }
+{
+    call_name(&reason.call) == call_name(call)
+        && is_same_trouble(reason.trouble, trouble)
+        && is_same_cause(reason.cause.as_ref(), cause)
+}
+
+fn since_of(
+    moment: u64,
+    call: &Call,
+    trouble: Trouble,
+    cause: Option<&CauseText>,
+    was: Option<&Reason>,
+) -> u64
+    ensures { result ≡ since_of moment call.now trouble (option_copied cause.entry)
+        (option_copied was.entry) }
 {
     match was {
-        Some(reason) if goes_on(call, trouble, reason) => reason.since,
+        Some(reason) if goes_on(call, trouble, cause, reason) => reason.since,
         _ => moment,
     }
 }
 
-fn times_of(call: &Call, trouble: Trouble, was: Option<&Reason>) -> u64
-    ensures { result ≡ times_of call.now trouble (option_copied was.entry) }
+fn times_of(call: &Call, trouble: Trouble, cause: Option<&CauseText>, was: Option<&Reason>) -> u64
+    ensures { result ≡ times_of call.now trouble (option_copied cause.entry) (option_copied was.entry) }
 {
     match was {
-        Some(reason) if goes_on(call, trouble, reason) => reason.times.saturating_add(1),
+        Some(reason) if goes_on(call, trouble, cause, reason) => reason.times.saturating_add(1),
         _ => 1,
     }
 }
@@ -151,15 +184,16 @@ impl Reasons {
         }
     }
 
-    /// Records that a call ended at this moment, in seconds, with or without trouble. A failed allocation
-    /// changes nothing, and can only come with trouble.
+    /// Records that a call ended at this moment, in seconds, with or without trouble, whose cause may be
+    /// known. A failed allocation changes nothing, and is possible only with trouble.
     pub fn note(
         &mut self,
         moment: u64,
         call: &Call,
         trouble: Option<Trouble>,
+        cause: Option<CauseText>,
     ) -> Result<(), AllocError>
-        ensures ok { OnOk result (self.new ≡ noted moment call.now trouble self.old) }
+        ensures ok { OnOk result (self.new ≡ noted moment call.now trouble cause self.old) }
         ensures err { OnErr result (self.new ≡ self.old) }
         ensures only { trouble ≡ None → result ≡ Ok (tt {0}) }
     {
@@ -169,27 +203,34 @@ impl Reasons {
                 forget_at(&mut self.list, place);
                 Ok(())
             }
-            Some(trouble) => self.add(moment, call, trouble),
+            Some(trouble) => self.add(moment, call, trouble, cause),
         }
     }
 
-    // All that allocates comes before the first change.
-    fn add(&mut self, moment: u64, call: &Call, trouble: Trouble) -> Result<(), AllocError>
-        ensures ok { OnOk result (self.new ≡ noted moment call.now (Some trouble) self.old) }
+    // Allocates everything before the first change.
+    fn add(
+        &mut self,
+        moment: u64,
+        call: &Call,
+        trouble: Trouble,
+        cause: Option<CauseText>,
+    ) -> Result<(), AllocError>
+        ensures ok { OnOk result (self.new ≡ noted moment call.now (Some trouble) cause self.old) }
         ensures err { OnErr result (self.new ≡ self.old) }
     {
         self.list.reserve(1)?;
         let copy = call.try_clone(self.alloc)?;
         let place = place_of(call, self.list.as_slice());
         let was = at_place(self.list.as_slice(), place);
-        let since = since_of(moment, call, trouble, was);
-        let times = times_of(call, trouble, was);
+        let since = since_of(moment, call, trouble, cause.as_ref(), was);
+        let times = times_of(call, trouble, cause.as_ref(), was);
         forget_at(&mut self.list, place);
         put_first(
             &mut self.list,
             Reason {
                 call: copy,
                 trouble,
+                cause,
                 since,
                 times,
                 latest: moment,

@@ -1,6 +1,7 @@
 ghost use Rattle.std.specs.Prelude.{◌≡◌, ◌++◌, IfOk, OnOk};
 ghost use Rattle.node_watch.specs.Seen.{container_seen, containers_seen};
 
+use crate::counts::{CallCounts, Counts};
 use lifecycle::{ContainerState, Phase, RestartPolicy, Track};
 use manifest::{Container, Label, Uid};
 use std::alloc::{AllocError, Global};
@@ -13,6 +14,8 @@ pub struct ContainerSeen {
     pub state: ContainerState,
     /// How many attempts were started after the first one.
     pub restarts: usize,
+    /// The counts of its calls, if they are kept and a status had them.
+    pub counts: Option<CallCounts>,
 }
 
 /// What is seen of a pod.
@@ -20,22 +23,26 @@ pub struct ContainerSeen {
 pub struct PodSeen {
     pub uid: Uid,
     pub phase: Phase,
-    /// Init containers first, as they stand in the manifest.
+    /// Init containers first, in the order of the manifest.
     pub containers: Vec<ContainerSeen>,
 }
 
 fn container_seen(
     alloc: Global,
     policy: RestartPolicy,
+    uid: &Uid,
+    counts: &Counts,
     container: &Container,
     track: &Track,
 ) -> Result<ContainerSeen, AllocError>
-    ensures { IfOk result (λ seen. seen ≡ container_seen policy (container.now, track.now)) }
+    ensures { IfOk result (λ seen. seen ≡ container_seen policy uid.now counts.now
+        (container.now, track.now)) }
 {
     Ok(ContainerSeen {
         name: container.name.try_clone(alloc)?,
         state: track.state(policy),
         restarts: track.started().saturating_sub(1),
+        counts: counts.counts_of(uid, &container.name),
     })
 }
 
@@ -43,12 +50,14 @@ fn container_seen(
 fn add_containers(
     alloc: Global,
     policy: RestartPolicy,
+    uid: &Uid,
+    counts: &Counts,
     containers: &[Container],
     tracks: &[Track],
     seen: &mut Vec<ContainerSeen>,
 ) -> Result<(), AllocError>
     ensures { OnOk result (seen.new.items ≡ seen.old.items
-        ++ containers_seen policy containers.now tracks.now) }
+        ++ containers_seen policy uid.now counts.now containers.now tracks.now) }
 {
     let Some((container, containers)) = containers.split_first() else {
         return Ok(());
@@ -56,24 +65,26 @@ fn add_containers(
     let Some((track, tracks)) = tracks.split_first() else {
         return Ok(());
     };
-    seen.push(container_seen(alloc, policy, container, track)?)?;
-    add_containers(alloc, policy, containers, tracks, seen)
+    seen.push(container_seen(alloc, policy, uid, counts, container, track)?)?;
+    add_containers(alloc, policy, uid, counts, containers, tracks, seen)
 }
 
 impl PodSeen {
-    /// What is seen of a pod now.
-    pub fn of(alloc: Global, view: PodView<'_>) -> Result<PodSeen, AllocError>
+    /// What is seen of a pod now, with these counts of calls.
+    pub fn of(alloc: Global, view: PodView<'_>, counts: &Counts) -> Result<PodSeen, AllocError>
         ensures uid { IfOk result (λ seen. seen.uid ≡ view.entry.pod.now.uid) }
         ensures phase { IfOk result (λ seen. seen.phase ≡ view.entry.phase) }
         ensures containers { IfOk result (λ seen. seen.containers.items
-            ≡ containers_seen view.entry.pod.now.policy view.entry.pod.now.containers.all
-            view.entry.tracks.now) }
+            ≡ containers_seen view.entry.pod.now.policy view.entry.pod.now.uid counts.now
+            view.entry.pod.now.containers.all view.entry.tracks.now) }
     {
         let pod = view.pod;
         let mut containers = Vec::new(alloc);
         add_containers(
             alloc,
             pod.policy,
+            &pod.uid,
+            counts,
             pod.containers.as_slice(),
             view.tracks,
             &mut containers,

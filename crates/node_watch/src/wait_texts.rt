@@ -1,10 +1,11 @@
-//! The lines that tell why containers wait.
+//! The lines on why containers wait.
 ghost use Rattle.std.specs.Prelude.{◌≡◌, ◌++◌, IfOk, OnOk, option_copied, string_bytes};
 ghost use Rattle.cri_msgs.specs.declared.replies.Answer.TheVariants as answer;
 ghost use Rattle.fault_notes.specs.Paths.{shown_path};
 ghost use Rattle.node_watch.specs.Losses.{loss_of};
-ghost use Rattle.node_watch.specs.WaitTexts.{back_off_text, cause_words, container_waits, ending_of, failure_text, files_words};
-ghost use Rattle.node_watch.specs.WaitTexts.{is_of_files, no_wait_line, profile_words, reason_before};
+ghost use Rattle.node_watch.specs.WaitTexts.{back_off_text, cause_or_files, cause_words, container_waits};
+ghost use Rattle.node_watch.specs.WaitTexts.{ending_of, failure_text, files_words, is_of_files, no_wait_line};
+ghost use Rattle.node_watch.specs.WaitTexts.{profile_words, reason_before};
 ghost use Rattle.node_watch.specs.WaitTexts.{reason_text, times_words, told_reason, trouble_words, wait_change};
 ghost use Rattle.node_watch.specs.WaitTexts.{wait_change_by, wait_changes, wait_line};
 
@@ -17,6 +18,7 @@ use crate::waits::{ContainerWait, PodWaits, WaitReason, is_same_reason};
 use cri_msgs::{Answer, Call, Refusal};
 use fault_notes::{ShownPath, refusal_name};
 use manifest::{Label, SeccompProfile, Uid};
+use refusal_causes::CauseText;
 use std::alloc::{AllocError, Global};
 
 fn is_of_files(refusal: Refusal) -> bool
@@ -58,27 +60,59 @@ fn add_files(text: &mut String, call: &Call, refusal: Refusal) -> Result<(), All
     }
 }
 
-fn add_cause(text: &mut String, call: &Call, refusal: Refusal) -> Result<(), AllocError>
+// What the runtime wrote about the cause, or else the files that the call names.
+fn add_cause_or_files(
+    text: &mut String,
+    call: &Call,
+    refusal: Refusal,
+    cause: Option<&CauseText>,
+) -> Result<(), AllocError>
     ensures { OnOk result (string_bytes text.new ≡ string_bytes text.old
-        ++ cause_words (loss_of call.now (answer.Refused refusal)) call.now refusal) }
+        ++ cause_or_files call.now refusal (option_copied cause.entry)) }
 {
-    match loss_of(call, &Answer::Refused(refusal)) {
-        Some(loss) => {
-            write!(text, ": {loss}")?;
+    match cause {
+        Some(cause) => {
+            let cause = cause.as_str();
+            write!(text, ": {cause}")?;
             Ok(())
         }
         None => add_files(text, call, refusal),
     }
 }
 
-fn add_trouble(text: &mut String, call: &Call, trouble: Trouble) -> Result<(), AllocError>
-    ensures { OnOk result (string_bytes text.new ≡ string_bytes text.old ++ trouble_words call.now trouble) }
+fn add_cause(
+    text: &mut String,
+    call: &Call,
+    refusal: Refusal,
+    cause: Option<&CauseText>,
+) -> Result<(), AllocError>
+    ensures { OnOk result (string_bytes text.new ≡ string_bytes text.old
+        ++ cause_words (loss_of call.now (answer.Refused refusal)) call.now refusal
+        (option_copied cause.entry)) }
+{
+    match loss_of(call, &Answer::Refused(refusal)) {
+        Some(loss) => {
+            write!(text, ": {loss}")?;
+            Ok(())
+        }
+        None => add_cause_or_files(text, call, refusal, cause),
+    }
+}
+
+fn add_trouble(
+    text: &mut String,
+    call: &Call,
+    trouble: Trouble,
+    cause: Option<&CauseText>,
+) -> Result<(), AllocError>
+    ensures { OnOk result (string_bytes text.new ≡ string_bytes text.old
+        ++ trouble_words call.now trouble (option_copied cause.entry)) }
 {
     match trouble {
         Trouble::Refused(refusal) => {
             let name = refusal_name(refusal);
             write!(text, " refused {name}")?;
-            add_cause(text, call, refusal)
+            add_cause(text, call, refusal, cause)
         }
         Trouble::Lost => text.push_str(" lost"),
     }
@@ -99,7 +133,7 @@ fn add_failure(text: &mut String, reason: &Reason) -> Result<(), AllocError>
     ensures { OnOk result (string_bytes text.new ≡ string_bytes text.old ++ failure_text reason.now) }
 {
     text.push_str(call_name(&reason.call))?;
-    add_trouble(text, &reason.call, reason.trouble)?;
+    add_trouble(text, &reason.call, reason.trouble, reason.cause.as_ref())?;
     text.push_str(", ")?;
     add_times(text, reason.times)?;
     let since = reason.since;
@@ -261,7 +295,7 @@ fn add_change(
     add_change_by(alloc, text, form, moment, uid, &new.name, before, after)
 }
 
-// Place by place.
+// Adds the changes place by place.
 fn add_containers(
     alloc: Global,
     text: &mut String,
@@ -289,8 +323,8 @@ fn add_containers(
     }
 }
 
-/// What is to be told anew at a moment, in seconds, of why the containers of a pod wait: a line for each
-/// container whose reason appeared, changed or disappeared. All of them if the pod was not seen before.
+/// The changes at a moment, in seconds, in why the containers of a pod wait: a line for each container whose
+/// reason appeared, changed or disappeared. All of them if the pod was not seen before.
 pub fn wait_changes(
     alloc: Global,
     form: Form,

@@ -6,7 +6,7 @@ ghost use Rattle.node_watch.specs.Waits.{back_off_in, container_wait, holds_back
 ghost use Rattle.node_watch.specs.Waits.{is_same_reason, reason_of, unless_failed, waits_behind, waits_of};
 
 use crate::calls::call_name;
-use crate::reasons::{Reason, Reasons, is_same_trouble};
+use crate::reasons::{Reason, Reasons, is_same_cause, is_same_trouble};
 use lifecycle::{ContainerState, RestartPolicy, Stage, Track};
 use manifest::{Container, Label, Pod, Uid};
 use std::alloc::{AllocError, Global};
@@ -15,14 +15,14 @@ use worker_pod::PodView;
 /// Why a container that is not over waits, or that it runs.
 #[derive(Debug, Drop)]
 pub enum WaitReason {
-    /// It stands behind an init container that has not succeeded.
+    /// It comes after an init container that has not succeeded.
     Setup,
     /// Its back-off ends at this moment, in seconds.
     BackOff {
         until: u64,
         /// The code of its last run.
         code: u8,
-        /// The number of the run that comes then, from 1.
+        /// The number of the next run, from 1.
         run: usize,
     },
     /// The last call about it, or about its pod as a whole, failed.
@@ -44,7 +44,7 @@ pub struct ContainerWait {
 #[derive(Debug, Drop)]
 pub struct PodWaits {
     pub uid: Uid,
-    /// Init containers first, as they stand in the manifest.
+    /// Init containers first, in the order of the manifest.
     pub containers: Vec<ContainerWait>,
 }
 
@@ -88,7 +88,7 @@ fn unless_failed(
 }
 
 /// Why a container waits at this moment, in seconds: the one reason of a container that is not over.
-/// `is_behind` says that an init container before it has not succeeded, and `failed` is the last failed call
+/// `is_behind` is whether an init container before it has not succeeded, and `failed` is the last failed call
 /// about it.
 pub fn reason_of(
     alloc: Global,
@@ -204,11 +204,12 @@ fn is_same_failure(old: &Reason, new: &Reason) -> bool
 {
     call_name(&old.call) == call_name(&new.call)
         && is_same_trouble(old.trouble, new.trouble)
+        && is_same_cause(old.cause.as_ref(), new.cause.as_ref())
         && old.since == new.since
         && minute_of(old) == minute_of(new)
 }
 
-/// Whether the second reason says nothing new after the first one: more failures of the same call in the same
+/// Whether the second reason adds nothing new to the first one: more failures of the same call in the same
 /// way are nothing new within a minute.
 pub(crate) fn is_same_reason(old: &WaitReason, new: &WaitReason) -> bool
     ensures { result ≡ is_same_reason old.now new.now }

@@ -1,7 +1,7 @@
-//! Runs pods in the containers of a runtime behind a socket: `nodeagent --help` says how.
+//! Runs pods in the containers of a runtime behind a socket: see `nodeagent --help`.
 #![tactic(auto)]
 
-use agent::nodeagent_run;
+use agent_program::nodeagent_run;
 use host_io::open_closed;
 use std::env;
 use std::io::{self, ErrorKind};

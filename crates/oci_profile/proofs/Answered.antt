@@ -1,4 +1,4 @@
--- What a reading of a short text says of the text's first fault.
+-- The first fault of a short text, by the result of reading it.
 use Rattle.std.proofs.Common.{◌≡◌, ◌≢◌, ℕ, ◌<◌, ◌≤◌, List, length, Some, None, Result, Ok, Err, refl, ap}
 use Rattle.std.proofs.Common.{subst, ◌∙◌}
 use Rattle.std.specs.Prelude.{IfOk, IfErr}

@@ -1,4 +1,4 @@
--- What is read of a tree is never found to be too large.
+-- Reading a tree never finds it too large.
 use Rattle.std.proofs.Common.{◌≢◌, ℕ, List, [], ◌∷◌, ◌++◌, not, length, codes, cond, eqb, leb, ltb, Bool}
 use Rattle.std.proofs.Common.{true, false, Option, Some, None, unwrap_or, Result, Ok, Err}
 use Rattle.std.specs.Prelude.{is_some, position}

@@ -40,7 +40,7 @@ apart_push done cond apart small new = (
       eqb-false _ _ (any_at (λ (c : Cond). eqb c.index cond.index) done k d new lt) same),
 )
 
--- a condition that stands behind others is on another argument
+-- a condition after others is on another argument
 pub apart_at : (done : List Cond) (cond : Cond) (rest : List Cond) → AreApart (done ++ cond ∷ rest)
     → (cond.index < 6) × (is_tested done cond.index ≡ false)
 unfolding is_tested
@@ -61,7 +61,7 @@ apart_at done cond rest apart =
 some_cond : Cond
 some_cond = record { index = 0; op = Equal; value = 0; value_two = 0 }
 
--- numbers below 6 that differ are six at most
+-- at most six different numbers are below 6
 pub apart_conds : (conds : List Cond) → AreApart conds → AreConds conds
 apart_conds conds apart =
     let indices : List ℕ = map (λ (c : Cond). c.index) conds in

@@ -1,4 +1,4 @@
--- The entries of the profile RuntimeDefault are as a profile's type asks.
+-- The entries of the profile RuntimeDefault keep the rules of a profile's type.
 use Rattle.std.proofs.Common.{◌≡◌, ℕ, ◌+◌, ◌<◌, ◌≤◌, List, [], ◌∷◌, ◌++◌, length, cond, map, map-id}
 use Rattle.std.proofs.Common.{append-nil, true, false, Option, Some, None, codes, refl, arith}
 use Rattle.std.specs.List.{cons_option, range_with_len}
@@ -76,7 +76,7 @@ default_fit small =
     (personas_fit small personalities last
     (All-cons IsFit allowed_entry [] allowed_entry_fits (All-nil IsFit))))
 
--- no number is there twice, so the last entry has fewer than the table
+-- no number occurs twice, so the last entry has fewer than the table
 few_allowed : (limit : ℕ) → length (allowed_below limit) ≤ limit
 unfolding allowed_below
 few_allowed limit = omega (

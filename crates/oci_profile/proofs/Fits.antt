@@ -1,4 +1,4 @@
--- What is read is as a profile's type asks.
+-- A profile that is read keeps the rules of its type.
 use Rattle.std.proofs.Common.{◌≡◌, ℕ, ◌<◌, List, [], ◌∷◌, Option, Some, None, Ok, refl, sym, subst}
 use Rattle.std.specs.Prelude.{filter_map}
 use Rattle.std.specs.List.{cons_option}

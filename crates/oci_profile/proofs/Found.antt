@@ -1,4 +1,4 @@
--- What is read is so: each reading, where it goes on, gives what the tree has.
+-- What is read is right: each reading that succeeds returns what the tree has.
 use Rattle.std.proofs.Common.{◌≡◌, inl, inr, ℕ, ◌<◌, ◌≤◌, List, [], ◌∷◌, ◌++◌, length, codes, cond, eqb, leb}
 use Rattle.std.proofs.Common.{ltb, Bool, true, false, Option, Some, None, unwrap_or, Result, Ok, Err, refl}
 use Rattle.std.proofs.Common.{sym, ap, subst, ◌∙◌, arith}
@@ -51,7 +51,7 @@ use Rattle.oci_profile.proofs.Names.{known_when_needed}
 here_ok : {A : Type 0} (r : Result A FieldFaultAt) (x : A) → here r ≡ Ok x → r ≡ Ok x
 here_ok r x h = as_fault_ok _ r x h
 
--- what a chain of tests answers is so where each answer is
+-- the answer of a chain of tests is right if each answer is
 one_of : {A E : Type 0} (P : A → Type 0) (test : Bool) (x : A) (others : Result A E) → (test ≡ true → P x)
     → ((y : A) → others ≡ Ok y → P y) → (y : A) → cond test (Ok x) others ≡ Ok y → P y
 one_of P true x others here rest y h =
@@ -397,7 +397,7 @@ short_found bytes profile short h =
       says = profile_found tree.0 profile tree.2;
     }
 
--- what is given is the text's profile
+-- the returned profile is the text's profile
 pub found : (bytes : List ℕ) (result : Result Profile ProfileFaultAt) → length bytes ≤ MAX_PROFILE_BYTES
     → Reads (λ profile. profile) result (short_of bytes) → IfOk result (ReadsProfile bytes)
 found bytes (Ok profile) short h = short_found bytes profile short h

@@ -9,7 +9,7 @@ use Rattle.serde_json.specs.Data.{Data}
 use Rattle.oci_profile.specs.Profile.{are_known, number_named}
 use Rattle.oci_profile.specs.Reading.{known_if, refuse_at}
 
--- the names in front of the first that the table lacks
+-- how many names come before the first that the table lacks
 abbrev front : List Data → ℕ
 front names = prefix_len (λ name. not (not (is_some (number_named name)))) names
 

@@ -1,4 +1,4 @@
--- What is so is read: where the tree has it, each reading goes on and gives it.
+-- Every profile is read: each reading of its tree succeeds and returns what the tree has.
 use Rattle.std.proofs.Common.{◌≡◌, inl, inr, ℕ, ◌<◌, List, [], ◌∷◌, ◌++◌, length, codes, cond, ltb, false}
 use Rattle.std.proofs.Common.{Option, Some, None, unwrap_or, Ok, refl, sym, ap, arith}
 use Rattle.std.proofs.Math.Dec.{eqb-suc-zero}
@@ -28,7 +28,7 @@ use Rattle.oci_profile.specs.Reading.{ignored_of, head_of, items_of, default_of,
 use Rattle.oci_profile.proofs.CondLists.{AreApart, apart_at}
 use Rattle.oci_profile.proofs.Names.{goes_on_where_known}
 
--- the decision where no errno is given
+-- the decision if no errno is given
 abbrev base : Decision → Decision
 base (Errno errno) = Errno 1
 base (Trace message) = Trace 1

@@ -1,4 +1,4 @@
--- What a profile says of a call: OCI runtime-spec 1.1, config-linux, seccomp. Where that is silent this
+-- A profile's decision on a call: OCI runtime-spec 1.1, config-linux, seccomp. Where that is silent, this
 -- project's own: which entry decides, calls of another architecture, and those of the x32 interface.
 use Rattle.std.specs.Prelude.{ℕ, ◌+◌, ◌*◌, ◌==◌, nat_lt, nat_le, bit_and, Bool, not, ◌&&◌, if◌then◌else◌}
 use Rattle.std.specs.Prelude.{List, [], ◌∷◌, length, slice_index, sum_by}
@@ -24,7 +24,7 @@ compares GreaterOrEqual value two arg = nat_le value arg
 compares Greater value two arg = nat_lt value arg
 compares MaskedEqual value two arg = bit_and arg value == two
 
--- whether the condition holds of the call
+-- whether the condition holds for the call
 abbrev pub holds_on : Cond → SysCall → Bool
 holds_on cond call = compares cond.op cond.value cond.value_two (slice_index call.args cond.index)
 
@@ -32,7 +32,7 @@ holds_on cond call = compares cond.op cond.value cond.value_two (slice_index cal
 abbrev pub all_of : List Cond → SysCall → Bool
 all_of conds call = list_all (λ cond. holds_on cond call) conds
 
--- whether all the entry's conditions hold of the call
+-- whether all the entry's conditions hold for the call
 unfoldable pub all_hold : Entry → SysCall → Bool
 all_hold entry call = all_of entry.conds call
 
@@ -46,13 +46,13 @@ decision_of [] default nr call = default
 decision_of (entry ∷ entries) default nr call =
     if names entry nr && all_hold entry call then entry.decision else decision_of entries default nr call
 
--- what is said of a native call: from 0x40000000 on numbers are those of the x32 interface
+-- the value for a native call: numbers from 0x40000000 up are those of the x32 interface
 unfoldable pub chosen : Profile → ℕ → SysCall → ℕ
 chosen profile nr call =
     if nat_le 0x40000000 nr then value_of KillProcess
     else value_of (decision_of profile.entries profile.default nr call)
 
--- what is said of a call, as a filter's value: 0xc000003e is AUDIT_ARCH_X86_64
+-- the value for a call, as a filter returns it: 0xc000003e is AUDIT_ARCH_X86_64
 unfoldable pub meaning : Profile → SysCall → ℕ
 meaning profile call = if call.arch == 0xc000003e then chosen profile call.nr call else value_of KillProcess
 
@@ -60,6 +60,6 @@ meaning profile call = if call.arch == 0xc000003e then chosen profile call.nr ca
 abbrev pub entry_weight : Entry → ℕ
 entry_weight entry = length entry.numbers * (8 + 6 * length entry.conds)
 
--- the profile's weight, this project's own: by it a profile is found too long to be compiled
+-- the profile's weight, this project's own: it decides whether a profile is too long to be compiled
 unfoldable pub weight : Profile → ℕ
 weight profile = 7 + sum_by entry_weight profile.entries

@@ -1,7 +1,6 @@
--- Profiles as JSON trees: OCI runtime-spec 1.1, config-linux, seccomp. Which tree is which profile,
--- field by field; nothing here knows of an order in which the fields are read. This project's own are
--- the limits of the text and of errnos, names that the table lacks, and that no argument has two
--- conditions in one entry.
+-- Profiles as JSON trees: OCI runtime-spec 1.1, config-linux, seccomp. Which tree is which profile, field by
+-- field, in no order of reading. This project's own are the limits of the text and of errnos, names that the
+-- table lacks, and that no argument has two conditions in one entry.
 use Rattle.std.specs.Prelude.{◌≡◌, ◌⊎◌, ℕ, ◌<◌, ◌≤◌, ◌^◌, List, [], filter_map, length, codes, Bool, is_some}
 use Rattle.std.specs.Prelude.{IsTrue, Option, Some, None, unwrap_or, option_and_then}
 use Rattle.std.specs.List.{list_all}
@@ -34,7 +33,7 @@ IsNameOf (Trace message) name = name ≡ codes "SCMP_ACT_TRACE"
 IsNameOf Allow name = name ≡ codes "SCMP_ACT_ALLOW"
 IsNameOf Log name = name ≡ codes "SCMP_ACT_LOG"
 
--- the errno that is given with it, which only two actions take: 1 (EPERM) where none is given
+-- the errno that is given with it, which only two actions take: 1 (EPERM) if none is given
 abbrev pub IsErrnoOf : Decision → Option ℕ → Type 0
 IsErrnoOf (Errno errno) given = (errno ≡ unwrap_or given 1) × (errno ≤ MAX_ERRNO)
 IsErrnoOf (Trace message) given = (message ≡ unwrap_or given 1) × (message < 2 ^ 16)
@@ -62,7 +61,7 @@ IsOpName GreaterOrEqual name = name ≡ codes "SCMP_CMP_GE"
 IsOpName Greater name = name ≡ codes "SCMP_CMP_GT"
 IsOpName MaskedEqual name = name ≡ codes "SCMP_CMP_MASKED_EQ"
 
--- an item of "args"; a "valueTwo" that is not there is 0
+-- an item of "args"; an absent "valueTwo" is 0
 pub record IsCond (tree : Data) (cond : Cond) : Type 0 where
   pub an_object : object tree ≡ Some tree
   pub index : HasField whole (codes "index") tree cond.index
@@ -86,8 +85,8 @@ are_known names = list_all (λ name. is_some (number_named name)) names
 abbrev pub rank : Decision → ℕ
 rank decision = rank_of (verdict_of decision).action
 
--- An item of "syscalls". A name that the table lacks is left out; where the entry is stricter than the
--- default the table has to have each.
+-- An item of "syscalls". A name that the table lacks is left out; if the entry is stricter than the default,
+-- the table must have each.
 pub record IsEntry (default : Decision) (tree : Data) (entry : Entry) : Type 0 where
   pub an_object : object tree ≡ Some tree
   pub names : List Data
@@ -101,7 +100,7 @@ pub record IsEntry (default : Decision) (tree : Data) (entry : Entry) : Type 0 w
   pub numbers_are : entry.numbers ≡ filter_map number_named names
   pub known : rank entry.decision < rank default → IsTrue (are_known names)
 
--- what has no effect here, but is of its kind where it is there
+-- fields without effect here, which have the right type if present
 pub record HasIgnored (tree : Data) : Type 0 where
   pub architectures : Option (List Data)
   pub architectures_there : MayHaveField text_list (codes "architectures") tree architectures

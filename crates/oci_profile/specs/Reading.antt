@@ -1,5 +1,5 @@
--- Which fault of a text is found first: docs/SEMANTICS.md, "Profiles", has the order. Each definition
--- says what is read of a tree, its faults in that order, each with the place that it has in the tree.
+-- Which fault of a text is found first: docs/SEMANTICS.md, "Profiles", has the order. Each definition is the
+-- reading of a tree, with its faults in that order, each with its place in the tree.
 use Rattle.std.specs.Prelude.{◌≡◌, ℕ, ◌==◌, ◌^◌, List, [], ◌∷◌, filter_map, length, position, codes, Bool}
 use Rattle.std.specs.Prelude.{true, false, not, is_some, nat_lt, nat_le, if◌then◌else◌, Option, Some, None}
 use Rattle.std.specs.Prelude.{option_map, unwrap_or, Result, Ok, Err, ⊤}
@@ -36,16 +36,16 @@ use Rattle.oci_profile.specs.Profile.{number_named, rank}
 abbrev pub here : {A : Type 0} → Result A FieldFaultAt → Result A ProfileFaultAt
 here r = as_fault fault_of_field_at r
 
--- a call gives this reading, or memory ran out
+-- a call returns this reading, or memory ran out
 abbrev pub Reads : {X Y : Type 0} → (X → Y) → Result X ProfileFaultAt → Result Y ProfileFaultAt → Type 0
 Reads view result reading = GivesAt (λ found. found.fault) Memory view result reading
 
--- it is refused for this, wherever
+-- it is refused for this fault, at any place
 abbrev pub IsRefusedFor : {X : Type 0} → ProfileFault → Result X ProfileFaultAt → Type 0
 IsRefusedFor fault (Ok x) = ⊥
 IsRefusedFor fault (Err found) = found.fault ≡ fault
 
--- the decision of the action with this name, where no errno is given
+-- the decision of the action with this name, if no errno is given
 unfoldable pub action_of : List ℕ → Result Decision ProfileFault
 action_of name =
     if bytes_eq name (codes "SCMP_ACT_KILL") then Ok KillThread
@@ -59,7 +59,7 @@ action_of name =
     else if bytes_eq name (codes "SCMP_ACT_NOTIFY") then Err Notify
     else Err UnknownAction
 
--- the decision with the errno that is given
+-- the decision with the given errno
 abbrev pub with_errno : Decision → ℕ → Result Decision ProfileFault
 with_errno (Errno _) given = if nat_le given MAX_ERRNO then Ok (Errno given) else Err ErrnoTooLarge
 with_errno (Trace _) given = if nat_lt given (2 ^ 16) then Ok (Trace given) else Err ErrnoTooLarge
@@ -112,7 +112,7 @@ cond_of done item = do
   op ← op_of tree
   Ok (record { index = index; op = op; value = value; value_two = unwrap_or two 0 })
 
--- as the item behind those that were read
+-- as the item after those that were read
 abbrev pub cond_at : List Cond → Data → Result Cond ProfileFaultAt
 cond_at done item = under (Item (length done)) (cond_of done item)
 
@@ -135,12 +135,12 @@ refuse_at (Some index) = Err (record {
       Member (codes "names") ∷ Item index ∷ [];
 })
 
--- where the table has to have each name, the first that it lacks is refused
+-- if the table must have each name, the first that it lacks is refused
 abbrev pub known_if : Bool → List Data → Result ⊤ ProfileFaultAt
 known_if false names = Ok tt
 known_if true names = refuse_at (position (λ name. not (is_some (number_named name))) names)
 
--- what is judged of an entry before its arguments
+-- the parts of an entry that are read before its arguments
 unfoldable pub all_but_args_of : Data → Result Decision ProfileFaultAt
 all_but_args_of item = do
   tree ← or_else (fault_here WrongType) (object item)
@@ -156,14 +156,14 @@ entry_of default item = do
   known_if (nat_lt (rank decision) (rank default)) names
   Ok (record { numbers = filter_map number_named names; decision = decision; conds = conds })
 
--- as the item behind those that were read
+-- as the item after those that were read
 abbrev pub entry_at : Decision → List Entry → Data → Result Entry ProfileFaultAt
 entry_at default done item = under (Item (length done)) (entry_of default item)
 
 abbrev pub entries_of : Decision → List Data → Result (List Entry) ProfileFaultAt
 entries_of default items = under (Member (codes "syscalls")) (in_order_after (entry_at default) [] items)
 
--- what has no effect has to be of its kind
+-- fields without effect must have the right type
 unfoldable pub ignored_of : Data → Result ⊤ ProfileFaultAt
 ignored_of tree = do
   here (optional_each text text_list (codes "architectures") tree)
@@ -175,7 +175,7 @@ ignored_of tree = do
 unfoldable pub default_of : Data → Result Decision ProfileFaultAt
 default_of tree = decision_of (codes "defaultAction") (codes "defaultErrnoRet") tree
 
--- the default, once all fields but the entries are judged
+-- the default, after all fields but the entries are checked
 unfoldable pub head_of : Data → Result Decision ProfileFaultAt
 head_of whole_tree = do
   tree ← or_else (fault_here NotObject) (object whole_tree)
@@ -183,13 +183,13 @@ head_of whole_tree = do
   ignored_of tree
   Ok default
 
--- the entries as they stand there
+-- the entries as written there
 unfoldable pub items_of : Data → Result (List Data) ProfileFaultAt
 items_of tree = do
   items ← here (optional list (codes "syscalls") tree)
   Ok (unwrap_or items [])
 
--- what is judged before an entry is looked at
+-- the parts that are read before the entries
 unfoldable pub all_but_entries_of : Data → Result (List Data) ProfileFaultAt
 all_but_entries_of tree = do
   head_of tree
@@ -216,6 +216,6 @@ reading_of bytes = do
 abbrev pub first_fault_at : List ℕ → Option ProfileFaultAt
 first_fault_at bytes = result_err (reading_of bytes)
 
--- the same without the place
+-- the first fault without its place
 abbrev pub first_fault : List ℕ → Option ProfileFault
 first_fault bytes = option_map (λ found. found.fault) (first_fault_at bytes)

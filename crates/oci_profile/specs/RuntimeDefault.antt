@@ -13,7 +13,7 @@ use Rattle.oci_profile.specs.declared.decision.Decision.TheVariants.{Errno, Allo
 use Rattle.oci_profile.specs.declared.profile.Entry.{Entry}
 use Rattle.oci_profile.specs.declared.profile.Profile.{Profile}
 
--- the calls that change the machine or other containers, and those that another entry speaks of
+-- the calls that change the machine or other containers, and those that another entry decides
 unfoldable pub excluded : List (List ℕ)
 excluded =
     codes "acct" ∷ codes "add_key" ∷ codes "bpf" ∷ codes "clock_settime" ∷ codes "clone" ∷ codes "clone3" ∷
@@ -33,7 +33,7 @@ excluded =
 unfoldable pub excludes : List ℕ → Bool
 excludes name = list_any (λ other. bytes_eq name other) excluded
 
--- whether the table has the number, with a name that is not left out
+-- whether the table has the number, with a name that is not excluded
 abbrev pub is_kept : Option (List ℕ) → Bool
 is_kept None = false
 is_kept (Some name) = not (excludes name)
@@ -57,12 +57,12 @@ entry_named name decision conds = record {
 abbrev pub clone3_entry : Entry
 clone3_entry = entry_named (codes "clone3") (Errno 38) []
 
--- allowed where it makes no namespace: none of the flags CLONE_NEW* is given
+-- allowed if it makes no namespace: none of the flags CLONE_NEW* is given
 abbrev pub clone_entry : Entry
 clone_entry = entry_named (codes "clone") Allow
     (record { index = 0; op = MaskedEqual; value = 0x7e020000; value_two = 0 } ∷ [])
 
--- PER_LINUX, PER_LINUX32, each with UNAME26, and to be told the present one
+-- PER_LINUX, PER_LINUX32, each with UNAME26, and the query for the current one
 unfoldable pub personalities : List ℕ
 personalities = 0 ∷ 8 ∷ 131072 ∷ 131080 ∷ 4294967295 ∷ []
 

@@ -46,7 +46,7 @@ pub fn named_action(name: &str) -> Result<Decision, ProfileFault>
     }
 }
 
-/// The decision with the errno that is given, or a tracer's message.
+/// The decision with the given errno, or tracer's message.
 pub fn given_errno(decision: Decision, given: u64) -> Result<Decision, ProfileFault>
     ensures { result ≡ with_errno decision given }
 {

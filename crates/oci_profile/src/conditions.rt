@@ -30,7 +30,7 @@ pub struct Cond {
     pub index: u8,
     pub op: Op,
     pub value: u64,
-    /// For [`Op::MaskedEqual`] what the masked argument has to be; ignored otherwise.
+    /// For [`Op::MaskedEqual`] the value that the masked argument must have; ignored otherwise.
     pub value_two: u64,
 }
 

@@ -37,7 +37,7 @@ impl Errno {
         }
     }
 
-    /// EPERM, which a call returns if a profile gives no errno.
+    /// EPERM, which a call returns if a profile has no errno for it.
     pub fn eperm() -> Errno
         ensures { result ≡ 1 }
     {
@@ -60,7 +60,7 @@ impl Errno {
     }
 }
 
-/// What a profile decides of a call: an action, and the data that it may have.
+/// A profile's decision on a call: an action, and its data if it has any.
 #[derive(Clone, Copy, Debug, PartialEq, Eq)]
 pub enum Decision {
     /// SCMP_ACT_KILL_PROCESS.

@@ -13,7 +13,7 @@ use crate::profile::{Entries, Entry, Numbers, Profile};
 use std::alloc::{AllocError, Global};
 use sys_table::{NUMBER_LIMIT, names_and_numbers_agree};
 
-// Calls that change the machine, or other containers, and those that another entry speaks of.
+// Calls that change the machine, or other containers, and those that another entry decides.
 #[rattlefmt::skip]
 static EXCLUDED: [&str; 62] = [
     "acct", "add_key", "bpf", "clock_settime", "clone", "clone3", "create_module",
@@ -28,7 +28,7 @@ static EXCLUDED: [&str; 62] = [
     "unshare", "uselib", "userfaultfd", "ustat", "vhangup", "_sysctl",
 ];
 
-// What `personality` may ask for: PER_LINUX, PER_LINUX32, UNAME26 with each, and 0xffffffff, which only asks.
+// The allowed arguments of `personality`: PER_LINUX, PER_LINUX32, each with UNAME26, and 0xffffffff, a query.
 static PERSONALITIES: [u64; 5] = [0, 8, 131_072, 131_080, 4_294_967_295];
 
 // CLONE_NEWNS and the other flags that make a namespace.

@@ -1,8 +1,23 @@
 //! Seccomp profiles of containers: the `linux.seccomp` object of the OCI runtime specification 1.1.
 //!
-//! `specs/Meaning.antt` defines what a profile says of a call; `Profile::value_on` computes it by going over
+//! `specs/Meaning.antt` defines a profile's meaning for a call; `Profile::value_on` computes it by going over
 //! the entries. `specs/Profile.antt` defines which trees are which profiles, and `specs/Reading.antt` which
 //! fault is found first.
+//!
+//! # What is proved
+//!
+//! - The reader accepts exactly the texts that are a profile: `read`, `read_placed` (found, only, no_fault).
+//! - Other texts are refused with the first fault, and `read_placed` adds its place: `read`, `read_placed`
+//!   (first).
+//! - The length of a text is checked before memory is taken: `read`, `read_placed` (large).
+//! - The meaning of a profile at every call: `Profile::value_on`, `Entry::names`.
+//! - RuntimeDefault, entry by entry: `runtime_default`, `runtime_default_is_light`.
+//! - A copy is the same profile: `Profile::try_clone`.
+//! - The verdict, the value and the rank of a decision: `Decision::verdict`, `value`, `rank`, `Errno::new`.
+//! - Lists keep their rules by type: `Numbers`, `Conds`, `Entries` (fit).
+//! - The text of a fault: `Display` of `ProfileFault`.
+//!
+//! Only tested: the time of reading.
 #![tactic(auto)]
 
 mod actions;

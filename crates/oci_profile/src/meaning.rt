@@ -6,15 +6,15 @@ use crate::decision::Decision;
 use crate::profile::{Entry, Profile};
 use call_data::{NATIVE_ARCH, SysCall};
 
-/// From here on numbers are those of the x32 interface: `__X32_SYSCALL_BIT` of asm/unistd.h.
+/// Numbers from this one up are those of the x32 interface: `__X32_SYSCALL_BIT` of asm/unistd.h.
 pub const X32_BIT: u32 = 0x4000_0000;
 
 impl Profile {
     ghost use Rattle.std.specs.Prelude.{◌≡◌};
     ghost use Rattle.oci_profile.specs.Meaning.{meaning};
 
-    /// What the profile says of a call, as the value that a filter returns. Calls of another
-    /// architecture, and those of the x32 interface, end the process.
+    /// The profile's decision on a call, as the value that a filter returns. Calls of another architecture,
+    /// and those of the x32 interface, end the process.
     #[tactic(auto, unfolding(crate::specs::Meaning::meaning, crate::specs::Meaning::chosen))]
     pub fn value_on(&self, call: &SysCall) -> u32
         ensures { result ≡ meaning self.now call.now }
@@ -39,7 +39,7 @@ impl Entry {
     }
 }
 
-// What the first entry that applies decides, else the default.
+// The decision of the first entry that applies, else the default.
 fn decision(entries: &[Entry], default: Decision, call: &SysCall) -> Decision
     ensures { result ≡ decision_of entries.now default call.now.nr call.now }
 {
@@ -64,7 +64,7 @@ fn is_met(entry: &Entry, call: &SysCall) -> bool
     entry.conds.as_slice().iter().all(|cond| holds(cond, call))
 }
 
-// Whether the condition holds of the call's argument.
+// Whether the condition holds for the call's argument.
 fn holds(cond: &Cond, call: &SysCall) -> bool
     requires { cond.now.index < 6 }
     ensures { result ≡ holds_on cond.now call.now }

@@ -23,21 +23,21 @@ use serde_json::Value;
 use std::alloc::{AllocError, Global};
 use sys_table::names_and_numbers_agree;
 
-/// The most bytes of a profile's text.
+/// The greatest length of a profile's text in bytes.
 pub const MAX_PROFILE_BYTES: usize = 262_144;
 
 /// The profile of a text, or its first fault: of the text, then of the fields in the order of
 /// docs/SEMANTICS.md, and of the entries in order. Unknown fields are ignored. If an allocation fails, the
 /// result is `Memory`, unless it is `TooLarge`.
 pub fn read(alloc: Global, bytes: &[u8]) -> Result<Profile, ProfileFault>
-    // What is read is the text's profile.
+    // The result is the text's profile.
     ensures found { IfOk result (ReadsProfile bytes.now) }
 
-    // What is a profile is read, unless memory runs out.
+    // Every profile is read, unless memory runs out.
     ensures only { (profile : Profile) → ReadsProfile bytes.now profile
         → Gives ProfileFault.Memory (λ p. p) result (Ok profile) }
 
-    // A text that is read has no fault, and one that is refused has this first.
+    // A text that is read has no fault, and a refused one has this fault first.
     ensures no_fault { IfOk result (λ _. first_fault bytes.now ≡ None) }
     ensures first { IfErr result (λ fault. fault ≢ ProfileFault.Memory
         → first_fault bytes.now ≡ Some fault) }
@@ -48,7 +48,7 @@ pub fn read(alloc: Global, bytes: &[u8]) -> Result<Profile, ProfileFault>
     Ok(read_placed(alloc, bytes)?)
 }
 
-/// Reads a profile as [`read`] does, and gives the place of the first fault in the text.
+/// Reads a profile as [`read`] does, and returns the place of the first fault in the text.
 pub fn read_placed(alloc: Global, bytes: &[u8]) -> Result<Profile, ProfileFaultAt>
     ensures found { IfOk result (ReadsProfile bytes.now) }
     ensures only { (profile : Profile) → ReadsProfile bytes.now profile → Reads (λ p. p) result (Ok profile) }
@@ -75,7 +75,7 @@ fn short(alloc: Global, bytes: &[u8]) -> Result<Profile, ProfileFaultAt>
 fn profile(alloc: Global, tree: &Value) -> Result<Profile, ProfileFaultAt>
     ensures value { Reads (λ p. p) result (profile_of (view tree.now)) }
 
-    // What is found before an entry is looked at is reported even if memory runs out.
+    // A fault found before the entries are read is reported even if memory runs out.
     ensures told { (fault : ProfileFaultAt) → all_but_entries_of (view tree.now) ≡ Err fault
         → result ≡ Err fault }
 {
@@ -85,7 +85,7 @@ fn profile(alloc: Global, tree: &Value) -> Result<Profile, ProfileFaultAt>
     Ok(Profile::new(default, entries))
 }
 
-// The default, once all fields but the entries are checked.
+// The default, after all fields but the entries are checked.
 #[tactic(auto, unfolding(crate::specs::Reading::head_of))]
 fn head(tree: &Value) -> Result<Decision, ProfileFaultAt>
     ensures { result ≡ head_of (view tree.now) }
@@ -141,7 +141,7 @@ fn each_entry(alloc: Global, default: &Decision, items: &[Value]) -> Result<Entr
 fn entry(alloc: Global, default: &Decision, item: &Value) -> Result<Entry, ProfileFaultAt>
     ensures value { Reads (λ e. e) result (entry_of default.now (view item.now)) }
 
-    // What is found before the arguments is reported even if memory runs out.
+    // A fault found before the arguments is reported even if memory runs out.
     ensures told { (fault : ProfileFaultAt) → all_but_args_of (view item.now) ≡ Err fault
         → result ≡ Err fault }
 {
@@ -171,7 +171,7 @@ fn is_stricter(decision: &Decision, default: &Decision) -> bool
     decision.rank() < default.rank()
 }
 
-// If the call table has to have each name, refuses the first that it lacks.
+// If the call table must have each name, refuses the first that it lacks.
 fn known_if(is_needed: bool, names: &[Value]) -> Result<(), ProfileFaultAt>
     ensures { result ≡ known_if is_needed (map view names.now) }
 {

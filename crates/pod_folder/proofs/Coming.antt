@@ -1,4 +1,4 @@
--- The first file whose pod is to be admitted is there, and asks for a pod.
+-- The first file whose pod is due for admission exists, and asks for a pod.
 use Rattle.std.proofs.Common.{◌≡◌, ℕ, Bool, true, false, List, [], ◌∷◌, Option, Some, None, if◌then◌else◌}
 use Rattle.std.proofs.Common.{arith}
 use Rattle.std.proofs.Common.{IsSomeAnd, is_some, slice_get, get_or, sym, subst, position}

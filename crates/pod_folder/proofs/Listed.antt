@@ -16,7 +16,7 @@ append_assoc : (a b c : List (List ℕ)) → (a ++ b) ++ c ≡ a ++ (b ++ c)
 append_assoc [] b c = refl
 append_assoc (x ∷ a) b c = λ i. x ∷ append_assoc a b c i
 
--- one entry more was listed
+-- one more entry was listed
 pub names_step : (all left after : Option (List Listed)) (entry : Entry) (names more : List (List ℕ))
     → AreNamesWith all left names → ReturnsNext left (Ok (Some entry)) after
     → more ≡ names ++ with_name (listed entry) [] → AreNamesWith all after more

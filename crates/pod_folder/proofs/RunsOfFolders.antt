@@ -25,7 +25,7 @@ use Rattle.pod_folder.specs.Runs.FolderEvent.{Looked, Asked as WasAsked, Recorde
 abbrev plain : Found → Found
 plain file = record file { tried = false }
 
--- the same files, but for that mark
+-- the same files, except for that mark
 abbrev Same : List Found → List Found → Type 0
 Same xs ys = map plain xs ≡ map plain ys
 

@@ -1,5 +1,5 @@
--- What is known of a folder's pods, what is asked of the node, and what is known then: this project's own.
--- docs/SEMANTICS.md, "Pods of a folder".
+-- What is known of a folder's pods, what is asked of the node, and what is known after it: this project's
+-- own. docs/SEMANTICS.md, "Pods of a folder".
 use Rattle.std.specs.Prelude.{◌≡◌, ◌<◌, ℕ, ◌||◌, not, Bool, true, false, List, [], ◌∷◌, ◌++◌}
 use Rattle.std.specs.Prelude.{Option}
 use Rattle.std.specs.Prelude.{Some, None, position, slice_get, slice_set, Contains, ⊤}
@@ -62,7 +62,7 @@ abbrev pub with_count : Names → Manifest → Names
 with_count names manifest = if manifest.gives_uid then names
     else record names { counts = counted_in names.counts manifest.pod }
 
--- the list with what f makes of the element at this place, if one is there
+-- the list with f applied to the element at this place, if there is one
 abbrev pub changed_to : {A : Type 0} → (A → A) → List A → ℕ → Option A → List A
 changed_to f xs place None = xs
 changed_to f xs place (Some x) = slice_set xs place (f x)
@@ -84,7 +84,7 @@ lost pod = record pod { lost = true }
 abbrev pub with_tried : Folders → Option ℕ → Folders
 with_tried old place = record old { found = changed tried old.found place; asked = Nothing }
 
--- where the file of a name stands
+-- the place of the file of a name
 abbrev pub place_of_file : List ℕ → List Found → Option ℕ
 place_of_file name found = position (λ f. bytes_eq f.name name) found
 
@@ -112,7 +112,7 @@ abbrev pub counts_on : Placed → NodeRefusal → Bool
 counts_on pod KnownUid = not pod.manifest.gives_uid
 counts_on pod other = false
 
--- the file whose refusal the operator should learn of
+-- the file whose refusal is reported to the operator
 abbrev pub told_of : Asked → NodeRefusal → Option (List ℕ)
 told_of Nothing refusal = None
 told_of (Delete uid) refusal = None
@@ -152,7 +152,7 @@ after_asked old (Admit pod) refusal = after_admission old pod refusal
 abbrev pub recorded : Folders → Option NodeRefusal → Folders
 recorded old refusal = after_asked old old.asked refusal
 
--- a pod that the runtime has lost goes on under another uid, unless its manifest gives the uid
+-- a pod that the runtime has lost goes on under another uid, unless its manifest sets the uid
 abbrev pub may_move : Option Placed → Bool
 may_move None = false
 may_move (Some pod) = not pod.manifest.gives_uid

@@ -1,4 +1,4 @@
--- A look into a folder while it is made: this project's own. docs/SEMANTICS.md, "Pods of a folder".
+-- A look into a folder, in progress: this project's own. docs/SEMANTICS.md, "Pods of a folder".
 use Rattle.std.specs.Prelude.{◌≡◌, ◌⊎◌, ℕ, ◌+◌, ◌-◌, true, false, List, Option, Some, None}
 use Rattle.std.specs.Prelude.{Contains, IsPermutation, is_some, length, map, slice_set, take, ⊤}
 use Rattle.std.specs.String.{string_bytes}
@@ -24,7 +24,7 @@ abbrev pub ReadsAs : (List ℕ → Manifest → Type 0) → List ℕ → Reading
 ReadsAs reads bytes (Pod manifest) = reads bytes manifest
 ReadsAs reads bytes (Refused line) = ⊤
 
--- the pod that a file asks for is one that was read in it
+-- the pod that a file asks for was read in it
 abbrev pub IsRead : Option Held → (List ℕ → Manifest → Type 0) → List ℕ → Option Manifest → Type 0
 IsRead held reads name None = ⊤
 IsRead held reads name (Some manifest) =
@@ -36,12 +36,12 @@ IsAsBefore None file = ⊥
 IsAsBefore (Some known) file = (known.name ≡ file.name) × (is_some file.stamp ≡ true)
     × (known.stamp ≡ file.stamp) × (known.asks ≡ file.asks) × (known.tried ≡ file.tried)
 
--- what was found of a file: what is known of it, if its state is the same, or what was read
+-- the finding on a file: what is known of it, if its state is the same, or what was read
 abbrev pub IsFound : Option Held → (List ℕ → Manifest → Type 0) → Option Found → Found → Type 0
 IsFound held reads known file = IsAsBefore known file
     ⊎ ((file.tried ≡ false) × IsRead held reads file.name file.asks)
 
--- a file that is known is one of those that the last whole look found
+-- a known file is one of those that the last whole look found
 abbrev pub IsAmong : List Found → Option Found → Type 0
 IsAmong found None = ⊤
 IsAmong found (Some known) = Contains found known
@@ -54,7 +54,7 @@ IsLookedAt held reads found old (Some before) new = (file : Found) × (file.name
     × ((known : Option Found) × IsAmong found known × IsFound held reads known file)
     × (new ≡ record old { files = slice_set old.files old.next file; next = old.next + 1 })
 
--- these are the first names in their order, and so many more are left out
+-- these are the first names in their order, and this many more are left out
 abbrev pub AreFirst : {Y : Type 0} → List (String Y) → List (List ℕ) → ℕ → Type 0
 AreFirst {Y} names first left_out = (all : List (String Y)) × IsPermutation names all
     × (first ≡ take MAX_FILES (map string_bytes all)) × (left_out ≡ length all - MAX_FILES)

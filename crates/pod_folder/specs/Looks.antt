@@ -11,7 +11,7 @@ asked_by (Manifest described) = Some described.value
 asked_by Refused = None
 asked_by (Unread fault) = None
 
--- a file: its name, its state, the pod it asks for, and whether that pod is not to be asked for again
+-- a file: its name, its state, the pod it asks for, and whether that pod must not be asked for again
 pub record Found : Type 0 where
   pub name : List ℕ
   pub stamp : Option Stamp

@@ -17,7 +17,7 @@ abbrev pub listed : Entry → Option (List ℕ)
 listed (Named name) = Some (string_bytes name)
 listed NotText = None
 
--- what a listing returns of what is left, and what is left then: nothing is left at its end
+-- what a listing returns from its rest, and the rest after that: nothing is left at its end
 abbrev pub ReturnsFirst : List Listed → Result (Option Entry) CausedFault → Option (List Listed) → Type 0
 ReturnsFirst [] (Ok None) after = after ≡ Some []
 ReturnsFirst (Ok name ∷ rest) (Ok (Some entry)) after = (listed entry ≡ name) × (after ≡ Some rest)
@@ -38,7 +38,7 @@ abbrev pub with_name : Option (List ℕ) → List (List ℕ) → List (List ℕ)
 with_name None names = names
 with_name (Some name) names = if is_manifest name then name ∷ names else names
 
--- the names of the manifests that a listing has, as long as each of its entries can be read
+-- the names of the manifests in a listing, up to the first entry that can't be read
 abbrev pub manifests_in : List Listed → List (List ℕ)
 manifests_in [] = []
 manifests_in (Ok name ∷ rest) = with_name name (manifests_in rest)
@@ -50,12 +50,12 @@ AllRead [] = ⊤
 AllRead (Ok name ∷ rest) = AllRead rest
 AllRead (Err fault ∷ rest) = ⊥
 
--- these are the names of the manifests of a whole listing, if it is known what it has
+-- these are the names of the manifests of a whole listing, if its entries are known
 abbrev pub AreNamesOf : Option (List Listed) → List (List ℕ) → Type 0
 AreNamesOf None names = ⊤
 AreNamesOf (Some all) names = AllRead all × (names ≡ manifests_in all)
 
--- these and what is left are the names of the whole listing
+-- these names and those of the rest are the names of the whole listing
 abbrev pub AreNamesWith : Option (List Listed) → Option (List Listed) → List (List ℕ) → Type 0
 AreNamesWith (Some all) (Some left) names = (AllRead left → AllRead all) × (names ++ manifests_in left
     ≡ manifests_in all)

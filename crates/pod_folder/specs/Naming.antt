@@ -28,11 +28,11 @@ pods_at counts (Some place) = pods_of (slice_get counts place)
 abbrev pub pods_named : List Count → Pod → ℕ
 pods_named counts pod = pods_at counts (place_of_name counts pod)
 
--- one more, as long as 32 bits hold the number
+-- one more, up to the largest number of 32 bits
 abbrev pub one_more : ℕ → ℕ
 one_more n = min (n + 1) (2 ^ 32 - 1)
 
--- which pod of its name the next one is
+-- the number of the next pod among those of its name
 abbrev pub next_place : List Count → Pod → ℕ
 next_place counts pod = one_more (pods_named counts pod)
 

@@ -8,8 +8,8 @@ use Rattle.std.specs.Str.{bytes_eq}
 use Rattle.pod_folder.specs.declared.looks.Manifest.{Manifest}
 use Rattle.pod_folder.specs.Looks.{Found}
 
--- a pod of a file that is on the node: under which uid, as which manifest, whether its deletion was recorded,
--- and whether the runtime has lost it
+-- a file's pod on the node: its uid, its manifest, whether its deletion was recorded, and whether the runtime
+-- has lost it
 pub record Placed : Type 0 where
   pub name : List ℕ
   pub uid : List ℕ
@@ -44,6 +44,6 @@ abbrev pub comes : List Placed → Found → Bool
 comes placed file = not file.tried && is_some file.asks
     && not (list_any (λ p. bytes_eq p.name file.name) placed)
 
--- where the pod of a uid stands
+-- the place of the pod of a uid
 abbrev pub place_of_pod : List ℕ → List Placed → Option ℕ
 place_of_pod uid placed = position (λ p. bytes_eq p.uid uid) placed

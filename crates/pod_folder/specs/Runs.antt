@@ -1,5 +1,5 @@
--- What happens to the pods of a folder, event by event, and what holds of each of them: this project's own.
--- docs/SEMANTICS.md, "Pods of a folder".
+-- The events of a folder's pods, and what is true after each of them: this project's own. docs/SEMANTICS.md,
+-- "Pods of a folder".
 use Rattle.std.specs.Prelude.{◌≡◌, ◌⊎◌, ℕ, true, List, [], ◌∷◌, Option}
 use Rattle.worker_core.specs.declared.answers.NodeRefusal.{NodeRefusal}
 use Rattle.worker_core.specs.declared.events.AgentEvent.TheVariants as event

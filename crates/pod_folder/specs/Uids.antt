@@ -1,4 +1,4 @@
--- The uids of pods whose manifests give none: this project's own. docs/SEMANTICS.md, "Pods of a folder".
+-- The uids of pods whose manifests set none: this project's own. docs/SEMANTICS.md, "Pods of a folder".
 use Rattle.std.specs.Prelude.{ℕ, nat_le, if◌then◌else◌, List, ◌++◌, codes, Option, Some, None}
 use Rattle.std.specs.Fmt.{decimal}
 use Rattle.manifest.specs.declared.pods.Pod.{Pod}
@@ -11,7 +11,7 @@ base_of pod = pod.namespace ++ (codes "." ++ pod.name)
 abbrev pub numbered : List ℕ → ℕ → List ℕ
 numbered base place = if nat_le place 1 then base else base ++ (codes "-" ++ decimal place)
 
--- the name of the run stands last
+-- the name of the run comes last
 abbrev pub with_run : List ℕ → Option (List ℕ) → List ℕ
 with_run text None = text
 with_run text (Some run) = text ++ (codes "." ++ run)

@@ -2,21 +2,21 @@ use crate::placed::PlacedPod;
 use manifest::Uid;
 use worker_core::AgentEvent;
 
-/// What was asked of the node last.
+/// The last request to the node.
 #[derive(Drop)]
 pub enum Asked {
     /// Nothing, or it was recorded.
     Nothing,
-    /// That the pod of this uid is deleted.
+    /// To delete the pod of this uid.
     Delete(Uid),
-    /// That this pod is admitted.
+    /// To admit this pod.
     Admit(PlacedPod),
 }
 
 /// What is due.
 #[derive(Drop)]
 pub enum Due {
-    /// The node is to record this.
+    /// The node must record this event.
     Event(AgentEvent),
     /// No uid can be made for the pod of the file at this place: it would be too long.
     Unnamed(usize),

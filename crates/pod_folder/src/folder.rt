@@ -65,7 +65,7 @@ fn place_of_file(name: &str, found: &[FoundFile]) -> Option<usize>
     found.iter().position(|file| file.name.as_str() == name)
 }
 
-// The file at this place is not asked for again.
+// Marks the file at this place as not to be asked for again.
 fn try_no_more(found: &mut [FoundFile], place: Option<usize>)
     ensures { found.new ≡ changed tried found.old place }
 {
@@ -77,7 +77,7 @@ fn try_no_more(found: &mut [FoundFile], place: Option<usize>)
     }
 }
 
-// The deletion of the pod at this place was recorded.
+// Marks the pod at this place as leaving, after its deletion was recorded.
 fn let_go(placed: &mut Vec<PlacedPod>, place: Option<usize>)
     ensures items { placed.new.items ≡ changed leaving placed.old.items place }
     ensures len { vec_len placed.new ≡ vec_len placed.old }
@@ -91,7 +91,7 @@ fn let_go(placed: &mut Vec<PlacedPod>, place: Option<usize>)
     }
 }
 
-// The runtime has lost the pod at this place.
+// Marks the pod at this place as lost by the runtime.
 fn give_up(placed: &mut Vec<PlacedPod>, place: Option<usize>)
     ensures items { placed.new.items ≡ changed lost placed.old.items place }
     ensures len { vec_len placed.new ≡ vec_len placed.old }
@@ -116,7 +116,7 @@ fn add(placed: &mut Vec<PlacedPod>, pod: PlacedPod)
     drop(pushed);
 }
 
-// The node admitted the pod, for which there is room.
+// Adds the pod that the node admitted, for which there is room.
 fn admit(naming: &mut Naming<'_>, placed: &mut Vec<PlacedPod>, pod: PlacedPod)
     requires { vec_len placed.old < vec_capacity placed.old }
     ensures names { naming.new ≡ with_count naming.old pod.manifest }
@@ -128,7 +128,7 @@ fn admit(naming: &mut Naming<'_>, placed: &mut Vec<PlacedPod>, pod: PlacedPod)
     add(placed, pod);
 }
 
-// The node refused the pod for this reason.
+// Records that the node refused the pod for this reason.
 fn refuse(
     naming: &mut Naming<'_>,
     found: &mut Vec<FoundFile>,
@@ -148,7 +148,7 @@ fn refuse(
     }
 }
 
-// The place of a pod that is to leave, and is not on the node any more.
+// The place of a leaving pod that is no longer on the node.
 fn gone_place<T: OnNode>(placed: &[PlacedPod], node: &T) -> Option<usize> {
     placed
         .iter()
@@ -184,7 +184,7 @@ fn placed_at(placed: &[PlacedPod], place: Option<usize>) -> Option<&PlacedPod>
 }
 
 impl<'a> Folder<'a> {
-    /// A folder that was not looked into yet, and how its pods are named.
+    /// A folder not looked into yet, with the naming of its pods.
     pub fn new(alloc: Global, naming: Naming<'a>) -> Folder<'a>
         ensures { result ≡ fresh naming.entry }
     {
@@ -212,8 +212,8 @@ impl<'a> Folder<'a> {
         self.placed.as_slice()
     }
 
-    /// The name of the file whose pod was asked for last, if the operator should learn of this refusal: not
-    /// if the next uid of the pod's name is tried.
+    /// The name of the file whose pod was asked for last, if this refusal is reported to the operator: not if
+    /// the next uid of the pod's name is tried.
     pub fn told_of(&self, refusal: NodeRefusal) -> Option<&str>
         ensures { option_map (λ name. name.now) result ≡ told_of self.now.asked refusal }
     {
@@ -243,7 +243,7 @@ impl<'a> Folder<'a> {
         self.full
     }
 
-    /// From now on, what is known of the files is what this whole look found. Takes no memory.
+    /// Replaces what is known of the files by what this whole look found. Allocates nothing.
     pub fn take(&mut self, found: Vec<FoundFile>)
         ensures { self.new ≡ looked self.old found.items }
     {
@@ -261,7 +261,7 @@ impl<'a> Folder<'a> {
         }
     }
 
-    /// What is due: the same event is returned until it was recorded. If memory runs out, nothing changes.
+    /// What is due: returns the same event until it is recorded. If memory runs out, nothing changes.
     #[tactic(auto, using(crate::proofs::Coming::comes_there))]
     pub fn next(&mut self) -> Result<Due, AllocError>
         ensures due { IfOk result (λ due. Asks self.old due self.new) }
@@ -279,8 +279,8 @@ impl<'a> Folder<'a> {
         }
     }
 
-    /// The event that was asked for last became an entry, and the node refused it for this reason, if it did.
-    /// Takes no memory.
+    /// Records that the event asked for last became an entry, and why the node refused it, if it did.
+    /// Allocates nothing.
     pub fn recorded(&mut self, refusal: Option<NodeRefusal>)
         ensures { self.new ≡ recorded self.old refusal }
     {
@@ -339,9 +339,9 @@ impl<'a> Folder<'a> {
         true
     }
 
-    /// The runtime has lost the pod of this uid: its deletion is due, and then its admission under the next
-    /// uid of its name. A pod whose manifest gives its uid can't be admitted again, so nothing changes then.
-    /// Returns whether the pod goes on under another uid.
+    /// Records that the runtime has lost the pod of this uid: its deletion is due, and then its admission
+    /// under the next uid of its name. A pod whose manifest sets its uid can't be admitted again, so then
+    /// nothing changes. Returns whether the pod goes on under another uid.
     pub fn lost(&mut self, uid: &Uid) -> bool
         ensures moves { result ≡ moves self.old uid.now }
         ensures lost { self.new ≡ after_loss self.old uid.now }

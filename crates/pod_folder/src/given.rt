@@ -5,7 +5,7 @@ ghost use Rattle.pod_folder.specs.Given.{gives_uid};
 use json_tree::TextFault;
 use std::alloc::{AllocError, Global};
 
-/// Whether a manifest's text gives the uid of its pod.
+/// Whether a manifest's text sets the uid of its pod.
 pub fn gives_uid(alloc: Global, manifest: &[u8]) -> Result<bool, AllocError>
     ensures { IfOk result (λ given. given ≡ gives_uid (document manifest.now)) }
 {

@@ -1,5 +1,5 @@
-//! A look into a folder, file by file, so that whoever makes it can do other things between two files. What
-//! was found is returned whole or not at all.
+//! A look into a folder, file by file, so that other work can be done between two files. The findings are
+//! returned whole or not at all.
 ghost use Rattle.std.specs.Prelude.{◌≡◌, ◌<◌, ◌≤◌, IfErr, IfOk, IsSome, OnErr, OnOk, false, map, length};
 ghost use Rattle.std.specs.Prelude.{option_copied};
 ghost use Rattle.std.specs.Prelude.{slice_get, true, IsTrue};
@@ -20,14 +20,14 @@ use std::rc::Rc;
 /// The most files of a folder that are looked at: those whose names come first.
 pub const MAX_FILES: usize = 4_096;
 
-/// What is reported of a file.
+/// A report on a file.
 #[derive(Debug, Drop)]
 pub enum Report {
-    /// Its text is refused; the line says why.
+    /// Its text is refused; the line has the reason.
     Refused(String),
     /// It can't be read.
     Unread(CausedFault),
-    /// Its manifest gives the uid of another pod that is on the node.
+    /// Its manifest sets the uid of another pod that is on the node.
     KnownUid,
 }
 
@@ -38,11 +38,11 @@ pub struct Look {
     pub files: Vec<FoundFile>,
     /// The reports about the files at these places.
     pub reports: Vec<(usize, Report)>,
-    /// How many more files there are than are looked at.
+    /// How many more files there are, which are not looked at.
     pub left_out: usize,
 }
 
-/// A look that is being made.
+/// A look in progress.
 #[derive(Drop)]
 pub struct Looking {
     alloc: Global,
@@ -66,7 +66,7 @@ impl Model for Looking {
     ghost invariant = { λ l. l.next ≤ vec_len l.files };
 }
 
-// What was found of a file.
+// The finding on a file.
 #[derive(Drop)]
 struct Finding {
     file: FoundFile,
@@ -174,7 +174,7 @@ fn read_anew<F: FolderFiles, T: ManifestReader>(
     }
 }
 
-// Whether the manifest gives the uid of a pod that is on the node, and is not that pod.
+// Whether the manifest sets the uid of a pod that is on the node, and is not that pod.
 fn takes_a_uid<T: ManifestReader>(
     folder: &Folder<'_>,
     name: &str,
@@ -186,7 +186,7 @@ fn takes_a_uid<T: ManifestReader>(
         && reader.is_on_node(&manifest.pod.uid)
 }
 
-// Finds out what stands in the file of this name.
+// Determines the content of the file of this name.
 fn find_out<F: FolderFiles, T: ManifestReader>(
     alloc: Global,
     name: String,
@@ -213,7 +213,7 @@ fn find_out<F: FolderFiles, T: ManifestReader>(
     }
 }
 
-// How many files have names that come before this one, if at least so many have.
+// How many files have names that come before this one, given that at least `passed` have.
 fn passed_by(found: &[FoundFile], passed: usize, name: &str) -> usize {
     let mut passed = passed;
     for file in found.iter().skip(passed) {
@@ -291,7 +291,7 @@ impl Looking {
         Ok(true)
     }
 
-    /// What was found, if each file was looked at. Else the look comes back.
+    /// The findings, if each file was looked at; otherwise the look itself.
     pub fn finish(self) -> Result<Look, Looking>
         ensures whole { IfOk result (λ look. (look.files.items ≡ self.files) × (self.next ≡ length self.files)
             × (look.left_out ≡ self.left_out)) }

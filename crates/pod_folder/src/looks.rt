@@ -9,8 +9,8 @@ use std::alloc::{AllocError, Global};
 use std::marker::Model;
 use std::rc::Rc;
 
-/// What tells one state of a file from another: its device and inode, its size, and when its bytes and its
-/// inode changed last, in seconds and nanoseconds.
+/// Identifies the state of a file: its device and inode, its size, and when its bytes and its inode changed
+/// last, in seconds and nanoseconds.
 #[derive(Clone, Copy, Debug, PartialEq, Eq)]
 pub struct Stamp {
     pub device: u64,
@@ -24,7 +24,7 @@ pub struct Stamp {
 #[derive(Debug, Drop)]
 pub struct Manifest {
     pub pod: Pod,
-    /// Whether the manifest gives the uid of the pod.
+    /// Whether the manifest sets the uid of the pod.
     pub gives_uid: bool,
 }
 
@@ -86,7 +86,7 @@ pub struct FoundFile {
     pub(crate) name: String,
     pub(crate) stamp: Option<Stamp>,
     pub(crate) content: Content,
-    // Whether its pod is not to be asked for again: the node refused it, or no uid can be made for it.
+    // Whether its pod must not be asked for again: the node refused it, or no uid can be made for it.
     pub(crate) tried: bool,
 }
 

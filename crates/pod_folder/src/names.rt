@@ -20,7 +20,7 @@ pub trait Entries {
     // What is left to be listed, if that is known.
     ghost rest: { Self → Option (List Listed) } = { λ _. None };
 
-    // Whether the listing has come to its end.
+    // Whether the listing has ended.
     ghost ended: { Self → Bool };
 
     // Whether a part of it could not be read.
@@ -57,7 +57,7 @@ fn add_name(names: &mut Vec<String>, entry: Entry) -> Result<(), AllocError>
 }
 
 /// The names of all manifests of a folder, in the order of the listing. They are returned only if the listing
-/// came to its end, and no entry of it failed.
+/// ended, and no entry of it failed.
 #[tactic(auto, using(crate::proofs::Listed::names_step))]
 pub fn names_in<E: Entries>(alloc: Global, entries: &mut E) -> Result<Vec<String>, CausedFault>
     ensures ended { OnOk result (E.ended entries.new ≡ true) }

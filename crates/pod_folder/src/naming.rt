@@ -17,8 +17,8 @@ pub struct Count {
     pub pods: u32,
 }
 
-/// Makes the uids of pods whose manifests give none: from the namespace, the name, how many pods had that
-/// name in this run of the program, and the run's own name.
+/// Makes the uids of pods whose manifests set none: from the namespace, the name, how many pods had that name
+/// in this run of the program, and the run's own name.
 #[derive(Drop)]
 pub struct Naming<'a> {
     alloc: Global,

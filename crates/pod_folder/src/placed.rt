@@ -46,7 +46,7 @@ pub(crate) fn file_of<'f>(name: &str, found: &'f [FoundFile]) -> Option<&'f Foun
     found.iter().find(|file| file.name.as_str() == name)
 }
 
-// Whether what a file asks for is another pod than this one.
+// Whether a file asks for another pod than this one.
 fn is_another(asked: Option<&Manifest>, placed: &PlacedPod) -> bool
     ensures { IsTrue result ↔ AsksForAnother (option_copied asked.entry) placed.now }
 {

@@ -1,4 +1,4 @@
-//! What a look needs: a folder's files, and what reads their texts.
+//! The needs of a look: a folder's files, and the reader of their texts.
 ghost use Rattle.std.specs.Prelude.{◌≡◌, ℕ, IfOk, List, None, Option, Some};
 ghost use Rattle.node_io.specs.Held.{Held, Tells};
 ghost use Rattle.pod_folder.specs.Looking.{ReadsAs};
@@ -25,18 +25,18 @@ pub trait FolderFiles {
         ensures kept { held self.new ≡ held self.old };
 }
 
-/// What a text was read as.
+/// The result of reading a text.
 #[derive(Debug, Drop)]
 pub enum Reading {
     /// A manifest.
     Pod(Manifest),
-    /// It is refused; the line says why.
+    /// It is refused; the line has the reason.
     Refused(String),
 }
 
 /// Reads the texts of manifests, and knows which pods are on the node.
 pub trait ManifestReader {
-    // As which manifest a text may be read.
+    // The manifests that a text may be read as.
     ghost reads: { List ℕ → Manifest → Type 0 };
 
     /// Reads the text of the file of this name.

@@ -122,7 +122,7 @@ impl<'a, R: rt::Files + AllocGlobal + Clone + Drop> FolderFiles for SystemFolder
     }
 }
 
-// Whether a name is not UTF-8, which std says by a kind of its own, without a number of the system's.
+// Whether a name is not UTF-8, which std reports by its own kind, without a system error number.
 fn is_not_text(error: &io::Error) -> bool {
     error.kind() == ErrorKind::InvalidFilename && error.raw_os_error().is_none()
 }

@@ -6,8 +6,8 @@ ghost use Rattle.pod_folder.specs.Uids.{base_of, numbered, uid_text, with_run};
 use manifest::{Pod, Uid};
 use std::alloc::{AllocError, Global};
 
-/// The uid of a pod whose manifest gives none: the n-th pod of its name, from 1, in a run of this name.
-/// `None` if the text is too long for a uid, or the run's name has bytes that a uid may not have.
+/// The uid of a pod whose manifest sets none: the n-th pod of its name, from 1, in a run of this name. `None`
+/// if the text is too long for a uid, or the run's name has bytes that a uid may not have.
 pub fn uid_for(
     alloc: Global,
     pod: &Pod,

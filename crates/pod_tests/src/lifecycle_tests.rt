@@ -15,7 +15,7 @@ fn runs_of(rt: &impl AllocGlobal, rows: &[(u64, u8, u64)]) -> Result<Vec<PastRun
     Ok(runs)
 }
 
-// The same, of which the last is kept.
+// The same as `Runs`, which keeps the last one.
 fn kept_of(rows: &[(u64, u8, u64)]) -> Result<Runs, AllocError> {
     let mut runs = Runs::new();
     for &(started, code, recorded) in rows {
@@ -62,7 +62,7 @@ fn back_off(rt: HostRuntime) -> Result<(), Fail> {
     Ok(())
 }
 
-// As the documentation has them: policy, whether it is an init container, code, another attempt.
+// The cases of the documentation: policy, whether it is an init container, code, another attempt.
 #[test]
 fn policies(rt: HostRuntime) {
     let cases = [

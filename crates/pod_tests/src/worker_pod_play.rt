@@ -76,7 +76,7 @@ fn call_text(alloc: Global, call: &Call) -> Result<String, AllocError> {
     }
 }
 
-// As the letter says: e and x for an exit with 0 or 1, else running.
+// By the letter: e and x for an exit with 0 or 1, else running.
 fn status(letter: u8) -> Status {
     let state = match letter {
         b'e' => State::Exited(0),
@@ -99,7 +99,7 @@ fn listed(cells: Vec<ListedStatus>) -> Answer {
     }
 }
 
-// A list of cells from a text: of each the container's name, the attempt and the status, a letter each.
+// A list of cells from a text: for each the container's name, the attempt and the status, a letter each.
 fn listed_in(alloc: Global, text: &str) -> Result<Answer, AllocError> {
     let mut cells = Vec::new(alloc);
     for cell in text.split_whitespace() {
@@ -183,7 +183,7 @@ impl Play {
         format!(in self.alloc; "{}: {}; ", text.as_str(), told.as_str())
     }
 
-    // The answer of the call's kind, each status as the letter says.
+    // The answer of the call's kind, each status by the letter.
     fn answer(&self, call: &Call, letter: u8) -> Result<Answer, AllocError> {
         match call {
             Call::ContainerStatus { .. } => Ok(Answer::Status(status(letter))),
@@ -193,7 +193,7 @@ impl Play {
         }
     }
 
-    // What is running is listed.
+    // Lists what is running.
     fn running(&self, letter: u8) -> Result<Answer, AllocError> {
         let view = self.state.view();
         let mut cells = Vec::new(self.alloc);
@@ -231,7 +231,7 @@ impl Play {
         }
     }
 
-    // The phase, and the moment from which on a request is due.
+    // The phase, and the moment from which a request is due.
     fn phase_and_due(&self) -> Result<String, AllocError> {
         let phase: Phase = self.state.view().phase;
         match self.state.due() {
@@ -241,8 +241,8 @@ impl Play {
         }
     }
 
-    // Does what the letters say: D deletes the pod, t waits, any other is a claim and how it ends. Returns
-    // what was asked for, and what holds after it.
+    // Plays the letters: D deletes the pod, t waits, any other is a claim and how it ends. Returns each
+    // request, and the state after it.
     pub(crate) fn plays(&mut self, letters: &str) -> Result<String, AllocError> {
         let mut text = String::new(self.alloc);
         for letter in letters.as_bytes() {

@@ -1,4 +1,4 @@
--- What is said of two filters is said of the profiles whose filters they are.
+-- A result on two filters is one on the profiles of these filters.
 use Rattle.std.proofs.Common.{◌≡◌, ℕ, List, sym, subst, ◌∙◌}
 use Rattle.bpf_code.specs.declared.insn.Insn.{Insn}
 use Rattle.call_data.specs.declared.sys_call.SysCall.{SysCall}
@@ -16,7 +16,7 @@ abbrev pub AreDetermined : Type 0
 AreDetermined = (code : List Insn) (call : SysCall) (value other steps count : ℕ)
     → Runs code call value steps → Runs code call other count → value ≡ other
 
--- at every call the filter's value is what the profile says
+-- on every call the filter's value is the profile's
 abbrev pub IsFilterOf : Profile → List Insn → Type 0
 IsFilterOf profile code = (call : SysCall) → IsCall call
     → (steps : ℕ) × Runs code call (meaning profile call) steps

@@ -25,7 +25,7 @@ use Rattle.profile_lint.specs.Engines.{is_kept, is_of}
 use Rattle.profile_lint.specs.declared.entries.Middle.{Middle}
 use Rattle.profile_lint.specs.declared.entries.Middle.TheVariants.{Kept, Turned, LeftOut}
 
--- what the first entries leave open is decided by the others
+-- the other entries decide what the first ones leave open
 pub decision_behind : (xs ys : List Entry) (default : Decision) (nr : ℕ) (call : SysCall)
     → decision_of (xs ++ ys) default nr call ≡ decision_of xs (decision_of ys default nr call) nr call
 decision_behind [] ys default nr call = refl
@@ -71,7 +71,7 @@ abbrev pub LeaveOpen : Entry → List Entry → Type 0
 LeaveOpen entry entries = (default : Decision) (nr : ℕ) (call : SysCall) → names entry nr ≡ false
     → decision_of entries default nr call ≡ default
 
--- entries before, in the middle and behind, of which those before and behind may be near alone
+-- entries before, in the middle and after; those before and after may be only the near ones
 abbrev pub around : Entry → List Entry → List Entry → List Entry → List Entry
 around entry xs middle ys = near entry xs ++ (middle ++ near entry ys)
 
@@ -97,7 +97,7 @@ open_decides entry xs middle ys default nr call leaves none =
     (decision_behind middle ys default nr call ∙ leaves (decision_of ys default nr call) nr call none)
     ∙ sym (decision_behind xs ys default nr call))
 
--- a profile's meaning goes by what its entries decide
+-- a profile's meaning depends only on what its entries decide
 pub meaning_by : (profile : Profile) (xs ys : List Entry) (call : SysCall)
     → decision_of xs profile.default call.nr call ≡ decision_of ys profile.default call.nr call
     → meaning (with_entries profile xs) call ≡ meaning (with_entries profile ys) call
@@ -138,7 +138,7 @@ by_names profile entry xs middle other ys call one two same true is =
 by_names profile entry xs middle other ys call one two same false is =
     unnamed_same profile entry xs middle other ys call one two is
 
--- what is the same with the near entries alone is the same with all
+-- what is the same with only the near entries is the same with all
 pub around_same : (profile : Profile) (entry : Entry) (xs middle other ys : List Entry)
     → LeaveOpen entry middle → LeaveOpen entry other
     → MeanSame (around_in profile entry xs middle ys) (around_in profile entry xs other ys)
@@ -159,7 +159,7 @@ turned_open entry default nr call none = rw (turned_names entry nr, none) refl
 pub left_open : (entry : Entry) → LeaveOpen entry []
 left_open entry default nr call none = refl
 
--- the profile, as the entries before a place, the one at it and those behind it
+-- the profile, as the entries before a place, the one at it and those after it
 parted : (profile : Profile) (place : ℕ) (entry : Entry) → slice_get profile.entries place ≡ Some entry
     → in_place profile place (entry ∷ []) ≡ profile
 parted profile place entry there =
@@ -208,7 +208,7 @@ middle_open entry Kept = kept_open entry
 middle_open entry Turned = turned_open entry
 middle_open entry LeftOut = left_open entry
 
--- what is found with the near entries, of the whole profile
+-- a result with the near entries, for the whole profile
 pub stands_same : (profile : Profile) (place : ℕ) (entry : Entry) (middle : Middle)
     → slice_get profile.entries place ≡ Some entry
     → MeanSame (around_in profile entry (before profile place) (middle_of entry Kept) (behind profile place))
@@ -244,7 +244,7 @@ back_by_names profile entry xs middle other ys call one two same true is =
 back_by_names profile entry xs middle other ys call one two same false is =
     unnamed_same profile entry (near entry xs) middle other (near entry ys) call one two is
 
--- what differs with the near entries alone differs with all
+-- what differs with only the near entries differs with all
 pub stands_differ : (profile : Profile) (place : ℕ) (entry : Entry) (middle : Middle) (call : SysCall)
     → slice_get profile.entries place ≡ Some entry
     → DifferOn (around_in profile entry (before profile place) (middle_of entry Kept) (behind profile place))
@@ -258,7 +258,7 @@ stands_differ profile place entry middle call there differ = (
       (ap (λ p. meaning p call) (parted profile place entry there) ∙ same) _ refl),
 )
 
--- what is said of the profiles of near entries, of the whole profile
+-- a result on the profiles of near entries, for the whole profile
 says_of : (profile : Profile) (place : ℕ) (entry : Entry) (middle : Middle) (s : Sameness)
     → slice_get profile.entries place ≡ Some entry
     → Says s (around_in profile entry (before profile place) (middle_of entry Kept) (behind profile place))
@@ -280,7 +280,7 @@ says_same profile kept other place entry middle (Ok s) there one two says =
     (subst (λ p. Says s p (around_in profile entry (before profile place) (middle_of entry middle)
     (behind profile place))) one (subst (λ p. Says s kept p) two says))
 
--- the same of a call that was tried
+-- a call that was tried, on which the profiles differ
 pub tried_differ : (profile kept other : Profile) (place : ℕ) (entry : Entry) (call : SysCall)
     → slice_get profile.entries place ≡ Some entry
     → IsAround profile place entry Kept kept → IsAround profile place entry LeftOut other
@@ -291,7 +291,7 @@ tried_differ profile kept other place entry call there one two fits differ =
     (subst (λ p. DifferOn p (around_in profile entry (before profile place) (middle_of entry LeftOut)
     (behind profile place)) call) one (subst (λ p. DifferOn kept p call) two (fits, differ)))
 
--- the near entries before a place, what stands in it, and the near ones of another list
+-- the near entries before a place, what replaces the entry there, and the near ones of another list
 pub queue_fit : (profile : Profile) (others : List Entry) (place : ℕ) (entry : Entry) (middle : Middle)
     → AreEntries profile.entries → AreEntries others → slice_get profile.entries place ≡ Some entry
     → AreEntries (near entry (before profile place) ++ (middle_of entry middle ++ near entry others))
@@ -302,7 +302,7 @@ queue_fit profile others place entry middle fit others_fit there =
     (middle_fit entry middle (fit_at profile.entries place entry fit there))
     (All-filter (shares entry) IsFit others others_fit))
 
--- those of both kinds that are kept, one behind the other
+-- the kept entries of both kinds, one list after the other
 pub kept_fit : (profile : Profile) (none bare all entries : List Entry) → entries ≡ profile.entries
     → AreEntries profile.entries → none ≡ []
     → bare ≡ none ++ filter (λ entry. is_kept profile entry && is_of Bare entry) entries

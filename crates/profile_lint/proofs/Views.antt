@@ -1,4 +1,4 @@
--- What is asked of a tree's parts, asked of what they stand for.
+-- A test of a tree's parts is a test of what they represent.
 use Rattle.std.proofs.Common.{◌≡◌, ℕ, ◌+◌, ◌<◌, ◌||◌, List, [], ◌∷◌, ◌++◌, Bool, map, length}
 use Rattle.std.specs.Prelude.{filter_map, option_map, option_to_list}
 use Rattle.std.proofs.Common.{Option, Some, None, take, drop, refl, ap, sym, ◌∙◌, get_or}

@@ -1,6 +1,6 @@
--- How runc 1.1 makes a filter of a profile by libseccomp 2.5: docs/SEMANTICS.md, "Where engines differ". An
--- entry that decides as the default is left out, and one without conditions decides its calls wherever it
--- stands. Which of two entries with conditions decides a call of which both hold is not said.
+-- How runc 1.1 makes a profile's filter with libseccomp 2.5: docs/SEMANTICS.md, "Where engines differ". An
+-- entry that decides as the default is left out, and one without conditions decides its calls wherever it is.
+-- If two entries with conditions hold for a call, which one decides is left open.
 use Rattle.std.specs.Prelude.{◌≡◌, ◌≢◌, ℕ, ◌==◌, Bool, true, not, ◌&&◌, List, ◌++◌, filter, length}
 use Rattle.std.specs.Prelude.{slice_get, Some}
 use Rattle.call_data.specs.declared.sys_call.SysCall.{SysCall}
@@ -19,7 +19,7 @@ abbrev pub is_of : Kind → Entry → Bool
 is_of Bare entry = length entry.conds == 0
 is_of Asking entry = not (length entry.conds == 0)
 
--- whether the entry decides otherwise than the default, and so is not left out
+-- whether the entry decides differently from the default, and so is not left out
 abbrev pub is_kept : Profile → Entry → Bool
 is_kept profile entry = not (value_of entry.decision == value_of profile.default)
 
@@ -31,7 +31,7 @@ kept_of kind profile = filter (λ entry. is_kept profile entry && is_of kind ent
 abbrev pub as_engines_read : Profile → Profile
 as_engines_read profile = with_entries profile (kept_of Bare profile ++ kept_of Asking profile)
 
--- the entry at this place decides the call, and the engines' value of it is another
+-- the entry at this place decides the call, and engines have another value for it
 pub record IsReadOtherwise (profile : Profile) (place : ℕ) (call : SysCall) (here there : ℕ) : Type 0 where
   pub decision : Decision
   pub decides : AppliesFirst profile.entries call place decision
@@ -39,12 +39,12 @@ pub record IsReadOtherwise (profile : Profile) (place : ℕ) (call : SysCall) (h
   pub theirs : meaning (as_engines_read profile) call ≡ there
   pub differ : here ≢ there
 
--- both entries apply to the call, and decide it otherwise
+-- both entries apply to the call, and decide it differently
 abbrev pub AreBoth : Entry → Entry → SysCall → Type 0
 AreBoth one two call = (applies call one ≡ true) × (applies call two ≡ true)
     × (value_of one.decision ≢ value_of two.decision)
 
--- the entries at two places do
+-- the entries at two places apply to the call, and decide it differently
 pub record Overlap (profile : Profile) (place other : ℕ) (call : SysCall) : Type 0 where
   pub one : Entry
   pub two : Entry

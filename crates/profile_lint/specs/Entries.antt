@@ -13,18 +13,18 @@ use Rattle.oci_profile.specs.Meaning.{meaning}
 use Rattle.profile_lint.specs.declared.stands.Standing.{Standing}
 use Rattle.profile_lint.specs.declared.stands.Standing.TheVariants as standing
 
--- the profiles say the same of every call
+-- the profiles have the same value for every call
 abbrev pub MeanSame : Profile → Profile → Type 0
 MeanSame one other = (call : SysCall) → IsCall call → meaning one call ≡ meaning other call
 
--- they say different things of this call
+-- they have different values for this call
 abbrev pub DifferOn : Profile → Profile → SysCall → Type 0
 DifferOn one other call = IsCall call × (meaning one call ≢ meaning other call)
 
 abbrev pub with_entries : Profile → List Entry → Profile
 with_entries profile entries = record { default = profile.default; entries = entries }
 
--- the entries before a place, and those behind it
+-- the entries before a place, and those after it
 abbrev pub before : Profile → ℕ → List Entry
 before profile place = take place profile.entries
 
@@ -63,7 +63,7 @@ abbrev pub NeverDecides : Profile → ℕ → Type 0
 NeverDecides profile place = (entry : Entry) → slice_get profile.entries place ≡ Some entry
     → MeanSame profile (in_place profile place (turned_entry entry ∷ []))
 
--- what is told of the entry at a place
+-- what is reported of the entry at a place
 abbrev pub Stands : Profile → ℕ → Standing → Type 0
 Stands profile place standing.NeverDecides = NeverDecides profile place
 Stands profile place standing.SameWithout = MeanSame profile (without profile place)

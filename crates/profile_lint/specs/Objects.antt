@@ -1,6 +1,5 @@
--- What is told of a profile as objects of JSON (RFC 8259), one a line, this project's own:
--- docs/SEMANTICS.md, "Programs". Keys and names may have any character; no other text has one that JSON would
--- escape.
+-- Findings about a profile as JSON objects (RFC 8259), one per line, this project's own: docs/SEMANTICS.md,
+-- "Programs". Keys and names may have any character; no other text has one that JSON would escape.
 use Rattle.std.specs.Prelude.{ℕ, List, ◌++◌, codes, flat_map}
 use Rattle.std.specs.Fmt.{decimal}
 use Rattle.serde_json.specs.Data.{string}
@@ -13,7 +12,7 @@ use Rattle.profile_lint.specs.Passed.{Told}
 use Rattle.profile_lint.specs.Passed.Told.{Ignored, OtherArchitectures, UnknownName, RepeatedName}
 use Rattle.profile_lint.specs.Text.{arg_text, holder_text, key_text, line_of, words_of}
 
--- a name of an entry, at the place of which the finding is
+-- a name of an entry, with the place of the finding
 abbrev pub name_object : List ℕ → ℕ → ℕ → List ℕ → List ℕ
 name_object kind entry index name = codes "{\"place\":\"syscalls[" ++ (decimal entry ++ (codes "].names["
     ++ (decimal index ++ (codes "]\",\"kind\":\"" ++ (kind ++ (codes "\",\"name\":"
@@ -46,7 +45,7 @@ value_object value =
     codes "{\"value\":" ++ (decimal value ++ (codes ",\"action\":\"" ++ (name_of (verdict_of value).action
     ++ (codes "\",\"data\":" ++ (decimal (verdict_of value).ret_data ++ codes "}")))))
 
--- an entry of which no more is said than the kind of the finding
+-- an entry, with only the kind of the finding
 abbrev pub entry_object : List ℕ → ℕ → List ℕ
 entry_object kind place = codes "{\"place\":\"syscalls[" ++ (decimal place ++ (codes "]\",\"kind\":\""
     ++ (kind ++ codes "\"}")))
@@ -66,7 +65,7 @@ found_object (found.NewerCalls errno) =
     codes "{\"place\":\"defaultAction\",\"kind\":\"NewerCalls\",\"above\":439,\"errno\":"
     ++ (decimal errno ++ codes ",\"wanted\":38}")
 
--- an object for each thing that is told of the text, and then for each that is found
+-- an object for each finding about the text, and then for each about the profile
 abbrev pub lint_objects : List Told → List Finding → List ℕ
 lint_objects tolds finds = flat_map (λ t. line_of (told_object t)) tolds
     ++ flat_map (λ f. line_of (found_object f)) finds

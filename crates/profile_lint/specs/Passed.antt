@@ -1,5 +1,5 @@
--- What of a profile's text decides nothing: OCI runtime-spec 1.1, config-linux, seccomp. This project's own
--- are that members which say nothing, and comments, are not told: docs/SEMANTICS.md, "What is told of a
+-- The parts of a profile's text that decide nothing: OCI runtime-spec 1.1, config-linux, seccomp. This
+-- project's own is that empty members and comments are not reported: docs/SEMANTICS.md, "What is told of a
 -- profile".
 use Rattle.std.specs.Prelude.{◌≡◌, ℕ, ◌==◌, Bool, false, not, ◌&&◌, ◌||◌, if◌then◌else◌, List, [], ◌∷◌, ◌++◌}
 use Rattle.std.specs.Prelude.{length, codes, take, filter_map, flat_map, Option, Some, None, option_and_then}
@@ -17,7 +17,7 @@ use Rattle.profile_lint.specs.declared.passed.Holder.TheVariants as of
 use Rattle.profile_lint.specs.declared.passed.Passed as passed
 use Rattle.profile_lint.specs.declared.passed.Passed.TheVariants as kind
 
--- what is told, with texts as their bytes
+-- a finding about the text, with texts as their bytes
 pub data Told : Type 0 where
   Ignored : Holder → List ℕ → Told
   OtherArchitectures : Told
@@ -42,7 +42,7 @@ abbrev pub is_empty : {A : Type 0} → Option (List A) → Bool
 is_empty None = false
 is_empty (Some xs) = length xs == 0
 
--- null, and a text, a list and an object that have nothing in them
+-- null, and an empty text, list or object
 unfoldable pub says_nothing : Data → Bool
 says_nothing tree = not (is_some (value tree)) || (is_empty (text tree)
     || (is_empty (list tree) || is_empty (members_of tree)))
@@ -68,7 +68,7 @@ ignored_at holder (key, value) = if is_ignored holder key value then Some (Ignor
 abbrev pub ignored_in : Holder → Data → List Told
 ignored_in holder tree = filter_map (ignored_at holder) (unwrap_or (members_of tree) [])
 
--- the items of the list that this member is
+-- the items of the list at this member
 unfoldable pub items_in : List ℕ → Data → List Data
 items_in key tree = unwrap_or (option_and_then list (member key tree)) []
 
@@ -98,7 +98,7 @@ is_named_in names number = list_any (λ name. is_number number (number_named nam
 abbrev pub AreSeen : List Data → List ℕ → Type 0
 AreSeen names numbers = (number : ℕ) → list_any (λ n. n == number) numbers ≡ is_named_in names number
 
--- of the entry's name at this index: a call that the table lacks, or one that a name before has
+-- the finding about the entry's name at this index: the table lacks its call, or an earlier name has it
 abbrev pub told_number : ℕ → ℕ → List ℕ → Option ℕ → List Data → Option Told
 told_number entry index name None before = Some (UnknownName entry index name)
 told_number entry index name (Some number) before =
@@ -127,7 +127,7 @@ entry_at (index, item) = ignored_in (of.Entry index) item
 abbrev pub entries_in : List Data → List Told
 entries_in items = flat_map entry_at (enumerate_from 0 items)
 
--- all that is told of a profile's tree
+-- all findings about a profile's tree
 abbrev pub passed_in : Data → List Told
 passed_in tree = ignored_in of.Profile tree
     ++ (others_in tree ++ entries_in (items_in (codes "syscalls") tree))

@@ -20,11 +20,11 @@ Says Unknown one other = Unit {0}
 unfoldable pub shares : Entry → Entry → Bool
 shares entry other = list_any (names other) entry.numbers
 
--- those that do
+-- the others that share a call with the entry
 abbrev pub near : Entry → List Entry → List Entry
 near entry others = filter (shares entry) others
 
--- what stands in the place of the entry
+-- what replaces the entry
 abbrev pub middle_of : Entry → Middle → List Entry
 middle_of entry Kept = entry ∷ []
 middle_of entry Turned = turned_entry entry ∷ []

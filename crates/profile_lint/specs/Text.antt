@@ -1,5 +1,4 @@
--- What is printed of what is told of a profile, this project's own: docs/SEMANTICS.md, "What is told of a
--- profile".
+-- The printed findings about a profile, this project's own: docs/SEMANTICS.md, "What is told of a profile".
 use Rattle.std.specs.Prelude.{ℕ, ◌==◌, nat_le, not, Bool, ◌&&◌, ◌||◌, if◌then◌else◌, List, [], ◌++◌, codes}
 use Rattle.std.specs.Prelude.{length}
 use Rattle.std.specs.Prelude.{flat_map}
@@ -18,7 +17,7 @@ use Rattle.profile_lint.specs.declared.finding.Finding.TheVariants as found
 use Rattle.profile_lint.specs.Passed.{Told}
 use Rattle.profile_lint.specs.Passed.Told.{Ignored, OtherArchitectures, UnknownName, RepeatedName}
 
--- what stands before a member's key
+-- the prefix of a member's key
 abbrev pub holder_text : Holder → List ℕ
 holder_text of.Profile = []
 holder_text (of.Entry entry) = codes "syscalls[" ++ (decimal entry ++ codes "].")
@@ -30,7 +29,7 @@ abbrev pub is_plain_byte : ℕ → Bool
 is_plain_byte b = (nat_le 97 b && nat_le b 122) || ((nat_le 65 b && nat_le b 90)
     || ((nat_le 48 b && nat_le b 57) || (b == 95)))
 
--- a key of such alone stands as it is, and any other in quotes
+-- a key of only these is written as it is, any other in quotes
 unfoldable pub is_plain : List ℕ → Bool
 is_plain key = not (length key == 0) && (nat_le (length key) MAX_SHOWN && list_all is_plain_byte key)
 
@@ -66,7 +65,7 @@ told_text (RepeatedName entry index name) = codes "syscalls[" ++ (decimal entry 
 abbrev pub arg_text : List ℕ → ℕ → List ℕ
 arg_text args index = decimal (slice_index args index)
 
--- the call, in the words in which `run` takes it
+-- the call, as arguments of `run`
 abbrev pub call_text : SysCall → List ℕ
 call_text call = decimal call.nr ++ (codes " " ++ (arg_text call.args 0 ++ (codes " "
     ++ (arg_text call.args 1 ++ (codes " " ++ (arg_text call.args 2 ++ (codes " "
@@ -98,7 +97,7 @@ found_text (found.NewerCalls errno) = codes "defaultAction: NewerCalls: calls ne
 abbrev pub line_of : List ℕ → List ℕ
 line_of text = text ++ codes "\n"
 
--- a line for each thing that is told of the text, and then for each that is found
+-- a line for each finding about the text, and then for each about the profile
 abbrev pub lint_text : List Told → List Finding → List ℕ
 lint_text tolds finds = flat_map (λ t. line_of (told_text t)) tolds
     ++ flat_map (λ f. line_of (found_text f)) finds

@@ -1,4 +1,4 @@
-//! Where engines read a profile differently: `specs/Engines.antt` says how they read it.
+//! Where engines read a profile differently: `specs/Engines.antt` defines how they read it.
 ghost use Rattle.std.specs.Prelude.{◌≡◌, ◌&&◌, ◌++◌, IfOk, IfSome, filter, slice_get, Some};
 ghost use Rattle.oci_profile.specs.Entries.{IsFit};
 ghost use Rattle.profile_lint.specs.Engines.{AreBoth, IsReadOtherwise, Overlap, as_engines_read, is_kept};
@@ -22,7 +22,7 @@ pub(crate) enum Kind {
     Asking,
 }
 
-/// A call, and the values that a profile and engines give it.
+/// A call, and its values under a profile and under engines.
 #[derive(Clone, Copy, Debug, PartialEq, Eq)]
 pub(crate) struct Reading {
     pub call: SysCall,
@@ -87,8 +87,8 @@ pub(crate) fn read_otherwise(
     ensures { IfOk result (λ found. IfSome found (λ r.
         IsReadOtherwise profile.now place r.call r.here r.there)) }
 {
-    // One without conditions that is not left out decides the same calls for engines, and one without names
-    // decides none.
+    // An entry without conditions that is not left out decides the same calls for engines, and one without
+    // names decides none.
     if is_kept(profile, entry) && is_of(Kind::Bare, entry) || entry.numbers.as_slice().is_empty() {
         return Ok(None);
     }
@@ -126,8 +126,8 @@ fn decided_otherwise(
     }
 }
 
-/// The entries before this one, what replaces it, and the entries that engines have: of each only those that
-/// share a call with the entry.
+/// The entries before this one, what replaces it, and the entries that engines have: of each list only those
+/// that share a call with the entry.
 fn queue(
     alloc: Global,
     profile: &Profile,
@@ -146,7 +146,7 @@ fn queue(
     Ok(with_entries(profile, list))
 }
 
-/// What profile and engines say of the call, if the entry at this place decides it, and they differ.
+/// The values of profile and engines for the call, if the entry at this place decides it and they differ.
 fn judged(
     alloc: Global,
     profile: &Profile,

@@ -11,8 +11,8 @@ use action::ENOSYS;
 use oci_profile::{Decision, Entry, Profile};
 use std::alloc::{AllocError, Global};
 
-/// The most names of all entries together for which entries are compared: a profile with more is too long to
-/// be compiled.
+/// The greatest number of names in all entries together for which entries are compared: a profile with more
+/// is too long to be compiled.
 const MAX_NAMES: usize = 511;
 
 /// The findings about a profile: about its entries in order, then about its default.

@@ -6,6 +6,23 @@
 //! `specs/Engines.antt` those about a profile; `specs/Text.antt` the lines, and `specs/Objects.antt` the
 //! objects of JSON. An entry is judged by comparing filters, made of only the entries that share a call with
 //! it (`entries.rt`).
+//!
+//! # What is proved
+//!
+//! - Members, names and architectures of a text that decide nothing are found exactly by the definition, in
+//!   order: `passed_in`.
+//! - Whether an entry is needed: `standing`. An entry reported to decide no call decides none, whatever its
+//!   decision is. Without an entry reported as redundant, the profile means the same at every call. An entry
+//!   reported as needed has a call that the profile decides differently without it.
+//! - All findings are true, and these reports make them: `findings`. An entry that engines are reported to
+//!   read differently decides the call that is shown, and the model of engines has another value there. Two
+//!   entries reported to overlap both apply to the call that is shown, and decide it differently.
+//! - The errno of calls newer than the table, exactly: `newer_calls`.
+//! - The printed lines and the JSON objects, byte by byte: `lint_lines`, `lint_objects`, `Display` of
+//!   `Passed`, `Finding`, `Holder`.
+//!
+//! Only tested: that an entry of these kinds is reported, unless it is reported as not known, and that runc
+//! and libseccomp behave as modelled.
 #![tactic(auto)]
 
 mod copies;

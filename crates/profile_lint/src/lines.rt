@@ -126,7 +126,7 @@ impl fmt::Display for Passed<'_> {
     }
 }
 
-/// A call, in the words that `seccheck run` takes.
+/// A call, as arguments of `seccheck run`.
 #[derive(Clone, Copy)]
 struct Words(SysCall);
 

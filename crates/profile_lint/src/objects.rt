@@ -1,4 +1,4 @@
-//! What is told of a profile, as objects of JSON (RFC 8259).
+//! Findings about a profile, as JSON objects (RFC 8259).
 ghost use Rattle.std.specs.Prelude.{◌≡◌, ◌++◌, IfOk, flat_map, map, string_bytes};
 ghost use Rattle.serde_json.specs.Data.{string};
 ghost use Rattle.serde_json.specs.Written.{compact_text};
@@ -56,7 +56,7 @@ fn name_object(
     )
 }
 
-/// What decides nothing.
+/// A part of the text that decides nothing.
 fn passed_object(alloc: Global, passed: &Passed<'_>) -> Result<String, AllocError>
     ensures { IfOk result (λ text. string_bytes text ≡ told_object (told passed.now)) }
 {
@@ -183,7 +183,7 @@ impl fmt::Display for Object {
     }
 }
 
-/// What [`lint_lines`](crate::lint_lines) says, as one JSON object per line:
+/// The content of [`lint_lines`](crate::lint_lines), as one JSON object per line:
 /// `{"place":"syscalls[0].names[1]","kind":"UnknownName","name":"chown32"}`.
 pub fn lint_objects(
     alloc: Global,

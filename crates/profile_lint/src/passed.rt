@@ -13,10 +13,10 @@ pub enum Holder {
 pub enum Passed<'v> {
     /// The holder's member with this key.
     Ignored(Holder, &'v str),
-    /// `architectures`, of which none is x86-64.
+    /// `architectures` without x86-64.
     OtherArchitectures,
     /// Of the entry at the first place, the name at the second one, which the call table lacks.
     UnknownName(usize, usize, &'v str),
-    /// Of the entry at the first place, the name at the second one, which the entry already has before.
+    /// Of the entry at the first place, the name at the second one, which repeats an earlier name.
     RepeatedName(usize, usize, &'v str),
 }

@@ -9,15 +9,15 @@ use compile::{CompileFault, compile};
 use oci_profile::Profile;
 use std::alloc::{AllocError, Global};
 
-/// The most instructions that are followed to compare two profiles, which takes milliseconds.
+/// The greatest number of instructions followed to compare two profiles, which takes milliseconds.
 const BUDGET: u64 = 20_000;
 
 /// How two profiles compare on every call.
 #[derive(Clone, Copy, Debug, PartialEq, Eq)]
 pub(crate) enum Sameness {
-    /// They say the same.
+    /// They mean the same.
     Same,
-    /// They say different things of this call.
+    /// They decide this call differently.
     Differ(SysCall),
     /// No answer was found.
     Unknown,

@@ -11,7 +11,7 @@ use json_tree::{list, member, text};
 use serde_json::Value;
 use std::alloc::{AllocError, Global};
 
-/// What decides nothing in the tree of a profile's text, in order of the entries.
+/// The parts of a profile's tree that decide nothing, in order of the entries.
 pub fn passed_in<'v>(alloc: Global, tree: &'v Value) -> Result<Vec<Passed<'v>>, AllocError>
     ensures { IfOk result (λ v. map told v.items ≡ passed_in (view tree.now)) }
 {
@@ -24,7 +24,7 @@ pub fn passed_in<'v>(alloc: Global, tree: &'v Value) -> Result<Vec<Passed<'v>>, 
     Ok(found)
 }
 
-/// The items of the list that this member is.
+/// The items of the list at this member.
 #[tactic(auto, unfolding(crate::specs::Passed::items_in))]
 fn items_in<'v>(tree: &'v Value, key: &str) -> &'v [Value]
     ensures { map view result.now ≡ items_in key.now (view tree.now) }

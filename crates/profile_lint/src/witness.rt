@@ -2,8 +2,8 @@ use call_data::{NATIVE_ARCH, SysCall};
 use explain::applies;
 use oci_profile::{Cond, Entry, Op, Profile};
 
-// Calls that are tried before anything is compared. They come without a guarantee: the caller checks what the
-// profile says of them.
+// Calls to try before anything is compared. They are not guaranteed: the caller checks the profile's decision
+// on them.
 
 /// One of the entry's calls, with arguments that it is likely to apply to, if what follows the entry decides
 /// it differently.

@@ -1,7 +1,7 @@
 -- Which seccomp profile a container gets. Kubernetes 1.27, "Restrict a Container's Syscalls with seccomp":
--- privileged containers always run as Unconfined, and on a node whose kubelet has `seccompDefault`
--- RuntimeDefault is what those get of which nothing is said. API reference, `SecurityContext`: a container's
--- `seccompProfile` goes before the pod's.
+-- privileged containers always run as Unconfined, and on a node whose kubelet has `seccompDefault`,
+-- containers without a profile get RuntimeDefault. API reference, `SecurityContext`: a container's
+-- `seccompProfile` takes precedence over the pod's.
 use Rattle.std.specs.Prelude.{Bool, true, false, if◌then◌else◌, Option, Some, None}
 use Rattle.manifest.specs.declared.containers.Container.{Container}
 use Rattle.manifest.specs.declared.profiles.SeccompProfile.{SeccompProfile}
@@ -9,7 +9,7 @@ use Rattle.manifest.specs.declared.profiles.SeccompProfile.TheVariants.{RuntimeD
 use Rattle.profile_pick.specs.declared.choice.Choice.{Choice}
 use Rattle.profile_pick.specs.declared.choice.Choice.TheVariants as choice
 
--- what a container gets of which nothing is said
+-- the profile of a container that has none set
 abbrev pub node_default : Bool → SeccompProfile
 node_default true = RuntimeDefault
 node_default false = Unconfined
@@ -24,7 +24,7 @@ abbrev pub choice_of : Option SeccompProfile → Container → Bool → SeccompP
 choice_of of_pod container seccomp_default = if container.privileged then Unconfined
     else first_said container.profile of_pod seccomp_default
 
--- the choice, its path as what it is
+-- the choice, as the profile that it represents
 abbrev pub choice_seen : Choice → SeccompProfile
 choice_seen choice.RuntimeDefault = RuntimeDefault
 choice_seen (choice.Localhost path) = Localhost path.now

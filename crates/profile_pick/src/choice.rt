@@ -15,7 +15,7 @@ pub enum Choice<'p> {
 }
 
 /// The profile of the container at this place, counting init containers first. If the node's seccomp default
-/// is on, a container for which no profile is given gets that of the runtime.
+/// is on, a container without a profile gets that of the runtime.
 pub fn pick(pod: &Pod, at: usize, seccomp_default: bool) -> Choice<'_>
     requires { at < length pod.now.containers.all }
     ensures { IfSome (slice_get pod.now.containers.all at) (λ container.
@@ -28,7 +28,7 @@ pub fn pick(pod: &Pod, at: usize, seccomp_default: bool) -> Choice<'_>
     )
 }
 
-// The first of these that says something decides.
+// The first of these that is set decides.
 fn picked<'p>(
     of_pod: &'p Option<SeccompProfile>,
     container: &'p Container,

@@ -2,6 +2,11 @@
 //! seccomp" and the kubelet's `seccompDefault`.
 //!
 //! `specs/Choice.antt` defines the choice. Nothing here takes memory.
+//!
+//! # What is proved
+//!
+//! - A privileged container has no profile. Another has its own, else the pod's, else the node's default:
+//!   `pick`.
 #![tactic(auto)]
 
 mod choice;

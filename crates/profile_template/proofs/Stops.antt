@@ -1,4 +1,4 @@
--- The first fault of an item is told with the place of the item.
+-- The first fault of an item is reported with the place of the item.
 use Rattle.std.proofs.Common.{◌≡◌, ◌≢◌, Ok, Err, Result, sym, ap, ◌∙◌}
 use Rattle.json_place.specs.Parts.{Part}
 use Rattle.oci_profile.specs.declared.faults.ProfileFault.TheVariants.{Memory}

@@ -1,4 +1,4 @@
--- What holds of one or of all items of a list, told of the items and of what they stand for.
+-- Properties of one or of all items of a list, for the items and for what they represent.
 use Rattle.std.proofs.Common.{◌≡◌, ℕ, ◌+◌, ◌&&◌, ◌||◌, List, [], ◌∷◌, Bool, not, cond, map, refl, ap}
 use Rattle.std.specs.Prelude.{position}
 use Rattle.std.specs.List.{list_all, list_any, prefix_len}

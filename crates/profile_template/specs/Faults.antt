@@ -1,4 +1,4 @@
--- The faults of profiles, of fields and of texts, as faults of templates, where they are, and the names of
+-- The faults of profiles, of fields and of texts, as faults of templates with their places, and the names of
 -- faults as programs print them: this project's own.
 use Rattle.std.specs.Prelude.{ℕ, List, [], ◌∷◌, codes, Result}
 use Rattle.json_tree.specs.declared.faults.TextFault.{TextFault}
@@ -22,7 +22,7 @@ fault_here fault = record { fault = fault; place = [] }
 abbrev pub fault_at : List ℕ → TemplateFault → TemplateFaultAt
 fault_at key fault = record { fault = fault; place = Member key ∷ [] }
 
--- of what stands under a step of it
+-- of the value under a step of it
 abbrev pub fault_within : Part → TemplateFaultAt → TemplateFaultAt
 fault_within part found = record { fault = found.fault; place = within part found.place }
 
@@ -35,11 +35,11 @@ fault_of_field found = record { fault = Profile (of_profile.fault_of_field found
 abbrev pub fault_of_text : TextFault → TemplateFaultAt
 fault_of_text fault = fault_here (Profile (of_profile.fault_of_text fault))
 
--- what was made of the member with this key, as of a profile
+-- the result for the member with this key, with a profile's fault
 abbrev pub at : {A : Type 0} → List ℕ → Result A ProfileFault → Result A TemplateFaultAt
 at key made = as_fault (λ fault. fault_at key (Profile fault)) made
 
--- what was read of what stands under the step
+-- the result for the value under the step
 abbrev pub under : {A : Type 0} → Part → Result A TemplateFaultAt → Result A TemplateFaultAt
 under part read = as_fault (fault_within part) read
 

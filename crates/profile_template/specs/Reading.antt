@@ -1,5 +1,5 @@
 -- Which template a text is, for given settings, or its first fault, in the order of docs/SEMANTICS.md,
--- "Templates": that order is this project's own. Fields that no template has are not looked at.
+-- "Templates": that order is this project's own. Fields that no template has are ignored.
 use Rattle.std.specs.Prelude.{ℕ, ◌==◌, ◌&&◌, not, List, [], ◌∷◌, length, codes, filter_map, find}
 use Rattle.std.specs.Prelude.{if◌then◌else◌, nat_lt, Bool, true, false, ⊤, Option, Some, None, unwrap_or}
 use Rattle.std.specs.Prelude.{Result, Ok, Err}
@@ -33,17 +33,17 @@ use Rattle.profile_template.specs.Version.{version_of}
 abbrev pub here : {A : Type 0} → Result A FieldFaultAt → Result A TemplateFaultAt
 here r = as_fault fault_of_field r
 
--- a call gives this reading, or memory ran out
+-- a call returns this reading, or memory ran out
 abbrev pub Reads : {X Y : Type 0} → (X → Y) → Result X TemplateFaultAt → Result Y TemplateFaultAt → Type 0
 Reads view result reading = GivesAt (λ found. found.fault) (Profile Memory) view result reading
 
--- the texts of a list that may be left out
+-- the texts of an optional list
 unfoldable pub items_of : List ℕ → Data → Result (List Data) TemplateFaultAt
 items_of key tree = do
   found ← here (optional_each text text_list key tree)
   Ok (unwrap_or found [])
 
--- podman tells an errno by its name, beside its number; an empty name is none
+-- podman has an errno's name, beside its number; an empty name is none
 abbrev pub numbered : List ℕ → List ℕ → Result (Option ℕ) TemplateFaultAt
 numbered key name = if length name == 0 then Ok None
     else (or_else (fault_at key UnknownErrno) (errno_number name) >>= λ number. Ok (Some number))
@@ -57,7 +57,7 @@ named_errno_of key tree = do
   found ← here (optional text key tree)
   numbered_if key found
 
--- the errno that is named, else the one that is given as a number
+-- the named errno, else the one given as a number
 abbrev pub chosen_errno : List ℕ → List ℕ → Decision → Option ℕ → Option ℕ → Result Decision TemplateFaultAt
 chosen_errno errno_ret errno decision given (Some number) = at errno (of_profile.with_errno decision number)
 chosen_errno errno_ret errno decision given None = at errno_ret (of_profile.with_given decision given)
@@ -111,7 +111,7 @@ excluded_of settings tree = do
   least ← kernel_of tree
   Ok (is_excluded settings arches caps least)
 
--- what is said of the conditions with this key, and what where there are none
+-- the answer for the conditions with this key, and the answer if there are none
 abbrev pub said_of : List ℕ → Bool → (Data → Result Bool TemplateFaultAt) → Option Data
     → Result Bool TemplateFaultAt
 said_of key otherwise said None = Ok otherwise
@@ -126,7 +126,7 @@ is_met_of settings tree = do
   excluded ← said_of (codes "excludes") false (excluded_of settings) excludes
   Ok (included && not excluded)
 
--- an entry whose conditions are met, and of the others that one stood there
+-- an entry if its conditions are met; otherwise `None` in its place
 abbrev pub entry_if : Bool → NamedEntry → Option NamedEntry
 entry_if true entry = Some entry
 entry_if false entry = None
@@ -140,7 +140,7 @@ entry_of settings item = do
   is_met ← is_met_of settings tree
   Ok (entry_if is_met (record { names = names; decision = decision; conds = conds }))
 
--- as the item behind those that were read
+-- as the item after those that were read
 abbrev pub entry_at : Settings → List (Option NamedEntry) → Data → Result (Option NamedEntry) TemplateFaultAt
 entry_at settings done item = under (Item (length done)) (entry_of settings item)
 
@@ -163,7 +163,7 @@ abbrev pub is_family : Option (List ℕ) → List (List ℕ) → Bool
 is_family None family = false
 is_family (Some word) family = is_headed word family
 
--- the family of the architecture, else what stands there without conditions
+-- the family of the architecture, else the list without conditions
 abbrev pub chosen_family : Option (List ℕ) → List (List ℕ) → List (List (List ℕ)) → List (List ℕ)
 chosen_family arch plain families = unwrap_or (find (is_family arch) families) plain
 
@@ -176,7 +176,7 @@ architectures_of settings tree = do
   families ← under (Member (codes "archMap")) (in_order_after family_at [] (unwrap_or found []))
   Ok (chosen_family (seccomp_arch settings.arch.now) (filter_map text plain) families)
 
--- what has no effect has to be of its kind
+-- fields without effect must have the right type
 unfoldable pub ignored_of : Data → Result ⊤ TemplateFaultAt
 ignored_of tree = do
   here (optional_each text text_list (codes "flags") tree)

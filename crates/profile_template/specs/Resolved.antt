@@ -14,7 +14,7 @@ met_entries entries = filter_map (λ entry. entry) entries
 abbrev pub profile_of : Template → Profile
 profile_of template = named_profile template.default (met_entries template.entries)
 
--- what is told of an entry's name that has this index
+-- the result for an entry's name that has this index
 abbrev pub name_out : Bool → ℕ → (ℕ × List ℕ) → Option LeftOut
 name_out is_stricter entry (index, name) = if is_taken is_stricter name then None
     else Some (record { entry = entry; name = index })
@@ -31,6 +31,6 @@ out_if default index (Some entry) = names_out (is_stricter default entry.decisio
 abbrev pub out_of_entry : Decision → (ℕ × Option NamedEntry) → List LeftOut
 out_of_entry default (index, entry) = out_if default index entry
 
--- all that are left out
+-- all names that are left out
 abbrev pub left_out : Template → List LeftOut
 left_out template = flat_map (out_of_entry template.default) (enumerate_from 0 template.entries)

@@ -1,5 +1,5 @@
 -- When the conditions of a template's entry are met: as Docker and podman resolve `includes` and `excludes`.
--- An entry is included where each condition holds that is there, and excluded where one does.
+-- An entry is included if each present condition holds, and excluded if one does.
 use Rattle.std.specs.Prelude.{ℕ, ◌==◌, ◌&&◌, ◌||◌, List, length, Bool, true, false, Option, Some, None}
 use Rattle.std.specs.List.{list_all, list_any}
 use Rattle.std.specs.Str.{bytes_eq}
@@ -23,7 +23,7 @@ has_cap settings item = list_any (λ cap. is_word cap.now item) settings.caps.no
 abbrev pub is_listed : Settings → List Data → Bool
 is_listed settings arches = list_any (is_word settings.arch.now) arches
 
--- a kernel that is not told is newer than each that is asked for
+-- a kernel without a version is newer than any required one
 abbrev pub is_new_enough : Bool → Option Version → Option Version → Bool
 is_new_enough otherwise kernel None = otherwise
 is_new_enough otherwise None (Some least) = true

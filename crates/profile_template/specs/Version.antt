@@ -7,7 +7,7 @@ use Rattle.profile_template.specs.declared.version.Version.{Version}
 abbrev pub is_digit : ℕ → Bool
 is_digit c = nat_le 48 c && nat_le c 57
 
--- the number behind which this digit is put, if it is one and what comes of it is below 2^32
+-- the number with this digit appended, if it is a digit and the result is below 2^32
 abbrev pub with_digit : ℕ → ℕ → Option ℕ
 with_digit n c = if is_digit c && nat_lt (n * 10 + (c - 48)) (2 ^ 32) then Some (n * 10 + (c - 48)) else None
 
@@ -18,7 +18,7 @@ number_after n (c ∷ cs) = option_and_then (λ m. number_after m cs) (with_digi
 abbrev pub number_of : List ℕ → Option ℕ
 number_of digits = if length digits == 0 then None else number_after 0 digits
 
--- the number before the dot at this place and the one behind it
+-- the number before the dot at this place and the one after it
 abbrev pub version_at : List ℕ → ℕ → Option Version
 version_at text dot = option_and_then (λ major.
     option_and_then (λ minor. Some (record { major = major; minor = minor }))

@@ -47,8 +47,8 @@ pub fn seccomp_arch(name: &str) -> Option<&'static str>
     }
 }
 
-/// The architectures of a template: those of `architectures`, or the family of `archMap` that the settings'
-/// architecture heads.
+/// The architectures of a template: those of `architectures`, or the family of `archMap` headed by the
+/// settings' architecture.
 #[tactic(auto, unfolding(crate::specs::Reading::architectures_of))]
 pub(crate) fn architectures(
     alloc: Global,
@@ -99,7 +99,7 @@ fn family(alloc: Global, item: &Value) -> Result<Texts, TemplateFaultAt>
     Ok(headed(alloc, own, others)?)
 }
 
-/// The texts of a list after another text.
+/// A text, followed by the texts of a list.
 fn headed(alloc: Global, own: &str, others: &[Value]) -> Result<Texts, AllocError>
     ensures { IfOk result (λ t. t ≡ own.now ∷ filter_map kind.text (map view others.now)) }
 {

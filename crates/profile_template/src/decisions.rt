@@ -10,7 +10,7 @@ use json_place::{optional_text, optional_whole, required_text};
 use oci_profile::{Decision, ProfileFault, given_errno, named_action};
 use serde_json::Value;
 
-/// The decision of the fields with these keys: OCI's, and podman's, which names an errno.
+/// The decision of the fields with these keys: OCI's, and podman's, which has the name of an errno.
 #[tactic(auto, unfolding(crate::specs::Reading::decision_of))]
 pub(crate) fn decision(
     tree: &Value,
@@ -29,7 +29,7 @@ pub(crate) fn decision(
     }
 }
 
-/// The number of the errno that is named, if one is.
+/// The number of the named errno, if there is one.
 #[tactic(auto, unfolding(crate::specs::Reading::named_errno_of))]
 fn named_errno(tree: &Value, key: &'static str) -> Result<Option<u64>, TemplateFaultAt>
     ensures { result ≡ named_errno_of key.now (view tree.now) }

@@ -7,13 +7,13 @@ use thiserror::Error;
 /// Why a text is not a template.
 #[derive(Clone, Copy, Debug, PartialEq, Eq, Error)]
 pub enum TemplateFault {
-    /// A fault for which a plain profile is refused too.
+    /// A fault for which a plain profile is also refused.
     Profile(ProfileFault),
     /// Both of two exclusive fields are given: `name` and `names`, `architectures` and `archMap`.
     Both,
     /// No errno has this name.
     UnknownErrno,
-    /// It is not a kernel version.
+    /// A kernel version is invalid.
     BadKernel,
 }
 

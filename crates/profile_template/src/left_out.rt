@@ -7,10 +7,10 @@ use oci_profile::Decision;
 use profile_text::{NamedEntry, WriteFault, is_stricter, is_taken, write_named};
 use std::alloc::{AllocError, Global};
 
-/// A name of a template's entry that its profile is written without.
+/// A name of a template's entry that is left out of its profile.
 #[derive(Clone, Copy, Debug, PartialEq, Eq)]
 pub struct LeftOut {
-    /// The entry's index among all of the template, from 0.
+    /// The entry's index among all entries of the template, from 0.
     pub entry: usize,
     /// The name's index among those of the entry, from 0.
     pub name: usize,

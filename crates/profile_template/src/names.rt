@@ -27,7 +27,7 @@ pub(crate) fn names(alloc: Global, tree: &Value) -> Result<Texts, TemplateFaultA
     }
 }
 
-// The one name of an entry that has no list of them.
+// The one name of an entry without a list of names.
 fn single(alloc: Global, name: &str, names: &[Value]) -> Result<Texts, TemplateFaultAt>
     ensures { Reads (λ t. t) result (chosen_names (Some name.now) (Some (map view names.now))) }
 {

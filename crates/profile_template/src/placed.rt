@@ -49,7 +49,7 @@ impl TemplateFaultAt {
     }
 }
 
-/// The result of reading the member with this key, a fault placed at that member, as of a profile.
+/// The result of reading the member with this key, with a profile's fault placed at that member.
 pub(crate) fn at<T>(key: &'static str, made: Result<T, ProfileFault>) -> Result<T, TemplateFaultAt>
     ensures { result ≡ at key.now made }
 {
@@ -59,7 +59,7 @@ pub(crate) fn at<T>(key: &'static str, made: Result<T, ProfileFault>) -> Result<
     }
 }
 
-/// The result of reading what is under a step, a fault placed under that step.
+/// The result of reading the value under a step, with a fault placed under that step.
 pub(crate) fn under<T>(step: Step, read: Result<T, TemplateFaultAt>) -> Result<T, TemplateFaultAt>
     ensures { result ≡ under (part_of step) read }
 {

@@ -13,7 +13,7 @@ pub struct Settings<'a> {
     pub caps: &'a [&'a str],
     /// The architecture, as templates name it: `amd64`.
     pub arch: &'a str,
-    /// The kernel's version. `None` stands for a kernel that is newer than any that is asked for.
+    /// The kernel's version. `None` is a kernel newer than any required version.
     pub kernel: Option<Version>,
 }
 
@@ -34,7 +34,7 @@ pub(crate) fn has_cap(settings: &Settings<'_>, item: &Value) -> bool
     settings.caps.iter().any(|cap| is_word(cap, item))
 }
 
-/// Whether the kernel is at least as new as is asked for. `otherwise` if no version is asked for.
+/// Whether the kernel is at least as new as required. `otherwise` if no version is required.
 pub(crate) fn is_new_enough(
     otherwise: bool,
     kernel: Option<Version>,

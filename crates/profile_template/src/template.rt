@@ -4,7 +4,7 @@ use oci_profile::Decision;
 use profile_text::{NamedEntry, Texts};
 use std::marker::Model;
 
-/// The entries of a template, in order. `None` stands for one whose conditions are not met.
+/// The entries of a template, in order. `None` is an entry whose conditions are not met.
 #[derive(Drop)]
 pub struct TemplateEntries {
     entries: Vec<Option<NamedEntry>>,
@@ -48,7 +48,7 @@ impl TemplateEntries {
 pub struct Template {
     /// The decision on a call that no entry decides.
     pub default: Decision,
-    /// The architectures for which an engine is to use the profile.
+    /// The architectures for which an engine should use the profile.
     pub architectures: Texts,
     pub entries: TemplateEntries,
 }

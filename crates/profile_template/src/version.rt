@@ -2,7 +2,7 @@ ghost use Rattle.std.specs.Prelude.{◌≡◌, ◌<◌, IfSome, length};
 ghost use Rattle.profile_template.specs.Version.{dot_at, is_at_least, number_after, number_of, version_at};
 ghost use Rattle.profile_template.specs.Version.{version_of, with_digit};
 
-/// A kernel's version, as templates ask for one.
+/// A kernel's version, as templates require one.
 #[derive(Clone, Copy, Debug, PartialEq, Eq)]
 pub struct Version {
     pub major: u32,

@@ -7,7 +7,7 @@ use oci_profile::Profile;
 use std::alloc::{AllocError, Global};
 use std::test::Fail;
 
-/// Whether the filter returns what the profile says of `read` with each of these for its first argument, and
+/// Whether the filter returns the profile's value for `read` with each of these as its first argument, and
 /// with its neighbours.
 fn agree_at(filter: &Filter, profile: &Profile, args: &[u64]) -> bool {
     for arg in args {

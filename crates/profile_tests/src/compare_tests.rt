@@ -14,7 +14,7 @@ fn filter(rt: &HostRuntime, insns: &[Insn]) -> Result<Filter, Fail> {
     }
 }
 
-/// A filter that allows `count` numbers, multiples of 3, by a test each, in an order that `step` gives.
+/// A filter that allows `count` numbers, multiples of 3, by a test each, in an order set by `step`.
 fn linear(rt: &HostRuntime, count: u32, step: u32) -> Result<Filter, Fail> {
     let mut code = Vec::new(rt.alloc());
     code.push(insn(Operation::LoadData, 0, 0, 0))?;

@@ -16,7 +16,7 @@ const CONDITIONAL: &str = "{\"names\":[\"clone3\"],\"action\":\"SCMP_ACT_ERRNO\"
     {\"names\":[\"clone\"],\"action\":\"SCMP_ACT_ALLOW\",\"args\":[
         {\"index\":0,\"value\":2114060288,\"valueTwo\":0,\"op\":\"SCMP_CMP_MASKED_EQ\"}]}";
 
-// RuntimeDefault is what its text reads as, with fields that engines have beside the standard's.
+// The text of RuntimeDefault, with fields that engines add to the standard's, reads as RuntimeDefault.
 #[test]
 fn as_its_text(rt: HostRuntime) {
     let text = default_text(rt.alloc()).expect(&rt, "memory");

@@ -12,7 +12,7 @@ const BUDGET: u64 = 1_000_000;
 const MASKS: [u32; 5] = [1, 3, 6, 0xff, u32::MAX];
 
 const NUMBERS: [u32; 6] = [0, 1, 2, 3, 7, 0xfe];
-/// Where the words are that are tested: the number, and the low halves of two arguments.
+/// The offsets of the tested words: the number, and the low halves of two arguments.
 const OFFSETS: [u32; 3] = [0, 16, 24];
 
 const TESTS: [Operation; 4] = [
@@ -28,13 +28,13 @@ fn insn(op: Operation, jt: u8, jf: u8, k: u32) -> Insn {
     Insn { op, jt, jf, k }
 }
 
-/// One of these, by a number that was drawn.
+/// One of these, chosen by a drawn number.
 fn choice<T: Copy>(items: &[T], given: T, state: u64) -> T {
     let count = items.len().max(1);
     *items.get((state >> 33) as usize % count).unwrap_or(&given)
 }
 
-/// Three drawn tests of masked words, a return behind each. The other form has the masks in X.
+/// Three drawn tests of masked words, a return after each. The other form has the masks in X.
 fn drawn(rt: &HostRuntime, from: u64, is_other_form: bool) -> Result<Filter, Fail> {
     let mut code = Vec::new(rt.alloc());
     let mut state = from;
@@ -65,7 +65,7 @@ fn drawn(rt: &HostRuntime, from: u64, is_other_form: bool) -> Result<Filter, Fai
     }
 }
 
-/// Whether both return the same at each edge of the words that are tested.
+/// Whether both return the same at each edge of the tested words.
 fn agree(first: &Filter, second: &Filter) -> bool {
     for nr in EDGES {
         for one in EDGES {

@@ -1,4 +1,4 @@
-//! What the tests of this crate are made from.
+//! The building blocks of this crate's tests.
 use bpf_verify::Filter;
 use call_data::{NATIVE_ARCH, SysCall};
 use compile::compile;
@@ -33,7 +33,7 @@ pub(crate) fn filter_of(rt: &HostRuntime, profile: &Profile) -> Result<Filter, F
     }
 }
 
-/// An entry of these names, with what follows its action.
+/// An entry of these names, with the text after its action.
 pub(crate) fn entry(
     alloc: Global,
     names: &str,

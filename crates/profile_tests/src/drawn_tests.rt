@@ -9,7 +9,7 @@ use std::alloc::{AllocError, Global};
 use std::test::Fail;
 use sys_table::name;
 
-/// Whether the filter returns what the profile says, at these numbers with edges for arguments.
+/// Whether the filter returns the profile's values at these numbers, with edges as arguments.
 fn agree(filter: &Filter, profile: &Profile, from: u32, to: u32) -> bool {
     for nr in from..to {
         for first in EDGES {
@@ -159,7 +159,7 @@ fn large_profiles(rt: HostRuntime) -> Result<(), Fail> {
     Ok(())
 }
 
-// What is heavier is refused, however deep it is: 4,002 conditions on one number, one on each call below
+// Heavier profiles are refused, however deep they are: 4,002 conditions on one number, one on each call below
 // number 340, and one entry more than fits.
 #[test]
 fn heavier_profiles(rt: HostRuntime) -> Result<(), Fail> {

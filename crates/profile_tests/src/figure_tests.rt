@@ -4,7 +4,7 @@ use bpf_verify::Filter;
 use oci_profile::runtime_default;
 use std::test::Fail;
 
-/// The most steps over the numbers of the table and some after it, and their sum.
+/// The greatest number of steps over the numbers of the table and some after it, and the sum of the steps.
 fn steps_of(filter: &Filter) -> (u32, u32) {
     let mut most = 0;
     let mut all = 0u32;
@@ -52,7 +52,7 @@ fn figures_of_the_default(rt: HostRuntime) -> Result<(), Fail> {
     Ok(())
 }
 
-// What RuntimeDefault says of clone, clone3, ptrace, personality and read.
+// RuntimeDefault's values for clone, clone3, ptrace, personality and read.
 #[test]
 fn values_of_the_default(rt: HostRuntime) -> Result<(), Fail> {
     let profile = runtime_default(rt.alloc())?;

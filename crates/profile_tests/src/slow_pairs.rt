@@ -45,7 +45,7 @@ fn other_than_7(rt: &HostRuntime) -> Result<Filter, Fail> {
     )
 }
 
-/// Returns 1 where this test of the words at two offsets holds, the second one in X, and 2 where it does not.
+/// Returns 1 if this test of the words at two offsets holds, the second one in X, and 2 if it does not.
 fn two_words(
     rt: &HostRuntime,
     at: u32,
@@ -134,7 +134,7 @@ fn a_mask_and_its_range(rt: HostRuntime) -> Result<(), Fail> {
     Ok(())
 }
 
-// a > x is not x >= a: no bound on the numbers of X would do to see it.
+// a > x is not x >= a: no bound on the numbers of X is enough to see it.
 #[test]
 fn a_test_of_two_words(rt: HostRuntime) -> Result<(), Fail> {
     let greater = two_words(&rt, 24, 16, Operation::JumpGreaterX, false)?;

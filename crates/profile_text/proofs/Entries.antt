@@ -1,4 +1,4 @@
--- The tree that is written of an entry says that entry.
+-- The written tree of an entry is a tree of that entry.
 use Rattle.std.proofs.Common.{◌≡◌, ◌<◌, ◌≤◌, ◌&&◌, ◌||◌, not, ℕ, List, [], ◌∷◌, length, map, codes, eqb, leb}
 use Rattle.std.proofs.Common.{Bool, true, false, Option, Some, None, unwrap_or, refl, sym, ap, subst, arith}
 use Rattle.std.specs.Prelude.{◌↔◌, filter_map, is_some, option_map}
@@ -21,7 +21,7 @@ use Rattle.profile_text.specs.Written.{action_name, cond_tree, entry_tree, entry
 use Rattle.profile_text.specs.Written.{names_of, whole_number, with_list, with_whole}
 use Rattle.profile_text.proofs.Parts.{conds_are, decides, list_back, texts_back}
 
--- what sys_table promises of its names and numbers
+-- the promises of sys_table about its names and numbers
 abbrev pub Agree : Type 0
 Agree = (name : List ℕ) (number : ℕ) → (number_of name ≡ Some number) ↔ (name_of number ≡ Some name)
 

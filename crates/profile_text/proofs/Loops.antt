@@ -26,7 +26,7 @@ pub written_more : {A V D : Type 0} (see : V → D) (tree : A → D) (vs : List 
 written_more see tree vs xs i x v lt is before here =
     rw (map_more tree xs i x lt is, map-append, before, here) refl
 
--- one more name is
+-- one more name is written
 pub named_more : {V : Type 0} (see : V → Data) (vs : List V) (numbers : List ℕ) (i : ℕ) (v : V)
     → i < length numbers
     → map see vs ≡ map string (map name_text (take i numbers))

@@ -1,4 +1,4 @@
--- The tree that is written of a profile's part says that part.
+-- The written tree of a profile's part is a tree of that part.
 use Rattle.std.proofs.Common.{◌≡◌, inl, ℕ, List, [], ◌∷◌, map, codes, cond, eqb, Bool, true, false, Option}
 use Rattle.std.proofs.Common.{Some, None, unwrap_or, refl, ap}
 use Rattle.std.proofs.lemmas.Bool.{eqb-true}

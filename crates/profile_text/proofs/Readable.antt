@@ -1,4 +1,4 @@
--- What was read can be written.
+-- A profile that was read can be written.
 use Rattle.std.proofs.Common.{◌≡◌, ◌<◌, ◌&&◌, ◌||◌, not, inl, inr, ℕ, List, [], ◌∷◌, length, eqb, leb, Bool}
 use Rattle.std.proofs.Common.{true, false, Option, Some, None, unwrap_or, refl, arith}
 use Rattle.std.specs.Prelude.{filter_map, is_some, option_and_then}

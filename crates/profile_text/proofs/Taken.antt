@@ -1,4 +1,4 @@
--- The text that is written of entries with their names reads as their profile.
+-- The text of entries with their names reads as their profile.
 use Rattle.std.proofs.Common.{◌≡◌, ◌<◌, ◌≤◌, ℕ, List, [], ◌∷◌, length, map, codes, cond, Bool, true, false}
 use Rattle.std.proofs.Common.{Option, Some, None, refl, sym, ap, subst, arith}
 use Rattle.std.specs.Prelude.{filter, filter_map, is_some, option_map}

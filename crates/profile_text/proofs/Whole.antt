@@ -1,4 +1,4 @@
--- The text that is written of a profile reads as it.
+-- The text of a profile reads as that profile.
 use Rattle.std.proofs.Common.{◌≡◌, ◌≤◌, ℕ, List, [], ◌∷◌, length, map, codes, true, false, Option, Some, None}
 use Rattle.std.proofs.Common.{refl, sym, subst, arith}
 use Rattle.std.specs.Prelude.{option_map}

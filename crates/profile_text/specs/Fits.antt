@@ -1,4 +1,4 @@
--- What the types of a profile keep of its parts: oci_profile, Conditions and Entries.
+-- The limits that the types of a profile ensure for its parts: oci_profile, Conditions and Entries.
 use Rattle.std.specs.Prelude.{◌<◌, ◌≤◌, ◌^◌}
 use Rattle.action.specs.declared.verdict.TheConstants.{MAX_ERRNO}
 use Rattle.oci_profile.specs.declared.decision.Decision.{Decision}

@@ -1,7 +1,6 @@
--- Profiles whose entries keep the names that stand in them, also those that the call table lacks, and how
--- they are written: OCI runtime-spec 1.1, config-linux, seccomp, as compact JSON. This project's own is that
--- of an entry that is stricter than the default those names are left out that the table lacks, as the reader
--- refuses them.
+-- Profiles whose entries keep their names, including those that the call table lacks, and how they are
+-- written: OCI runtime-spec 1.1, config-linux, seccomp, as compact JSON. This project's own is that an entry
+-- stricter than the default loses the names that the table lacks, as the reader refuses them.
 use Rattle.std.specs.Prelude.{ℕ, ◌||◌, List, [], ◌∷◌, codes, map, filter, filter_map, nat_lt, not, Bool}
 use Rattle.std.specs.Prelude.{is_some, Option, Some, None}
 use Rattle.serde_json.specs.Data.{Data, string, array, object, no_members, put}

@@ -1,7 +1,6 @@
 -- How a profile is written: OCI runtime-spec 1.1, config-linux, seccomp, as compact JSON with the members of
--- each object in the order of their keys' bytes. This project's own is what is left out: `args` where there
--- are none, a
--- `valueTwo` of 0, what has no effect.
+-- each object in the order of their keys' bytes. This project's own is what is left out: `args` if there are
+-- none, a `valueTwo` of 0, and fields without effect.
 use Rattle.std.specs.Prelude.{ℕ, ◌==◌, List, [], ◌∷◌, codes, map, if◌then◌else◌, Option, Some, None}
 use Rattle.std.specs.Prelude.{unwrap_or}
 use Rattle.serde_json.specs.Data.{Data, number, unsigned, string, array, object, Members, no_members, put}

@@ -14,7 +14,7 @@ pub fn runtime_default_can_be_written()
     ensures short { length (profile_text runtime_default) ≤ MAX_PROFILE_BYTES }
 {}
 
-/// Whatever was read can be written, unless its text gets too large.
+/// Every profile that was read can be written, unless its text gets too large.
 pub fn what_is_read_can_be_written()
     ensures { (bytes : List ℕ) (profile : Profile) → ReadsProfile bytes profile → is_writable profile ≡ true }
 {

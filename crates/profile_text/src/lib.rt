@@ -2,6 +2,19 @@
 //! whose text `oci_profile::read` reads as the same profile.
 //!
 //! `specs/Written.antt` defines how a profile is written, and `specs/Writable.antt` which profiles can be.
+//!
+//! # What is proved
+//!
+//! - The text of a profile reads as the profile, for every profile that can be written: `write` (reads,
+//!   text).
+//! - In such a profile each number has a name, and an entry that is stricter than the default has a number.
+//!   Others, and texts that are too large to be read, are reported: `write` (no_name, large).
+//! - A profile that was read can be written, and so can RuntimeDefault: `what_is_read_can_be_written`,
+//!   `runtime_default_can_be_written`. The text of RuntimeDefault: `default_text`.
+//! - Entries whose names are kept unchanged are written with the same promises: `write_named` (reads, text,
+//!   named, large).
+//! - Which of these entries are written, and which decisions are stricter: `is_taken`, `is_stricter`.
+//! - The text of a fault: `Display` of `WriteFault`.
 #![tactic(auto)]
 
 mod default_profile;

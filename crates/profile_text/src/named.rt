@@ -27,8 +27,8 @@ pub struct NamedEntry {
 }
 
 /// The text of the profile with this default and these entries, and with these architectures, which the
-/// reader does not look at. From an entry that is stricter than the default, the names that the table lacks
-/// are left out, because the reader refuses them; an entry without any name left is left out.
+/// reader ignores. From an entry that is stricter than the default, the names that the table lacks are left
+/// out, because the reader refuses them; an entry without any name left is left out.
 pub fn write_named(
     alloc: Global,
     default: &Decision,

@@ -2,7 +2,7 @@ ghost use Rattle.std.specs.Prelude.{◌≡◌};
 
 use std::marker::Model;
 
-/// Texts in order, of which contracts see the bytes.
+/// Texts in order. Contracts see their bytes.
 #[derive(Drop)]
 pub struct Texts {
     texts: Vec<String>,

@@ -11,7 +11,7 @@ use oci_profile::{Cond, Decision, Entry, Op, Profile};
 use serde_json::Value;
 use std::alloc::{AllocError, Global};
 
-// The trees of a profile's parts. Besides its tree, each contract states what the types keep of the part.
+// The trees of a profile's parts. Each contract also states the limits that the part's types ensure.
 
 #[tactic(auto, unfolding(crate::specs::Written::profile_tree))]
 pub(crate) fn profile_tree(alloc: Global, profile: &Profile) -> Result<Value, AllocError>

@@ -1,4 +1,4 @@
--- What registry and lists owe each other is kept.
+-- Registry and lists still agree.
 use Rattle.std.proofs.Common.{◌≡◌, ◌≢◌, ◌↔◌, ◌⊎◌, inl, inr, ℕ, ◌==◌, ◌≤◌, Bool, true, false, List, [], ◌∷◌}
 use Rattle.std.proofs.Common.{◌||◌, option_map, map, Option, Some, None, refl, sym, ap, ◌∙◌, subst}
 use mathlib.Core.Bool.{cond}
@@ -69,7 +69,7 @@ left_of : (b : Bool) (h : Option (List ℕ)) (u : List ℕ) → cond b None h �
 left_of true h u is = absurd cc
 left_of false h u is = (refl, is)
 
--- the ids of a list are taken out
+-- the ids of a list are removed
 module _ (old new : Registry) (uid : List ℕ) (cells : List Cell) (made : new.made ≡ old.made)
     (forgets : (i : ℕ) → home_in new.homes i ≡ cond (list_any (λ cell. id_of cell == i) cells) None
     (home_in old.homes i)) where

@@ -10,7 +10,7 @@ use Rattle.std.proofs.lemmas.List.Recursion.{is_position_or_len}
 use Rattle.std.specs.Prelude.{slice_index_or}
 use Rattle.registry.specs.Runtime.{change_first, drop_first}
 
--- the place, or the length where none passes
+-- the place, or the length if none passes
 abbrev pub place : {A : Type 0} → (A → Bool) → List A → ℕ
 place test [] = 0
 place test (x ∷ xs) = cond (test x) 0 (suc (place test xs))
@@ -71,7 +71,7 @@ same_step : {A : Type 0} (b : Bool) (f : A → A) (x : A) (xs rest : List A) (n 
 same_step true f x xs rest n le e = absurd (omega arith)
 same_step false f x xs rest n le e = ap (λ ys. x ∷ ys) (e (omega arith))
 
--- where none passes nothing changes
+-- if none passes nothing changes
 pub unchanged : {A : Type 0} (test : A → Bool) (f : A → A) (xs : List A) → length xs ≤ place test xs
     → change_first test f xs ≡ xs
 unchanged test f [] le = refl

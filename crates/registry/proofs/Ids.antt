@@ -1,4 +1,4 @@
--- What is done to cells leaves them their ids.
+-- Changes of cells keep their ids.
 use Rattle.std.proofs.Common.{◌≡◌, ℕ, Bool, true, false, List, [], ◌∷◌, map, refl, ap}
 use mathlib.Core.Bool.{cond}
 use Rattle.runtime_cell.specs.Cell.{Cell, killed, started}

@@ -1,4 +1,4 @@
--- What is done to cells leaves them their names.
+-- Changes of cells keep their names.
 use Rattle.std.proofs.Common.{◌≡◌, ℕ, zero, suc, ◌<◌, ◌-◌, Bool, true, false, IsTrue, List, [], ◌∷◌, ◌++◌}
 use Rattle.std.proofs.Common.{length, map, take, refl, sym, subst, arith}
 use mathlib.Core.Bool.{cond}

@@ -1,4 +1,4 @@
--- What a call sees of the sandbox in which a cell takes its place, or does not.
+-- What a call sees of the sandbox to which a cell is added, or is not.
 use Rattle.std.proofs.Common.{◌≡◌, ◌∙◌, ℕ, ◌+◌, List, [], ◌∷◌, ◌++◌, Bool, Option, Some, None}
 use Rattle.std.proofs.Common.{option_map, refl, ap}
 use Rattle.cri_msgs.specs.declared.keys.ContainerMetadata.{ContainerMetadata}

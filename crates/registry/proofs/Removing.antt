@@ -1,4 +1,4 @@
--- A cell is taken out of a list of rising ids.
+-- A cell is removed from a list of rising ids.
 use Rattle.std.proofs.Common.{◌≡◌, ◌≢◌, ◌↔◌, ◌⊎◌, inl, inr, ℕ, ◌==◌, ◌<◌, ◌≤◌, Bool, true, false, List, []}
 use Rattle.std.proofs.Common.{◌∷◌, map, option_map, Option, Some, None, refl, sym, ap, ◌∙◌, subst, arith}
 use mathlib.Core.Bool.{cond}
@@ -45,7 +45,7 @@ found_step : (b : Bool) (cell : Cell) (rest : Option Cell) (id : ℕ)
 found_step true cell rest id is = inl (refl, cc)
 found_step false cell rest id is = inr (refl, is)
 
--- who is left: the others, which have other ids
+-- the cells that are left: the others, which have other ids
 left_step : (b : Bool) (test : Cell → Bool) (low : ℕ) (cell : Cell) (cells : List Cell) (id x : ℕ)
     → RiseAbove low (map id_of (cell ∷ cells))
     → ((b ≡ true) × (id ≡ id_of cell)) ⊎ ((b ≡ false) × (option_map id_of (find test cells) ≡ Some id))

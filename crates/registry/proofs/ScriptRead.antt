@@ -1,4 +1,4 @@
--- Where a cell was made, its script's file was read.
+-- If a cell was made, its script's file was read.
 use Rattle.std.proofs.Common.{◌≡◌, ℕ, List, Result, Ok, Err, refl}
 use Rattle.cri_msgs.specs.declared.refusals.Refusal.{Refusal}
 use Rattle.runtime_cell.specs.Cell.{Making}

@@ -1,4 +1,4 @@
--- What is kept of a runtime, and what it stands for: this project's own.
+-- The data kept of a runtime, and what it represents: this project's own.
 use Rattle.std.specs.Prelude.{◌≡◌, ◌≢◌, ◌==◌, ◌<◌, ◌≤◌, ⊤, IsSome, ℕ, IsTrue, false, String, string_bytes}
 use Rattle.std.specs.Prelude.{map, option_map, length, slice_index_or, List, [], ◌∷◌, ◌++◌, Option, Some}
 use Rattle.std.specs.Prelude.{None}
@@ -90,7 +90,7 @@ stage_of None = stage.Unknown
 stage_of (Some (known.Live live)) = stage.Live live.ready
 stage_of (Some known.Removed) = stage.Removed
 
--- what is known of the uid is changed, if it was named, and nothing else
+-- only what is known of the uid is changed, if it was named
 pub record Changes (old new : List (List ℕ × Known)) (uid : List ℕ) (f : Known → Known) : Type 0 where
   pub here : known_in new uid ≡ option_map f (known_in old uid)
   pub others : (u : List ℕ) → u ≢ uid → known_in new u ≡ known_in old u

@@ -14,7 +14,7 @@ use Rattle.registry.specs.declared.stage.Stage.TheVariants.{Unknown, Live, Remov
 -- what is known of a uid
 pub record Sandbox : Type 0 where
   pub stage : Stage
-  -- the cells that are there, in the order in which they were made
+  -- the existing cells, in the order in which they were made
   pub cells : List Cell
   -- the attempts that were ever made
   pub used : List ContainerMetadata
@@ -26,7 +26,7 @@ pub record Runtime : Type 0 where
   pub made : ℕ
   pub sandbox : List ℕ → Sandbox
 
--- an attempt at a container of a sandbox: it was never made, its cell is there, or its cell went
+-- an attempt at a container of a sandbox: it was never made, its cell exists, or its cell was removed
 pub data Slot : Type 0 where
   Free : Slot
   There : Cell → Slot
@@ -74,7 +74,7 @@ removed = record { stage = Removed; cells = []; used = [] }
 abbrev pub fresh_sandbox : Sandbox
 fresh_sandbox = record { stage = Live true; cells = []; used = [] }
 
--- a runtime that knows of nothing
+-- a runtime that knows no uid
 abbrev pub empty : Option (List Insn) → Runtime
 empty baseline = record { baseline = baseline; made = 0; sandbox = λ _. absent }
 
@@ -91,7 +91,7 @@ abbrev pub AreDistinct : {A : Type 0} → List A → Type 0
 AreDistinct [] = ⊤
 AreDistinct (x ∷ xs) = (¬ In x xs) × AreDistinct xs
 
--- so many different ones, or more, have the property
+-- at least this many different ones have the property
 pub record AtLeast {A : Type 0} (count : ℕ) (Has : A → Type 0) : Type 0 where
   pub some : List A
   pub enough : count ≤ length some

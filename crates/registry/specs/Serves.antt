@@ -1,5 +1,5 @@
--- What each call does, by cases, this project's own: docs/SEMANTICS.md, "The runtime". Which states there
--- are, and that calls which stop or remove may be sent again, is CRI v1's.
+-- What each call does, by cases, this project's own: docs/SEMANTICS.md, "The runtime". The states, and that
+-- calls which stop or remove may be repeated, are CRI v1's.
 use Rattle.std.specs.Prelude.{◌≡◌, ◌≢◌, ◌⊎◌, ◌+◌, ◌==◌, if◌then◌else◌, ℕ, ◌≤◌, not, count_by, IsPermutation}
 use Rattle.std.specs.Prelude.{Bool, true, false, List, [], ◌∷◌, ◌++◌, length, map, Option, None, Some, find}
 use Rattle.std.specs.List.Sorted.{IsSortedByKey}
@@ -42,28 +42,28 @@ pub record Part : Type 0 where
   pub made : ℕ
   pub sandbox : Sandbox
 
--- what it sees beside: the node's filter, and how far all sandboxes are
+-- what else it sees: the node's filter, and the stages of all sandboxes
 pub record Around : Type 0 where
   pub baseline : Option (List Insn)
   -- which uids are known
   pub stages : List ℕ → Stage
 
--- no uid more has place
+-- there is no room for another uid
 abbrev pub IsFull : (List ℕ → Stage) → Type 0
 IsFull stages = AtLeast MAX_UIDS (λ uid. IsKnown (stages uid))
 
--- the answer, where nothing changes
+-- the answer, if nothing changes
 abbrev pub Says : Part → Answer → Answer → Part → Type 0
 Says old answer said new = (answer ≡ said) × (new ≡ old)
 
--- the answer, where the sandbox becomes another
+-- the answer, if the sandbox becomes another
 abbrev pub Becomes : Part → Sandbox → Answer → Answer → Part → Type 0
 Becomes old sandbox answer said new = (answer ≡ said) × (new ≡ record { made = old.made; sandbox = sandbox })
 
 abbrev pub with_cells : Sandbox → List Cell → Sandbox
 with_cells s cells = record { stage = s.stage; cells = cells; used = s.used }
 
--- 128 and the number of SIGTERM where there is a grace, of SIGKILL where there is none
+-- 128 and the number of SIGTERM if there is a grace period, of SIGKILL if there is none
 abbrev pub code_of_grace : ℕ → ℕ
 code_of_grace grace = if grace == 0 then STOPPED else TERMINATED
 
@@ -99,7 +99,7 @@ RemovesPod Removed full old answer new = Says old answer Done new
 abbrev pub WasAsked : Cell → List ℕ → SeccompProfile → Type 0
 WasAsked cell image choice = (cell.making.label.image ≡ image) × (choice_of cell.making ≡ choice)
 
--- no further container has place
+-- there is no room for another container
 abbrev pub IsCrowded : Sandbox → Type 0
 IsCrowded s = (MAX_CELLS ≤ length s.cells) ⊎ (MAX_KEYS ≤ length s.used)
 
@@ -200,7 +200,7 @@ listed cell = record { container = container_in cell; state = kind_of (state_tol
 abbrev pub listed_status : Cell → ListedStatus
 listed_status cell = record { container = container_in cell; status = status_of cell }
 
--- all cells that are there, by name, then by attempt
+-- all existing cells, by name, then by attempt
 pub record IsListing (cells : List Cell) (items : List ListedContainer) : Type 0 where
   pub all : IsPermutation (map listed cells) items
   pub ordered : IsSortedByKey (λ (item : ListedContainer). item.container) container_cmp items
@@ -209,8 +209,7 @@ pub record AreStatuses (cells : List Cell) (items : List ListedStatus) : Type 0 
   pub all : IsPermutation (map listed_status cells) items
   pub ordered : IsSortedByKey (λ (item : ListedStatus). item.container) container_cmp items
 
--- what a call that lists the cells of a sandbox which is there is answered: nothing else of a runtime plays a
--- part in it
+-- the answer to a call that lists the cells of an existing sandbox; it depends on nothing else of a runtime
 abbrev pub TellsCells : Call → List Cell → Answer → Type 0
 TellsCells (ListContainers uid) cells answer =
     (answer ≡ Refused Memory) ⊎ ((items : List ListedContainer) × IsListing cells items
@@ -251,20 +250,20 @@ ServesIn around (ContainerStatus key) files old answer new =
 ServesIn around (ListContainers uid) files old answer new = Lists old answer new
 ServesIn around (ContainerStatuses uid) files old answer new = ListsStatuses old answer new
 
--- the cells that went with a sandbox, where one was there
+-- the cells that were removed with a sandbox, if it existed
 abbrev pub gone_with : Stage → List Cell → List Cell → List Cell
 gone_with Unknown cells others = others
 gone_with (Live ready) cells others = cells
 gone_with Removed cells others = others
 
--- the cell that went by itself, where it was in a sandbox that is there
+-- the cell that was removed by itself, if it was in an existing sandbox
 abbrev pub gone_of : Stage → Option Cell → List Cell → List Cell
 gone_of Unknown cell others = others
 gone_of (Live ready) None others = others
 gone_of (Live ready) (Some cell) others = cell ∷ []
 gone_of Removed cell others = others
 
--- what is handed out: the cells that are removed take the place of the others
+-- the cells that are handed out: those that are removed replace the others
 abbrev pub handed_out : Call → Stage → List Cell → List Cell → List Cell
 handed_out (RunPodSandbox uid) stage cells others = others
 handed_out (StopPodSandbox uid grace) stage cells others = others
@@ -284,7 +283,7 @@ part_of r uid = record { made = r.made; sandbox = r.sandbox uid }
 abbrev pub around_of : Runtime → Around
 around_of r = record { baseline = r.baseline; stages = λ uid. (r.sandbox uid).stage }
 
--- a request is served: what the table says of the sandbox that it names, and nothing to any other
+-- a request is served: the table applies to the sandbox that it names, and no other changes
 pub record Serves (old : Runtime) (call : Call) (files : FileAnswers) (answer : Answer)
     (new : Runtime) : Type 0 where
   pub row : ServesIn (around_of old) call files (part_of old (uid_of call)) answer (part_of new (uid_of call))

@@ -1,4 +1,4 @@
--- What a registry and the lists of cells stand for: this project's own.
+-- What a registry and the lists of cells represent: this project's own.
 use Rattle.std.specs.Prelude.{◌≡◌, ◌≢◌, ◌↔◌, ◌<◌, ◌≤◌, ⊤, ℕ, List, [], ◌∷◌, ◌==◌, if◌then◌else◌, option_map}
 use Rattle.std.specs.Prelude.{map, Option, Some, None}
 use Rattle.cri_msgs.specs.declared.keys.ContainerMetadata.{ContainerMetadata}
@@ -22,7 +22,7 @@ used_of None = []
 used_of (Some (known.Live live)) = live.used
 used_of (Some known.Removed) = []
 
--- what is known of a uid, and the list of its cells, are a sandbox
+-- the sandbox of what is known of a uid, with the list of its cells
 abbrev pub sandbox_of : Option Known → List Cell → Sandbox
 sandbox_of k cells = record { stage = stage_of k; cells = cells_of k cells; used = used_of k }
 
@@ -62,14 +62,13 @@ IsEmptyIn stage.Removed cells = cells ≡ []
 abbrev pub AreBound : Registry → Type 0
 AreBound r = (id : ℕ) (uid : List ℕ) → home_in r.homes id ≡ Some uid → id ≤ r.made
 
--- the registry's ids of the uid are those of its list, in rising order; where there is no sandbox there are
--- no cells
+-- the registry's ids of the uid are those of its list, in rising order; without a sandbox there are no cells
 pub record Agrees (r : Registry) (uid : List ℕ) (cells : List Cell) : Type 0 where
   pub home : (id : ℕ) → (home_in r.homes id ≡ Some uid) ↔ In id (map id_of cells)
   pub rise : RiseAbove 0 (map id_of cells)
   pub empty : IsEmptyIn (stages_in r uid) cells
 
--- of every other uid the registry says what it said
+-- the registry is unchanged for every other uid
 pub record Spares (old new : Registry) (uid : List ℕ) (before : List Cell) : Type 0 where
   pub known : (u : List ℕ) → u ≢ uid → known_in new.uids u ≡ known_in old.uids u
   pub home : AreBound old → Agrees old uid before → (u : List ℕ) → u ≢ uid → (id : ℕ)
@@ -77,7 +76,7 @@ pub record Spares (old new : Registry) (uid : List ℕ) (before : List Cell) : T
   pub baseline : new.baseline ≡ old.baseline
   pub made : old.made ≤ new.made
 
--- what agreed agrees still
+-- what agreed still agrees
 pub record Keeps (old new : Registry) (uid : List ℕ) (before behind : List Cell) : Type 0 where
   pub bound : AreBound old → AreBound new
   pub agrees : AreBound old → Agrees old uid before → Agrees new uid behind

@@ -53,14 +53,14 @@ impl Cells {
         self.cells.as_slice()
     }
 
-    /// The cell of a container, if it is there.
+    /// The cell of a container, if it exists.
     pub(crate) fn of(&self, container: &ContainerMetadata) -> Option<&Cell>
         ensures { option_copied result ≡ find (is_of container.now) self.now }
     {
         self.cells.iter().find(|cell| is_of(container, cell))
     }
 
-    /// The state of a container's cell, if it is there.
+    /// The state of a container's cell, if it exists.
     pub(crate) fn state_of(&self, container: &ContainerMetadata) -> Option<State>
         ensures { result ≡ option_map (λ cell. cell.state) (find (is_of container.now) self.now) }
     {
@@ -70,7 +70,7 @@ impl Cells {
         }
     }
 
-    /// Starts the cell of a container, if it is there.
+    /// Starts the cell of a container, if it exists.
     #[tactic(auto, using(crate::proofs::Firsts::length_changed, crate::proofs::Named::named_started))]
     pub(crate) fn start(&mut self, container: &ContainerMetadata)
         ensures { self.new ≡ change_first (is_of container.now) started self.old }
@@ -78,7 +78,7 @@ impl Cells {
         start_in(&mut self.cells, container);
     }
 
-    /// Ends the cell of a container by the code, if it is there.
+    /// Ends the cell of a container with the code, if it exists.
     #[tactic(auto, using(crate::proofs::Firsts::length_changed, crate::proofs::Named::named_killed))]
     pub(crate) fn kill(&mut self, container: &ContainerMetadata, code: u8)
         ensures { self.new ≡ change_first (is_of container.now) (killed code) self.old }
@@ -86,7 +86,7 @@ impl Cells {
         kill_in(&mut self.cells, container, code);
     }
 
-    /// Ends all cells by the code.
+    /// Ends all cells with the code.
     #[tactic(auto, using(crate::proofs::Named::named_ended))]
     pub(crate) fn kill_all(&mut self, code: u8)
         ensures { self.new ≡ map (killed code) self.old }
@@ -94,7 +94,7 @@ impl Cells {
         kill_each(&mut self.cells, code);
     }
 
-    /// Takes the cell of a container out.
+    /// Removes and returns the cell of a container.
     #[tactic(auto, using(crate::proofs::Firsts::length_dropped, crate::proofs::Named::named_dropped))]
     pub(crate) fn remove(&mut self, container: &ContainerMetadata) -> Option<Cell>
         ensures cells { self.new ≡ drop_first (is_of container.now) self.old }
@@ -131,7 +131,7 @@ impl Cells {
         step_in(&mut self.cells, id)
     }
 
-    /// Ends the cell with this id by the code.
+    /// Ends the cell with this id with the code.
     pub fn kill_id(&mut self, id: u64, code: u8) -> Option<()>
         ensures moves { MayKillIn self.old id code result self.new }
         ensures ids { map id_of self.new ≡ map id_of self.old }

@@ -100,7 +100,7 @@ pub(crate) fn status(live: &Live, cells: &Cells, container: &ContainerMetadata) 
     }
 }
 
-/// The answer to a creation that makes no cell, whatever its files are. `None` if one is to be made.
+/// The answer to a creation that makes no cell, whatever its files are. `None` if a cell must be made.
 pub(crate) fn made_before(
     live: &Live,
     cells: &Cells,

@@ -1,4 +1,4 @@
-//! In which sandbox the cell with an id is.
+//! The sandbox of the cell with an id.
 ghost use Rattle.std.specs.Prelude.{◌≡◌, ◌==◌, ℕ, if◌then◌else◌, [], Some, None, OnOk, OnErr, option_copied};
 ghost use Rattle.std.specs.List.{list_any};
 ghost use Rattle.std.specs.BTreeMap.{get};

@@ -1,10 +1,10 @@
-/// The most uids that a runtime knows, including removed ones.
+/// The greatest number of uids that a runtime knows, including removed ones.
 pub const MAX_UIDS: usize = 65_536;
 
-/// The most cells of a sandbox.
+/// The greatest number of cells of a sandbox.
 pub const MAX_CELLS: usize = 1_024;
 
-/// The most attempts at containers that are made in a sandbox.
+/// The greatest number of attempts at containers that are made in a sandbox.
 pub const MAX_KEYS: usize = 65_536;
 
 /// The exit code of a container that was stopped without a grace period: 128 and the number of SIGKILL, as a

@@ -32,8 +32,8 @@ use manifest::{DescendingPath, SeccompProfile, Uid};
 use runtime_cell::Cell;
 use std::alloc::{AllocError, Global};
 
-/// Which uids are known, the stages of their sandboxes and what was made in them, and in which sandbox each
-/// id is. The cells themselves are in a list for each sandbox, [`Cells`].
+/// Which uids are known, the stages of their sandboxes and what was made in them, and the sandbox of each id.
+/// The cells themselves are in a list for each sandbox, [`Cells`].
 #[derive(Drop)]
 pub struct Registry {
     pub(crate) alloc: Global,
@@ -113,12 +113,12 @@ impl Registry {
     ) -> Reply
         ensures number { result.id ≡ request.id }
 
-        // What the table of calls says of that sandbox.
+        // The table of calls applies to that sandbox.
         ensures row { ServesIn (around_in self.old) request.call files
             (part_in self.old (uid_of request.call) cells.old) result.answer
             (part_in self.new (uid_of request.call) cells.new) }
 
-        // Every other uid is as it was.
+        // Every other uid is unchanged.
         ensures spares { Spares self.old self.new (uid_of request.call) cells.old }
 
         // The invariant between registry and list is kept.
@@ -368,7 +368,7 @@ impl Registry {
         }
     }
 
-    /// The answer to a creation that makes no cell, whatever its files are. `None` if one is to be made.
+    /// The answer to a creation that makes no cell, whatever its files are. `None` if a cell must be made.
     fn before_files(
         &self,
         cells: &Cells,

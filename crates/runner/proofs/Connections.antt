@@ -8,7 +8,7 @@ use Rattle.runner.specs.Steps.{CutsTalk}
 use Rattle.runner.proofs.Talks.{talk_more, talk_then}
 
 module _ {X : Type 0} (One : X → Exchange → X → Type 0) (old : X) (input output : Option (List ℕ)) where
-  -- what was read was answered, but for what stands in the feed
+  -- all that was read was answered, except what is in the feed
   abbrev pub SoFar : X → List ℕ → Option (List ℕ) → Option (List ℕ) → Type 0
   SoFar new feed input' output' = (came : List ℕ) × Consumes input input' came
       × Talk One old new came feed [] output output'
@@ -38,7 +38,7 @@ module _ {X : Type 0} (One : X → Exchange → X → Type 0) (old : X) (input o
         keeps),
   )
 
-  -- what stood in the feed was answered
+  -- the contents of the feed were answered
   pub answers_more : (mid new : X) (feed left : List ℕ) (input' input'' output' output'' : Option (List ℕ))
       → SoFar mid feed input' output'
       → Talk One mid new feed left [] output' output'' → Keeps input' input''
@@ -55,7 +55,7 @@ module _ {X : Type 0} (One : X → Exchange → X → Type 0) (old : X) (input o
   whole new feed input' output' Leaves so none leaves =
       record { came = so.0; left = feed; taken = so.1; begins_none = none; leaves = leaves; talk = so.2 }
 
-  -- it is cut off where no memory is there for what was read
+  -- it is cut off if there is no memory for what was read
   pub cut_reading : (new : X) (feed : List ℕ) (input' input'' output' output'' : Option (List ℕ))
       → SoFar new feed input' output' → (more : List ℕ) × Consumes input' input'' more
       → Keeps output' output'' → PartTalk One old new input input'' output output''
@@ -64,7 +64,7 @@ module _ {X : Type 0} (One : X → Exchange → X → Type 0) (old : X) (input o
       keeps in
       record { came = later.0; left = feed ++ read.0; unwritten = []; taken = later.1; talk = later.2 }
 
-  -- it is cut off while what stood in the feed was answered
+  -- it is cut off while the contents of the feed were answered
   pub cut_answering : (mid new : X) (feed : List ℕ) (input' input'' output' output'' : Option (List ℕ))
       → SoFar mid feed input' output'
       → CutsTalk One mid new feed output' output'' → Keeps input' input''

@@ -1,4 +1,4 @@
--- What is said of one way out of a function.
+-- Facts about one way out of a function.
 use Rattle.std.proofs.Common.{Result, Ok, Err, OnErr, OnOk}
 
 pub on_err : {A E X : Type 0} (r : Result A E) → X → OnErr r X

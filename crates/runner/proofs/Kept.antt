@@ -1,4 +1,4 @@
--- The uids that are kept are those of the sandboxes that are there.
+-- The kept uids are those of the existing sandboxes.
 use Rattle.std.proofs.Common.{◌≡◌, ◌≢◌, inl, inr, ℕ, List, Option, Some, None, IfNone, IfSome, is_some}
 use Rattle.std.proofs.Common.{refl, sym}
 use Rattle.std.proofs.Common.{subst, ap, ◌∙◌}

@@ -25,7 +25,7 @@ pub found_taken : {X : Type 0} (r o : Option X) (P : X → Type 0) → r ≡ o �
 found_taken None o P is each = tt
 found_taken (Some x) o P is each = each x (sym is)
 
--- a value under its label comes, or goes
+-- a value is added or removed under its label
 module _ {Y X : Type 0} (label : X → List ℕ) (uid : List ℕ) (old new : BTreeMap (String Y) X) where
   at_label : (w : Option X) → ((x : X) → w ≡ Some x → label x ≡ uid)
       → lookup (bytes_eq uid) (by_bytes new.entries) ≡ w → (text : List ℕ) (x : X)
@@ -68,7 +68,7 @@ pub has_lent : {Y X : Type 0} (uid : List ℕ) (entries : List (String Y × X)) 
     → option_copied r ≡ lookup (is_at (text_cmp uid)) entries → is_some r ≡ has (uids_in entries) uid
 has_lent uid entries r is = some_copied r ∙ has_value uid entries (option_copied r) is
 
--- what is kept once a value came, or went
+-- what is kept after a value was added or removed
 module _ {Y X : Type 0} (uid : List ℕ) (old new : BTreeMap (String Y) X) (w : Option X)
     (changes : tree.UpdatesBy string_cmp (text_cmp uid) old new w) where
   pub has_here : has (uids_in new.entries) uid ≡ is_some w

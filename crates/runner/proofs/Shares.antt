@@ -43,7 +43,7 @@ module _ {A : Type 0} (runner runners : ℕ) (home : ℕ → Option A) where
       is_none (share i) (λ some. not_some (home i) (next i (passed.1 i after some))
       (of_both (i % runners == runner) (home i) some))
 
-  -- one that is of the share is not this one
+  -- an id of the share is not this one
   behind : (id i : ℕ) → (id % runners == runner) ≡ false → IsSome (share i) → (id ≡ i) ⊎ (id < i) → id < i
   behind id i other some (inl same) = absurd
       (not_own (id % runners == runner) (home id) other (subst (λ j. IsSome (share j)) (sym same) some))

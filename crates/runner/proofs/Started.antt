@@ -55,7 +55,7 @@ in_left id (x ∷ xs) i at = left_in i x xs (without id xs) id (id == x) refl (i
 false_true : (b : Bool) → b ≡ false → b ≡ true → ⊥
 false_true b is not = cc
 
--- what is left of ids without one: some of these, and not this one
+-- the ids without one: some of these, and not this one
 pub still_in : (id : ℕ) (ids left : List ℕ) → left ≡ without id ids → (i : ℕ) → In i left → In i ids
 still_in id ids left is i at = (in_left id ids i (subst (λ (l : List ℕ). In i l) is at)).0
 
@@ -67,7 +67,7 @@ not_here : (b : Bool) (o : Option (List ℕ)) → b ≡ false → IsSome o → I
 not_here true o is some = absurd cc
 not_here false o is some = some
 
--- one that is over is not
+-- a cell that is over is not kept
 pub due_less : (ids : List ℕ) (id : ℕ) (old new : Visited) → AreDue ids old → new.lacks ≡ old.lacks
     → ((i : ℕ) → home_in new.homes i ≡ (if id == i then None else home_in old.homes i))
     → AreDue (without id ids) new

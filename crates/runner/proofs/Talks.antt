@@ -59,7 +59,7 @@ module _ {X : Type 0} (One : X → Exchange → X → Type 0) where
   no_talk_since old new came output same =
       subst (λ x. Talk One old x came came [] output output) (sym same) (no_talk old came output)
 
-  -- one frame, of whose reply a beginning was written
+  -- one frame, with a prefix of its reply written
   pub one_talk : (old new : X) (e : Exchange) (written unwritten : List ℕ) (output output' : Option (List ℕ))
       → IsFrame e.frame → One old e new
       → reply_frame e ≡ written ++ unwritten → Appends output output' written
@@ -92,7 +92,7 @@ module _ {X : Type 0} (One : X → Exchange → X → Type 0) where
     sent = Appends-trans output output' output'' one.written two.written one.sent two.sent;
   }
 
-  -- more came behind what was left
+  -- more came after what was left
   pub talk_more : (old new : X) (came left more unwritten : List ℕ) (output output' : Option (List ℕ))
       → Talk One old new came left unwritten output output'
       → Talk One old new (came ++ more) (left ++ more) unwritten output output'
@@ -107,7 +107,7 @@ module _ {X : Type 0} (One : X → Exchange → X → Type 0) where
     sent = talk.sent;
   }
 
-  -- of what was left, the first frame was answered too
+  -- the first frame of what was left was answered too
   pub talk_next : (old mid new : X) (came stands frame rest left unwritten : List ℕ)
       (output output' output'' : Option (List ℕ)) → stands ≡ frame ++ rest
       → Talk One old mid came stands [] output output'
@@ -118,7 +118,7 @@ module _ {X : Type 0} (One : X → Exchange → X → Type 0) where
       (subst (λ (bytes : List ℕ). Talk One mid new bytes (left ++ rest) unwritten output' output'') (sym is)
       (talk_more mid new frame left rest unwritten output' output'' two))
 
--- bytes that begin no whole frame have a bad rest where they are bad
+-- bytes that begin no whole frame have a bad rest if they are bad
 module _ (left : List ℕ) (none : BeginsNone left) where
   bad_in : (frames : List Frame) (rest : List ℕ) → left ≡ stream_of frames rest
       → AllByRecursion IsFrame frames → IsBad rest → IsBad left
@@ -139,7 +139,7 @@ module _ (left : List ℕ) (none : BeginsNone left) where
     bad = bad;
   }
 
--- no frame stands in nothing, and nothing is bad
+-- the empty list begins no frame, and has no bad rest
 pub nothing_begins_none : BeginsNone []
 nothing_begins_none = record { none = λ version text more fits is. absurd (omega (arith, ap length is)) }
 

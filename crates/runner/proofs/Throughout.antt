@@ -47,7 +47,7 @@ module _ (b : Option (List Insn)) (runner runners : ℕ) (start : Seen) where
 
   module _ (final : List Event) (id : ℕ) (low : 0 < id) (own : id % runners ≡ runner)
       (runs : RunsThroughout b start.all final id) where
-    -- a look passes over no such cell
+    -- a look skips no such cell
     not_passed : (asked : Asked) (may : MayVisit b runner runners asked) → GoesOn start.all asked.old.all
         → GoesOn asked.new.all final → IsNotPassed runner runners asked.above (id_in asked.visit) id
     not_passed asked may before later = may.looks.each id (runs may.looked.all
@@ -102,7 +102,7 @@ module _ (b : Option (List Insn)) (runner runners : ℕ) (start : Seen) where
         (stepped earlier are.4 (subst (λ (s : Seen). GoesOn s.all final) are.2
         (then asked.old.all asked.new.all final goes later)))
 
--- the end of the round passes over none either
+-- the end of the round skips none either
 pub each_steps : (b : Option (List Insn)) (runner runners : ℕ) (start : Seen) (end : Asked)
     (visits : List Asked) → end.visit ≡ None → end.above ≡ last_of visits → end.old ≡ seen_after start visits
     → MayVisit b runner runners end → AreVisits b runner runners start visits → (id : ℕ) → 0 < id

@@ -1,4 +1,4 @@
--- A visit more, and what a round tells then.
+-- One more visit, and the result of a round then.
 use Rattle.std.proofs.Common.{◌≡◌, ◌||◌, ◌++◌, ℕ, Bool, true, false, List, ◌∷◌, Option, None, Some, refl, ◌∙◌}
 use Rattle.std.proofs.Common.{ap, subst}
 use Rattle.std.specs.Option.{option_map}
@@ -7,7 +7,7 @@ use Rattle.bpf_code.specs.declared.insn.Insn.{Insn}
 use Rattle.runtime_history.specs.declared.event.Seen.{Seen}
 use Rattle.runner.specs.Rounds.{Asked, AreVisits, MayVisit, last_of, seen_after}
 
--- what one of the share came to, whatever the share is called
+-- a visit of a share, for equal numbers of the share
 pub of_share : (b : Option (List Insn)) (r rs runner runners : ℕ) (asked : Asked) → r ≡ runner → rs ≡ runners
     → MayVisit b r rs asked → MayVisit b runner runners asked
 of_share b r rs runner runners asked same sames may =

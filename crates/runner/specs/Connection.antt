@@ -1,5 +1,5 @@
--- Serving a connection, this project's own: docs/SEMANTICS.md, "Serving a connection". What is said of bytes
--- is said of wires that tell them.
+-- Serving a connection, this project's own: docs/SEMANTICS.md, "Serving a connection". Statements about bytes
+-- apply to wires that show their bytes.
 use Rattle.std.specs.Prelude.{◌≡◌, ◌⊎◌, ℕ, List, [], ◌∷◌, ◌++◌, map, Option, Result}
 use Rattle.std.specs.List.{AllByRecursion, flat_map}
 use Rattle.std.specs.Io.KnownBytes.{Appends, Consumes, IsAtEnd}
@@ -31,15 +31,15 @@ reply_frame e = frame_of e.frame.0 (reply_text e.frame.0 e.reply)
 abbrev pub refusal_of : List ℕ → Reply
 refusal_of text = record { id = number_of text; answer = Refused InvalidArgument }
 
--- what files may give for a path, and how they are left
+-- the possible results of files for a path, and the files after it
 abbrev pub Reads : Type 0 → Type 1
 Reads F = F → Option (List ℕ) → Option (Result (List ℕ) FileFault) → F → Type 0
 
--- what a host may reply to a request and what its files gave, and how it is left
+-- the possible replies of a host to a request and the results of its files, and the host after it
 abbrev pub Replies : Type 0 → Type 1
 Replies H = H → Request → FileAnswers → Reply → H → Type 0
 
--- a request is served: its files are asked, then the host
+-- a request is served: its files are read, then the host replies
 pub record IsServed {S P H : Type 0} (Scripts : Reads S) (Profiles : Reads P) (may : Replies H)
     (old : Service S P H) (request : Request) (reply : Reply) (new : Service S P H) : Type 0 where
   pub files : FileAnswers
@@ -47,7 +47,7 @@ pub record IsServed {S P H : Type 0} (Scripts : Reads S) (Profiles : Reads P) (m
   pub profile : Profiles old.profiles (profile_path request.call) files.profile new.profiles
   pub replied : may old.host request files reply new.host
 
--- a frame gets its reply: its text is a request of its version, which is served, or is none
+-- the reply to a frame: its text is a request of its version, which is served, or is no request
 abbrev pub Answers : {S P H : Type 0} → Reads S → Reads P → Replies H → Service S P H → Exchange
     → Service S P H → Type 0
 Answers Scripts Profiles may old e new =
@@ -61,8 +61,8 @@ abbrev pub Follow : {X : Type 0} → (X → Exchange → X → Type 0) → X →
 Follow One old [] new = new ≡ old
 Follow {X} One old (e ∷ es) new = (mid : X) × One old e mid × Follow One mid es new
 
--- The bytes that came are whole frames, and what is left behind them. Each frame got one reply, in order, and
--- of the replies' frames this is unwritten.
+-- The bytes that came are whole frames, and a rest after them. Each frame got one reply, in order, and this
+-- part of the replies' frames is unwritten.
 pub record Talk {X : Type 0} (One : X → Exchange → X → Type 0) (old new : X) (came left unwritten : List ℕ)
     (output output' : Option (List ℕ)) : Type 0 where
   pub exchanges : List Exchange
@@ -73,7 +73,7 @@ pub record Talk {X : Type 0} (One : X → Exchange → X → Type 0) (old new : 
   pub replies : flat_map reply_frame exchanges ≡ written ++ unwritten
   pub sent : Appends output output' written
 
--- all that was read was answered but for a rest that begins no whole frame, and all replies were written
+-- all that was read was answered except a rest that begins no whole frame, and all replies were written
 pub record WholeTalk {X : Type 0} (One : X → Exchange → X → Type 0) (old new : X)
     (input input' output output' : Option (List ℕ)) (Leaves : List ℕ → Type 0) : Type 0 where
   pub came : List ℕ
@@ -83,7 +83,7 @@ pub record WholeTalk {X : Type 0} (One : X → Exchange → X → Type 0) (old n
   pub leaves : Leaves left
   pub talk : Talk One old new came left [] output output'
 
--- some of what was read was answered, and a beginning of the replies was written
+-- some of what was read was answered, and a prefix of the replies was written
 pub record PartTalk {X : Type 0} (One : X → Exchange → X → Type 0) (old new : X)
     (input input' output output' : Option (List ℕ)) : Type 0 where
   pub came : List ℕ

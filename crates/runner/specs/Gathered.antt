@@ -1,4 +1,4 @@
--- What the reads of a request's files gave, this project's own: docs/SEMANTICS.md, "Serving a connection".
+-- The results of reading a request's files, this project's own: docs/SEMANTICS.md, "Serving a connection".
 use Rattle.std.specs.Prelude.{◌≡◌, ℕ, ◌<◌, ◌≤◌, ⊤, List, length, Option, Some, None, Result, Ok, Err}
 use Rattle.std.specs.Prelude.{IsSomeAnd}
 use Rattle.node_io.specs.declared.faults.FileFault.{FileFault}
@@ -13,7 +13,7 @@ use Rattle.cri_msgs.specs.declared.calls.Call.TheVariants.{ContainerStatuses}
 use Rattle.creation.specs.Files.{path_of}
 use Rattle.node_io.specs.declared.files.TheConstants.{MAX_FILE_BYTES}
 
--- the file of the script, which CreateContainer alone needs
+-- the script's file, which only CreateContainer needs
 abbrev pub script_path : Call → Option (List ℕ)
 script_path (RunPodSandbox uid) = None
 script_path (StopPodSandbox uid grace) = None
@@ -26,7 +26,7 @@ script_path (ContainerStatus key) = None
 script_path (ListContainers uid) = None
 script_path (ContainerStatuses uid) = None
 
--- the file of the profile, which a CreateContainer under Localhost needs
+-- the profile's file, which CreateContainer under Localhost needs
 abbrev pub profile_path : Call → Option (List ℕ)
 profile_path (RunPodSandbox uid) = None
 profile_path (StopPodSandbox uid grace) = None
@@ -39,8 +39,8 @@ profile_path (ContainerStatus key) = None
 profile_path (ListContainers uid) = None
 profile_path (ContainerStatuses uid) = None
 
--- what is told of the file with a path: the bytes that are held there, or why there are none; a failure only
--- where the device's count rose
+-- the result for the file at a path: its bytes, or why there are none; a failure only if the device's count
+-- rose
 abbrev pub IsTold : Option Held → Type 0 → List ℕ → Result (List ℕ) FileFault → Type 0
 IsTold held rose path (Ok bytes) = Tells held path (λ found. found ≡ Some bytes)
     × (length bytes ≤ MAX_FILE_BYTES)
@@ -50,7 +50,7 @@ IsTold held rose path (Err TooLarge) = Tells held path (λ found.
 IsTold held rose path (Err Failed) = rose
 IsTold held rose path (Err Memory) = ⊤
 
--- what files gave for a path that is needed, and how they are left; where none is needed they were not asked
+-- the files' result for a needed path, and the files after it; if no path is needed, none is read
 abbrev pub Gave : {F : Type 0} → (F → Option Held) → (F → ℕ) → F → Option (List ℕ)
     → Option (Result (List ℕ) FileFault) → F → Type 0
 Gave held failed old None told new = (told ≡ None) × (new ≡ old)

@@ -1,4 +1,4 @@
--- What reading a text gives, this project's own: docs/SEMANTICS.md, "Serving a connection".
+-- The result of reading a text, this project's own: docs/SEMANTICS.md, "Serving a connection".
 use Rattle.std.specs.Prelude.{◌≡◌, ◌≢◌, ℕ, List, Result, Ok, IfOk, IfErr}
 use Rattle.json_tree.specs.Reading.{Gives}
 use Rattle.cri_msgs.specs.declared.calls.Request.{Request}
@@ -12,7 +12,7 @@ use Rattle.cri_msgs.specs.Requests.{ReadsRequest, number_of}
 pub record IsReading (version : Version) (text : List ℕ) (result : Result Request MessageFault) : Type 0 where
   -- what is read is the text's request
   pub found : IfOk result (λ request. ReadsRequest version text request)
-  -- what is a request is read, unless memory runs out
+  -- a request is read, unless memory runs out
   pub only : (request : Request) → ReadsRequest version text request
       → Gives Memory (λ (r : Request). r) result (Ok request)
   -- any other text is reported with its number

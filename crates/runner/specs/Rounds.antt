@@ -10,8 +10,8 @@ use Rattle.runtime_history.specs.declared.event.Seen.{Seen}
 use Rattle.runtime_history.specs.History.{GoesOn, Grows, Looks, RunsAfter}
 use Rattle.runner.specs.declared.rounds.Visit.{Visit}
 
--- above which id a visit was asked for, and what came of it: none where no cell of the share was found; and
--- what the runner had seen of the history before and after
+-- the id above which a visit was asked for, and its result: none if no cell of the share was found; and what
+-- the runner had seen of the history before and after
 pub record Asked : Type 0 where
   pub above : ℕ
   pub visit : Option Visit
@@ -26,8 +26,8 @@ moves_on (Some Performed) = true
 moves_on (Some (Denied verdict)) = true
 moves_on (Some (Ended code)) = true
 
--- The step of the cell with the id is the next event that the runner adds to the history. There is none only
--- where the runner sees all of the history, and no cell with the id runs.
+-- The step of the cell with the id is the next event that the runner adds to the history. It is missing only
+-- if the runner sees all of the history, and no cell with the id runs.
 abbrev pub StepsAt : Option (List Insn) → ℕ → Option Did → Seen → Seen → Type 0
 StepsAt baseline id None old new = Looks baseline old (λ running. running ≢ id) new
 StepsAt baseline id (Some did) old new = Grows baseline old (Stepped id did) new
@@ -41,25 +41,25 @@ WasStepped baseline (Some visit) old new = (did : Option Did) × StepsAt baselin
 abbrev pub id_in : Option Visit → Option ℕ
 id_in visit = option_map (λ (v : Visit). v.id) visit
 
--- the visited id is one of the share, above the one that was asked for
+-- the visited id is of the share, and above the given one
 abbrev pub IsOwn : ℕ → ℕ → ℕ → Option ℕ → Type 0
 IsOwn runner runners above None = ⊤
 IsOwn runner runners above (Some visited) = (above < visited) × (visited % runners ≡ runner)
 
--- an id of the share above the one that was asked for is not below the visited one
+-- an id of the share above the given one is not below the visited one
 abbrev pub IsNotPassed : ℕ → ℕ → ℕ → Option ℕ → ℕ → Type 0
 IsNotPassed runner runners above None id = above < id → id % runners ≡ runner → ⊥
 IsNotPassed runner runners above (Some visited) id = above < id → id % runners ≡ runner → visited ≤ id
 
--- Asked for a cell above an id, the runner sees all of the history, and visits one of its share. None of the
--- share that runs then is passed over, and none runs where none is visited. The visited one does a step.
+-- Asked for a cell above an id, the runner sees all of the history, and visits a cell of its share. It skips
+-- no cell of the share that runs then, and if it visits none, none runs. The visited cell does a step.
 pub record MayVisit (baseline : Option (List Insn)) (runner runners : ℕ) (asked : Asked) : Type 0 where
   pub own : IsOwn runner runners asked.above (id_in asked.visit)
   pub looked : Seen
   pub looks : Looks baseline asked.old (IsNotPassed runner runners asked.above (id_in asked.visit)) looked
   pub steps : WasStepped baseline asked.visit looked asked.new
 
--- of what was asked, the latest first: the id of the last visit, 0 for none
+-- the id of the last visit, 0 for none; the latest is the first in the list
 abbrev pub id_of : Option Visit → ℕ
 id_of None = 0
 id_of (Some visit) = visit.id
@@ -77,19 +77,19 @@ abbrev pub went_on : List Asked → Bool
 went_on [] = false
 went_on (asked ∷ earlier) = went_on earlier || went asked.visit
 
--- what the runner has seen after what was asked, from what it had seen at the start on
+-- what the runner has seen after these, starting with what it had seen at the start
 abbrev pub seen_after : Seen → List Asked → Seen
 seen_after start [] = start
 seen_after start (asked ∷ earlier) = asked.new
 
--- each is a visit, asked for above the id of the one before, and behind it in the history
+-- each is a visit, asked for above the id of the one before, and after it in the history
 abbrev pub AreVisits : Option (List Insn) → ℕ → ℕ → Seen → List Asked → Type 0
 AreVisits baseline runner runners start [] = ⊤
 AreVisits baseline runner runners start (asked ∷ earlier) =
     IsSome asked.visit × (asked.above ≡ last_of earlier) × (asked.old ≡ seen_after start earlier)
     × MayVisit baseline runner runners asked × AreVisits baseline runner runners start earlier
 
--- the cell with the id runs after each event from one time on up to another
+-- the cell with the id runs after each event from one time to another
 abbrev pub RunsThroughout : Option (List Insn) → List Event → List Event → ℕ → Type 0
 RunsThroughout baseline from to id = (events : List Event) → GoesOn from events → GoesOn events to
     → RunsAfter baseline events id

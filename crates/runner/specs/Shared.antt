@@ -24,12 +24,12 @@ is_live Removed = false
 abbrev pub has : List (List ℕ) → List ℕ → Bool
 has uids uid = list_any (bytes_eq uid) uids
 
--- the uids that are kept are those of the sandboxes that are there
+-- the kept uids are those of the existing sandboxes
 abbrev pub AreListed : Registry → List (List ℕ) → Type 0
 AreListed registry uids = (uid : List ℕ) → is_live (stages_in registry uid) ≡ has uids uid
 
 -- What a connection has seen of the history of a node with this filter grows by others' events, and then by
--- this request, what its files gave, and its answer. All that it has seen is a run.
+-- this request, the results of its files, and its answer. All that it has seen is a run.
 pub record MayServe (baseline : Option (List Insn)) (old : Seen) (request : Request) (files : FileAnswers)
     (reply : Reply) (new : Seen) : Type 0 where
   pub number : reply.id ≡ request.id

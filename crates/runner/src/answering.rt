@@ -41,7 +41,7 @@ pub(crate) fn answer<W: Wire, S: Files, P: Files, H: Host>(
     send(alloc, wire, version, &reply)
 }
 
-// The reply to a text in a frame of this version. If memory runs out, the host was not asked.
+// The reply to a text in a frame of this version. If memory runs out, the host was not called.
 fn reply_to<S: Files, P: Files, H: Host>(
     alloc: Global,
     service: &mut Service<S, P, H>,

@@ -20,15 +20,15 @@ use std::alloc::Global;
 // How many bytes are read at once.
 const PIECE: usize = 4096;
 
-/// Serves one connection to its end. Each frame that comes, in order, is answered with one frame of its
-/// version: the reply of the host to the frame's request and what its files gave, or the refusal
-/// InvalidArgument for a text that is not a request. The files are read before the host is asked.
+/// Serves one connection to its end. Answers each frame, in order, with one frame of its version: the host's
+/// reply to the frame's request and the results of its files, or the refusal InvalidArgument for a text that
+/// is not a request. The files are read before the host is called.
 pub fn serve_wire<W: Wire, S: Files, P: Files, H: Host>(
     alloc: Global,
     wire: &mut W,
     service: &mut Service<S, P, H>,
 ) -> Ending
-    // What was read, what each frame in it got, and what was written.
+    // What was read, the reply to each frame in it, and what was written.
     ensures talk { Ends (Answers (Gave S.held S.failed) (Gave P.held P.failed) H.may) service.old service.new
         (W.input wire.old) (W.input wire.new) (W.output wire.old) (W.output wire.new) result }
 
@@ -73,7 +73,7 @@ fn serve_all<W: Wire, S: Files, P: Files, H: Host>(
     Err(ServeFault::Memory)
 }
 
-// Reads what has come into the feed, and returns how many bytes that was: 0 at the end.
+// Reads the next bytes into the feed, and returns how many they were: 0 at the end.
 fn read_piece<W: Wire>(wire: &mut W, feed: &mut Feed) -> Result<usize, ServeFault>
     requires { HasBadRest feed.old → ⊥ }
     ensures ok { IfOk result (ReadsPiece (W.input wire.old) (W.input wire.new) feed.old feed.new) }

@@ -8,8 +8,8 @@ ghost use Rattle.runner.specs.declared.desk.Desk.TheVariants.{Closed, Free};
 use crate::reading::{Job, Outcome};
 use std::mem;
 
-/// What lies on the desk. Only who took the desk lays a text on it, and nobody takes it before the outcome of
-/// that text was collected and the desk was left, so one text is read at a time.
+/// The state of the desk. Only the connection that took the desk lays a text on it, and no other takes the
+/// desk before that text's outcome was collected and the desk was left, so one text is read at a time.
 #[derive(Drop)]
 pub(crate) enum Desk {
     /// No thread reads yet.
@@ -25,7 +25,7 @@ pub(crate) enum Desk {
 }
 
 impl Desk {
-    /// A thread reads from now on.
+    /// Opens the desk: a thread reads from now on.
     pub(crate) fn open(&mut self)
         ensures { self.new ≡ after_open self.old }
     {
@@ -34,7 +34,7 @@ impl Desk {
         }
     }
 
-    /// No thread reads from now on.
+    /// Closes the desk: no thread reads from now on.
     pub(crate) fn close(&mut self)
         ensures { self.new ≡ Closed }
     {
@@ -53,7 +53,7 @@ impl Desk {
         is_free
     }
 
-    /// Lays a text on the desk, which was taken. If the desk was closed meanwhile, nothing changes.
+    /// Lays a text on the desk that was taken. If the desk was closed meanwhile, nothing changes.
     pub(crate) fn lay(&mut self, job: Job)
         ensures { self.new ≡ after_lay self.old job }
     {
@@ -76,7 +76,7 @@ impl Desk {
         }
     }
 
-    /// Lays the outcome where the text was. If the desk was closed meanwhile, nothing changes.
+    /// Puts the outcome in the place of the text. If the desk was closed meanwhile, nothing changes.
     pub(crate) fn put(&mut self, outcome: Outcome)
         ensures { self.new ≡ after_put self.old outcome }
     {
@@ -99,7 +99,7 @@ impl Desk {
         }
     }
 
-    /// Frees the desk, which was taken. If it was closed meanwhile, nothing changes.
+    /// Frees the desk that was taken. If it was closed meanwhile, nothing changes.
     pub(crate) fn leave(&mut self)
         ensures { self.new ≡ after_leave self.old }
     {
@@ -125,7 +125,7 @@ impl Desk {
         matches!(self, Desk::Laid(_) | Desk::InWork)
     }
 
-    /// Whether whoever reads has to wait.
+    /// Whether the reading thread has to wait.
     pub(crate) fn has_no_work(&self) -> bool
         ensures { result ≡ has_no_work self.now }
     {

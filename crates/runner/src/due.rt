@@ -15,8 +15,8 @@ use std::marker::Model;
 use std::ops::Bound;
 use std::sync::Arc;
 
-/// The cells that were started and that no visit has found ended, by their ids, each with its sandbox's
-/// list. Contracts see the ids with the uids, and whether one is not kept.
+/// The started cells that no visit has found ended, by their ids, each with its sandbox's list. Contracts see
+/// the ids with the uids, and whether a cell is not kept.
 #[derive(Drop)]
 pub(crate) struct Due<B: Node> {
     cells: BTreeMap<u64, Arc<SandboxCells<B>, Global>>,

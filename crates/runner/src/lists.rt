@@ -1,4 +1,4 @@
-//! The cells of each sandbox, behind a lock of the sandbox's own.
+//! The cells of each sandbox, under a lock of the sandbox's own.
 ghost use Rattle.std.specs.Prelude.{◌≡◌, ◌≢◌, ℕ, IfOk, IfSome, List, OnErr, [], false, is_some, true};
 ghost use Rattle.std.specs.Arc.{arc_value};
 ghost use Rattle.registry.specs.Kept.{by_bytes};
@@ -55,7 +55,7 @@ impl<B: Node> CellLists<B> {
         get_in(&self.map, uid)
     }
 
-    /// Adds a list for a uid, which is still to get its cells, and returns it.
+    /// Adds a list for a uid, still without its cells, and returns it.
     pub(crate) fn put(&mut self, uid: &Uid) -> Result<NewList<B>, AllocError>
         ensures own { IfOk result (λ new. (arc_value {X = SandboxCells _} new.0).uid ≡ uid.now) }
         ensures blank { IfOk result (λ new. new.1 ≡ (arc_value {X = SandboxCells _} new.0).lock.1) }
@@ -77,7 +77,7 @@ impl<B: Node> CellLists<B> {
     }
 }
 
-// A list that is still to get its cells, and the right to give them to it.
+// A list still without its cells, and the right to give them to it.
 type NewList<B> = (Arc<SandboxCells<B>, Global>, Blank<Listed<B>>);
 
 fn get_in<'m, B: Node>(

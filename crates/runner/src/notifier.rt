@@ -1,4 +1,4 @@
-//! Wakes the runners when a container was started.
+//! Wakes the runners when a container is started.
 
 use std::sync::{Condvar, Mutex, Wait};
 
@@ -36,7 +36,7 @@ impl Notifier {
         self.count(rt).is_none()
     }
 
-    // How many starts there were. `None` once it is closed.
+    // The number of starts. `None` once the notifier is closed.
     fn count<R: Wait>(&self, rt: &R) -> Option<u64> {
         let starts = *self.starts.lock(rt);
         if starts.over {
@@ -55,9 +55,9 @@ impl Notifier {
         self.changed.notify_all();
     }
 
-    /// Lets a runner work until the notifier is closed: one round after the other, each of which returns
-    /// whether it found something to do. After one that did not, the runner waits for the next start. A start
-    /// during a round is never missed, wherever the round had looked already.
+    /// Runs a runner's rounds until the notifier is closed. Each round returns whether it found something to
+    /// do; if not, the runner waits for the next start. A start during a round is never missed, wherever the
+    /// round had looked already.
     pub fn work<R: Wait, F: FnMut() -> bool>(&self, rt: &R, mut round: F)
         requires { F.IsAlwaysCallable round }
     {
@@ -71,7 +71,7 @@ impl Notifier {
         }
     }
 
-    // A runner found nothing to do, in a round that it began after `seen` starts. Waits for the next one, or
+    // Called when a round that began after `seen` starts found nothing to do. Waits for the next start, or
     // until the notifier is closed.
     fn wait<R: Wait>(&self, rt: &R, seen: u64) {
         let mut starts = self.starts.lock(rt);
@@ -93,7 +93,7 @@ impl Notifier {
             .wait_while(rt, starts, |starts| !starts.over && starts.idle < runners);
     }
 
-    /// Closes it: wakes all that wait, now and from now on.
+    /// Closes the notifier: wakes all waiting threads, now and from now on.
     pub fn close<R: Wait>(&self, rt: &R) {
         let mut starts = self.starts.lock(rt);
         starts.over = true;

@@ -1,8 +1,8 @@
 //! The reading of large texts.
 //!
-//! The tree of a JSON text may take more than a hundred times the memory of the text, and whoever connects may
-//! send texts as large as a frame. The C library keeps, for each thread, the memory of the largest tree that
-//! it ever had. So one thread reads all large texts, one after the other, whoever sent them.
+//! The tree of a JSON text may take more than a hundred times the memory of the text, and whoever connects
+//! may send texts as large as a frame. The C library keeps, for each thread, the memory of the largest tree
+//! that it ever had. So one thread reads all large texts, one after the other, whoever sent them.
 ghost use Rattle.runner.specs.Readings.{IsReading};
 
 use crate::desk::Desk;
@@ -22,7 +22,7 @@ pub struct Reader {
 }
 
 impl Reader {
-    /// No thread works for it yet.
+    /// No thread reads for it yet.
     pub fn new() -> Reader {
         Reader {
             desk: Mutex::new(Desk::Unattended),
@@ -30,8 +30,8 @@ impl Reader {
         }
     }
 
-    /// Reads the request in the text of a frame of this version, as [`Request::read`] does. A large text is
-    /// read by the thread that works, once it is done with those before; if none works, it is read here.
+    /// Reads the request in the text of a frame of this version, as [`Request::read`] does. The reader's
+    /// thread reads a large text after those before it; if there is no such thread, it is read here.
     pub fn read<R: Wait>(
         &self,
         rt: &R,
@@ -58,7 +58,7 @@ impl Reader {
         }
     }
 
-    // Waits until the desk is free, and takes it. False if no thread works.
+    // Waits until the desk is free, and takes it. False if no thread reads.
     fn take_desk<R: Wait>(&self, rt: &R) -> bool {
         let desk = self.desk.lock(rt);
         let mut desk = self.changed.wait_while(rt, desk, |desk| desk.is_in_use());
@@ -107,7 +107,7 @@ impl Reader {
         desk.start()
     }
 
-    /// Ends its thread. From now on each text is read where it came.
+    /// Ends the thread. From now on each connection reads its own texts.
     pub fn close<R: Wait>(&self, rt: &R) {
         let mut desk = self.desk.lock(rt);
         desk.close();

@@ -36,7 +36,7 @@ impl Outcome {
         }
     }
 
-    /// The result, if it is that of this text in a frame of this version.
+    /// The result, if it belongs to this text in a frame of this version.
     pub(crate) fn given_for(
         self,
         version: Version,

@@ -22,20 +22,20 @@ use runtime_history::{Client, History, Listed, Node, Registered};
 use std::alloc::Global;
 use std::sync::{Arc, Wait};
 
-/// Hooks around each step of a cell, called with the lock of the cell's sandbox held. Tests hold a step up
+/// Hooks around each step of a cell, called with the lock of the cell's sandbox held. Tests delay a step
 /// there, and a runtime that writes records reads the cells that ended.
 pub trait StepGate {
     /// Called before the step of the cell with this id.
     fn before(&self, id: u64);
 
-    /// Called after it.
+    /// Called after the step.
     fn after(&self, id: u64);
 
     /// Called after a step that ended a cell of the sandbox with this uid.
     fn ended(&self, uid: &str, cell: &Cell);
 }
 
-/// Holds up no step.
+/// Delays no step.
 #[derive(Clone, Copy)]
 pub struct Open;
 
@@ -47,7 +47,7 @@ impl StepGate for Open {
     fn ended(&self, _uid: &str, _cell: &Cell) {}
 }
 
-/// The result of a visit: the id of the cell that was to do a step, and whether it went on.
+/// The result of a visit: the id of the visited cell, and whether it went on.
 #[derive(Clone, Copy)]
 pub(crate) struct Visit {
     pub(crate) id: u64,
@@ -61,10 +61,10 @@ pub(crate) trait Visits<B: Node> {
 
     ghost runners: { Self → ℕ };
 
-    // What was asked so far, the latest first. None if that is not kept.
+    // What was asked for so far, the latest first. None if that is not kept.
     ghost asked: { Self → Option (List Asked) } = { λ _. None };
 
-    /// Steps a cell of the runner's share above this id, and passes over none that runs. `None` if none does.
+    /// Steps a cell of the runner's share above this id, and skips no running one. `None` if none runs.
     fn visit(&mut self, me: &mut Client<B>, above: u64) -> Option<Visit>
         ensures may { MayVisit B.filter (runner self.old) (runners self.old)
             (record { above = above; visit = result; old = me.old; new = me.new }) }
@@ -78,8 +78,8 @@ pub(crate) trait Visits<B: Node> {
         } ∷ before) (asked self.old) };
 }
 
-// A round: each visit is asked for above the id of the one before, until there is none. Returns whether a
-// cell went on.
+// A round: asks for a visit above the id of the last one, until there is none. Returns whether a cell went
+// on.
 fn round<B: Node, V: Visits<B>>(visits: &mut V, me: &mut Client<B>) -> bool
     ensures { (asked : List Asked)
         × IsRound B.filter (V.runner visits.old) (V.runners visits.old) me.old asked result me.new
@@ -163,7 +163,7 @@ impl<B: Node> SharedRuntime<B> {
         }
     }
 
-    // The same with the registry's lock held, so that the cell can't be gone from its sandbox meanwhile.
+    // The same with the registry's lock held, so that the cell can't leave its sandbox meanwhile.
     fn step_home<R: Wait, G: StepGate>(
         &self,
         rt: &R,
@@ -211,7 +211,7 @@ impl<'a, B: Node, R: Wait, G: StepGate> Visits<B> for RunnerVisits<'a, B, R, G> 
 }
 
 impl<B: Node> Sandboxes<B> {
-    // The runner's next step above this id. No cell of its share that runs is passed over.
+    // The runner's next step above this id. Skips no running cell of its share.
     fn next(
         &mut self,
         history: &History<B>,
@@ -233,7 +233,7 @@ impl<B: Node> Sandboxes<B> {
         self.next_cell(above, runner, runners)
     }
 
-    // Rounds visit a cell no longer, if it has ended or is gone.
+    // Excludes a cell from rounds, if it has ended or is gone.
     fn forget(&mut self, history: &History<B>, id: u64) {
         forget(history, &mut self.registered, &mut self.due, id);
     }
@@ -246,7 +246,7 @@ impl<B: Node> Sandboxes<B> {
         self.registered.look(history, me);
     }
 
-    // The step of the least id above this one that is of the share.
+    // The step of the share's least id above this one.
     #[tactic(auto, using(crate::proofs::Shares::next_is_own, crate::proofs::Shares::next_is_none, crate::proofs::Shares::next_is_passed))]
     fn next_cell(&self, above: u64, runner: u64, runners: u64) -> Option<NextCell<B>>
         requires { runner < runners }
@@ -302,7 +302,7 @@ impl<B: Node> Sandboxes<B> {
 }
 
 // A cell that has ended or is gone is not visited again. It stays while another thread has its sandbox's
-// cells, so that nobody waits for these with the registry's lock held.
+// cells, so that no thread waits for these with the registry's lock held.
 fn forget<B: Node>(history: &History<B>, registered: &mut Registered<B>, due: &mut Due<B>, id: u64)
     requires due { AreDue registered.old.1 due.old }
     ensures registry { registered.new.0 ≡ registered.old.0 }
@@ -353,7 +353,7 @@ fn step_listed<B: Node, R: Wait, G: StepGate>(
     did
 }
 
-// The cell with this id does a step, if it is in a sandbox.
+// Steps the cell with this id, if it is in a sandbox.
 fn step_home<B: Node, R: Wait, G: StepGate>(
     rt: &R,
     history: &History<B>,
@@ -377,7 +377,7 @@ fn step_home<B: Node, R: Wait, G: StepGate>(
     }
 }
 
-// The list of the sandbox in which the cell with this id is.
+// The list of the sandbox that has the cell with this id.
 fn home<'l, B: Node>(
     registry: &Registry,
     lists: &'l CellLists<B>,
@@ -461,7 +461,7 @@ fn step_in<B: Node, G: StepGate>(
     did
 }
 
-// Shows the cell that a step ended.
+// Passes the cell that a step ended to the gate.
 fn show_end<B: Node, G: StepGate>(listed: &Listed<B>, id: u64, uid: &str, gate: &G) {
     if let Some(cell) = listed.cells().get(id) {
         gate.ended(uid, cell);

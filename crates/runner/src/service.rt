@@ -10,7 +10,7 @@ use std::alloc::Global;
 
 /// Answers requests. Another caller may be answered between two calls.
 pub trait Host {
-    // What a request may get, given the results of reading its files, and the host's state after it.
+    // The replies that a request may get, given the results of its files, and the host's state after it.
     ghost may: { Self → Request → FileAnswers → Reply → Self → Type 0 };
 
     /// Serves a request, given the results of reading its files.

@@ -30,14 +30,14 @@ pub(crate) struct Sandboxes<B: Node> {
     pub(crate) registered: Registered<B>,
     pub(crate) lists: CellLists<B>,
     pub(crate) due: Due<B>,
-    // The uids of the lists are those of the sandboxes that are there.
+    // The uids of the lists are those of the existing sandboxes.
     ghost listed: { AreListed registered.0 lists },
     // Rounds visit each cell that may run.
     ghost kept: { AreDue registered.1 due },
 }
 
 impl<B: Node> Sandboxes<B> {
-    // The cells of an existing sandbox, to be used after the registry's lock is released.
+    // The cells of an existing sandbox, for use after the registry's lock is released.
     fn there(&self, uid: &Uid) -> Option<Arc<SandboxCells<B>, Global>>
         ensures { IfSome result (λ list. (arc_value list).uid ≡ uid.now) }
     {
@@ -78,13 +78,13 @@ impl<B: Node> Sandboxes<B> {
 pub struct SharedRuntime<B: Node> {
     pub(crate) history: History<B>,
     pub(crate) sandboxes: Mutex<Sandboxes<B>>,
-    // What texts were read as lately. This lock is never held while another one is.
+    // The texts read lately, with their results. This lock is never held while another one is.
     texts: Mutex<KeptTexts>,
     alloc: Global,
 }
 
 impl<B: Node> SharedRuntime<B> {
-    /// A runtime that has served nothing, and the one who makes its callers.
+    /// A runtime that has served nothing, and the maker of its callers.
     pub fn new(alloc: Global, begun: Begun) -> (SharedRuntime<B>, Callers<B>)
         requires { begun ≡ (B.filter, B.table) }
     {
@@ -103,7 +103,7 @@ impl<B: Node> SharedRuntime<B> {
         (runtime, callers)
     }
 
-    /// A caller who has seen nothing of its history.
+    /// A caller that has seen nothing of its history.
     pub fn client(&self, callers: &Callers<B>) -> Client<B>
         ensures { result ≡ unseen }
     {
@@ -113,8 +113,7 @@ impl<B: Node> SharedRuntime<B> {
     /// Serves a request, given the results of reading its files. The caller sees the history up to that
     /// event. The request's script and profile are read, and the profile is compiled, before any lock is
     /// taken. The registry's lock, and then that of the sandbox's cells, are held until the reply is made;
-    /// cells are listed under the cells' lock alone. The cells that are removed are dropped once neither lock
-    /// is held.
+    /// cells are listed under the cells' lock alone. Removed cells are dropped once neither lock is held.
     pub fn serve<R: Wait>(
         &self,
         rt: &R,
@@ -167,8 +166,8 @@ impl<B: Node> SharedRuntime<B> {
         }
     }
 
-    // The same results, with script and profile read, and the profile compiled. What another container was
-    // made of lately is not read or compiled again.
+    // The same results, with script and profile read, and the profile compiled. A text that another container
+    // used lately is not read or compiled again.
     fn prepared<R: Wait>(&self, rt: &R, files: FileAnswers) -> FileAnswers
         ensures { result ≡ files }
     {
@@ -203,8 +202,8 @@ impl<B: Node> SharedRuntime<B> {
         if !lists(&request.call) {
             return None;
         }
-        // Waiting for these cells blocks no other sandbox. A sandbox that is removed meanwhile has none,
-        // and the reply then says so.
+        // Waiting for these cells blocks no other sandbox. A sandbox that is removed meanwhile has none, and
+        // the reply then shows that.
         let list = self.there(rt, uid_of(&request.call))?;
         tell::<B, R, Q>(rt, self.alloc, &self.history, &list, me, request)
     }
@@ -267,7 +266,7 @@ impl<'a, B: Node, R: Wait> SharedHost<'a, B, R> {
         }
     }
 
-    /// The caller that the connection is.
+    /// The connection's caller.
     pub fn client(&self) -> &Client<B>
         ensures { result.now ≡ self.now }
     {
@@ -299,7 +298,7 @@ impl<'a, B: Node, R: Wait> Host for SharedHost<'a, B, R> {
     }
 }
 
-// Tells the cells of a sandbox, whose lock is held meanwhile.
+// Lists the cells of a sandbox, with their lock held.
 fn tell<B: Node, R: Wait, Q: Asked>(
     rt: &R,
     alloc: Global,
@@ -358,7 +357,7 @@ fn serve<B: Node, R: Wait, Q: Asked>(
     }
 }
 
-// A cell that is started is added to those that rounds visit.
+// Adds a started cell to those that rounds visit.
 fn serve_there<B: Node, R: Wait, Q: Asked>(
     rt: &R,
     history: &History<B>,
@@ -391,7 +390,7 @@ fn serve_there<B: Node, R: Wait, Q: Asked>(
     reply
 }
 
-// Whether a call may make a sandbox of a uid that was never named.
+// Whether a call may create a sandbox for a uid that was never named.
 fn wakes(registry: &Registry, call: &Call) -> bool
     ensures { IsTrue result ↔ Wakes registry.now call.now }
 {
@@ -416,7 +415,7 @@ fn lists(call: &Call) -> bool {
     )
 }
 
-// The list and its lock are made before the registry is asked, and removed again if no sandbox was made.
+// The list and its lock are made before the registry is called, and removed again if no sandbox was made.
 fn wake<B: Node, Q: Asked>(
     alloc: Global,
     history: &History<B>,
@@ -449,7 +448,7 @@ fn wake<B: Node, Q: Asked>(
     }
 }
 
-// Gives a list that was added its cells, or removes it again.
+// Gives an added list its cells, or removes it again.
 fn settle<B: Node>(
     lists: &mut CellLists<B>,
     list: &SandboxCells<B>,
@@ -468,7 +467,7 @@ fn settle<B: Node>(
     }
 }
 
-// The list goes with its sandbox.
+// Removes the list with its sandbox.
 fn remove<B: Node, R: Wait, Q: Asked>(
     rt: &R,
     alloc: Global,
@@ -496,7 +495,7 @@ fn remove<B: Node, R: Wait, Q: Asked>(
     }
 }
 
-// Removes a sandbox that is there. Its cells' lock is held meanwhile.
+// Removes an existing sandbox, with its cells' lock held.
 fn remove_there<B: Node, R: Wait, Q: Asked>(
     rt: &R,
     history: &History<B>,

@@ -35,7 +35,7 @@ fn request(alloc: Global, members: &str) -> Result<Request, Fail> {
     }
 }
 
-// How many bytes a read gave, or its fault.
+// How many bytes a read returned, or its fault.
 fn read_text<T: ReadAs + Drop>(
     alloc: Global,
     answer: &FileAnswer<T>,
@@ -54,7 +54,7 @@ fn both_texts(alloc: Global, answers: &FileAnswers) -> Result<String, AllocError
     format!(in alloc; "{} {}", script.as_str(), profile.as_str())
 }
 
-// What a request for these members gets from these folders.
+// The results of a request with these members from these folders.
 fn answered(
     alloc: Global,
     members: &str,

@@ -5,7 +5,7 @@ use script::Script;
 use std::alloc::{AllocError, Global};
 use std::test::Fail;
 
-// A script whose text ends with so many spaces.
+// A script whose text ends with this many spaces.
 fn script(alloc: Global, code: usize, spaces: usize) -> Result<Contents<Script>, AllocError> {
     let text = format!(in alloc; "{{\"steps\":[{{\"exit\":{code}}}]}}")?;
     let mut bytes = Vec::from_slice(alloc, text.as_bytes())?;

@@ -1,5 +1,5 @@
-//! Tests of what serves a runtime: connections, the files of a creation, rounds over the cells, and what
-//! wakes the runners.
+//! Tests of serving a runtime: connections, the files of a creation, rounds over the cells, and waking the
+//! runners.
 #![tactic(auto)]
 
 #[cfg(test)]

@@ -222,7 +222,7 @@ fn a_slow_file_holds_up_its_own_connection_alone(rt: HostRuntime) -> Result<(), 
     Ok(())
 }
 
-// Files that say when they were read.
+// Files that record when they were read.
 #[derive(Drop)]
 struct Told<'a> {
     files: MemoryFiles,

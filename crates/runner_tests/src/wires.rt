@@ -7,7 +7,7 @@ use runner::{Begun, Callers, Client, Node, Service, SharedHost, SharedRuntime, s
 use std::alloc::{AllocError, Global};
 use std::sync::Wait;
 
-/// A runtime that threads share, with the one who makes its callers.
+/// A runtime that threads share, with the maker of its callers.
 #[derive(Drop)]
 pub(crate) struct Shared<B: Node> {
     pub(crate) shared: SharedRuntime<B>,

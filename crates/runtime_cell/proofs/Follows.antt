@@ -1,4 +1,4 @@
--- What is done to a cell takes its outcome from what is to come to what came.
+-- A change of a cell moves a part of its outcome from what is to come to its record.
 use Rattle.std.proofs.Common.{◌≡◌, ◌⊎◌, inl, inr, ℕ, zero, suc, List, [], ◌∷◌, ◌++◌, length, drop, slice_get}
 use Rattle.std.proofs.Common.{Some, None, true, false, refl, sym, ap, subst, ◌∙◌, arith, length-append}
 use Rattle.std.proofs.lemmas.List.{append-nil, append_assoc}
@@ -28,7 +28,7 @@ longer : (entries : List JudgedCall) (entry : JudgedCall)
     → length (entries ++ entry ∷ []) ≡ suc (length entries)
 longer entries entry = omega (arith, length-append entries (entry ∷ []))
 
--- what comes behind a step goes on with the record, or is its end
+-- what comes after a step goes on with the record, or is its end
 comes_on : (c : Cell) (next : Next) (rest : Outcome)
     → ComesBy next c.added (IsOutcome c.making.stack c.making.label.attempt
     (drop (suc (length c.entries)) c.making.script)) rest

@@ -1,4 +1,4 @@
--- What is done to a cell makes it a later one, and how a call comes into its record.
+-- A changed cell is a later one, and how a call is added to its record.
 use Rattle.std.proofs.Common.{◌≡◌, ◌⊎◌, inl, inr, ℕ, List, [], ◌∷◌, ◌++◌, Option, Some, None, Bool, true}
 use Rattle.std.proofs.Common.{false, refl, sym, ap, subst, ◌∙◌}
 use Rattle.std.proofs.lemmas.List.{append-nil, append_assoc}
@@ -54,7 +54,7 @@ later_on first then last one other = record {
       same ∙ one.start (ap (λ (c : Cell). c.state) (sym same) ∙ is);
 }
 
--- the state alone may be another
+-- only the state may differ
 abbrev pub MayBecome : State → State → Type 0
 MayBecome old new = ((code : ℕ) (killed : Bool) → old ≡ Exited code killed → new ≡ old)
     × (new ≡ Created → new ≡ old)
@@ -177,7 +177,7 @@ pub taken : (old : Cell) (did : Did) (new : Cell) (call : SysCall) → Steps old
     → IsAdded old new call
 taken old did new call steps takes = taken_in old.state old did new call takes.runs takes.is_next steps
 
--- where the step makes no call, nothing is added
+-- if the step makes no call, nothing is added
 added_by : (old : Cell) (next : Next) (step : Option Step)
     → IsNext (filters_of old) old.making.label.attempt step next
     → ((after old next).entries ≡ old.entries) ⊎ ((call : SysCall) × (call_of step ≡ Some call))

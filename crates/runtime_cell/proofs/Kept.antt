@@ -1,4 +1,4 @@
--- What the type of a cell keeps, once a step is done.
+-- What the type of a cell ensures after a step.
 use Rattle.std.proofs.Common.{◌≡◌, inl, inr, ℕ, zero, suc, ◌+◌, ◌≤◌, ◌<◌, List, [], ◌∷◌, ◌++◌, length, take}
 use Rattle.std.proofs.Common.{drop, slice_get, get_or, nat_lt, Option, Some, None, Bool, true, false, refl}
 use Rattle.std.proofs.Common.{sym, ap, subst, ◌∙◌, arith, length-append, add-one, option_to_list}
@@ -85,7 +85,7 @@ step_here script steps entries at step known same within place is knows =
     sym (ap (slice_get script) place) ∙ sym (ap (λ (s : List Step). slice_get s at) same)
     ∙ step_read steps at step within is ∙ ap {B = Option Step} Some knows
 
--- the cell that is seen once filters were added
+-- the cell after filters were added
 seen_more : (label : Label) (script : List Step) (profile : Option Profile) (filters : List (List Insn))
     (start : ℕ) (entries : List JudgedCall) (entry : JudgedCall) (more : List (List Insn))
     → start ≤ length filters
@@ -211,7 +211,7 @@ place_of entry other filter end on_error true false same = absurd (judged_adds_n
 place_of entry other filter end on_error false place same =
     absurd (judged_adds_none entry other end filter same)
 
--- a filter is added only where the stack has place for it
+-- a filter is added only if it fits on the stack
 has_place_by : (stack : List (List Insn)) (attempt : ℕ) (step : Option Step) (entry : JudgedCall)
     (copy : Option (List Insn)) → option_to_list copy ≡ filter_in step
     → IsNext stack attempt step (Goes entry (filter_in step))
@@ -284,7 +284,7 @@ popped old new (Some f) own rest is parts dropped =
     let same : f ∷ new ≡ own ∷ rest = sym parts ∙ is in
     ap (λ x. x ∷ []) (heads f own new rest same)
 
--- what the type keeps, of a cell that is seen so
+-- what the type ensures for the cell of this kept data
 abbrev pub IsHeld : Label → List Step → Option Profile → List (List Insn) → ℕ → List JudgedCall → ℕ
     → List (List Insn) → ℕ → State → Type 0
 IsHeld label script profile filters start entries capacity copies room state = (start ≤ length filters)

@@ -1,4 +1,4 @@
--- A script comes to one outcome, and one only.
+-- A script has exactly one outcome.
 use Rattle.std.proofs.Common.{◌≡◌, ◌⊎◌, inl, inr, ℕ, List, [], ◌∷◌, ◌++◌, Option, Some, None, Bool, true}
 use Rattle.std.proofs.Common.{false, refl, sym, ap, subst, ◌∙◌}
 use Rattle.std.proofs.lemmas.List.{append-nil, append_assoc}
@@ -17,12 +17,12 @@ use Rattle.runtime_cell.specs.Outcome.{Next, Outcome, ComesBy, IsNext, IsOutcome
 use Rattle.runtime_cell.specs.Outcome.{has_place, install_call, installed, joined, judged}
 use Rattle.runtime_cell.specs.Outcome.Next.{Goes, Stops, Over}
 
--- a stack says one thing of a call
+-- a stack has at most one verdict on a call
 abbrev pub SaysOne : Type 0
 SaysOne = (stack : List (List Insn)) (call : SysCall) (verdict other : Verdict) → IsJudged stack call verdict
     → IsJudged stack call other → verdict ≡ other
 
--- and something of every one
+-- a stack of sound filters has one on every call
 abbrev pub SaysSome : Type 0
 SaysSome = (stack : List (List Insn)) → AllSound stack → (verdicts : SysCall → Verdict)
     × Judges stack verdicts

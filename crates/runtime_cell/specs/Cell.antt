@@ -38,7 +38,7 @@ pub record Cell : Type 0 where
 abbrev pub fresh : Making → State → Cell
 fresh making state = record { making = making; state = state; entries = []; added = [] }
 
--- what is made of a script that is played by itself: it has no name, image or profile
+-- the label of a script that is played by itself: it has no name, image or profile
 abbrev pub nameless : ℕ → Label
 nameless attempt = record { id = 0; name = []; attempt = attempt; image = []; path = None }
 
@@ -59,7 +59,7 @@ filters_of c = c.making.stack ++ c.added
 abbrev pub step_in : Cell → Option Step
 step_in c = slice_get c.making.script (length c.entries)
 
--- once the step is done
+-- the cell after the step
 abbrev pub after : Cell → Next → Cell
 after c (Goes entry more) = record {
   making = c.making;
@@ -86,7 +86,7 @@ abbrev pub told_of_entry : JudgedCall → Bool → Did
 told_of_entry entry true = Performed
 told_of_entry entry false = Denied entry.verdict
 
--- what is told of a step
+-- the reported result of a step
 abbrev pub told_of : Next → Did
 told_of (Goes entry more) = told_of_entry entry entry.performed
 told_of (Stops entry code) = Ended code
@@ -99,7 +99,7 @@ StepsIn Running old did new = (next : Next)
 StepsIn Created old did new = (did ≡ Idle) × (new ≡ old)
 StepsIn (Exited code killed) old did new = (did ≡ Idle) × (new ≡ old)
 
--- a step of a cell, and what is told of it: a cell that does not run stays as it is
+-- a step of a cell, and its reported result: a cell that does not run is unchanged
 abbrev pub Steps : Cell → Did → Cell → Type 0
 Steps old did new = StepsIn old.state old did new
 
@@ -118,7 +118,7 @@ abbrev pub killed_state : ℕ → State → State
 killed_state code (Exited own killed) = Exited own killed
 killed_state code _ = Exited code true
 
--- the cell, ended with the code from outside, unless it had ended before
+-- the cell, ended with the code from outside, unless it had already ended
 abbrev pub killed : ℕ → Cell → Cell
 killed code c = with_state c (killed_state code c.state)
 
@@ -127,7 +127,7 @@ abbrev pub exit_of : State → Option ℕ
 exit_of (Exited code killed) = Some code
 exit_of _ = None
 
--- the filter gives at every call what the profile says
+-- on every call the filter returns the profile's value
 abbrev pub GivesMeaning : List Insn → Profile → Type 0
 GivesMeaning code profile = (call : SysCall) → IsCall call → (steps : ℕ)
     × Runs code call (meaning profile call) steps
@@ -152,17 +152,17 @@ abbrev pub IsRest : Cell → Outcome → Type 0
 IsRest c outcome = IsOutcome c.making.stack c.making.label.attempt (drop (length c.entries) c.making.script)
     c.added outcome
 
--- what came so far, and what is to come with the filters that were added, are the script's outcome
+-- the record so far, followed by what is to come with the added filters, is the script's outcome
 abbrev pub GoesOn : Cell → Type 0
 GoesOn c = (rest : Outcome) × IsRest c rest × IsWhole c (joined c.entries rest)
 
--- once the script ended by itself, the record is the whole
+-- once the script ended by itself, the record is the whole outcome
 abbrev pub FollowsIn : State → Cell → Type 0
 FollowsIn Created c = (c.entries ≡ []) × (c.added ≡ []) × GoesOn c
 FollowsIn Running c = GoesOn c
 FollowsIn (Exited code true) c = GoesOn c
 FollowsIn (Exited code false) c = IsWhole c (record { entries = c.entries; added = c.added; code = code })
 
--- the cell's record is what its script comes to
+-- the cell's record is that of its script
 abbrev pub FollowsScript : Cell → Type 0
 FollowsScript c = FollowsIn c.state c

@@ -1,5 +1,5 @@
--- What the type of a cell keeps beside its promise, and what is done next as the code tells it. Only
--- private functions cite this.
+-- What the type of a cell ensures besides its promise, and the next act as the code computes it. Only private
+-- functions cite this.
 use Rattle.std.specs.Prelude.{◌≡◌, ℕ, ◌≤◌, List, [], ◌∷◌, ◌++◌, length, take, drop, Option, Some, None}
 use Rattle.bpf_code.specs.declared.insn.Insn.{Insn}
 use Rattle.oci_profile.specs.declared.profile.Profile.{Profile}
@@ -49,7 +49,7 @@ pub record Recorded : Type 0 where
   pub items : List JudgedCall
   pub room : ℕ
 
--- the cell that is kept: the filters from the start on stand before those that were added
+-- the cell of the kept data: the filters of the start come before those that were added
 abbrev pub seen : Label → List Step → Option Profile → List (List Insn) → ℕ → List JudgedCall → State → Cell
 seen label script profile filters start entries state = record {
   making = record { label = label; script = script; stack = take start filters; profile = profile };

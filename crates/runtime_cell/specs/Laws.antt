@@ -1,4 +1,4 @@
--- What is true of cells whatever is done to them, for what stands above.
+-- What is true of cells whatever is done to them, for the layers above.
 use Rattle.std.specs.Prelude.{◌≡◌, ℕ, List, [], ◌∷◌, ◌++◌, Option, Some, None, Bool}
 use Rattle.action.specs.declared.verdict.Verdict.{Verdict}
 use Rattle.bpf_code.specs.declared.insn.Insn.{Insn}
@@ -35,7 +35,7 @@ pub record TakesUp (c : Cell) (call : SysCall) : Type 0 where
   pub runs : c.state ≡ Running
   pub is_next : call_of (step_in c) ≡ Some call
 
--- the call is added to the record as the filters judge it: performed exactly where they allow it together
+-- the call is added to the record as the filters judge it: performed exactly if they together allow it
 pub record IsAdded (old new : Cell) (call : SysCall) : Type 0 where
   pub verdict : Verdict
   pub judged : IsJudged (filters_of old) call verdict

@@ -1,4 +1,4 @@
--- What comes of a script under a stack of filters, to which it may add filters of its own. What a verdict
+-- The outcome of a script under a stack of filters, to which it may add filters of its own. What a verdict
 -- does to a call is seccomp(2)'s; scripts are this project's own: docs/SEMANTICS.md, "Playing a script".
 use Rattle.std.specs.Prelude.{◌≡◌, ℕ, ◌+◌, ◌-◌, ◌==◌, min, nat_le, if◌then◌else◌, Bool, true, false, List, []}
 use Rattle.std.specs.Prelude.{◌∷◌, ◌++◌, length, slice_index, Option, Some, None}
@@ -16,7 +16,7 @@ use Rattle.verdict.specs.declared.stack.TheConstants.{MAX_STACK_INSNS}
 use Rattle.runtime_cell.specs.declared.calls.JudgedCall.{JudgedCall}
 use Rattle.runtime_cell.specs.declared.calls.TheConstants.{ENOMEM, KILLED, SECCOMP, SET_MODE_FILTER}
 
--- the entry of a judged call: it is performed exactly where the verdict allows it
+-- the entry of a judged call: it is performed exactly if the verdict allows it
 abbrev pub entry_of : SysCall → Verdict → JudgedCall
 entry_of call verdict = record { call = call; verdict = verdict; performed = performs_of verdict.action }
 
@@ -31,15 +31,15 @@ end_by KillThread errno on_error = Some KILLED
 end_by Trap errno on_error = Some KILLED
 end_by _ errno on_error = on_errno errno on_error
 
--- the code with which a script ends behind a call with this verdict, if it ends there
+-- the code with which a script ends after a call with this verdict, if it ends there
 abbrev pub end_of : Verdict → Option ℕ → Option ℕ
 end_of verdict on_error = end_by verdict.action (errno_of verdict) on_error
 
--- the code of this attempt, from 0, or the last one where there are fewer
+-- the code of this attempt, from 0, or the last one if there are fewer
 abbrev pub code_at : List ℕ → ℕ → ℕ
 code_at codes attempt = slice_index codes (min attempt (length codes - 1))
 
--- the call that installs a filter: seccomp(SECCOMP_SET_MODE_FILTER, 0, ..), by which address is left open
+-- the call that installs a filter: seccomp(SECCOMP_SET_MODE_FILTER, 0, ..), with the address left open
 abbrev pub install_call : SysCall
 install_call = record {
   nr = SECCOMP;
@@ -55,17 +55,17 @@ pub data Next : Type 0 where
   Stops : JudgedCall → ℕ → Next
   Over : ℕ → Next
 
--- a call is judged, and behind it the script ends with the code, if there is one
+-- a call is judged, and after it the script ends with the code, if there is one
 abbrev pub judged : JudgedCall → Option ℕ → Next
 judged entry None = Goes entry []
 judged entry (Some code) = Stops entry code
 
--- whether the stack has place for the filter: seccomp(2), ENOMEM
+-- whether the filter fits on the stack: seccomp(2), ENOMEM
 abbrev pub has_place : List (List Insn) → List Insn → Bool
 has_place stack filter = nat_le (length filter + counted stack) MAX_STACK_INSNS
 
--- the filter is added where the call is performed and the stack has place for it; where it has none the
--- call returns ENOMEM
+-- the filter is added if the call is performed and the filter fits on the stack; if it does not fit, the call
+-- returns ENOMEM
 abbrev pub installed : List Insn → JudgedCall → Option ℕ → Option ℕ → Bool → Bool → Next
 installed filter entry end on_error true true = Goes entry (filter ∷ [])
 installed filter entry end on_error true false = judged entry (on_errno (Some ENOMEM) on_error)
@@ -102,8 +102,8 @@ ComesBy (Stops entry code) added After outcome =
     outcome ≡ record { entries = entry ∷ []; added = added; code = code }
 ComesBy (Over code) added After outcome = outcome ≡ record { entries = []; added = added; code = code }
 
--- the outcome of steps under the stack that was there at the start and the filters that were added since: a
--- call is performed exactly where they allow it together
+-- the outcome of steps under the stack at the start and the filters added since: a call is performed exactly
+-- if they together allow it
 abbrev pub IsOutcome : List (List Insn) → ℕ → List Step → List (List Insn) → Outcome → Type 0
 IsOutcome start attempt [] added outcome = outcome ≡ record { entries = []; added = added; code = 0 }
 IsOutcome start attempt (step ∷ steps) added outcome =

@@ -31,7 +31,7 @@ pub(crate) fn call_act(call: SysCall, verdict: Verdict, on_error: Option<u8>) ->
     judged(entry_of(call, verdict), end_of(verdict, on_error))
 }
 
-/// What is done at a step that installs a filter, with this verdict of its call. `has_place` says whether the
+/// What is done at a step that installs a filter, with this verdict of its call. `has_place` is whether the
 /// filter fits on the stack.
 pub(crate) fn install_act(verdict: Verdict, has_place: bool, on_error: Option<u8>) -> Act
     ensures { (filter : List Insn) (own : Option ℕ) → next_by result (Some (Step.Install filter own))

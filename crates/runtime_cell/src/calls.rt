@@ -21,13 +21,13 @@ pub const SET_MODE_FILTER: u64 = 1;
 #[derive(Clone, Copy, Debug, PartialEq, Eq)]
 pub struct JudgedCall {
     pub call: SysCall,
-    /// What the filters said of it together.
+    /// The joint verdict of the filters on it.
     pub verdict: Verdict,
     /// Whether it was performed.
     pub performed: bool,
 }
 
-/// The call as which a step that installs a filter is judged: seccomp(2), with the script's own architecture.
+/// The call by which a step that installs a filter is judged: seccomp(2), with the script's own architecture.
 /// The filter's address is 0, as it is unspecified.
 pub fn install_call() -> SysCall
     ensures { result ≡ install_call }

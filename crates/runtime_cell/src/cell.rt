@@ -209,7 +209,7 @@ impl Cell {
         self.state
     }
 
-    /// The code with which its script ended, if it has.
+    /// Its exit code, if its script has ended.
     pub fn exit(&self) -> Option<u8>
         ensures code { result ≡ exit_of self.now.state }
         ensures follows { FollowsScript self.now }

@@ -2,7 +2,7 @@ ghost use Rattle.std.specs.Prelude.{◌≡◌, string_bytes};
 
 use std::marker::Model;
 
-/// A text that a label holds.
+/// A text of a label.
 #[derive(Drop)]
 pub struct Text {
     text: String,
@@ -32,10 +32,10 @@ impl Text {
     }
 }
 
-/// Which container a cell stands for.
+/// The container of a cell.
 #[derive(Drop)]
 pub struct Label {
-    /// The container's id, from 1 in order of creation. 0 stands for none.
+    /// The container's id, from 1 in order of creation. 0 means none.
     pub id: u64,
     pub name: Text,
     /// Which attempt at the container this is, from 0.

@@ -1,5 +1,5 @@
--- What `scriptctl` asks and prints, this project's own: docs/SEMANTICS.md, "Programs". The names of states are
--- those of CRI v1.
+-- What `scriptctl` asks and prints, this project's own: docs/SEMANTICS.md, "Programs". The names of states
+-- are those of CRI v1.
 use Rattle.std.specs.Prelude.{ℕ, List, [], ◌∷◌, ◌++◌, codes, Option, Some, None}
 use Rattle.std.specs.Fmt.{decimal}
 use Rattle.command_line.specs.declared.scriptctl.PodCommand.{PodCommand}
@@ -26,12 +26,12 @@ call_of Rm uid = RemovePodSandbox uid
 abbrev pub head : List ℕ
 head = codes "POD\tCONTAINER\tATTEMPT\tSTATE\tEXIT\tPERFORMED\tDENIED\n"
 
--- the code with which it ended, if it has
+-- the exit code, or a dash if it has not ended
 abbrev pub exit_text : State → List ℕ
 exit_text (Exited code) = decimal code
 exit_text state = codes "-"
 
--- the members of a container's object: which attempt it is, its state, and its counts
+-- the JSON members of a container: its attempt, its state, and its counts
 abbrev pub which_members : List ℕ → ContainerMetadata → List ℕ
 which_members uid container =
     codes "{\"pod\":\"" ++ (uid ++ (codes "\",\"container\":\"" ++ (container.name
@@ -61,7 +61,7 @@ abbrev pub status_lines : Form → List ℕ → List ListedStatus → List ℕ
 status_lines form uid [] = []
 status_lines form uid (listed ∷ others) = status_line form uid listed ++ status_lines form uid others
 
--- what is printed of an answer: none of a refusal, nor of an answer to another call
+-- the text printed for an answer; none for a refusal, or for an answer to another call
 abbrev pub lines_of : PodCommand → Form → List ℕ → Answer → Option (List ℕ)
 lines_of Ps form uid (Statuses statuses) = Some (status_lines form uid statuses)
 lines_of Ps form uid answer = None

@@ -1,4 +1,4 @@
-//! Which call a command makes about a pod, and what is printed of its answer.
+//! The call that a command makes about a pod, and the text printed for its answer.
 ghost use Rattle.std.specs.Prelude.{◌≡◌, ◌++◌, IfOk, OnOk, option_map, string_bytes};
 ghost use Rattle.node_watch.specs.declared.forms.Form.TheVariants.{Json, Text};
 ghost use Rattle.runtime_client.specs.Answers.{call_of, count_members, head, lines_of, state_members};
@@ -28,15 +28,15 @@ pub fn call_of(alloc: Global, command: PodCommand, uid: &Uid) -> Result<Call, Al
     })
 }
 
-/// The line above the statuses, with its end: what stands in the columns, which are parted by tabs.
+/// The header line above the statuses, with its line end: the names of the columns, separated by tabs.
 pub fn head() -> &'static str
     ensures { result.now ≡ head }
 {
     "POD\tCONTAINER\tATTEMPT\tSTATE\tEXIT\tPERFORMED\tDENIED\n"
 }
 
-/// What is printed of an answer to a command about a pod: a line for each container, or one that says that the
-/// command was carried out. `None` for a refusal, and for the answer to another call.
+/// The text printed for the answer to a command about a pod: a line for each container, or one that confirms
+/// the command. `None` for a refusal, and for the answer to another call.
 pub fn lines_of(
     alloc: Global,
     command: PodCommand,
@@ -75,7 +75,7 @@ fn status_lines(
     Ok(text)
 }
 
-// One by one.
+// Adds the line of each status.
 fn add_lines(
     text: &mut String,
     form: Form,

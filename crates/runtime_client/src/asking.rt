@@ -11,16 +11,16 @@ use std::time::Duration;
 // How many seconds a read or a write waits for the runtime.
 const PATIENCE: u64 = 10;
 
-/// Why a call came to nothing.
+/// Why a call failed.
 #[derive(Clone, Copy, Debug)]
 pub(crate) enum AskFault {
-    /// There is no connection.
+    /// No connection could be made.
     NotConnected(Cause),
     /// The call was lost after its connection, with the system's cause, if it has one.
     Lost(Lost, Option<Cause>),
 }
 
-/// Asks the runtime behind the socket at this path.
+/// Sends a request to the runtime that listens at this path, and returns the reply.
 pub(crate) fn ask(system: &HostRuntime, path: &str, request: &Request) -> Result<Reply, AskFault>
     ensures { IfOk result (λ reply. reply.id ≡ request.now.id) }
 {

@@ -10,13 +10,13 @@ use fault_notes::refusal_name;
 use manifest::Uid;
 use node_io::Cause;
 use node_watch::Form;
-use runtime_server::ServerStop;
+use runtime_stops::ServerStop;
 use std::alloc::Global;
 use std::io::{self, Write};
 
-/// The program `scriptctl`: asks a runtime about pods, one after the other. `words` are the command line's, the
-/// program's name first. Returns its exit status: 0 all was answered, 1 a request was refused, 2 command line
-/// refused, 3 socket fault, or standard output can't be written, 4 out of memory.
+/// The program `scriptctl`: asks a runtime about pods, one after the other. `words` is the command line, with
+/// the program's name first. Returns its exit status: 0 all requests answered, 1 a request was refused, 2
+/// command line refused, 3 socket fault, or standard output can't be written, 4 out of memory.
 pub fn scriptctl_run<O: Write, E: Write>(
     system: &HostRuntime,
     words: &[String],
@@ -50,7 +50,7 @@ fn run<'a, O: Write, E: Write>(
     Ok(status)
 }
 
-// The uids of the line, which are all checked before the runtime is asked about one.
+// The uids of the line, all checked before the first call.
 fn uids_of<'a>(alloc: Global, line: &ScriptctlLine<'a>) -> Result<Vec<Uid>, ClientStop<'a>> {
     let mut uids = Vec::new(alloc);
     for word in &line.uids {
@@ -66,8 +66,8 @@ fn uids_of<'a>(alloc: Global, line: &ScriptctlLine<'a>) -> Result<Vec<Uid>, Clie
     Ok(uids)
 }
 
-// Asks about a pod, and prints the answer, above that about the first one the head. Returns whether the request
-// was not refused.
+// Makes the call about a pod and prints the answer, for the first pod below the header. Returns whether the
+// request was not refused.
 fn is_answered<'a, O: Write, E: Write>(
     system: &HostRuntime,
     line: &ScriptctlLine<'a>,

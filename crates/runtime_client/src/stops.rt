@@ -6,14 +6,14 @@ use command_line::LineFault;
 use cri_frames::Lost;
 use fault_notes::ShownPath;
 use node_io::Cause;
-use runtime_server::{ServerStop, SocketFault, Told, socket_stop};
+use runtime_stops::{ServerStop, SocketFault, Told, socket_stop};
 use std::alloc::AllocError;
 use std::fmt;
 
 /// Why the program ends before its work is done.
 #[derive(Debug, Drop)]
 pub(crate) enum ClientStop<'a> {
-    /// As programs of the runtime end.
+    /// What may also stop a program that serves a runtime.
     Server(ServerStop<'a>),
     /// A word is not a uid.
     BadUid(&'a str),
@@ -22,7 +22,7 @@ pub(crate) enum ClientStop<'a> {
 }
 
 impl ClientStop<'_> {
-    /// The status with which the program ends.
+    /// The program's exit status.
     pub(crate) fn status(&self) -> u8 {
         match self {
             ClientStop::Server(stop) => stop.status(),
@@ -66,7 +66,7 @@ impl<'a> From<LineFault<'a>> for ClientStop<'a> {
     }
 }
 
-/// Why a call stops the program.
+/// The stop for a failed call.
 pub(crate) fn ask_stop(path: &str, fault: AskFault) -> ClientStop<'_> {
     match fault {
         AskFault::NotConnected(cause) => {

@@ -36,7 +36,7 @@ under (Some known.Removed) cells cell among = elim among [ ]
 nothing_in : (cells : List Cell) (cell : Cell) → cells ≡ [] → In cell cells → ⊥
 nothing_in cells cell none among = elim (subst (In cell) none among) [ ]
 
--- where a cell is, the sandbox is there
+-- if a cell exists, so does its sandbox
 all_of : (k : Option Known) (cells : List Cell) (cell : Cell) → IsEmptyIn (stage_of k) cells → In cell cells
     → (xs : List Cell) → cells_of k xs ≡ xs
 all_of None cells cell empty among xs = absurd (nothing_in cells cell empty among)

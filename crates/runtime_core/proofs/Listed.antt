@@ -1,4 +1,4 @@
--- The list of one uid is read, changed or taken.
+-- The list of one uid is read, changed or removed.
 use Rattle.std.proofs.Common.{◌≡◌, ◌≢◌, ℕ, List, [], Some, None, IsSome, String, unwrap_or, is_some, refl}
 use Rattle.std.proofs.Common.{sym, ap, ◌∙◌, subst}
 use Rattle.std.specs.BTreeMap as tree
@@ -10,7 +10,7 @@ use Rattle.registry.specs.Kept.{by_bytes}
 use Rattle.runtime_core.specs.Stands.{cells_in, list_in}
 use Rattle.registry.proofs.Texts.{elsewhere, found, here}
 
--- a list was there and became another one
+-- a list existed and became another one
 pub record Becomes (old new : List (List ℕ × List Cell)) (uid : List ℕ)
     (cells later : List Cell) : Type 0 where
   pub was : list_in old uid ≡ Some cells

@@ -1,4 +1,4 @@
--- What is done to one sandbox is a step of the runtime, and all that is kept agrees still.
+-- A change of one sandbox is a step of the runtime, and all kept data still agrees.
 use Rattle.std.proofs.Common.{◌≡◌, ◌≢◌, inl, inr, ℕ, List, [], unwrap_or, sym, ap, ◌∙◌, subst}
 use Rattle.cri_msgs.specs.declared.calls.Call.{Call}
 use Rattle.cri_msgs.specs.declared.replies.Answer.{Answer}

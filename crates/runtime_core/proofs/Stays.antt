@@ -1,4 +1,4 @@
--- A call that neither runs a sandbox nor removes one leaves it there, or not there.
+-- A call that neither runs nor removes a sandbox does not change whether it exists.
 use Rattle.std.proofs.Common.{◌≡◌, ◌≢◌, inl, inr, Bool, true, false, refl, sym, ap, ◌∙◌}
 use Rattle.cri_msgs.specs.declared.calls.Call.{Call}
 use Rattle.cri_msgs.specs.declared.calls.Call.TheVariants.{RunPodSandbox, StopPodSandbox, RemovePodSandbox}
@@ -164,7 +164,7 @@ buried Unknown full old new answer is row = elim row [
 buried (Live ready) full old new answer is row = ap (λ (p : Part). alive p.sandbox.stage) row.1
 buried Removed full old new answer is row = says old new answer _ row ∙ ap alive is
 
--- behind RemovePodSandbox no sandbox is there
+-- after RemovePodSandbox the sandbox does not exist
 pub removes_dead : (around : Around) (call : Call) (files : FileAnswers) (old new : Part) (answer : Answer)
     → kind_of call ≡ Removes
     → ServesIn around call files old answer new → alive new.sandbox.stage ≡ false

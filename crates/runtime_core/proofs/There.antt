@@ -1,4 +1,4 @@
--- A call that leaves a sandbox there, or not there, is served with its list.
+-- A call that does not change whether a sandbox exists is served with its list.
 use Rattle.std.proofs.Common.{◌≡◌, ◌≢◌, ℕ, false, List, [], Option, Some, None, is_some, unwrap_or, refl, sym}
 use Rattle.std.proofs.Common.{ap, ◌∙◌, subst}
 use Rattle.cri_msgs.specs.declared.calls.Call.{Call}
@@ -28,7 +28,7 @@ list_for stage.Removed stage.Unknown l same listed = listed
 list_for stage.Removed (stage.Live ready) l same listed = absurd cc
 list_for stage.Removed stage.Removed l same listed = listed
 
--- where there is no list there are no cells
+-- without a list there are no cells
 pub no_cells_for : (s : Stage) (cells : List Cell) → IsListFor s None → IsEmptyIn s cells → cells ≡ []
 no_cells_for stage.Unknown cells listed empty = empty
 no_cells_for (stage.Live ready) cells listed empty = absurd cc
@@ -84,7 +84,7 @@ module _ (old new : Registry) (lists later : List (List ℕ × List Cell)) (call
       → Done old new lists later call files answer
   done lends = done_by (list_in lists (uid_of call)) (list_in later (uid_of call)) refl refl lends
 
--- a list that was there is lent
+-- an existing list is lent
 pub lent_some : (old new : Registry) (call : Call) (files : FileAnswers) (answer : Answer)
     (before : List Cell) (l later : Option (List Cell)) → l ≡ Some before
     → Lends old new call files answer l later → (behind : List Cell) × (later ≡ Some behind)
@@ -102,7 +102,7 @@ dead_none stage.Unknown is = refl
 dead_none (stage.Live ready) is = absurd cc
 dead_none stage.Removed is = refl
 
--- where no sandbox is there its list is empty, so none is as good
+-- if no sandbox exists its list is empty, so having none is as good
 pub lent_none : (old new : Registry) (call : Call) (files : FileAnswers) (answer : Answer)
     (before behind : List Cell) → AreBound old → Agrees old (uid_of call) before
     → alive (stages_in new (uid_of call)) ≡ false → LendsTo old new call files answer before behind

@@ -1,4 +1,4 @@
--- What is kept of a runtime stands for: this project's own.
+-- What the kept data of a runtime represents: this project's own.
 use Rattle.std.specs.Prelude.{◌≡◌, ℕ, List, [], IsSome, unwrap_or, map, Option, Some, None}
 use Rattle.std.specs.Map.{lookup}
 use Rattle.std.specs.Str.{bytes_eq}
@@ -14,7 +14,7 @@ use Rattle.registry.specs.Runtime.{Runtime, id_of}
 use Rattle.registry.specs.Serves.{ServesIn}
 use Rattle.registry.specs.Stands.{Agrees, AreBound, Keeps, Spares, around_in, part_in, runtime_of, stages_in}
 
--- what is kept: a registry, and the list of each sandbox that is there
+-- the kept data: a registry, and the list of each existing sandbox
 pub record Held : Type 0 where
   pub registry : Registry
   pub lists : List (List ℕ × List Cell)
@@ -33,7 +33,7 @@ IsListFor stage.Unknown l = l ≡ None
 IsListFor (stage.Live ready) l = IsSome l
 IsListFor stage.Removed l = l ≡ None
 
--- registry and lists agree on every uid, and there is a list exactly for each sandbox that is there
+-- registry and lists agree on every uid, and there is a list exactly for each existing sandbox
 pub record IsWhole (registry : Registry) (lists : List (List ℕ × List Cell)) : Type 0 where
   pub bound : AreBound registry
   pub agrees : (uid : List ℕ) → Agrees registry uid (cells_in lists uid)
@@ -55,6 +55,6 @@ Lends old new call files answer None behind = (behind ≡ None)
 Lends old new call files answer (Some before) None = ⊥
 Lends old new call files answer (Some before) (Some behind) = LendsTo old new call files answer before behind
 
--- the runtime that what is kept stands for
+-- the runtime that the kept data represents
 abbrev pub stands_for : Held → Runtime
 stands_for held = runtime_of held.registry (cells_in held.lists)

@@ -1,4 +1,4 @@
--- Which calls may make a sandbox, or take it away: this project's own.
+-- Which calls may make a sandbox, or remove it: this project's own.
 use Rattle.cri_msgs.specs.declared.calls.Call.{Call}
 use Rattle.cri_msgs.specs.declared.calls.Call.TheVariants.{RunPodSandbox, StopPodSandbox, RemovePodSandbox}
 use Rattle.cri_msgs.specs.declared.calls.Call.TheVariants.{CreateContainer, StartContainer, StopContainer}

@@ -33,12 +33,12 @@ pub record MovesCell (old : Runtime) (id : ℕ) (Moves : Cell → Cell → Type 
   pub made : new.made ≡ old.made
   pub baseline : new.baseline ≡ old.baseline
 
--- a step of the cell with the id, and what it came to; where no cell has the id nothing changes
+-- a step of the cell with the id, and its result; if no cell has the id nothing changes
 abbrev pub MayStep : Runtime → ℕ → Option Did → Runtime → Type 0
 MayStep old id None new = HasNone old id × (new ≡ old)
 MayStep old id (Some did) new = MovesCell old id (λ cell later. Steps cell did later) new
 
--- the end of the cell with the id, by the code
+-- the end of the cell with the id, with the code
 abbrev pub MayKill : {A : Type 0} → Runtime → ℕ → ℕ → Option A → Runtime → Type 0
 MayKill old id code None new = HasNone old id × (new ≡ old)
 MayKill old id code (Some _) new = MovesCell old id (λ cell later. later ≡ killed code cell) new

@@ -1,5 +1,12 @@
-//! The runtime: sandboxes and the cells of their containers, behind the calls of CRI v1 that this project
-//! has.
+//! The runtime: sandboxes and the cells of their containers, accessed by the calls of CRI v1 that this
+//! project has.
+//!
+//! # What is proved
+//!
+//! - A registry and the lists of its sandboxes' cells agree at all times: `Runtime::new`.
+//! - Each request is one step of the runtime that they represent: `serve` (number, serves).
+//! - A step or a kill of the cell with an id is one step as well: `step`, `kill`.
+//! - The cell with an id, and the ids: `cell`, `next_id`, `uid_of`.
 #![tactic(auto)]
 
 mod calls;

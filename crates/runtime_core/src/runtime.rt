@@ -22,7 +22,7 @@ use runtime_cell::{Cell, Did};
 use std::alloc::{AllocError, Global};
 use std::marker::Model;
 
-/// A node's runtime. Contracts see what it keeps, which stands for a runtime by `specs/Stands.antt`.
+/// A node's runtime. Contracts see its data, which represents a runtime by `specs/Stands.antt`.
 #[derive(Drop)]
 pub struct Runtime {
     registry: Registry,
@@ -119,7 +119,7 @@ fn serve_there(
     lists.lend(registry, request, files)
 }
 
-/// The list is inserted before the registry is asked.
+/// The list is inserted before the registry is called.
 fn run_pod(
     registry: &mut Registry,
     lists: &mut Lists,
@@ -185,7 +185,7 @@ fn refused(id: u64, refusal: Refusal) -> Reply
     }
 }
 
-/// RunPodSandbox with the list that is to be the sandbox's. If no sandbox is made, the list is removed again.
+/// RunPodSandbox with the list for the new sandbox. If no sandbox is made, the list is removed again.
 fn lent_new(
     registry: &mut Registry,
     lists: &mut Lists,
@@ -276,7 +276,7 @@ fn cell<'r>(registry: &Registry, lists: &'r Lists, id: u64) -> Option<&'r Cell>
     }
 }
 
-/// The registry's answer. The lists are a parameter only because the contract speaks of them.
+/// The registry's answer. The lists are a parameter only because the contract mentions them.
 fn next_id(registry: &Registry, _lists: &Lists, above: u64) -> Option<u64>
     requires { IsWhole registry.now _lists.now }
     ensures { IsNext (runtime_of registry.now (cells_in _lists.now)) above result }

@@ -1,4 +1,4 @@
--- A uid that was named stays named.
+-- A named uid stays named.
 use Rattle.std.proofs.Common.{inl, inr, Bool, true, false, sym, subst}
 use Rattle.cri_msgs.specs.declared.calls.Call.{Call}
 use Rattle.cri_msgs.specs.declared.calls.Call.TheVariants.{RunPodSandbox, StopPodSandbox, RemovePodSandbox}

@@ -1,4 +1,4 @@
--- When a request may be refused for lack of memory.
+-- When a request may be refused because memory ran out.
 use Rattle.std.proofs.Common.{◌≡◌, ◌⊎◌, inl, inr, Bool, true, false, List, [], ◌∷◌, Option, sym, subst}
 use Rattle.std.proofs.Common.{refl}
 use Rattle.bpf_code.specs.declared.insn.Insn.{Insn}
@@ -202,7 +202,7 @@ happens_in baseline (x ∷ xs) l run (inl same) =
     subst (λ (y : Link). Happens y.old y.event y.new) (sym same) run.1
 happens_in baseline (x ∷ xs) l run (inr later) = happens_in baseline xs l run.2 later
 
--- what a link of a run lacks
+-- the memory that a link of a run may lack
 pub lacks_in : (baseline : Option (List Insn)) (ls : List Link) (l : Link) (call : Call)
     (files : FileAnswers)
     → IsRun baseline ls → In l ls → l.event ≡ Served call files lack → MayLack l.old call files

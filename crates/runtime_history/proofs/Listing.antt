@@ -1,4 +1,4 @@
--- Telling the cells of a sandbox is an event of the runtime, and changes nothing.
+-- Listing the cells of a sandbox is an event of the runtime, and changes nothing.
 use Rattle.std.proofs.Common.{◌≡◌, inl, inr, List, refl, subst, sym}
 use Rattle.cri_msgs.specs.declared.calls.Call.{Call}
 use Rattle.cri_msgs.specs.declared.calls.Call.TheVariants.{RunPodSandbox, StopPodSandbox, RemovePodSandbox}

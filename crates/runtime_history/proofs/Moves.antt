@@ -84,8 +84,8 @@ begins r is bound agrees = record {
     each zero v e = subst (Fits (empty r.baseline) []) (some-injective _ _ e) fit
     each (suc by) v e = absurd (some-ne-none v (sym e))
 
--- What an event does to the runtime, by a token that knows these parts of it before and behind: what others
--- know stays so.
+-- What an event does to the runtime, by a token that knows these parts of it before and after: what others
+-- know stays true.
 pub record Goes (s s' : Runtime) (e : Event) (r r' : Option (Registry × List ℕ))
     (c c' : Option (List ℕ × List Cell)) : Type 0 where
   pub happens : Happens s (named e) s'
@@ -99,7 +99,7 @@ pub record Goes (s s' : Runtime) (e : Event) (r r' : Option (Registry × List �
       → HasCells s' uid cells
 
 module _ (baseline : Option (List Insn)) where
-  -- another token's view is still so
+  -- another token's view is still true
   module _ (views : List View) (by : ℕ) (log : List Event) (s s' : Runtime) (e : Event)
       (r r' : Option (Registry × List ℕ)) (c c' : Option (List ℕ × List Cell)) (seen : Seen)
       (goes : Goes s s' e r r' c c') (registries : total registries_in views ≤ 1)
@@ -234,7 +234,7 @@ module _ (baseline : Option (List Insn)) where
         },
       )
 
-  -- one token no longer says that a cell may run
+  -- one token no longer counts a cell among those that may run
   pub forgets : (by slots : ℕ) (r : Registry) (ids : List ℕ) (uid : List ℕ) (cells : List Cell) (seen : Seen)
       (id : ℕ) → IsOver r uid cells id
       → Allows (Holds baseline) slots by (view (Some (r, ids)) (Some (uid, cells)) seen, []) 0 (λ x. x)
@@ -283,7 +283,7 @@ live_known stage.Unknown live = absurd live
 live_known (stage.Live ready) live = tt
 live_known stage.Removed live = absurd live
 
--- a request is served, by who has the registry and the cells of its sandbox
+-- a request is served, by the owner of the registry and the cells of its sandbox
 pub served : (s : Runtime) (old new : Registry) (call : Call) (files : FileAnswers) (answer : Answer)
     (before behind : List Cell) (ids : List ℕ) (begun : Option ℕ)
     → LendsTo old new call files answer before behind
@@ -318,7 +318,7 @@ served s old new call files answer before behind ids begun lent is known cells =
       },
     )
 
--- a request is served that names no sandbox which is there, by who has the registry
+-- a request that names no existing sandbox is served, by the owner of the registry
 pub served_alone : (s : Runtime) (old new : Registry) (call : Call) (files : FileAnswers) (answer : Answer)
     (behind : List Cell) (ids : List ℕ) → (IsLive (stages_in old (uid_of call)) → ⊥)
     → (IsLive (stages_in new (uid_of call)) → ⊥)
@@ -360,7 +360,7 @@ served_alone s old new call files answer behind ids dead still_dead lent known =
       },
     )
 
--- a sandbox is made, by who has the registry
+-- a sandbox is made, by the owner of the registry
 pub served_new : (s : Runtime) (old new : Registry) (call : Call) (files : FileAnswers) (answer : Answer)
     (behind : List Cell) (ids : List ℕ) → stages_in old (uid_of call) ≡ stage.Unknown
     → IsLive (stages_in new (uid_of call))
@@ -409,7 +409,7 @@ served_new s old new call files answer behind ids unknown live lent known =
     held_uid : (held : List ℕ × List Cell) → Some (uid_of call, behind) ≡ Some held → held.0 ≡ uid_of call
     held_uid held is = cc
 
--- the cells of a sandbox are told, by who has them
+-- the cells of a sandbox are listed, by their owner
 pub told_cells : (s : Runtime) (call : Call) (files : FileAnswers) (answer : Answer) (cells : List Cell)
     → TellsCells call cells answer → HasCells s (uid_of call) cells
     → (s' : Runtime) × Goes s s' (Served call files answer) None None (Some (uid_of call, cells))
@@ -427,7 +427,7 @@ told_cells s call files answer cells told has = (
   },
 )
 
--- a cell does a step, by who has the cells of its sandbox
+-- a cell does a step, by the owner of its sandbox's cells
 pub stepped : (s : Runtime) (uid : List ℕ) (cells behind : List Cell) (id : ℕ) (did : Did)
     → MayStepIn cells id (Some did) behind → map id_of behind ≡ map id_of cells → HasCells s uid cells
     → (s' : Runtime) × Goes s s' (Stepped id did) None None (Some (uid, cells)) (Some (uid, behind))

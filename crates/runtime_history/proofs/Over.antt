@@ -19,12 +19,12 @@ in_ids [] cell at = at
 in_ids (x ∷ xs) cell (inl here) = inl (ap id_of here)
 in_ids (x ∷ xs) cell (inr there) = inr (in_ids xs cell there)
 
--- the sandbox of a cell that is there
+-- the sandbox of an existing cell
 home_of : (s : Runtime) (r : Registry) → HasRegistry s r → (uid : List ℕ) (cell : Cell)
     → In cell (cells_in s uid) → home_in r.homes (id_of cell) ≡ Some uid
 home_of s r has uid cell at = ((has.agrees uid).home (id_of cell)).1 (in_ids (cells_in s uid) cell at)
 
--- where there is a cell there is a sandbox
+-- if there is a cell, there is a sandbox
 live_with : (st : Stage) (cells : List Cell) (cell : Cell) → In cell cells → IsEmptyIn st cells → IsLive st
 live_with stage.Unknown cells cell at none = absurd (subst (λ (l : List Cell). In cell l) none at)
 live_with (stage.Live ready) cells cell at none = tt

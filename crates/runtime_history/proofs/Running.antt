@@ -245,7 +245,7 @@ row_still around (ListContainers uid) files old new answer row =
 row_still around (ContainerStatuses uid) files old new answer row =
     elim row [ inl memory ↦ says old new _ answer _ memory | inr told ↦ says old new _ answer _ told.2 ]
 
--- a cell that runs once a call was served ran before, or is the one that the call started
+-- a cell that runs after a call was served ran before, or is the one that the call started
 pub served_runs : (s s' : Runtime) (call : Call) (files : FileAnswers) (answer : Answer) (id : ℕ)
     → Serves s call files answer s' → IsRunning s' id
     → IsRunning s id ⊎ (started_by call answer (cells_in s (uid_of call)) ≡ Some id)
@@ -295,7 +295,7 @@ none_there (ContainerStatus key) = refl
 none_there (ListContainers uid) = refl
 none_there (ContainerStatuses uid) = refl
 
--- where no cell is there, none is started
+-- if there is no cell, none is started
 pub none_started : (call : Call) (answer : Answer) (cells : List Cell) (id : ℕ) → cells ≡ []
     → started_by call answer cells ≡ Some id → ⊥
 none_started call answer cells id empty is =

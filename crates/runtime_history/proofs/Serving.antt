@@ -1,4 +1,4 @@
--- What a registry does with the list of one sandbox is an event of the runtime.
+-- A call to a registry with the list of one sandbox is an event of the runtime.
 use Rattle.std.proofs.Common.{◌≡◌, ◌≢◌, inl, inr, ℕ, if◌then◌else◌, List, Option, Some, None, refl, sym, ap}
 use Rattle.std.proofs.Common.{◌∙◌, subst}
 use Rattle.std.specs.Str.{bytes_eq}
@@ -31,7 +31,7 @@ module _ (s : Runtime) (old new : Registry) (call : Call) (files : FileAnswers) 
   abbrev pub lists : List ℕ → List Cell
   lists u = if bytes_eq (uid_of call) u then behind else cells_in s u
 
-  -- the runtime then
+  -- the runtime after it
   abbrev pub later : Runtime
   later = runtime_of new lists
 

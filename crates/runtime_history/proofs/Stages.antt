@@ -1,4 +1,4 @@
--- Whether a sandbox is there after a call.
+-- Whether a sandbox exists after a call.
 use Rattle.std.proofs.Common.{◌≡◌, inl, inr, true, false, List, sym, subst, ◌∙◌, refl}
 use Rattle.cri_msgs.specs.declared.calls.Call.{Call}
 use Rattle.cri_msgs.specs.declared.calls.Call.TheVariants.{RunPodSandbox, StopPodSandbox, RemovePodSandbox}
@@ -45,7 +45,7 @@ still_dead : (old new : Part) → alive new.sandbox.stage ≡ alive old.sandbox.
     → (IsLive old.sandbox.stage → ⊥) → IsLive new.sandbox.stage → ⊥
 still_dead old new same dead = of_dead new.sandbox.stage (same ∙ to_dead old.sandbox.stage dead)
 
--- a sandbox stays where no call removes it
+-- a sandbox stays unless a call removes it
 pub stays_live : (r : Registry) (call : Call) (files : FileAnswers) (old new : Part) (answer : Answer)
     → ServesIn (around_in r) call files old answer new → (Removes call → ⊥)
     → IsLive old.sandbox.stage → IsLive new.sandbox.stage
@@ -83,7 +83,7 @@ no_pod_runs (Live ready) full old new answer is dead wakes row = absurd (dead tt
 no_pod_runs Removed full old new answer is dead wakes row = λ live.
     subst (λ (p : Part). IsLive p.sandbox.stage → ⊥) (sym row.1) (λ l. subst IsLive is l) live
 
--- where there is none, none comes but by a call that makes it
+-- if there is none, only a call that makes it adds one
 pub stays_dead : (r : Registry) (call : Call) (files : FileAnswers) (old new : Part) (answer : Answer)
     → ServesIn (around_in r) call files old answer new → old.sandbox.stage ≡ stages_in r (uid_of call)
     → (Wakes r call → ⊥) → (IsLive old.sandbox.stage → ⊥) → IsLive new.sandbox.stage → ⊥

@@ -52,7 +52,7 @@ moved k cells later empty = λ i. record {
   used = used_of k;
 }
 
--- the one in the middle, or one that is there whatever stands there
+-- the one in the middle, or one that is there whatever the middle is
 in_parts : (front : List Cell) (x : Cell) (back : List Cell) (cell : Cell) → In cell (front ++ x ∷ back)
     → (cell ≡ x) ⊎ ((y : Cell) → In cell (front ++ y ∷ back))
 in_parts [] x back cell (inl here) = inl here
@@ -86,7 +86,7 @@ module _ (s : Runtime) (uid : List ℕ) (cells behind : List Cell) (id : ℕ) (d
   abbrev pub sandbox_at : List ℕ → Sandbox
   sandbox_at u = if bytes_eq uid u then with_cells (s.sandbox u) behind else s.sandbox u
 
-  -- the runtime then
+  -- the runtime after it
   abbrev pub later : Runtime
   later = record { baseline = s.baseline; made = s.made; sandbox = sandbox_at }
 
@@ -158,7 +158,7 @@ module _ (s : Runtime) (uid : List ℕ) (cells behind : List Cell) (id : ℕ) (d
       agrees = agree;
     }
 
-  -- a cell that runs behind the step ran before it
+  -- a cell that runs after the step ran before it
   ran_here : (i : ℕ) (cell : Cell) → In cell behind → id_of cell ≡ i → cell.state ≡ Running → IsRunning s i
   ran_here i cell at is runs = elim (in_parts steps.front steps.later steps.back cell
       (subst (λ (l : List Cell). In cell l) steps.comes at)) [

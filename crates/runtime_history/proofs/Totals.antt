@@ -1,4 +1,4 @@
--- How often a part of the runtime is known.
+-- How many views know a part of the runtime.
 use Rattle.std.proofs.Common.{◌≡◌, ◌≢◌, ℕ, zero, suc, ◌+◌, ◌≤◌, if◌then◌else◌, List, [], ◌∷◌, ◌++◌}
 use Rattle.std.proofs.Common.{set, Option}
 use Rattle.std.proofs.Common.{Some, None, refl, sym, ap, ◌∙◌, subst, ⊎_elim, arith}
@@ -34,7 +34,7 @@ total_none f [] none = refl
 total_none f (x ∷ xs) none = let a = none 0 x refl in
     let t = total_none f xs (λ j u e. none (suc j) u e) in omega arith
 
--- what is known once at most, and by this view, no other knows
+-- if a part is known at most once, and by this view, no other view knows it
 pub alone : (f : View → ℕ) (views : List View) (by j : ℕ) (v u : View) → f nobody ≡ 0
     → total f views ≤ 1 → get_elem? views by ≡ some v → f v ≡ 1
     → j ≢ by → get_elem? views j ≡ some u → f u ≡ 0

@@ -1,4 +1,4 @@
--- Where no memory is there for a sandbox, nothing has changed.
+-- If there is no memory for a sandbox, nothing has changed.
 use Rattle.std.proofs.Common.{inl, inr, List, [], refl, sym, subst, arith}
 use Rattle.cri_msgs.specs.declared.calls.Call.{Call}
 use Rattle.cri_msgs.specs.declared.calls.Call.TheVariants.{RunPodSandbox, StopPodSandbox, RemovePodSandbox}

@@ -93,7 +93,7 @@ abbrev pub forgetting : ℕ → Option (Registry × List ℕ) → Option (Regist
 forgetting id None = None
 forgetting id (Some held) = Some (held.0, without id held.1)
 
--- the cell with the id is in this sandbox, which is there
+-- the cell with the id is in this sandbox, which exists
 pub record IsHome (registry : Registry) (id : ℕ) (uid : List ℕ) : Type 0 where
   pub home : home_in registry.homes id ≡ Some uid
   pub live : IsLive (stages_in registry uid)
@@ -112,7 +112,7 @@ IsOver registry uid cells id = ((cell : Cell) × In cell cells × (id_of cell �
     × (cell.state ≡ Running → ⊥))
     ⊎ ((home_in registry.homes id ≡ None) ⊎ ((home_in registry.homes id ≡ Some uid) × HasNoneIn cells id))
 
--- how often a part is known
+-- how many times a part is known
 abbrev pub once : {A : Type 0} → Option A → ℕ
 once None = 0
 once (Some _) = 1
@@ -158,14 +158,14 @@ abbrev pub IfCells : Runtime → Option (List ℕ × List Cell) → Type 0
 IfCells s None = ⊤
 IfCells s (Some held) = HasCells s held.0 held.1
 
--- what a view says of the runtime and of the history is so
+-- a view is true of the runtime and of the history
 pub record Fits (s : Runtime) (log : List Event) (v : View) : Type 0 where
   pub registry : IfRegistry s v.registry
   pub cells : IfCells s v.cells
   pub seen : GoesOn v.seen.all log
 
--- There is one history, a run that led to the runtime. No part of that is known twice, and what each token
--- knows is so.
+-- There is one history, a run that led to the runtime. No part of the runtime is known twice, and what each
+-- token knows is true.
 pub record Kept (baseline : Option (List Insn)) (views : List View) : Type 0 where
   pub log : List Event
   pub links : List Link

@@ -26,7 +26,7 @@ named (Stepped id did) = happened.Stepped id (Some did)
 abbrev pub Tell : List Link → List Event → Type 0
 Tell ls events = map (λ (l : Link). l.event) ls ≡ map named events
 
--- from an empty runtime of a node with this filter these events may happen, the newest one first
+-- these events, the newest first, are possible from an empty runtime of a node with this filter
 abbrev pub IsRunOf : Option (List Insn) → List Event → Type 0
 IsRunOf baseline events = (ls : List Link) × IsRun baseline ls × Tell ls events
 
@@ -34,8 +34,8 @@ IsRunOf baseline events = (ls : List Link) × IsRun baseline ls × Tell ls event
 abbrev pub GoesOn : List Event → List Event → Type 0
 GoesOn old new = (later : List Event) × (new ≡ later ++ old)
 
--- A caller's event comes behind events of others, which the caller sees now, and is its only one. All that it
--- has seen is a run.
+-- A caller's event comes after events of others, which the caller sees now, and is its only new one. All that
+-- it has seen is a run.
 pub record Grows (baseline : Option (List Insn)) (old : Seen) (event : Event) (new : Seen) : Type 0 where
   pub others : List Event
   pub all : new.all ≡ event ∷ (others ++ old.all)
@@ -56,7 +56,7 @@ RunsAfter baseline events id = (links : List Link) → IsRun baseline links → 
     → IsRunning (now baseline links) id
 
 -- A caller sees the history as it is now, and adds nothing to it. What was seen is a run, after which each
--- cell that runs has an id of which this holds.
+-- running cell has an id with this property.
 pub record Looks (baseline : Option (List Insn)) (old : Seen) (Holds : ℕ → Type 0) (new : Seen) : Type 0 where
   pub goes_on : GoesOn old.all new.all
   pub own : new.own ≡ old.own
@@ -69,7 +69,7 @@ pub record Looks (baseline : Option (List Insn)) (old : Seen) (Holds : ℕ → T
 abbrev pub unseen : Seen
 unseen = record { all = []; own = [] }
 
--- These events are a run that has the laws of every run: of all that happened, and of each link given those
+-- These events are a run that has the laws of every run: for all that happened, and for each link given those
 -- before it.
 pub record AreLawful (baseline : Option (List Insn)) (events : List Event) : Type 0 where
   pub links : List Link
@@ -78,6 +78,6 @@ pub record AreLawful (baseline : Option (List Insn)) (events : List Event) : Typ
   pub all : RunLaws baseline links
   pub each : (later : List Link) (l : Link) (before : List Link) → links ≡ later ++ l ∷ before
       → LinkLaws l before
-  -- memory is lacking only where a call takes some
+  -- memory runs out only in a call that takes some
   pub lacks : (l : Link) → In l links → (call : Call) (files : FileAnswers)
       → l.event ≡ happened.Served call files (Refused Memory) → MayLack l.old call files

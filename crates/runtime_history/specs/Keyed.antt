@@ -5,7 +5,7 @@ use lib.ListN.{get_elem?}
 use Rattle.atomic_table.specs.Table.{State, Me}
 
 module _ {T V : Type 0} where
-  -- where the word is 0, the value is at home and fits; where it is 2, there was none yet
+  -- if the word is 0, the value is at home and fits; if it is 2, there was none yet
   abbrev pub Guarded : (T → Type 0) → State (Option T) V → Type 0
   Guarded fits s = (length s.words ≡ 1)
       × (slice_index s.words 0 ≡ 0 → (value : T) × (get_elem? s.homes 0 ≡ some (some (Some value)))

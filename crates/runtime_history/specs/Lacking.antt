@@ -1,4 +1,4 @@
--- When a request may be refused for lack of memory, this project's own: docs/SEMANTICS.md, "The runtime".
+-- When a request may be refused because memory ran out, this project's own: docs/SEMANTICS.md, "The runtime".
 use Rattle.std.specs.Prelude.{◌≡◌, ◌⊎◌, ⊤}
 use Rattle.cri_msgs.specs.declared.calls.Call.{Call}
 use Rattle.cri_msgs.specs.declared.calls.Call.TheVariants.{ContainerStatuses, CreateContainer, ListContainers}

@@ -1,4 +1,4 @@
--- Which calls make a sandbox or take it away, and which start a cell, this project's own.
+-- Which calls make or remove a sandbox, and which start a cell, this project's own.
 use Rattle.std.specs.Prelude.{◌≡◌, ⊤, ℕ, List, Option, None, option_map}
 use Rattle.std.specs.List.{find}
 use Rattle.cri_msgs.specs.declared.calls.Call.{Call}
@@ -13,12 +13,12 @@ use Rattle.registry.specs.Runtime.{id_of, is_of}
 use Rattle.registry.specs.Serves.{IsFull}
 use Rattle.registry.specs.Stands.{stages_in}
 
--- the call may make a sandbox of a uid that was never named
+-- the call may make a sandbox for a uid that was never named
 abbrev pub Wakes : Registry → Call → Type 0
 Wakes registry (RunPodSandbox uid) = (stages_in registry uid ≡ Unknown) × (IsFull (stages_in registry) → ⊥)
 Wakes registry call = ⊥
 
--- the call takes its sandbox away
+-- the call removes its sandbox
 abbrev pub Removes : Call → Type 0
 Removes (RemovePodSandbox uid) = ⊤
 Removes call = ⊥
@@ -28,7 +28,7 @@ abbrev pub IsLive : Stage → Type 0
 IsLive (Live ready) = ⊤
 IsLive stage = ⊥
 
--- the id of the cell that a call is to start, and that of one which it did start, or which was started before
+-- the id of the cell that a call would start, and of one that it did start, or that was started before
 abbrev pub to_start : Call → List Cell → Option ℕ
 to_start (StartContainer key) cells = option_map id_of (find (is_of key.container) cells)
 to_start call cells = None

@@ -1,5 +1,5 @@
-//! How a runtime begins, and who makes its callers. `Comes` is named in this file alone, so nobody else makes
-//! one.
+//! The beginning of a runtime, and the maker of its callers. `Comes` is named in this file alone, so nobody
+//! else makes callers.
 ghost use Rattle.std.specs.Prelude.{◌≡◌, ◌<◌, ℕ, List, [], IfOk};
 ghost use Rattle.atomic_table.specs.Seated.{TableId};
 ghost use Rattle.registry.specs.declared.stage.Stage.TheVariants.{Unknown};
@@ -14,8 +14,8 @@ use registry::Registry;
 use std::alloc::{AllocError, Global};
 use std::marker::{Model, PhantomData};
 
-/// A runtime that has served nothing, on a node with a filter of its own. Contracts see the filter, and
-/// which table the history has.
+/// A runtime that has served nothing, on a node with a filter of its own. Contracts see the filter, and the
+/// table of the history.
 #[derive(Drop)]
 pub struct Begun {
     table: Table<(), View, Registry, Agreed, Global>,
@@ -41,14 +41,14 @@ impl Model for Begun {
         × ((uid : List ℕ) → stages_in b.registry uid ≡ Unknown) };
 }
 
-/// Makes the callers of a runtime. There is one for each runtime, and whoever has no reference to it makes no
-/// caller: a request that is served, or a step, has its own caller alone.
+/// Makes the callers of a runtime. There is one for each runtime, and only a holder of a reference to it can
+/// make a caller: a served request, or a step, has only its own caller.
 #[derive(Drop)]
 pub struct Callers<B: Node> {
     node: PhantomData<B>,
 }
 
-/// A step at which a new caller comes, who has seen nothing.
+/// A step that adds a new caller, who has seen nothing.
 struct Comes;
 
 impl Play<(), View> for Comes {
@@ -73,7 +73,7 @@ impl Begun {
         })
     }
 
-    /// The history, what lies under the registry's lock, and the one who makes callers.
+    /// The history, the contents of the registry's lock, and the maker of callers.
     pub fn of_node<B: Node>(self) -> (History<B>, Registered<B>, Callers<B>)
         requires { self ≡ (B.filter, B.table) }
         ensures stages { (uid : List ℕ) → stages_in result.1.0 uid ≡ Unknown }
@@ -98,7 +98,7 @@ impl Begun {
 }
 
 impl<B: Node> Callers<B> {
-    /// A caller who has seen nothing.
+    /// A caller that has seen nothing.
     #[tactic(auto, using(crate::proofs::Moves::comes))]
     pub fn client(&self, history: &History<B>) -> Client<B>
         ensures { result ≡ unseen }

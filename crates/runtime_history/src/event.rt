@@ -4,7 +4,7 @@ use cri_msgs::{Answer, Call};
 use runtime_cell::Did;
 use std::collections::LinkedList;
 
-/// What happened. No value of it is made: contracts speak of it.
+/// What happened. No value of it is made: only contracts use it.
 pub enum Event {
     /// A call was served, with the results of reading its files, and answered.
     Served(Call, FileAnswers, Answer),

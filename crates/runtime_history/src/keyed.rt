@@ -65,7 +65,7 @@ impl<T: Keyed> Model for KeyedLock<T> {
     ghost invariant = { λ l. (l.table.shared.table_id.words ≡ 1) × (l.table.shared.table_id.slots ≡ 1) };
 }
 
-/// The right to give a lock its first value. Contracts see which lock's.
+/// The right to give a lock its first value. Contracts see which lock it belongs to.
 #[derive(Drop)]
 pub struct Blank<T> {
     seat: Seat<Option<T>, Uid>,
@@ -82,8 +82,8 @@ impl<T> Model for Blank<T> {
     ghost invariant = { λ b. HasOnly b.seat.me };
 }
 
-/// The value of a lock is out. It has no `Drop`, so it ends in [`KeyedLock::put_back`]. Contracts see which
-/// lock's.
+/// A lock's value was taken out. It has no `Drop`, so it ends in [`KeyedLock::put_back`]. Contracts see which
+/// lock it belongs to.
 pub struct Loan<'a, T> {
     seat: Seat<Option<T>, Uid>,
     // None if the value was taken without the mutex.
@@ -102,7 +102,7 @@ impl<'a, T> Model for Loan<'a, T> {
 }
 
 impl<T: Keyed + Drop> KeyedLock<T> {
-    /// A lock for this uid, taken, whose value is still to come. `None` if memory runs out.
+    /// A lock for this uid, taken, still without its value. `None` if memory runs out.
     pub fn taken(alloc: Global, uid: &Uid) -> Option<(KeyedLock<T>, Blank<T>)>
         ensures key { IfSome result (λ made. made.0.0 ≡ uid.now) }
         ensures blank { IfSome result (λ made. made.1 ≡ made.0.1) }

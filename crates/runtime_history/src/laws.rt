@@ -4,7 +4,7 @@ use crate::parts::Client;
 use crate::room::Node;
 use runtime_laws::every_run;
 
-/// All that a caller has seen has the laws of every run.
+/// The laws of every run apply to all that a caller has seen.
 pub fn laws_of<B: Node>(client: &Client<B>)
     ensures { AreLawful B.filter client.now.all }
 {

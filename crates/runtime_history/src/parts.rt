@@ -1,4 +1,4 @@
-//! What lies under the registry's lock, under the lock of a sandbox's cells, and with a caller.
+//! The contents of the registry's lock, of the lock of a sandbox's cells, and of a caller.
 ghost use Rattle.std.specs.Prelude.{◌≡◌, ◌≢◌, ◌<◌, ℕ, List, [], IfNone, IfOk, IfSome, IsTrue, ◌↔◌};
 ghost use Rattle.atomic_table.specs.Seated.{TableId};
 ghost use Rattle.cri_msgs.specs.Calls.{uid_of};
@@ -62,8 +62,8 @@ impl<B: Node> Model for Client<B> {
         × IsRunOf B.filter c.token.me.0.seen.all };
 }
 
-/// What lies under the registry's lock. Contracts see the registry, and ids among which are those of all
-/// cells that run.
+/// The contents of the registry's lock. Contracts see the registry, and ids among which are those of all
+/// running cells.
 #[derive(Drop)]
 pub struct Registered<B: Node> {
     pub(crate) token: Token,
@@ -84,7 +84,7 @@ impl<B: Node> Model for Registered<B> {
         × (r.token.me ≡ (keeper r.registry (started_in r.token.me.0.registry), [])) };
 }
 
-/// What lies under the lock of a sandbox's cells. Contracts see the uid and the cells.
+/// The contents of the lock of a sandbox's cells. Contracts see the uid and the cells.
 #[derive(Drop)]
 pub struct Listed<B: Node> {
     pub(crate) token: Token,
@@ -138,8 +138,8 @@ impl<B: Node> Registered<B> {
         &self.registry
     }
 
-    /// Serves a request with the cells of its sandbox, which is there. Returns the id of the cell that was
-    /// started too, or that was started before.
+    /// Serves a request with the cells of its existing sandbox. Also returns the id of the cell that was
+    /// started, or that was started before.
     #[tactic(auto, using(crate::proofs::Stages::live_still))]
     pub fn serve<Q: Asked>(
         &mut self,
@@ -184,7 +184,7 @@ impl<B: Node> Registered<B> {
         (reply, started)
     }
 
-    /// Serves a request that names no sandbox which is there, and makes none.
+    /// Serves a request that names no existing sandbox, and makes none.
     pub fn serve_absent<Q: Asked>(
         &mut self,
         alloc: Global,
@@ -213,8 +213,8 @@ impl<B: Node> Registered<B> {
         reply
     }
 
-    /// Serves a request that may make a sandbox of this uid, and returns what is to lie under the lock of
-    /// its cells. `None` if memory ran out, and there is no sandbox.
+    /// Serves a request that may make a sandbox of this uid, and returns the contents for the lock of its
+    /// cells. `None` if memory ran out, and there is no sandbox.
     pub fn wake<Q: Asked>(
         &mut self,
         alloc: Global,
@@ -258,7 +258,7 @@ impl<B: Node> Registered<B> {
         (reply, Some(listed))
     }
 
-    /// Refuses a request that might have made a sandbox, as memory ran out.
+    /// Refuses a request that might have made a sandbox, because memory ran out.
     pub fn refuse<Q: Asked>(&mut self, history: &History<B>, me: &mut Client<B>) -> Answer
         requires wakes { Wakes self.old.0 Q.call }
         ensures answer { result ≡ Refused Memory }
@@ -291,7 +291,7 @@ impl<B: Node> Listed<B> {
         &self.cells
     }
 
-    /// The cell with this id does a step. `None` if it is not there, and then nothing happened.
+    /// Steps the cell with this id. `None` if it is not there, and then nothing happened.
     pub fn step(&mut self, history: &History<B>, me: &mut Client<B>, id: u64) -> Option<Did>
         ensures uid { self.new.0 ≡ self.old.0 }
         ensures some { IfSome result (λ did. Grows B.filter me.old (Stepped id did) me.new) }

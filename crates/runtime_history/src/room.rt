@@ -8,9 +8,8 @@ use registry::{Cells, Registry};
 use std::collections::LinkedList;
 use std::marker::{Brand, PhantomData};
 
-/// A node as a type: its own filter, which confines each of its containers, and the table of its history.
-/// The maker of a runtime picks it, so that what lies under the runtime's locks has this filter and this
-/// table.
+/// A node as a type: its own filter, which confines each of its containers, and the table of its history. The
+/// maker of a runtime picks it, so that the contents of the runtime's locks have this filter and this table.
 pub trait Node {
     ghost use Rattle.std.specs.Prelude.{List, Option};
     ghost use Rattle.bpf_code.specs.declared.insn.Insn.{Insn};
@@ -31,15 +30,15 @@ impl Node for Brand {
     ghost table = { no_table };
 }
 
-/// What a token knows: what the registry is, with the ids of the cells that were started and may still run;
-/// what the cells of one sandbox are; and a beginning of the history. No value of it is made.
+/// What a token knows: the registry, with the ids of the cells that were started and may still run; the cells
+/// of one sandbox; and a prefix of the history. No value of it is made.
 pub struct View {
     pub registry: Option<(Registry, LinkedList<u64>)>,
     pub cells: Option<(Uid, Cells)>,
     pub seen: Seen,
 }
 
-/// There is one history, and each part of the runtime that it led to is known by one token at most.
+/// There is one history, and each part of the runtime that it led to is known by at most one token.
 pub struct Agreed;
 
 impl TableRule<(), View, Registry> for Agreed {
@@ -51,7 +50,7 @@ impl TableRule<(), View, Registry> for Agreed {
     ghost first = { λ registry. keeper registry [] };
 }
 
-/// One event, and what its token knows then but for the history. Each call picks it.
+/// One event, and what its token knows after it except for the history. Each call picks it.
 pub trait Happens {
     ghost use Rattle.std.specs.Prelude.{List, Option};
     ghost use Rattle.bpf_code.specs.declared.insn.Insn.{Insn};
@@ -78,7 +77,7 @@ impl Happens for Brand {
     ghost after = { nobody };
 }
 
-/// A call and what its files gave, as a type: both are handed on before the answer is known. Each call
+/// A call and the results of its files, as a type: both are passed on before the answer is known. Each call
 /// picks it.
 pub trait Asked {
     ghost use Rattle.cri_msgs.specs.declared.calls.Call.{Call};
@@ -98,7 +97,7 @@ impl Asked for Brand {
     ghost files = { record { script = None; profile = None } };
 }
 
-/// A step at which the event is added to the history.
+/// A step that adds the event to the history.
 pub struct Tells<E> {
     event: PhantomData<E>,
 }
@@ -109,7 +108,7 @@ impl<E: Happens> Play<(), View> for Tells<E> {
     ghost then = { λ _ me _ me'. Told E.baseline E.event E.after me me' };
 }
 
-/// A step at which all of the history is seen, and nothing is added to it.
+/// A step that sees all of the history, and adds nothing to it.
 pub struct Sees<B> {
     node: PhantomData<B>,
 }
@@ -131,7 +130,7 @@ impl Over for Brand {
     ghost id = { 0 };
 }
 
-/// A step at which the cell is taken out of those that may still run.
+/// A step that takes the cell out of those that may still run.
 pub struct Forgets<E> {
     over: PhantomData<E>,
 }

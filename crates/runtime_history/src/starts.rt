@@ -1,4 +1,4 @@
-//! Which cells may run: those that were started, but for some that were found ended or gone.
+//! Which cells may run: those that were started, except for some that were found ended or gone.
 ghost use Rattle.std.specs.Prelude.{◌≡◌, ℕ, IsTrue, List, Some, find, if◌then◌else◌, option_map};
 ghost use Rattle.runtime_cell.specs.declared.cell.State.TheVariants.{Running};
 ghost use Rattle.registry.specs.Kept.{HasNoneIn, home_in};
@@ -29,7 +29,7 @@ impl<B: Node> Registered<B> {
     }
 
     /// Takes the cell with this id out of those that may run, if it has ended or is gone, and returns whether
-    /// that is so. A cell of another sandbox stays.
+    /// it has. A cell of another sandbox stays.
     pub fn forget(&mut self, history: &History<B>, listed: &mut Listed<B>, id: u64) -> bool
         ensures listed { listed.new ≡ listed.old }
         ensures registry { self.new.0 ≡ self.old.0 }
@@ -45,8 +45,8 @@ impl<B: Node> Registered<B> {
         true
     }
 
-    /// Takes the cell with this id out of those that may run: these are the cells of its sandbox, and it is not
-    /// among them.
+    /// Takes the cell with this id out of those that may run: these are the cells of its sandbox, and it is
+    /// not among them.
     pub fn lose(&mut self, history: &History<B>, listed: &mut Listed<B>, id: u64)
         requires home { home_in self.old.0.homes id ≡ Some listed.old.0 }
         requires none { HasNoneIn listed.old.1 id }
@@ -80,7 +80,7 @@ fn runs(cell: &Cell) -> bool
     }
 }
 
-// The id of the cell that a call is to start, if it is there.
+// The id of the cell that a call would start, if it is there.
 pub(crate) fn to_start(call: &Call, cells: &Cells) -> Option<u64>
     ensures { result ≡ to_start call.now cells.now }
 {

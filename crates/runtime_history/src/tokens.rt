@@ -1,4 +1,4 @@
-//! Steps of tokens: what each lends, what is added to the history, and what goes back.
+//! Steps of tokens: the lent parts, the additions to the history, and the returned parts.
 ghost use Rattle.std.specs.Prelude.{◌≡◌, ◌<◌, ℕ, [], List, map, Some, None};
 ghost use Rattle.runtime_cell.specs.Cell.{Cell};
 ghost use Rattle.cri_msgs.specs.Calls.{uid_of};
@@ -102,7 +102,7 @@ pub(crate) fn note_served<E: Happens, Q: Asked>(
     notes.load::<Tells<E>>(me, 0);
 }
 
-/// Adds that a request was served which names no sandbox that is there.
+/// Adds that a request was served that names no existing sandbox.
 pub(crate) fn note_absent<E: Happens, Q: Asked>(
     notes: &Notes,
     me: &mut Token,
@@ -125,7 +125,7 @@ pub(crate) fn note_absent<E: Happens, Q: Asked>(
     notes.load::<Tells<E>>(me, 0);
 }
 
-/// Adds that a request was served which made its sandbox. The caller's token then has the part of its cells.
+/// Adds that a request was served that made its sandbox. The caller's token then has the part of its cells.
 pub(crate) fn note_new<E: Happens, Q: Asked>(
     notes: &Notes,
     me: &mut Token,
@@ -151,7 +151,7 @@ pub(crate) fn note_new<E: Happens, Q: Asked>(
     notes.load::<Tells<E>>(me, 0);
 }
 
-/// Adds that the cells of a sandbox were told.
+/// Adds that the cells of a sandbox were listed.
 pub(crate) fn note_told<E: Happens, Q: Asked>(
     notes: &Notes,
     me: &mut Token,
@@ -193,7 +193,7 @@ pub(crate) fn note_stepped<E: Happens>(
     notes.load::<Tells<E>>(me, 0);
 }
 
-/// Sees all of the history, by who has the registry's part.
+/// Sees all of the history, as the owner of the registry's part.
 pub(crate) fn see<B: Node>(notes: &Notes, me: &mut Token)
     requires baseline { B.filter ≡ notes.now.key.baseline }
     requires table { 0 < notes.now.table_id.words }
@@ -206,7 +206,7 @@ pub(crate) fn see<B: Node>(notes: &Notes, me: &mut Token)
     notes.load::<Sees<B>>(me, 0);
 }
 
-/// Takes a cell out of those that may still run, by who has the registry's part and that of its sandbox.
+/// Takes a cell out of those that may still run, as the owner of the registry's part and that of its sandbox.
 pub(crate) fn forget<E: Over>(
     notes: &Notes,
     me: &mut Token,

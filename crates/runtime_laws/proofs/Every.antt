@@ -42,7 +42,7 @@ pub record Judges : Type 0 where
   pub one : (stack : List (List Insn)) (call : SysCall) (verdict other : Verdict)
       → IsJudged stack call verdict → IsJudged stack call other → verdict ≡ other
 
--- where a cell's making is from
+-- the origin of a cell's making
 abbrev pub WasMade : Option (List Insn) → List Link → Key → Making → Type 0
 WasMade baseline ls key making = (l : Link) × In l ls × MakesAt l key making × (l.old.baseline ≡ baseline)
 

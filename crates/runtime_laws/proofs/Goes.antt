@@ -1,4 +1,4 @@
--- What whatever happens to a runtime does to it as a whole, and what it keeps.
+-- The effect of any event on a runtime as a whole, and what it keeps.
 use Rattle.std.proofs.Common.{◌≡◌, ◌≢◌, inl, inr, ℕ, ◌+◌, ◌≤◌, Bool, true, false, List, ◌∷◌, ◌++◌, Option}
 use Rattle.std.proofs.Common.{Some, None, refl, sym, ap, subst, ◌∙◌, arith}
 use Rattle.std.specs.Prelude.{◌⊎◌}
@@ -63,7 +63,7 @@ same_goes old event new uid kept same =
     (sandbox_stays (λ k. IsMadeIn old event new (key_in uid k)) (CellGoes event) (still event)
     (old.sandbox uid) (kept uid))
 
--- one sandbox goes, and the others stay
+-- one sandbox changes, and the others stay
 one_goes : (old : Runtime) (event : Event) (new : Runtime) (at : List ℕ) → AreKept old
     → ((uid : List ℕ) → uid ≢ at → new.sandbox uid ≡ old.sandbox uid)
     → SandboxGoes (λ k. IsMadeIn old event new (key_in at k)) (CellGoes event) (old.sandbox at)
@@ -150,7 +150,7 @@ found_at (Live ready) s k c e = by (find (is_of k) s.cells) (list_any (is_same k
     by None false e = absurd cc
 found_at Removed s k c e = absurd cc
 
--- a cell of a list stands under its container
+-- a cell of a list is found under its container
 stands_at : (stage : Stage) (s : Sandbox) → s.stage ≡ stage → IsKept s → (c : Cell) → In c s.cells
     → slot_at stage s (container_in c) ≡ There c
 stands_at Unknown s is kept c i = absurd (subst (In c) (kept.dead (subst IsDead (sym is) tt)) i)
@@ -262,7 +262,7 @@ same_slot (Live ready) old new k found used =
     ∙ ap (λ ks. slot_by (find (is_of k) old.cells) (list_any (is_same k) ks)) used
 same_slot Removed old new k found used = refl
 
--- the cell that moves stands under its key, and the cells of the other keys stay
+-- the cell that moves is under its key, and the cells of the other keys stay
 pub record MovesKey (old : Runtime) (Moves : Cell → Cell → Type 0) (new : Runtime) (id : ℕ) : Type 0 where
   pub key : Key
   pub cell : Cell
@@ -321,7 +321,7 @@ moves_key old id Moves new keeps kept kept' m =
       others = moves_others old id Moves new keeps m;
     }
 
--- a step of the cell that stands under a key is a step of that one
+-- a step of a cell by its id is a step of the cell under its key
 pub step_key : (old : Runtime) (id : ℕ) (did : Did) (new : Runtime) → AreKept old
     → MayStep old id (Some did) new → MovesKey old (λ cell later. Steps cell did later) new id
 step_key old id did new kept moves =

@@ -23,7 +23,7 @@ use Rattle.runtime_laws.proofs.Goes.{IsMadeIn, MovesKey, came_from, key_goes, st
 use Rattle.runtime_laws.proofs.Seen.{Grows, IsAfter, LinkHolds, first_holds, seen_now}
 use Rattle.runtime_laws.proofs.Told.{status_true, told_true}
 
--- what stands in the slot before a link, once a cell was seen there
+-- the content of the slot before a link, after a cell was seen there
 seen_before : Grows → (baseline : Option (List Insn)) (l : Link) (before : List Link)
     → IsRun baseline (l ∷ before) → (key : Key) (cell : Cell) (slot : Slot) → slot_of l.old key ≡ slot
     → Seen before key cell → IsAfter cell slot

@@ -71,7 +71,7 @@ here_by : (k : ContainerMetadata) (x : Cell) (o : Option Cell) (c : Cell) (test 
 here_by k x o c true passes differs e = absurd (differs (same_is k (container_in x) passes))
 here_by k x o c false passes differs e = e
 
--- where containers are distinct, each cell is the one that is found by its container
+-- if containers are distinct, each cell is the one that is found by its container
 pub find_here : (cells : List Cell) → AreDistinct (map container_in cells) → (c : Cell) → In c cells
     → find (is_of (container_in c)) cells ≡ Some c
 find_here [] distinct c i = absurd i
@@ -172,7 +172,7 @@ less_by k x xs ys true rest i = inr i
 less_by k x xs ys false rest (inl e) = inl e
 less_by k x xs ys false rest (inr i) = inr (rest i)
 
--- where the one cell that changes is of another container, the same one is found
+-- if the one cell that changes is of another container, the same one is found
 pub find_other : (k : ContainerMetadata) (cell later : Cell) → ¬ (k ≡ container_in cell)
     → ¬ (k ≡ container_in later) → (front back : List Cell)
     → find (is_of k) (front ++ later ∷ back) ≡ find (is_of k) (front ++ cell ∷ back)

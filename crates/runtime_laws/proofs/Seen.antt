@@ -1,4 +1,4 @@
--- The cells that were seen in a run: where they came from, and that of two the one is the later one.
+-- The cells that were seen in a run: their origin, and that of two one is the later one.
 use Rattle.std.proofs.Common.{◌+◌, ◌≤◌, arith, ◌≡◌, inl, inr, ℕ, List, [], ◌∷◌, Option, refl, sym, ap, subst}
 use Rattle.std.proofs.Common.{◌∙◌}
 use Rattle.std.specs.Prelude.{◌⊎◌, ⊤}
@@ -76,7 +76,7 @@ old_seen baseline (m ∷ ls) run key cell l (inl e) is =
 old_seen baseline (m ∷ ls) run key cell l (inr i) is =
     more_seen m ls key cell (old_seen baseline ls run.2 key cell l i is)
 
--- where a seen cell comes from: what is true of each made cell, and stays so, is true of it
+-- the origin of a seen cell: a property of each made cell that is kept is true of it
 pub seen_by : (baseline : Option (List Insn)) (P : Cell → Type 0) (key : Key) (ls : List Link)
     → IsRun baseline ls
     → ((l : Link) → In l ls → (cell : Cell) → slot_of l.old key ≡ Free → IsMadeIn l.old l.event l.new key cell
@@ -99,7 +99,7 @@ seen_by baseline P key (m ∷ ls) run made moved cell (l, inl e, is) =
       | inr (is_made, was) ↦ made m (inl refl) cell was is_made
     ]
 
--- the laws of one cell: what is done to it makes it a later one
+-- the laws of one cell: each change makes it a later one
 pub record Grows : Type 0 where
   pub same : (c : Cell) → IsLater c c
   pub later : (first then last : Cell) → IsLater first then → IsLater then last → IsLater first last
@@ -113,7 +113,7 @@ later_goes grows event old new (starts e) = subst (IsLater old) (sym e) (grows.s
 later_goes grows event old new (ends code e) = subst (IsLater old) (sym e) (grows.killed old code)
 later_goes grows event old new (steps did e s) = grows.stepped old did new s
 
--- what is in a slot after a cell stood there: a later one, or none any more
+-- the content of a slot after a cell was there: a later one, or none
 abbrev pub IsAfter : Cell → Slot → Type 0
 IsAfter cell Free = ⊥
 IsAfter cell (There c) = IsLater cell c
@@ -156,7 +156,7 @@ seen_both grows baseline key c d (m ∷ ls) run (l, inr i, is) (n, inl e, there)
 seen_both grows baseline key c d (m ∷ ls) run (l, inr i, is) (n, inr j, there) =
     seen_both grows baseline key c d ls run.2 (l, i, is) (n, j, there)
 
--- no id above those that were made so far was seen
+-- no seen id is above those that were made so far
 seen_bound : (baseline : Option (List Insn)) (key : Key) (cell : Cell) (ls : List Link) → IsRun baseline ls
     → Seen ls key cell → id_of cell ≤ (now baseline ls).made
 seen_bound baseline key cell [] run (l, i, is) = absurd i

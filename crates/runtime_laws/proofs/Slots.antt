@@ -1,4 +1,4 @@
--- What may become of a slot, and of a sandbox, by each kind of change.
+-- The possible changes of a slot, and of a sandbox, by each kind of change.
 use Rattle.std.proofs.Common.{◌≡◌, inl, inr, ℕ, Bool, true, false, cond, List, [], ◌∷◌, ◌++◌, map, Option}
 use Rattle.std.proofs.Common.{Some, None, refl, sym, ap, subst, ◌∙◌}
 use Rattle.std.specs.Prelude.{⊤}
@@ -53,7 +53,7 @@ keeps_making event old new (starts e) = ap (λ (c : Cell). c.making) e
 keeps_making event old new (ends code e) = ap (λ (c : Cell). c.making) e
 keeps_making event old new (steps did e s) = making_stays old did new s
 
--- a slot is free until its cell is made, and never after; once the cell went, none comes
+-- a slot is free until its cell is made, and never after; once the cell is gone, none comes
 abbrev pub SlotGoes : (Cell → Type 0) → (Cell → Cell → Type 0) → Slot → Slot → Type 0
 SlotGoes Made Moves Free Free = ⊤
 SlotGoes Made Moves Free (There c) = Made c
@@ -96,7 +96,7 @@ slot_left Made Moves still o p used known (inr (none, was)) =
     (subst (λ b. SlotGoes Made Moves (slot_by o used) (slot_by None b)) (sym (known was.0 was.1))
     (to_gone Made Moves (slot_by o used)))
 
--- what a sandbox keeps: its containers are distinct, each was used, and it has none where it isn't there
+-- what a sandbox keeps: its containers are distinct, each was used, and it has none if it isn't there
 abbrev pub IsDead : Stage → Type 0
 IsDead Unknown = ⊤
 IsDead (Live ready) = ⊥
@@ -124,7 +124,7 @@ pub sandbox_stays : (Made : ContainerMetadata → Cell → Type 0) (Moves : Cell
 sandbox_stays Made Moves still s kept =
     record { kept = kept; slots = λ k. slot_stays (Made k) Moves still (slot_in s k); removed = λ e. e }
 
--- the slots go where they do so while the sandbox is there
+-- the slots change so if they do while the sandbox is there
 slots_at : (Made : Cell → Type 0) (Moves : Cell → Cell → Type 0) (stage : Stage) (old new : Sandbox)
     (k : ContainerMetadata)
     → SlotGoes Made Moves (slot_by (find (is_of k) old.cells) (list_any (is_same k) old.used))
@@ -159,7 +159,7 @@ sandbox_moves Made Moves keeps stage cells cells' used kept moved = record {
   removed = λ e. e;
 }
 
--- so they do where it stops
+-- the same when it stops
 pub sandbox_stops : (Made : ContainerMetadata → Cell → Type 0) (Moves : Cell → Cell → Type 0) → Keeps Moves
     → (stage : Stage) (ready : Bool) → stage ≡ Live ready
     → (cells cells' : List Cell) (used : List ContainerMetadata) → IsKept (box stage cells used)
@@ -184,7 +184,7 @@ sandbox_goes Made Moves old = record {
   removed = λ e. refl;
 }
 
--- it comes
+-- it is made
 pub sandbox_comes : (Made : ContainerMetadata → Cell → Type 0) (Moves : Cell → Cell → Type 0) (ready : Bool)
     (old : Sandbox) → old.stage ≡ Unknown → SandboxGoes Made Moves old (box (Live ready) [] [])
 sandbox_comes Made Moves ready old is = record {
@@ -199,7 +199,7 @@ used_where s kept k c found =
     let there = found_there k s.cells c found in
     kept.used k (subst (λ m. In m (map container_in s.cells)) there.1 (in_map container_in c s.cells there.0))
 
--- one cell goes
+-- one cell is removed
 pub sandbox_drops : (Made : ContainerMetadata → Cell → Type 0) (Moves : Cell → Cell → Type 0)
     → ((c : Cell) → Moves c c) → (test : Cell → Bool) (stage : Stage) (cells : List Cell)
     (used : List ContainerMetadata)
@@ -218,7 +218,7 @@ sandbox_drops Made Moves still test stage cells used kept = record {
   removed = λ e. e;
 }
 
--- one cell more, whose container was never used
+-- one more cell, whose container was never used
 slot_more : (Made : Cell → Type 0) (Moves : Cell → Cell → Type 0) → ((c : Cell) → Moves c c)
     → (o : Option Cell) (x : Cell) (test used used' : Bool) → (test ≡ true → (used ≡ false) × Made x)
     → (used ≡ true → used' ≡ true) → SlotGoes Made Moves (slot_by o used)

@@ -1,4 +1,4 @@
--- What whatever happens to a runtime does to each slot: the one way through the table.
+-- The effect of any event of a runtime on each slot: the one way through the table.
 use Rattle.std.proofs.Common.{◌≡◌, inl, inr, ℕ, ◌+◌, ◌≤◌, Bool, true, false, List, [], ◌∷◌, ◌++◌, map, Option}
 use Rattle.std.proofs.Common.{refl, sym, ap, subst, arith}
 use Rattle.std.specs.BTreeSet.{insert_key}

@@ -1,4 +1,4 @@
--- A status that an answer tells is that of the key's cell, and so is an exit code.
+-- A reported status is that of the key's cell, and so is an exit code.
 use Rattle.std.proofs.Common.{◌≡◌, inl, inr, ℕ, List, [], ◌∷◌, map, Bool, refl, sym, ap, subst, ◌∙◌}
 use Rattle.std.specs.List.{All, Any}
 use Rattle.std.proofs.lemmas.List.Elements.{All-cons, All-nil}
@@ -77,7 +77,7 @@ statuses_listed old new kept listed container says (at, told, below, reads, is) 
       row.1,
     )
 
--- where the sandbox stays the same one, so does the slot
+-- if the sandbox stays the same one, so does the slot
 slot_after : (old new : Runtime) (uid : List ℕ) (key : Key) (says : status.Status) → uid ≡ key.uid
     → HasStatus (slot_in (old.sandbox uid) key.container) says × (part_of new uid ≡ part_of old uid)
     → HasStatus (slot_of new key) says
@@ -98,7 +98,7 @@ status_true old (ContainerStatuses uid) files (Statuses listed) new key says kep
     (kept uid) listed key.container says tells serves.row)
 status_true old call files answer new key says kept serves tells = absurd tells
 
--- an exit is told by a status
+-- an exit is reported by a status
 exit_told : (call : Call) (answer : Answer) (key : Key) (code : ℕ) → TellsExit call answer key code
     → (says : status.Status) × TellsStatus call answer key says × (says.state ≡ told_as.Exited code)
 exit_told (ContainerStatus asked) (Status told) key code (same, exits) = (told, (same, refl), exits)

@@ -28,7 +28,7 @@ use Rattle.registry.specs.Serves.{status_of}
 use Rattle.runtime_laws.specs.Runs.{Link}
 use Rattle.runtime_laws.specs.Runs.Event.{Served, Stepped}
 
--- the cell stood under the key at some time
+-- the cell was under the key at some time
 abbrev pub Seen : List Link → Key → Cell → Type 0
 Seen ls key cell = (l : Link) × In l ls × (slot_of l.new key ≡ There cell)
 
@@ -56,7 +56,7 @@ pub record TookUpAt (l : Link) (key : Key) (place : ℕ) (call : SysCall) : Type
 abbrev pub TookUp : List Link → Key → ℕ → SysCall → Type 0
 TookUp ls key place call = (l : Link) × In l ls × TookUpAt l key place call
 
--- the link made the cell's making, from a request's image and profile and what its files gave
+-- the link made the cell's making, from a request's image and profile and the results of its files
 pub record MakesAt (l : Link) (key : Key) (making : Making) : Type 0 where
   pub image : List ℕ
   pub choice : SeccompProfile
@@ -67,21 +67,21 @@ pub record MakesAt (l : Link) (key : Key) (making : Making) : Type 0 where
   pub was_free : slot_of l.old key ≡ Free
 
 pub record RunLaws (baseline : Option (List Insn)) (ls : List Link) : Type 0 where
-  -- a call is performed exactly where a step took it up, and the filters of the start and those added before
+  -- a call is performed exactly if a step took it up, and the filters of the start and those added before
   -- allow it
   pub confined : (key : Key) (place : ℕ) (call : SysCall)
       → Performed ls key place call ↔ TookUp ls key place call
-  -- and never where those of the start deny it
+  -- and never if those of the start deny it
   pub start_binds : (key : Key) (cell : Cell) (place : ℕ) (entry : JudgedCall) (alone : Verdict)
       → Seen ls key cell
       → slice_get cell.entries place ≡ Some entry → entry.performed ≡ true
       → IsJudged cell.making.stack entry.call alone → IsTrue (performs_of alone.action)
-  -- a key has one making at all times, which one request gave
+  -- a key has one making at all times, from one request
   pub one_making : (key : Key) (cell other : Cell) → Seen ls key cell → Seen ls key other
       → cell.making ≡ other.making
   pub made_from : (key : Key) (cell : Cell) → Seen ls key cell → (l : Link) × In l ls
       × MakesAt l key cell.making × (l.old.baseline ≡ baseline)
-  -- the record begins the one outcome of the script, and is the whole where no one else ended it
+  -- the record is a prefix of the one outcome of the script, and is the whole if no one else ended it
   pub follows : (key : Key) (cell : Cell) → Seen ls key cell → FollowsScript cell
   -- an id is one key's at all times
   pub one_id : (key other : Key) (cell its : Cell) → Seen ls key cell → Seen ls other its
@@ -123,7 +123,7 @@ pub record StepsOne (l : Link) (id : ℕ) (did : Did) : Type 0 where
   pub steps : Steps cell did later
   pub others : (other : Key) → other ≢ key → slot_of l.new other ≡ slot_of l.old other
 
--- the status is told of the key's container, by itself or in a list
+-- the status is reported for the key's container, by itself or in a list
 abbrev pub TellsStatus : Call → Answer → Key → status.Status → Type 0
 TellsStatus (ContainerStatus asked) (Status told) key status = (asked ≡ key) × (told ≡ status)
 TellsStatus (ContainerStatuses uid) (Statuses listed) key status = (uid ≡ key.uid)
@@ -134,7 +134,7 @@ TellsStatus call answer key status = ⊥
 pub record LinkLaws (l : Link) (before : List Link) : Type 0 where
   pub made_once : (key : Key) → Makes l key → (b : Link) → In b before → ¬ Makes b key
   pub started_once : (key : Key) → Starts l key → (b : Link) → In b before → ¬ Starts b key
-  -- what is there is a later form of all that was there before, and what went stays away
+  -- what is there is a later form of all that was there before, and what is gone stays away
   pub only_grows : (key : Key) (cell later : Cell) → Seen before key cell → slot_of l.new key ≡ There later
       → IsLater cell later
   pub gone_stays : (key : Key) → slot_of l.old key ≡ Gone → slot_of l.new key ≡ Gone
@@ -145,7 +145,7 @@ pub record LinkLaws (l : Link) (before : List Link) : Type 0 where
       → (place : ℕ) (call : SysCall) → ¬ TookUpAt l key place call
   pub removed_stays : (uid : List ℕ) → Answered before (RemovePodSandbox uid) Done → (key : Key)
       → key.uid ≡ uid → slot_of l.new key ≡ Gone
-  -- a status that is told is that of the key's cell, and so is an exit code
+  -- a reported status is that of the key's cell, and so is an exit code
   pub status_is_true : (call : Call) (files : FileAnswers) (answer : Answer) (key : Key)
       (status : status.Status) → l.event ≡ Served call files answer
       → TellsStatus call answer key status → (cell : Cell) × (slot_of l.new key ≡ There cell)

@@ -6,7 +6,7 @@ ghost use Rattle.runtime_laws.specs.Runs.{IsRun, Link};
 use runtime_cell::{calls_are_judged_by_all_filters, cells_follow_their_scripts, cells_only_grow};
 use verdict::stacks_judge_every_call;
 
-/// What holds in every run, for any requests, steps and kills: for all that happened, and for each link given
+/// The laws of every run, for any requests, steps and kills: for all that happened, and for each link given
 /// those before it.
 pub fn every_run()
     ensures run { (baseline : Option (List Insn)) (ls : List Link) → IsRun baseline ls → RunLaws baseline ls }

@@ -1,7 +1,5 @@
 pub mod Accepting
 pub mod Places
 pub mod Recording
-pub mod Stops
-pub mod StopText
 pub mod Telling
 pub mod Wrong

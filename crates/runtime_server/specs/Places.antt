@@ -16,6 +16,6 @@ abbrev pub value_of : {T : Type 0} → Option (Option T) → Option T
 value_of None = None
 value_of (Some place) = place
 
--- the value at a place; none where it is free, or no place
+-- the value at a place; none if the place is free or does not exist
 abbrev pub value_at : {T : Type 0} → List (Option T) → ℕ → Option T
 value_at places at = value_of (slice_get places at)

@@ -1,4 +1,4 @@
--- What is told of a runtime beside its messages, this project's own: docs/SEMANTICS.md, "Programs".
+-- What a runtime reports beside its messages, this project's own: docs/SEMANTICS.md, "Programs".
 use Rattle.std.specs.Prelude.{ℕ, List, [], ◌++◌, Bool, true, false, codes}
 use Rattle.cri_msgs.specs.declared.replies.Answer.{Answer}
 use Rattle.cri_msgs.specs.declared.replies.Answer.TheVariants.{Refused}
@@ -8,23 +8,23 @@ use Rattle.runtime_server.specs.declared.site.Address.{Address}
 use Rattle.runtime_server.specs.declared.site.Tells.{Tells}
 use Rattle.runtime_server.specs.declared.site.Tells.TheVariants.{Nothing, WrongFiles, Each}
 
--- whether an answer is told, behind which a file is wrong or not
+-- whether an answer is reported, given whether a bad file caused it
 abbrev pub is_told : Tells → Bool → Bool
 is_told Nothing wrong = false
 is_told WrongFiles wrong = wrong
 is_told Each wrong = true
 
--- where scriptd is to tell what it does
+-- which answers scriptd reports, given whether it logs
 abbrev pub told_where : Bool → Tells
 told_where true = Each
 told_where false = Nothing
 
--- behind an answer
+-- the text after an answer
 abbrev pub name_behind : Answer → List ℕ
 name_behind (Refused refusal) = codes " refused " ++ refusal_text refusal
 name_behind _ = []
 
--- the first line of a runtime
+-- the first log line of a runtime
 abbrev pub listening_text : Address → List ℕ
 listening_text address =
     codes "listens at " ++ (shown_path address.socket.now

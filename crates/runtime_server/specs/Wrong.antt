@@ -1,5 +1,7 @@
--- What is told of a file for which a creation is refused, this project's own: docs/SEMANTICS.md, "Programs".
+-- The report on a file for which a creation is refused, this project's own: docs/SEMANTICS.md, "Programs".
 use Rattle.std.specs.Prelude.{◌≡◌, ◌⊎◌, ℕ, List, ◌++◌, codes, string_bytes, Option, Some, None, ⊤}
+use Rattle.cri_msgs.specs.declared.calls.Call.{Call}
+use Rattle.cri_msgs.specs.declared.calls.Call.TheVariants.{CreateContainer}
 use Rattle.std.specs.declared.string.String.{String}
 use Rattle.oci_profile.specs.Profile.{ReadsProfile}
 use Rattle.oci_profile.specs.Reading.{first_fault_at}
@@ -10,8 +12,12 @@ use Rattle.script.specs.declared.placed.ScriptFaultAt.{ScriptFaultAt}
 use Rattle.fault_notes.specs.Notes.{IsNote}
 use Rattle.fault_notes.specs.Paths.{shown_path}
 use Rattle.fault_notes.specs.declared.named.Named.TheVariants as named
+use Rattle.refusal_causes.specs.declared.causes.Cause.{Cause}
+use Rattle.runtime_server.specs.declared.diagnosis.FileKind.{FileKind}
+use Rattle.runtime_server.specs.declared.diagnosis.FileKind.TheVariants as kind
+use Rattle.runtime_server.specs.declared.diagnosis.Wrong.{Wrong}
 
--- the first fault of this text, its place and what stands there, behind the file's name
+-- the file's name, then the first fault of this text with its place and the value there
 abbrev pub TellsScript : {Y : Type 0} → List ℕ → List ℕ → Option (String Y) → Type 0
 TellsScript path bytes None = ⊤
 TellsScript path bytes (Some text) =
@@ -19,7 +25,7 @@ TellsScript path bytes (Some text) =
     × ((note : List ℕ) × IsNote bytes (named.Script found.fault) found.place note
     × (string_bytes text ≡ shown_path path ++ note))
 
--- the same of a profile, or that it is too heavy
+-- the same for a profile, or that it is too heavy
 abbrev pub TellsProfile : {Y : Type 0} → List ℕ → List ℕ → Option (String Y) → Type 0
 TellsProfile path bytes None = ⊤
 TellsProfile path bytes (Some text) =
@@ -28,3 +34,21 @@ TellsProfile path bytes (Some text) =
     ⊎ ((found : ProfileFaultAt) × (first_fault_at bytes ≡ Some found)
     × ((note : List ℕ) × IsNote bytes (named.Profile found.fault) found.place note
     × (string_bytes text ≡ shown_path path ++ note)))
+
+abbrev pub kind_text : FileKind → List ℕ
+kind_text kind.Script = codes "script "
+kind_text kind.Profile = codes "profile "
+
+-- the kind of the file, and the note on it
+abbrev pub cause_text : Wrong → List ℕ
+cause_text wrong = kind_text wrong.kind ++ string_bytes wrong.text
+
+-- why a request with this number and a bad file is refused
+abbrev pub cause_in : ℕ → Call → Wrong → Option Cause
+cause_in number (CreateContainer key image profile) wrong = Some (record {
+  number = number;
+  uid = key.uid;
+  name = key.container.name;
+  text = cause_text wrong;
+})
+cause_in number call wrong = None

@@ -1,4 +1,4 @@
-//! What is reported of accepting connections: a fault when it begins, and when it is over.
+//! Reports on accepting connections: a fault when it begins and when it ends.
 ghost use Rattle.std.specs.Prelude.{◌≡◌, Some, None};
 ghost use Rattle.runtime_server.specs.Accepting.{report_for};
 
@@ -9,7 +9,7 @@ use std::fmt;
 /// What changed.
 #[derive(Clone, Copy, Debug, PartialEq, Eq)]
 pub(crate) enum Report {
-    /// Connections can't be accepted, or no longer for the cause that was reported before.
+    /// Connections can't be accepted, for a new cause.
     Fails(Cause),
     /// Connections are accepted again.
     Works,
@@ -44,8 +44,7 @@ impl Accepting {
         Accepting { fault: None }
     }
 
-    /// Records why a connection was not accepted, or that one was, and returns the report that is due: a
-    /// change, once.
+    /// Records why a connection was not accepted, or that one was. Returns a report if that is a change.
     pub(crate) fn note(&mut self, fault: Option<Cause>) -> Option<Report>
         ensures kept { self.new.fault ≡ fault }
         ensures same { fault ≡ self.old.fault → result ≡ None }

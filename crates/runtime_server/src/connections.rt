@@ -32,7 +32,7 @@ impl Open {
         })
     }
 
-    // Gives a connection the first free place, or returns it with the reason why it has none.
+    // Puts a connection into the first free place, or returns it with the reason why it gets none.
     fn enter(&mut self, stream: UnixStream) -> Result<usize, (NoPlace, UnixStream)>
         ensures entered { IfOk result (λ place. (self.old.closed ≡ false)
             × (first_free self.old.places ≡ Some place)
@@ -55,15 +55,15 @@ impl Open {
 /// Why a connection gets no place.
 #[derive(Clone, Copy, Debug, PartialEq, Eq)]
 pub enum NoPlace {
-    /// As many are open as may be.
+    /// The maximum number of connections is open.
     Full,
-    /// No more are served.
+    /// No more connections are served.
     Closed,
-    /// The system refused a copy of the connection, by which it could be cut off.
+    /// The system refused a copy of the connection, which is needed to cut it off.
     System(Cause),
 }
 
-/// The connections that are open, so that they can be cut off.
+/// The open connections, kept so that they can be cut off.
 #[derive(Drop)]
 pub struct Connections {
     open: Mutex<Open>,
@@ -96,7 +96,7 @@ impl Connections {
         }
     }
 
-    /// Gives a place back.
+    /// Frees a place.
     pub fn leave<R: Wait>(&self, rt: &R, place: usize) {
         let mut open = self.open.lock(rt);
         let left = open.places.take(place);
@@ -104,12 +104,12 @@ impl Connections {
         drop(left);
     }
 
-    /// Whether none is open.
+    /// Whether no connection is open.
     pub fn is_empty<R: Wait>(&self, rt: &R) -> bool {
         self.open.lock(rt).places.is_empty()
     }
 
-    /// Whether no more are served.
+    /// Whether no more connections are served.
     pub fn is_closed<R: Wait>(&self, rt: &R) -> bool {
         self.open.lock(rt).closed
     }

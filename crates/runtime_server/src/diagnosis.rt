@@ -1,8 +1,8 @@
-//! What is wrong with the files of a request, in the order in which a runtime judges them: the script, then
-//! the profile. A request that is refused for another reason is reported without it.
+//! Faults of a request's files, in the order in which a runtime checks them: the script, then the profile. A
+//! request refused for another reason is reported without them.
 ghost use Rattle.std.specs.Prelude.{◌≡◌, ◌++◌, IfOk, string_bytes};
 ghost use Rattle.fault_notes.specs.Paths.{shown_path};
-ghost use Rattle.runtime_server.specs.Wrong.{TellsProfile, TellsScript};
+ghost use Rattle.runtime_server.specs.Wrong.{TellsProfile, TellsScript, cause_in, cause_text, kind_text};
 
 use compile::{CompileFault, compile};
 use cri_msgs::{Answer, Call, Refusal, Request};
@@ -10,9 +10,70 @@ use fault_notes::{ShownPath, profile_note, script_note};
 use manifest::SeccompProfile;
 use node_io::{CausedFault, FileFault, MAX_FILE_BYTES, SystemFiles};
 use oci_profile::ProfileFault;
+use refusal_causes::{Cause, CauseText};
 use runtime_core::{CompiledProfile, FileAnswer, FileAnswers};
 use script::{Script, ScriptFault};
 use std::alloc::{AllocError, Global};
+
+/// The kind of a request's file.
+#[derive(Clone, Copy, Debug)]
+pub(crate) enum FileKind {
+    Script,
+    Profile,
+}
+
+/// A bad file of a request.
+#[derive(Debug, Drop)]
+pub(crate) struct Wrong {
+    kind: FileKind,
+    /// The file, the place, the fault: `gone.s: NotFound`, `s.json: steps[2].call: UnknownCall: "nosuch"`.
+    text: String,
+}
+
+impl Wrong {
+    /// The file, the place in it, and the fault.
+    pub(crate) fn as_str(&self) -> &str
+        ensures { result.now ≡ string_bytes self.now.text }
+    {
+        self.text.as_str()
+    }
+}
+
+fn kind_text(kind: FileKind) -> &'static str
+    ensures { result.now ≡ kind_text kind }
+{
+    match kind {
+        FileKind::Script => "script ",
+        FileKind::Profile => "profile ",
+    }
+}
+
+fn cause_text(alloc: Global, wrong: &Wrong) -> Result<CauseText, AllocError>
+    ensures { IfOk result (λ text. text ≡ cause_text wrong.now) }
+{
+    let mut text = String::from_str(alloc, kind_text(wrong.kind))?;
+    text.push_str(wrong.as_str())?;
+    Ok(CauseText::new(text))
+}
+
+/// Why a request with a bad file is refused.
+pub(crate) fn cause_in(
+    alloc: Global,
+    request: &Request,
+    wrong: &Wrong,
+) -> Result<Option<Cause>, AllocError>
+    ensures { IfOk result (λ cause. cause ≡ cause_in request.now.id request.now.call wrong.now) }
+{
+    let Call::CreateContainer { key, .. } = &request.call else {
+        return Ok(None);
+    };
+    Ok(Some(Cause {
+        number: request.id,
+        uid: key.uid.try_clone(alloc)?,
+        name: key.container.name.try_clone(alloc)?,
+        text: cause_text(alloc, wrong)?,
+    }))
+}
 
 /// Whether an answer may be due to a bad file.
 pub(crate) fn is_of_files(answer: &Answer) -> bool {
@@ -22,26 +83,33 @@ pub(crate) fn is_of_files(answer: &Answer) -> bool {
     )
 }
 
-/// The first file that is wrong, where in it, and why: `gone.s: NotFound`, `s.json: steps[2].call:
-/// UnknownCall: "nosuch"`.
+/// The first bad file of a request.
 pub(crate) fn wrong_in(
     alloc: Global,
     scripts: &SystemFiles<'_, HostRuntime>,
     profiles: &SystemFiles<'_, HostRuntime>,
     request: &Request,
     files: &FileAnswers,
-) -> Result<Option<String>, AllocError> {
+) -> Result<Option<Wrong>, AllocError> {
     let Call::CreateContainer { image, profile, .. } = &request.call else {
         return Ok(None);
     };
-    if let Some(wrong) = wrong_script(alloc, scripts, image.as_str(), &files.script)? {
-        return Ok(Some(wrong));
+    if let Some(text) = wrong_script(alloc, scripts, image.as_str(), &files.script)? {
+        let kind = FileKind::Script;
+        return Ok(Some(Wrong { kind, text }));
     }
-    match profile {
+    let wrong = match profile {
         SeccompProfile::Localhost(path) => {
-            wrong_profile(alloc, profiles, path.as_str(), &files.profile)
+            wrong_profile(alloc, profiles, path.as_str(), &files.profile)?
         }
-        SeccompProfile::RuntimeDefault | SeccompProfile::Unconfined => Ok(None),
+        SeccompProfile::RuntimeDefault | SeccompProfile::Unconfined => None,
+    };
+    match wrong {
+        Some(text) => {
+            let kind = FileKind::Profile;
+            Ok(Some(Wrong { kind, text }))
+        }
+        None => Ok(None),
     }
 }
 
@@ -58,7 +126,7 @@ fn wrong_script(
     }
 }
 
-// What is wrong with a script's text, if something is.
+// The first fault of a script's text, if it has one.
 fn script_fault(alloc: Global, path: &str, bytes: &[u8]) -> Result<Option<String>, AllocError>
     ensures { IfOk result (TellsScript path.now bytes.now) }
 {
@@ -71,7 +139,7 @@ fn script_fault(alloc: Global, path: &str, bytes: &[u8]) -> Result<Option<String
     }
 }
 
-// The note on a file.
+// The file's path, followed by the note.
 fn behind(alloc: Global, path: &str, told: &str) -> Result<String, AllocError>
     ensures { IfOk result (λ text. string_bytes text ≡ shown_path path.now ++ told.now) }
 {
@@ -91,7 +159,7 @@ fn wrong_profile(
     }
 }
 
-// What is wrong with a profile's text, if something is.
+// The first fault of a profile's text, if it has one.
 fn profile_fault(alloc: Global, path: &str, bytes: &[u8]) -> Result<Option<String>, AllocError>
     ensures { IfOk result (TellsProfile path.now bytes.now) }
 {
@@ -107,7 +175,7 @@ fn profile_fault(alloc: Global, path: &str, bytes: &[u8]) -> Result<Option<Strin
     }
 }
 
-// The note on a file that could not be read. The system is asked again for the cause.
+// The note on an unreadable file. After a failed read, queries the system again for the cause.
 fn unread(
     alloc: Global,
     files: &SystemFiles<'_, HostRuntime>,

@@ -14,8 +14,8 @@ use std::sync::Wait;
 use std::thread::{Scope, Threads};
 use std::time::Clock;
 
-/// A runtime that threads share, with the one who makes its callers, the notifier of its runners, the reader
-/// of large texts, and the recorder of its cells, if records are written.
+/// A runtime that threads share, with the maker of its callers, the notifier of its runners, the reader of
+/// large texts, and the recorder of its cells, if records are written.
 #[derive(Drop)]
 pub struct Engine<B: Node> {
     runtime: SharedRuntime<B>,
@@ -42,7 +42,7 @@ impl<B: Node> Engine<B> {
         }
     }
 
-    /// The host by which a thread asks it, which has seen nothing of its history.
+    /// A host for a thread's calls to the runtime. It has seen nothing of the runtime's history.
     pub fn host<'a, R: Wait>(&'a self, rt: &'a R) -> EngineHost<'a, B, R>
         ensures { result ≡ unseen }
     {
@@ -56,19 +56,19 @@ impl<B: Node> Engine<B> {
         }
     }
 
-    /// Waits until none of its containers runs, given its number of runners, or until it is closed.
+    /// Waits until no container runs or the engine is closed. `runners` is its number of runners.
     pub fn wait_idle<R: Wait>(&self, rt: &R, runners: u32) {
         self.notifier.wait_idle(rt, u64::from(runners));
     }
 
-    /// Waits until all records are written, if they are.
+    /// Waits until all records are written, if records are kept.
     pub fn finish<R: Wait + Clock>(&self, rt: &R) {
         if let Some(recorder) = &self.recorder {
             recorder.finish(rt);
         }
     }
 
-    /// Ends its runners, and its reader.
+    /// Stops the runners and the reader.
     pub fn close<R: Wait>(&self, rt: &R) {
         self.notifier.close(rt);
         self.reader.close(rt);
@@ -125,7 +125,7 @@ pub struct EngineHost<'a, B: Node, R: Wait> {
 }
 
 impl<'a, B: Node, R: Wait> EngineHost<'a, B, R> {
-    // Serves a request, and has the cells that it removes recorded.
+    // Serves a request, and records the cells that it removes.
     fn serve_recorded(&mut self, recorder: &Recorder, request: Request, files: FileAnswers) -> Reply
         ensures { MayServe B.filter self.old request files result self.new }
     {

@@ -1,9 +1,9 @@
 //! The files and folders that the command lines name.
 
-use crate::stops::{ServerStop, file_stop};
 use bpf_code::CodeFault;
 use bpf_verify::{Filter, Refusal, filter_of};
 use node_io::{MAX_FILE_BYTES, look_at_folder, read_file};
+use runtime_stops::{ServerStop, file_stop};
 use std::rt;
 
 /// The bytes of a file.
@@ -17,7 +17,7 @@ pub fn bytes_at<'a, R: rt::Files + AllocGlobal>(
     }
 }
 
-/// Checks that there is a folder at each of these paths.
+/// Checks that each of these paths is a folder.
 pub fn look_at_folders<'a, R: rt::Files>(
     rt: &R,
     paths: [&'a str; 2],

@@ -2,7 +2,8 @@ ghost use Rattle.std.specs.Prelude.{◌≡◌};
 ghost use Rattle.runtime_server.specs.declared.connections.TheConstants.{MAX_CONNECTIONS};
 ghost use Rattle.runtime_server.specs.declared.site.TheConstants.{REST};
 ghost use Rattle.runtime_server.specs.declared.path_lock.TheConstants.{LOCKS};
-ghost use Rattle.runtime_server.specs.declared.sockets.TheConstants.{FOLDERS, MAX_NAME};
+ghost use Rattle.runtime_server.specs.declared.sockets.TheConstants.{FOLDERS};
+ghost use Rattle.runtime_stops.specs.declared.socket_fault.TheConstants.{MAX_NAME};
 ghost use Rattle.runtime_server.specs.declared.teller.TheConstants.{MAX_WAITING, READER_PATIENCE};
 
 /// The values of this crate's constants.

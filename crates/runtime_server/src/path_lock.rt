@@ -1,18 +1,18 @@
-//! The lock beside a socket's path: the file PATH.lock, which the program that owns the path holds locked.
+//! The lock beside a socket's path: the file PATH.lock, which the path's owner keeps locked.
 //!
-//! Anyone who may write the folder may put something else there before. So a file is only made where nothing
-//! is, and what is there is only opened once it is known to be a regular file: no link is followed, and no
-//! pipe is waited for.
+//! Anyone with write access to the folder may have put something else there. So the file is created only if
+//! the name is free, and an existing file is opened only if it is a regular one: no link is followed, and
+//! opening never waits for a pipe.
 ghost use Rattle.std.specs.Prelude.{◌≡◌, ◌↔◌, Err, IsErr, IsOk};
 ghost use Rattle.std.specs.Fs.{IsFile, IsSymlink, file_type};
 
-use crate::socket_fault::SocketFault;
+use runtime_stops::SocketFault;
 use std::fs::{File, Metadata, OpenOptions, TryLockError};
 use std::io::{self, ErrorKind};
 use std::os::unix::fs::{MetadataExt, OpenOptionsExt};
 use std::{fs, rt};
 
-// How often a lock is tried again whose file is removed meanwhile.
+// How often a lock is tried if its file is removed meanwhile.
 pub(crate) const LOCKS: u32 = 100;
 
 /// A lock that keeps other programs from the path. The system releases it when the process ends, for whatever
@@ -24,7 +24,7 @@ pub(crate) struct PathLock {
 }
 
 impl PathLock {
-    /// Takes the lock beside this path, without waiting if another program has it.
+    /// Takes the lock beside this path. Never waits if another program has it.
     pub(crate) fn of(rt: &HostRuntime, path: &str) -> Result<PathLock, SocketFault> {
         let name = format!(in rt.alloc(); "{path}.lock")?;
         for _ in 0..LOCKS {
@@ -50,7 +50,7 @@ impl PathLock {
     }
 }
 
-// The open file of a lock; `None` if what is there changed meanwhile.
+// Creates or opens the file of a lock; `None` if the file there changed meanwhile.
 fn lock_file(rt: &HostRuntime, name: &str) -> Result<Option<File>, SocketFault> {
     let made = OpenOptions::new()
         .write(true)
@@ -64,7 +64,7 @@ fn lock_file(rt: &HostRuntime, name: &str) -> Result<Option<File>, SocketFault> 
     }
 }
 
-// The same of a file that is there. Opening one for reading and writing never waits.
+// Opens a lock's existing file: for reading and writing, since that never waits.
 fn lock_file_there(rt: &HostRuntime, name: &str) -> Result<Option<File>, SocketFault> {
     let Some(about) = about(rt, name)? else {
         return Ok(None);
@@ -82,7 +82,7 @@ fn lock_file_there(rt: &HostRuntime, name: &str) -> Result<Option<File>, SocketF
     }
 }
 
-// Checks that what is at the name of a lock may be opened.
+// Checks that the file at a lock's name may be opened.
 fn look_at_lock(about: &Metadata) -> Result<(), SocketFault>
     ensures fine { IsOk result ↔ IsFile (file_type about.now) }
     ensures link { IsSymlink (file_type about.now) → result ≡ Err SocketFault.LockLink }
@@ -98,7 +98,7 @@ fn look_at_lock(about: &Metadata) -> Result<(), SocketFault>
     }
 }
 
-// What the name itself belongs to, if anything is there.
+// The metadata of the name itself, if anything is there.
 fn about(rt: &HostRuntime, name: &str) -> io::Result<Option<Metadata>> {
     match fs::symlink_metadata(rt, name) {
         Ok(about) => Ok(Some(about)),
@@ -107,13 +107,13 @@ fn about(rt: &HostRuntime, name: &str) -> io::Result<Option<Metadata>> {
     }
 }
 
-// Whether an open file is this one.
+// Whether an open file is the one with this metadata.
 fn is_of(file: &File, about: &Metadata) -> io::Result<bool> {
     let own = file.metadata()?;
     Ok(about.dev() == own.dev() && about.ino() == own.ino())
 }
 
-// Whether the name still belongs to this file.
+// Whether the name still refers to this file.
 fn is_named(rt: &HostRuntime, file: &File, name: &str) -> io::Result<bool> {
     match about(rt, name)? {
         Some(about) => is_of(file, &about),

@@ -6,7 +6,7 @@ ghost use Rattle.runtime_server.specs.Places.{are_all_free, first_free, is_free,
 use std::alloc::{AllocError, Global};
 use std::marker::Model;
 
-/// Places for values, as many as were made. Contracts see each place and the value there.
+/// A fixed number of places for values. Contracts see each place and the value there.
 #[derive(Drop)]
 pub(crate) struct Places<T: Drop> {
     list: Vec<Option<T>>,
@@ -64,7 +64,7 @@ impl<T: Drop> Places<T> {
         }
     }
 
-    /// Takes the value of this place, which is free from now on.
+    /// Takes the value out of this place, and frees the place.
     pub(crate) fn take(&mut self, place: usize) -> Option<T>
         ensures value { result ≡ value_at self.old place }
         ensures free { self.new ≡ slice_set self.old place None }

@@ -3,7 +3,6 @@ ghost use Rattle.std.specs.Prelude.{◌≡◌, ◌↔◌, IsTrue};
 ghost use Rattle.runtime_server.specs.Recording.{HasEndedAlone, calls_of};
 
 use crate::records_file::RecordsFile;
-use crate::stops::{ServerStop, file_stop};
 use crate::teller::Teller;
 use cell_records::{RecordCalls, record_line};
 use cri_msgs::{Call, Request};
@@ -12,12 +11,13 @@ use registry::RemovedCells;
 use runner::StepGate;
 use runtime_cell::{Cell, State};
 use runtime_core::uid_of;
+use runtime_stops::{ServerStop, file_stop};
 use std::alloc::{AllocError, Global};
 use std::sync::{Arc, Wait};
 use std::thread::Threads;
 use std::time::Clock;
 
-/// Takes the cells that ended or were removed, and has their records written. It never waits for the file.
+/// Takes the ended and removed cells, and has their records written. It never waits for the file.
 #[derive(Drop)]
 pub struct Recorder {
     alloc: Global,
@@ -46,8 +46,8 @@ impl From<AllocError> for RecordsFault {
 }
 
 impl Recorder {
-    /// Starts the thread that appends records to this file, which is made if it is not there. `program` is the
-    /// name under which faults of the file are reported on standard error.
+    /// Starts the thread that appends records to this file, which is created if missing. Faults of the file
+    /// are reported on standard error under the name `program`.
     pub fn start<R: Threads + Wait + Copy + Send + 'static>(
         rt: R,
         system: HostRuntime,
@@ -65,12 +65,12 @@ impl Recorder {
         })
     }
 
-    /// Waits until all records are written, or until none was for ten seconds.
+    /// Waits until all records are written, or until none has been for ten seconds.
     pub fn finish<R: Wait + Clock>(&self, rt: &R) {
         self.lines.finish(rt);
     }
 
-    /// The uid whose cells a request may remove, copied.
+    /// A copy of the uid whose cells a request may remove.
     pub(crate) fn removal(&self, request: &Request) -> Result<Option<String>, AllocError> {
         match &request.call {
             Call::RemovePodSandbox { .. } | Call::RemoveContainer { .. } => {
@@ -86,7 +86,7 @@ impl Recorder {
         self.lines.tell(rt, line);
     }
 
-    /// Records the cells that a request removed, but for those that had ended by themselves: these were
+    /// Records the cells that a request removed, except those that had ended by themselves: they were
     /// recorded then.
     pub(crate) fn record_removed<R: Wait>(
         &self,
@@ -120,7 +120,7 @@ impl Recorder {
     }
 }
 
-/// The recorder of the records that a command line asks for, if it does.
+/// The recorder, if the command line asks for records.
 pub fn recorder_for<'a, R: Threads + Wait + Copy + Send + 'static>(
     rt: &R,
     system: &HostRuntime,
@@ -158,7 +158,7 @@ fn has_ended_alone(cell: &Cell) -> bool
     }
 }
 
-/// Has each cell that a step ended recorded, if records are written.
+/// Records each cell that a step ended, if records are written.
 #[derive(Drop)]
 pub(crate) struct EndGate<'a, R: Wait> {
     pub(crate) rt: &'a R,

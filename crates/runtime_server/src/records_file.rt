@@ -9,8 +9,8 @@ use std::fs::{self, File, OpenOptions};
 use std::io::{self, ErrorKind, Write};
 use std::os::unix::fs::MetadataExt;
 
-/// A file to which whole lines are appended. If another file has taken its path, as when logs are rotated, the
-/// next line goes to that one; if none has, a new one is made.
+/// A file to which whole lines are appended. If its path now names another file, as after log rotation, the
+/// next line goes there; if the path names none, a new file is created.
 #[derive(Drop)]
 pub(crate) struct RecordsFile {
     // The name of the program that reports faults of the file.
@@ -26,13 +26,13 @@ pub(crate) struct RecordsFile {
 #[derive(Drop)]
 struct OpenFile {
     file: File,
-    // Whether it ends within a line, whose rest could not be written.
+    // Whether it ends in the middle of a line, whose rest could not be written.
     is_torn: bool,
 }
 
 impl RecordsFile {
-    /// The file at this path, which is made if it is not there. A pipe is opened with the first line: that
-    /// would wait for its reader.
+    /// Opens the file at this path, and creates it if missing. A pipe is opened only with the first line:
+    /// opening it would wait for its reader.
     pub(crate) fn at(
         system: &HostRuntime,
         program: &'static str,
@@ -102,8 +102,8 @@ impl Outlet for RecordsFile {
 }
 
 impl OpenFile {
-    // Appends a line as a whole. If only a part of it can be written, that part is removed again, or, where the
-    // file can't be cut, the next line begins on a line of its own.
+    // Appends a line as a whole. If only part of it can be written, removes that part again; if the file
+    // can't be cut, the next record begins on a new line.
     fn append(&mut self, system: &HostRuntime, line: &str) -> io::Result<()> {
         let start = if self.is_torn { "\n" } else { "" };
         let text = format!(in system.alloc(); "{start}{line}\n")?;
@@ -133,7 +133,7 @@ fn write_all_of(file: &mut File, bytes: &[u8]) -> (usize, io::Result<()>) {
     (written, Ok(()))
 }
 
-// Cuts so many bytes off the end of a file, and returns whether that could be done.
+// Cuts this many bytes off the end of a file, and returns whether that succeeded.
 fn cut(file: &File, bytes: usize) -> bool {
     let Ok(about) = file.metadata() else {
         return false;
@@ -152,7 +152,7 @@ fn is_at(system: &HostRuntime, file: &File, path: &str) -> bool {
     }
 }
 
-// The file at the path, open for appending. `None` for a pipe or a device.
+// Opens the file at the path for appending. `None` for a pipe or a device.
 fn open_regular(system: &HostRuntime, path: &str) -> io::Result<Option<OpenFile>> {
     match fs::metadata(system, path) {
         Ok(about) if !about.is_file() && !about.is_dir() => Ok(None),

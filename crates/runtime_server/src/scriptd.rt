@@ -4,11 +4,11 @@ ghost use Rattle.runtime_server.specs.Telling.{told_where};
 use crate::engine::start_runners;
 use crate::inputs::{baseline_at, look_at_folders};
 use crate::recording::recorder_for;
-use crate::site::{Address, Site, Tells, accept_all};
-use crate::stops::{ServerStop, Told, socket_stop};
+use crate::site::{Address, Reports, Site, Tells, accept_all};
 use crate::teller::{Stream, Teller};
 use command_line::{ScriptdLine, scriptd_line};
 use runner::{Begun, Node};
+use runtime_stops::{ServerStop, Told, socket_stop};
 use std::alloc::AllocError;
 use std::io::Write;
 use std::marker::Brand;
@@ -17,9 +17,9 @@ use std::thread::{Scope, Threads, scope, scope_env};
 use std::time::Clock;
 
 /// The program `scriptd`: runs containers, which are scripts, behind a socket that takes CRI calls. `words`
-/// are the command line's, the program's name first. It ends only if something stops it, and returns its exit
-/// status: 1 input refused, 2 command line refused, 3 file or socket fault, 4 out of memory. The reason is
-/// written to `err`; nothing is written to `_out`.
+/// is the command line, with the program's name first. It ends only if something stops it, and returns its
+/// exit status: 1 input refused, 2 command line refused, 3 file or socket fault, 4 out of memory. Writes the
+/// reason to `err`, and nothing to `_out`.
 pub fn scriptd_run<R: Threads + Wait + Clock + Copy + Send + Sync + 'static, O: Write, E: Write>(
     rt: &R,
     system: &HostRuntime,
@@ -55,7 +55,7 @@ fn run<'a, R: Threads + Wait + Clock + Copy + Send + Sync + 'static>(
     run_line::<Brand, R>(rt, system, &line, begun)
 }
 
-// Does what the line says, with this runtime.
+// Carries out the command line with this runtime.
 fn run_line<'a, B: Node + Send + Sync, R: Threads + Wait + Clock + Copy + Send + Sync + 'static>(
     rt: &R,
     system: &HostRuntime,
@@ -70,7 +70,12 @@ fn run_line<'a, B: Node + Send + Sync, R: Threads + Wait + Clock + Copy + Send +
         None
     };
     let recorder = recorder_for(rt, system, "scriptd", line.records, line.records_all)?;
-    let site = match Site::<B>::open(rt, system, address_of(line), begun, teller, recorder) {
+    let reports = Reports {
+        teller,
+        recorder,
+        causes: None,
+    };
+    let site = match Site::<B>::open(rt, system, address_of(line), begun, reports) {
         Ok(site) => site,
         Err(fault) => return Err(socket_stop(line.socket, fault)),
     };

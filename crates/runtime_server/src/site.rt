@@ -1,23 +1,24 @@
-//! A runtime behind its socket: what accepts connections, and what serves them.
+//! A runtime behind its socket: accepts connections and serves them.
 ghost use Rattle.std.specs.Prelude.{◌≡◌, IfOk, Some};
 
 use crate::accepting::{Accepting, Report};
 use crate::connections::{Connections, NoPlace};
-use crate::diagnosis::{is_of_files, wrong_in};
+use crate::diagnosis::{Wrong, cause_in, is_of_files, wrong_in};
 use crate::engine::{Engine, EngineHost};
 use crate::recording::Recorder;
-use crate::socket_fault::SocketFault;
 use crate::sockets::Socket;
 use crate::teller::Teller;
 use crate::telling::{asked, listening_line, reply_line};
 use cri_msgs::{MessageFault, Reply, Request, Version};
 use node_io::{Cause, StreamWire, SystemFiles};
+use refusal_causes::{self, Causes};
 use runner::{Begun, Host, Node, Service, serve_wire};
 use runtime_core::FileAnswers;
-use std::alloc::Global;
+use runtime_stops::SocketFault;
+use std::alloc::{AllocError, Global};
 use std::marker::Model;
 use std::os::unix::net::UnixStream;
-use std::sync::{Arc, Wait};
+use std::sync::{Arc, Mutex, Wait};
 use std::thread::{self, Scope, Threads};
 use std::time::{Clock, Duration};
 
@@ -25,7 +26,7 @@ use std::time::{Clock, Duration};
 // open files.
 pub(crate) const REST: u64 = 10;
 
-/// Where a runtime is, and what it serves.
+/// Where a runtime listens, and what it serves.
 #[derive(Clone, Copy)]
 pub struct Address<'a> {
     /// The path of its socket.
@@ -53,7 +54,7 @@ impl Tells {
     ghost use Rattle.runtime_server.specs.Telling.{is_told};
 
     /// Whether an answer is reported, given the bad file that caused it, if there is one.
-    fn is_told(self, wrong: &Option<String>) -> bool
+    fn is_told(self, wrong: &Option<Wrong>) -> bool
         ensures { result ≡ is_told self (is_some wrong.now) }
     {
         match self {
@@ -64,33 +65,47 @@ impl Tells {
     }
 }
 
-/// A runtime that is served over a socket.
+/// Where a runtime's reports go.
+#[derive(Drop)]
+pub struct Reports {
+    /// Writes the reported answers, if any are reported.
+    pub teller: Option<Arc<Teller, Global>>,
+    /// Writes the records of cells, if they are wanted.
+    pub recorder: Option<Recorder>,
+    /// Collects the causes of refusals, if an agent in this process asks for them.
+    pub causes: Option<Arc<Mutex<Causes>, Global>>,
+}
+
+/// A runtime served over a socket.
 #[derive(Drop)]
 pub struct Site<'a, B: Node> {
     alloc: Global,
     address: Address<'a>,
     socket: Socket,
     connections: Connections,
-    // Writes the reported answers, if any are to be reported.
     teller: Option<Arc<Teller, Global>>,
+    causes: Option<Arc<Mutex<Causes>, Global>>,
     /// The runtime.
     pub engine: Engine<B>,
 }
 
 impl<'a, B: Node> Site<'a, B> {
-    /// Listens at the address. The runtime has served nothing. The teller has its lines, and the recorder its
-    /// cells.
+    /// Listens at the address. The runtime has served nothing.
     pub fn open<R: Wait>(
         rt: &R,
         system: &HostRuntime,
         address: Address<'a>,
         begun: Begun,
-        teller: Option<Arc<Teller, Global>>,
-        recorder: Option<Recorder>,
+        reports: Reports,
     ) -> Result<Site<'a, B>, SocketFault>
         requires { begun ≡ (B.filter, B.table) }
         ensures { IfOk result (λ site. site.address ≡ address.entry) }
     {
+        let Reports {
+            teller,
+            recorder,
+            causes,
+        } = reports;
         let connections = Connections::new(system.alloc())?;
         let socket = Socket::at(system, address.socket)?;
         if let (Some(teller), Tells::Each) = (&teller, address.tells) {
@@ -102,6 +117,7 @@ impl<'a, B: Node> Site<'a, B> {
             socket,
             connections,
             teller,
+            causes,
             engine: Engine::new(system.alloc(), begun, recorder),
         })
     }
@@ -113,6 +129,12 @@ impl<'a, B: Node> Site<'a, B> {
         }
     }
 
+    // Whether no part of an answer is reported.
+    fn is_silent(&self) -> bool {
+        let no_lines = self.teller.is_none() || self.address.tells == Tells::Nothing;
+        no_lines && self.causes.is_none()
+    }
+
     /// Ends all serving and stepping, and removes the socket's file.
     pub fn close<R: Wait>(&self, rt: &R, system: &HostRuntime) {
         self.engine.close(rt);
@@ -122,7 +144,7 @@ impl<'a, B: Node> Site<'a, B> {
     }
 }
 
-// Answers the requests of one connection. Each answer is reported once it was given. Contracts see what the
+// Answers the requests of one connection, and reports each answer afterwards. Contracts see what the
 // connection has seen of the runtime's history.
 #[derive(Drop)]
 struct ToldHost<'a, B: Node, R: Wait> {
@@ -142,13 +164,33 @@ impl<'a, B: Node, R: Wait> Model for ToldHost<'a, B, R> {
 }
 
 impl<B: Node, R: Wait> ToldHost<'_, B, R> {
-    // What is wrong with the files of a request. If memory for it runs out, the answer is reported without
-    // it.
-    fn wrong_in(&self, request: &Request, files: &FileAnswers) -> Option<String> {
+    // The bad file of a request, if there is one. Out of memory, the answer is reported without it.
+    fn wrong_in(&self, request: &Request, files: &FileAnswers) -> Option<Wrong> {
         let address = self.site.address;
         let scripts = SystemFiles::within(self.system, address.scripts);
         let profiles = SystemFiles::within(self.system, address.profiles);
         wrong_in(self.site.alloc, &scripts, &profiles, request, files).unwrap_or(None)
+    }
+
+    // The cause to note if the request is refused because of this file. Out of memory, none is noted.
+    fn cause_in(&self, request: &Request, wrong: &Option<Wrong>) -> Option<refusal_causes::Cause> {
+        self.site.causes.as_ref()?;
+        cause_in(self.site.alloc, request, wrong.as_ref()?).unwrap_or(None)
+    }
+
+    // Notes the cause for the agent in this process.
+    fn note(&self, cause: Option<refusal_causes::Cause>) {
+        if let (Some(causes), Some(cause)) = (&self.site.causes, cause) {
+            let _ = causes.lock(self.rt).note(cause);
+        }
+    }
+
+    // Reports the answer, if answers like it are reported.
+    fn tell(&self, asked: Result<String, AllocError>, reply: &Reply, wrong: Option<Wrong>) {
+        if let (Some(teller), true) = (&self.site.teller, self.site.address.tells.is_told(&wrong)) {
+            let line = reply_line(self.site.alloc, self.connection, asked, reply, wrong);
+            teller.tell(self.rt, line);
+        }
     }
 }
 
@@ -158,23 +200,18 @@ impl<B: Node, R: Wait> Host for ToldHost<'_, B, R> {
     ghost may = { MayServe B.filter };
 
     fn serve(&mut self, request: Request, files: FileAnswers) -> Reply {
-        let (Some(teller), Tells::WrongFiles | Tells::Each) = (
-            &self.site.teller,
-            self.site.address.tells,
-        ) else {
+        if self.site.is_silent() {
             return self.host.serve(request, files);
-        };
+        }
         let asked = asked(self.site.alloc, &request);
         let wrong = self.wrong_in(&request, &files);
+        let cause = self.cause_in(&request, &wrong);
         let reply = self.host.serve(request, files);
-        let wrong = if is_of_files(&reply.answer) {
-            wrong
+        if is_of_files(&reply.answer) {
+            self.note(cause);
+            self.tell(asked, &reply, wrong);
         } else {
-            None
-        };
-        if self.site.address.tells.is_told(&wrong) {
-            let line = reply_line(self.site.alloc, self.connection, asked, &reply, wrong);
-            teller.tell(self.rt, line);
+            self.tell(asked, &reply, None);
         }
         reply
     }
@@ -184,7 +221,7 @@ impl<B: Node, R: Wait> Host for ToldHost<'_, B, R> {
     }
 }
 
-// What serves a connection: the scripts and the profiles of the address.
+// The service of a connection, with the scripts and the profiles of the address.
 fn service_for<'a, B: Node, R: Wait>(
     rt: &'a R,
     system: &'a HostRuntime,
@@ -250,8 +287,8 @@ pub fn accept_all<'s, 'e, B: Node + Send + Sync, R: Threads + Wait + Clock + Syn
     }
 }
 
-// Serves a connection in a thread of its own, if there is a place for it, and returns the fault of the system
-// if that is why there is none.
+// Serves a connection in a thread of its own, if there is a place for it. If the system's fault is why there
+// is none, returns that fault.
 fn admit<'s, 'e, B: Node + Send + Sync, R: Threads + Wait + Sync>(
     scope: &'s Scope<'s, &'e ()>,
     rt: &'e R,

@@ -1,13 +1,12 @@
 //! The socket at a path.
 //!
-//! It is made in a private folder, where it gets its mode, and only then gets its name: so another user can
-//! never connect. The program that owns the path holds a lock beside it, from before it looks at what is
-//! there until after it has removed its own socket: so no program mistakes another's socket for one that was
-//! left over.
+//! The socket is created in a private folder, gets its mode there, and only then gets its name: so another
+//! user can never connect. The path's owner holds a lock beside it, from before it checks the path until
+//! after it has removed its own socket: so no program mistakes another's socket for a left-over one.
 ghost use Rattle.std.specs.Prelude.{◌≡◌, ◌<◌, ◌≤◌, Err, IsOk, length};
 
 use crate::path_lock::PathLock;
-use crate::socket_fault::SocketFault;
+use runtime_stops::{MAX_NAME, SocketFault};
 use std::fs::{DirBuilder, File, Metadata, Permissions};
 use std::io::{self, ErrorKind};
 use std::net::{Net, Shutdown};
@@ -16,13 +15,10 @@ use std::os::unix::fs::{DirBuilderExt, FileTypeExt, MetadataExt, PermissionsExt}
 use std::os::unix::net::{UnixListener, UnixStream};
 use std::{fs, rt};
 
-// How many folders are tried, of which other runs may have left some.
+// How many folder names are tried: other runs may have left some of the folders.
 pub(crate) const FOLDERS: u32 = 100;
 
-// The most bytes of a socket's name, by unix(7): there is room for 108, the last of which is 0.
-pub(crate) const MAX_NAME: usize = 107;
-
-/// Checks that a path may be a socket's: it has a byte, and no more than a socket's name may have.
+/// Checks that a path can be a socket's: not empty, and not longer than a socket's name may be.
 pub fn look_at_path(path: &str) -> Result<(), SocketFault>
     ensures empty { length path.now ≡ 0 → result ≡ Err SocketFault.Empty }
     ensures long { MAX_NAME < length path.now → result ≡ Err SocketFault.TooLong }
@@ -37,7 +33,7 @@ pub fn look_at_path(path: &str) -> Result<(), SocketFault>
     }
 }
 
-/// A socket that listens, and what identifies its file.
+/// A listening socket, and the identity of its file.
 #[derive(Drop)]
 pub(crate) struct Socket {
     pub(crate) listener: UnixListener,
@@ -48,8 +44,8 @@ pub(crate) struct Socket {
 }
 
 impl Socket {
-    /// Listens at this path. A left-over socket there, to which nobody listens, is replaced; one that is
-    /// live, and anything else, is left alone, and refused.
+    /// Listens at this path. Replaces a left-over socket that nobody listens to; refuses a live socket, and
+    /// anything else, and leaves it alone.
     pub(crate) fn at(rt: &HostRuntime, path: &str) -> Result<Socket, SocketFault> {
         look_at_path(path)?;
         let lock = PathLock::of(rt, path)?;
@@ -68,7 +64,7 @@ impl Socket {
         }
     }
 
-    /// From now on, waiting for a connection fails.
+    /// Makes waiting for a connection fail, from now on.
     pub(crate) fn wake(&self) {
         let _ = self.waker.shutdown(Shutdown::Both);
     }
@@ -84,15 +80,15 @@ impl Socket {
     }
 }
 
-/// A listener, and a copy of it that ends waiting for connections when it is shut down as if it were a
-/// stream. The copy is made with the listener, since at the end there may be no descriptor for it.
+/// A listener and a copy of it. Shutting the copy down like a stream ends waiting for connections. The copy
+/// is made with the listener, since at the end there may be no free descriptor for it.
 #[derive(Drop)]
 struct Made {
     listener: UnixListener,
     waker: UnixStream,
 }
 
-// A new socket that listens at this path, and what identifies its file.
+// A new socket that listens at this path, and its file's metadata.
 fn listener_at(rt: &HostRuntime, path: &str) -> Result<(Made, Metadata), SocketFault> {
     make_way(rt, path)?;
     let folder = own_folder(rt, path)?;
@@ -103,7 +99,7 @@ fn listener_at(rt: &HostRuntime, path: &str) -> Result<(Made, Metadata), SocketF
     Ok((made, fs::symlink_metadata(rt, path)?))
 }
 
-// Makes sure that nothing is at the path, or fails if the path can't be had.
+// Frees the path: removes a left-over socket, and fails if anything else is there.
 fn make_way<R: rt::Files + Net>(rt: &R, path: &str) -> Result<(), SocketFault> {
     let about = match fs::symlink_metadata(rt, path) {
         Ok(about) => about,
@@ -113,7 +109,7 @@ fn make_way<R: rt::Files + Net>(rt: &R, path: &str) -> Result<(), SocketFault> {
     if !about.file_type().is_socket() {
         return Err(SocketFault::Taken);
     }
-    // One whose queue is full is not waited for: it is live.
+    // A socket with a full queue is live, so connecting to it does not wait.
     match mio::net::UnixStream::connect(rt, path) {
         Ok(_) => Err(SocketFault::Listens),
         Err(error) => match error.kind() {
@@ -124,7 +120,7 @@ fn make_way<R: rt::Files + Net>(rt: &R, path: &str) -> Result<(), SocketFault> {
     }
 }
 
-// A new folder beside the path, for this user alone.
+// Creates a folder beside the path, for this user alone.
 fn own_folder<R: rt::Files + AllocGlobal>(rt: &R, path: &str) -> Result<String, SocketFault> {
     for number in 0..FOLDERS {
         let folder = format!(in rt.alloc(); "{path}.new{number}")?;
@@ -137,8 +133,7 @@ fn own_folder<R: rt::Files + AllocGlobal>(rt: &R, path: &str) -> Result<String, 
     Err(SocketFault::Folders)
 }
 
-// A socket that is made in this folder, and gets the path as its name unless something has appeared there
-// meanwhile.
+// Creates a socket in this folder, and links it at the path unless something has appeared there meanwhile.
 fn made_in(rt: &HostRuntime, folder: &str, path: &str) -> Result<Made, SocketFault> {
     let own = format!(in rt.alloc(); "{folder}/s")?;
     let listener = listener_in(rt, folder, own.as_str())?;
@@ -159,7 +154,7 @@ fn listener_in(rt: &HostRuntime, folder: &str, own: &str) -> io::Result<UnixList
     UnixListener::bind(rt, short.as_str())
 }
 
-// A listener with its copy, once its socket has its mode and its name.
+// Sets the mode and the name of a listener's socket, and returns the listener with its copy.
 fn named_by<R: rt::Files>(
     rt: &R,
     listener: UnixListener,

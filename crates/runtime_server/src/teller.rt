@@ -8,7 +8,7 @@ use std::thread::{Threads, spawn};
 use std::time::{Clock, Duration};
 use std::{io, mem};
 
-/// The most lines that wait for their reader. Those beyond are left out, and counted.
+/// The most lines that may wait for their reader. Further lines are left out, and counted.
 pub const MAX_WAITING: usize = 16_384;
 
 /// How many seconds a program waits, at its end, for a reader that reads nothing.
@@ -19,7 +19,7 @@ pub trait Outlet {
     /// Writes a line, and its end.
     fn write_line(&mut self, system: &HostRuntime, line: &str) -> io::Result<()>;
 
-    /// Called once no lines wait. So many were left out after the last one.
+    /// Called when no lines wait. `left_out` lines were left out after the last one.
     fn rest(&mut self, system: &HostRuntime, left_out: u64);
 }
 
@@ -65,7 +65,7 @@ impl Waiting {
     }
 }
 
-/// Takes lines from any thread, and has them written in the order in which they came, each whole.
+/// Takes lines from any thread, and has them written whole and in order of arrival.
 #[derive(Drop)]
 pub struct Teller {
     alloc: Global,
@@ -109,7 +109,7 @@ impl Teller {
         self.changed.notify_all();
     }
 
-    /// Adds a line. One for which there is no memory, or no room in the queue, is left out and counted.
+    /// Adds a line. If there is no memory for it, or no room in the queue, it is left out and counted.
     pub fn tell<R: Wait>(&self, rt: &R, line: Result<String, AllocError>) {
         let mut waiting = self.waiting.lock(rt);
         let has_place = waiting.lines.len() < MAX_WAITING;
@@ -124,7 +124,7 @@ impl Teller {
         self.changed.notify_all();
     }
 
-    // The lines that wait, once there are any, and how many were left out after them.
+    // Waits for lines, and takes them with the number of lines left out after them.
     fn take<R: Wait>(&self, rt: &R) -> (Vec<String>, u64) {
         let mut waiting = self.waiting.lock(rt);
         waiting.is_idle = true;
@@ -146,12 +146,12 @@ impl Teller {
         }
     }
 
-    /// Why lines can't be written, if one could not be.
+    /// Why lines can't be written, if one could not.
     pub fn failure<R: Wait>(&self, rt: &R) -> Option<Cause> {
         self.waiting.lock(rt).failed
     }
 
-    // What the writer's thread does. A line that can't be written is lost.
+    // The body of the writer's thread. A line that can't be written is lost.
     fn write_lines<R: Wait, O: Outlet + Drop>(&self, rt: &R, system: &HostRuntime, outlet: O) {
         let mut outlet = outlet;
         for _ in rt.forever() {
@@ -163,7 +163,7 @@ impl Teller {
         }
     }
 
-    /// Waits until all added lines are written, or until none was for ten seconds.
+    /// Waits until all added lines are written, or until none has been for ten seconds.
     pub fn finish<R: Wait + Clock>(&self, rt: &R) {
         let mut waiting = self.waiting.lock(rt);
         for _ in rt.forever() {

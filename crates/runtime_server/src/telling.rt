@@ -1,8 +1,9 @@
-//! The log line of each event, if logging is on: who, which pod, the request and its answer as they are
-//! written in messages, and after a refusal its name and cause.
+//! The log line of each event, if logging is on: who, which pod, the request and its answer as in messages,
+//! and a refusal's name and cause.
 ghost use Rattle.std.specs.Prelude.{◌≡◌, IfOk, string_bytes};
 ghost use Rattle.runtime_server.specs.Telling.{listening_text, name_behind};
 
+use crate::diagnosis::Wrong;
 use crate::site::Address;
 use cri_msgs::{Answer, Reply, Request, Version};
 use fault_notes::{ShownPath, refusal_name};
@@ -33,7 +34,7 @@ pub fn asked(alloc: Global, request: &Request) -> Result<String, AllocError> {
     format!(in alloc; "{uid} {}}}", unversioned(text.as_slice()))
 }
 
-/// The text of a reply, and after a refusal its name.
+/// The text of a reply, followed by the name of a refusal.
 pub fn answered(alloc: Global, reply: &Reply) -> Result<String, AllocError> {
     let text = reply.write(alloc, Version::V2)?;
     let name = name_behind(alloc, &reply.answer)?;
@@ -59,7 +60,7 @@ pub(crate) fn reply_line(
     connection: u64,
     asked: Result<String, AllocError>,
     reply: &Reply,
-    wrong: Option<String>,
+    wrong: Option<Wrong>,
 ) -> Result<String, AllocError> {
     let asked = asked?;
     let answered = answered(alloc, reply)?;

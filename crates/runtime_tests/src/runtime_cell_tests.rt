@@ -52,8 +52,8 @@ fn created(rt: &HostRuntime, text: &str, denies: bool) -> Result<Cell, Fail> {
     Ok(Cell::created(rt.alloc(), label, script, stack, None)?)
 }
 
-/// Does what the letters say to the cell: s starts it, t does a step, k kills it with 255 and z with 0.
-/// Returns the result of each step, then the state, what was performed and denied, and the filters added.
+/// Plays the letters on the cell: s starts it, t does a step, k kills it with 255 and z with 0. Returns the
+/// result of each step, then the state, what was performed and denied, and the filters added.
 fn played(rt: &HostRuntime, cell: &mut Cell, letters: &str) -> Result<String, Fail> {
     let mut text = String::new(rt.alloc());
     for letter in letters.as_bytes() {

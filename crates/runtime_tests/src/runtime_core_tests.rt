@@ -190,7 +190,7 @@ CreateContainer u1 main 1 a.json open short=>9
 RemovePodSandbox u2=>ok
 RunPodSandbox u2=>9"#;
 
-// What the reads of the files gave.
+// The results of reading the files.
 const FILES: &str = r#"RunPodSandbox u1=>ok
 CreateContainer u1 a 0 a.json open=>13
 CreateContainer u1 a 0 a.json open absent=>13

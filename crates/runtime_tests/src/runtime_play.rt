@@ -12,10 +12,10 @@ use std::test::Fail;
 
 // A runtime that is played with lines of words, and how many requests it was sent.
 //
-// A request is its call and uid; then, where the call has them, name and attempt; then the grace, or the
-// image and the profile: `open`, `default`, or the path of a file. At the end stand the answers of the files
-// that it needs, the script's and the profile's, by the names below. Other lines are `step ID`, `ends ID`
-// (steps until the script goes on no more), `kill ID CODE`, `cell ID`, `record ID` and `next ID`.
+// A request is its call and uid; then, if the call has them, name and attempt; then the grace, or the image
+// and the profile: `open`, `default`, or the path of a file. The last words are the answers of the files that
+// it needs, the script's and the profile's, by the names below. Other lines are `step ID`, `ends ID` (steps
+// until the script goes on no more), `kill ID CODE`, `cell ID`, `record ID` and `next ID`.
 #[derive(Drop)]
 pub(crate) struct Play {
     alloc: Global,
@@ -176,8 +176,8 @@ fn record_text(alloc: Global, cell: Option<&Cell>) -> Result<String, AllocError>
     Ok(text)
 }
 
-// The answer that is wanted, in the form of a reply: of `ok`, of a member as it is, or of the number of a
-// refusal. Other lines have their result as it is.
+// The wanted answer, in the form of a reply: of `ok`, of a member as it is, or of the number of a refusal.
+// Other lines have their result as it is.
 pub(crate) fn wanted(alloc: Global, number: u64, want: &str) -> Result<String, AllocError> {
     if want == "ok" {
         format!(in alloc; "{{\"id\":{number},\"ok\":{{}},\"v\":2}}")
@@ -206,7 +206,7 @@ impl Play {
         }
     }
 
-    // Sends a request, and gives the reply's text.
+    // Sends a request, and returns the reply's text.
     fn asks(&mut self, line: &str) -> Result<String, Fail> {
         self.number = self.number.wrapping_add(1);
         let files = files_of(self.alloc, line)?;
@@ -225,7 +225,7 @@ impl Play {
         None
     }
 
-    // Does what the line says, and returns the result.
+    // Carries out the line, and returns the result.
     fn does(&mut self, line: &str) -> Result<String, Fail> {
         let (alloc, id) = (self.alloc, number(line, 1));
         let text = match word(line, 0) {

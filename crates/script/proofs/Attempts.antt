@@ -24,7 +24,7 @@ codes_more xs i d ys y all lt so_far here =
     (drop (i + 1) xs) = rw (rest_is xs i d lt, here) refl in
     sym step ∙ so_far
 
--- the first that is none is the fault of all
+-- the first number that is no code is the fault of all
 pub codes_stop : (xs : List ℕ) (i d : ℕ) (ys : List ℕ) (e : ScriptFaultAt)
     (all : Result (List ℕ) ScriptFaultAt) → i < length xs
     → in_order_after code_at ys (drop i xs) ≡ all → code_at ys (get_or xs i d) ≡ Err e → all ≡ Err e

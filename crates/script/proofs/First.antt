@@ -29,7 +29,7 @@ length_both R [] (y ∷ ys) all = absurd all
 length_both R (x ∷ xs) [] all = absurd all
 length_both R (x ∷ xs) (y ∷ ys) all = omega (arith, length_both R xs ys all.1)
 
--- what is a step is not refused
+-- a step is not refused
 not_refused : (text : StepText) (step : Step) → IsReadAs text step → IsRefused text → ⊥
 not_refused (Whole known) step is refused = refused
 not_refused (Installs numbers on_error) step is refused = refused is.0 is.1
@@ -41,7 +41,7 @@ no_fault item step fault is has =
     let read = step_only item step is in
     not_refused read.0 step read.2 (subst (λ r. HasFault r fault) read.1 has).0
 
--- and what has one has only this
+-- an item with a fault has only this fault
 fault_one : (reading : Result StepText ScriptFaultAt) (fault other : ScriptFaultAt) → HasFault reading fault
     → HasFault reading other → fault ≡ other
 fault_one (Err found) fault other has also = has ∙ sym also
@@ -83,7 +83,7 @@ first_one (x ∷ more) (z ∷ rest) item other behind other_behind (y ∷ steps)
     (same_tail x z (more ++ item ∷ behind) (rest ++ other ∷ other_behind) same) each.1 all.1 has had in
     (ap suc next.0, next.1)
 
--- where all are steps, none has a fault
+-- if all are steps, none has a fault
 none_first : (before : List Data) (item : Data) (behind : List Data) (steps : List Step)
     (fault : ScriptFaultAt) → Both IsStep (before ++ item ∷ behind) steps
     → HasFault (step_of item) fault → ⊥
@@ -121,7 +121,7 @@ told bytes (Err other) fault gives first = λ known.
 same_text : (x y : StepText) (r : Result StepText ScriptFaultAt) → r ≡ Ok x → r ≡ Ok y → x ≡ y
 same_text x y r one other = cc
 
--- what is read is one step at most
+-- a reading is at most one step
 read_one : AreToldApart → (text : StepText) (step other : Step) → IsReadAs text step → IsReadAs text other
     → step ≡ other
 read_one apart (Whole known) step other is also = is ∙ sym also

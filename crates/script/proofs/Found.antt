@@ -1,4 +1,4 @@
--- What is read is so: each reading, where it goes on, gives what the tree has.
+-- What is read is right: each reading that succeeds returns what the tree has.
 use Rattle.std.proofs.Common.{◌≡◌, ◌⊎◌, inl, inr, ℕ, ◌<◌, List, [], length, codes, cond, eqb, leb, ltb}
 use Rattle.std.proofs.Common.{Bool, true, false, Option, Some, None, Result, Ok, Err, refl, sym, ap, subst}
 use Rattle.std.proofs.Common.{◌∙◌, arith}
@@ -46,7 +46,7 @@ use Rattle.script.specs.Reading.StepText.{Whole, Installs}
 here_ok : {A : Type 0} (r : Result A FieldFaultAt) (x : A) → here r ≡ Ok x → r ≡ Ok x
 here_ok r x h = as_fault_ok fault_of_field_at r x h
 
--- what was made of a member, and what was read of what stands under a step
+-- the result for a member, and that for the value under a step
 at_ok : {A : Type 0} (key : List ℕ) (r : Result A ScriptFault) (x : A) → at key r ≡ Ok x → r ≡ Ok x
 at_ok key r x h = as_fault_ok (fault_at key) r x h
 
@@ -311,7 +311,7 @@ says_found tree kind.ExitByAttempt text step alone h read =
 says_found tree kind.Install text step alone h read =
     install_says tree text step (kind_found tree kind.Install alone) h read
 
--- what is read of a tree, its filter judged, is a step
+-- the reading of a tree, with its filter checked, is a step
 pub step_found : (item : Data) (text : StepText) (step : Step) → step_of item ≡ Ok text → IsReadAs text step
     → IsStep item step
 unfolding step_of
@@ -360,7 +360,7 @@ reading_found bytes steps items h each =
       items_found tree.0 steps items tree.2 each,
     )
 
--- what is given is the text's script
+-- the returned script is the text's script
 pub found : (bytes : List ℕ) (result : Result (List Step) ScriptFaultAt)
     → GivesSteps result (text_items bytes) → IfOk result (ReadsScript bytes)
 found bytes (Ok steps) h = reading_found bytes steps h.0 h.1 h.2

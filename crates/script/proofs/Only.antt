@@ -1,4 +1,4 @@
--- What is so is read: where the tree has it, each reading goes on and gives it.
+-- Every script is read: each reading of its tree succeeds and returns what the tree has.
 use Rattle.std.proofs.Common.{◌≡◌, inl, inr, ℕ, ◌<◌, List, [], ◌∷◌, length, codes, cond, leb, Bool}
 use Rattle.std.proofs.Common.{true, false, Option, Some, None, Ok, Err, refl, sym, ap, arith}
 use Rattle.std.specs.List.{list_all}
@@ -199,7 +199,7 @@ install_step_only tree filter on_error h =
     rw (call_fields_only tree h.beside h.fields, rows_only tree h.numbers h.there)
     (ap (λ (e : Option ℕ). Ok (Installs h.numbers e)) (sym h.ends))
 
--- a step of a tree is what is read of it, its filter judged
+-- a step of a tree is its reading, with its filter checked
 pub step_only : (item : Data) (step : Step) → IsStep item step → (text : StepText) × (step_of item ≡ Ok text)
     × IsReadAs text step
 unfolding step_of

@@ -93,7 +93,7 @@ pub row_is : (tree : Data) → row tree ≡ option_and_then numbers_of (list tre
 unfolding row wholes
 row_is tree = of_list (list tree)
 
--- Two codes with room for their numbers are the same where their bytes are.
+-- Two codes whose numbers fit are the same if their bytes are.
 abbrev pub AreToldApart : Type 0
 AreToldApart = (code other : List Insn) → AllByRecursion Fits code → AllByRecursion Fits other
     → bytes_of_code code ≡ bytes_of_code other → code ≡ other

@@ -1,4 +1,4 @@
--- Six arguments, each read by itself, are those of the list that is read as a whole.
+-- Six arguments, each read by itself, are those of the list read as a whole.
 use Rattle.std.proofs.Common.{◌≡◌, ℕ, zero, suc, ◌<◌, ◌≤◌, List, [], ◌∷◌, length, codes, ltb, Option, Some}
 use Rattle.std.proofs.Common.{None, unwrap_or, Result, Ok, refl, sym, ap, ◌∙◌, arith, slice_get, slice_index}
 use Rattle.std.proofs.lemmas.Bool.{le-ltb, ltb-false}

@@ -1,4 +1,4 @@
--- The faults of fields and of texts, as faults of scripts, and where they are: this project's own.
+-- The faults of fields and of texts, as faults of scripts with their places: this project's own.
 use Rattle.std.specs.Prelude.{ℕ, List, [], ◌∷◌, codes, Result}
 use Rattle.json_tree.specs.declared.faults.FieldFault.{FieldFault}
 use Rattle.json_tree.specs.declared.faults.FieldFault.TheVariants as field
@@ -33,21 +33,21 @@ fault_at key fault = record { fault = fault; place = Member key ∷ [] }
 abbrev pub fault_of_item : ℕ → ScriptFault → ScriptFaultAt
 fault_of_item index fault = record { fault = fault; place = Item index ∷ [] }
 
--- of what stands under a step of it
+-- of the value under a step of it
 abbrev pub fault_within : Part → ScriptFaultAt → ScriptFaultAt
 fault_within part found = record { fault = found.fault; place = within part found.place }
 
--- of a step, as one of the script in which it has this index
+-- of a step, as a fault of the script in which the step has this index
 abbrev pub fault_of_step : ℕ → ScriptFaultAt → ScriptFaultAt
 fault_of_step index found = fault_within (Member (codes "steps")) (fault_within (Item index) found)
 
 abbrev pub fault_of_field_at : FieldFaultAt → ScriptFaultAt
 fault_of_field_at found = record { fault = fault_of_field found.fault; place = found.place }
 
--- what was made of the member with this key
+-- the result for the member with this key
 abbrev pub at : {A : Type 0} → List ℕ → Result A ScriptFault → Result A ScriptFaultAt
 at key made = as_fault (fault_at key) made
 
--- what was read of what stands under the step
+-- the result for the value under the step
 abbrev pub under : {A : Type 0} → Part → Result A ScriptFaultAt → Result A ScriptFaultAt
 under part read = as_fault (fault_within part) read

@@ -1,5 +1,5 @@
--- Which fault of a text is found first: docs/SEMANTICS.md, "Scripts", has the order. Each definition
--- says what is read of a tree, its faults in that order, each with the place that it has in the tree.
+-- Which fault of a text is found first: docs/SEMANTICS.md, "Scripts", has the order. Each definition is the
+-- reading of a tree, with its faults in that order, each with its place in the tree.
 use Rattle.std.specs.Prelude.{◌≡◌, ◌≢◌, ℕ, ◌==◌, List, [], ◌∷◌, ◌++◌, length, map, position, slice_get, codes}
 use Rattle.std.specs.Prelude.{Bool, true, false, not, is_some, nat_lt, nat_le, if◌then◌else◌, Option, Some}
 use Rattle.std.specs.Prelude.{None, unwrap_or, option_and_then, Result, Ok, Err}
@@ -32,14 +32,14 @@ use Rattle.script.specs.Script.{number_of_name, row, SpellsFilter, IsStep}
 abbrev pub here : {A : Type 0} → Result A FieldFaultAt → Result A ScriptFaultAt
 here r = as_fault fault_of_field_at r
 
--- a call gives this reading, or memory ran out
+-- a call returns this reading, or memory ran out
 abbrev pub Reads : {X Y : Type 0} → (X → Y) → Result X ScriptFaultAt → Result Y ScriptFaultAt → Type 0
 Reads view result reading = GivesAt (λ found. found.fault) Memory view result reading
 
 unfoldable pub code_of : ℕ → Result ℕ ScriptFault
 code_of n = if nat_le n 255 then Ok n else Err BadCode
 
--- a text is a name, and all else has to be a number
+-- a text is a name, and anything else must be a number
 abbrev pub number_of : Option (List ℕ) → Option ℕ → Result ℕ ScriptFault
 number_of (Some name) number = or_else UnknownCall (number_of_name name)
 number_of None number = or_else WrongType number
@@ -101,11 +101,11 @@ exit_of tree = do
   given ← here (required whole (codes "exit") tree)
   at (codes "exit") (code_of given)
 
--- as the item behind those that were read
+-- as the item after those that were read
 abbrev pub code_at : List ℕ → ℕ → Result ℕ ScriptFaultAt
 code_at done n = as_fault (fault_of_item (length done)) (code_of n)
 
--- there is one at least
+-- there is at least one
 unfoldable pub codes_of : List ℕ → Result (List ℕ) ScriptFaultAt
 codes_of given = do
   refuse_if (length given == 0) (fault_here Missing)
@@ -116,7 +116,7 @@ exit_by_attempt_of tree = do
   given ← here (required_each whole wholes (codes "exitByAttempt") tree)
   under (Member (codes "exitByAttempt")) (codes_of given)
 
--- of the four kinds a step has exactly one
+-- a step is of exactly one of the four kinds
 abbrev pub the_kind : Bool → Bool → Bool → Bool → Result StepKind ScriptFaultAt
 the_kind false false false false = Err (fault_here Missing)
 the_kind true false false false = Ok kind.Call
@@ -160,7 +160,7 @@ rows_of tree = do
   items ← here (required list (codes "install") tree)
   under (Member (codes "install")) (or_else (no_row items) (each row items))
 
--- what is read of a step before its filter is judged
+-- a step as read, before its filter is checked
 pub data StepText : Type 0 where
   Whole : Step → StepText
   Installs : List Row → Option ℕ → StepText
@@ -183,7 +183,7 @@ step_of item = do
   is ← kind_of tree
   step_of_kind is tree
 
--- the step, its filter judged
+-- the step, with its filter checked
 abbrev pub IsReadAs : StepText → Step → Type 0
 IsReadAs (Whole known) step = step ≡ known
 IsReadAs (Installs numbers on_error) step = (filter : List Insn) × SpellsFilter numbers filter
@@ -194,12 +194,12 @@ abbrev pub IsRefused : StepText → Type 0
 IsRefused (Whole known) = ⊥
 IsRefused (Installs numbers on_error) = (filter : List Insn) → ¬ SpellsFilter numbers filter
 
--- the fault of a step, by its place in the step: what was found in reading it, else that of its filter
+-- the fault of a step, with its place in the step: the one found in reading it, else that of its filter
 abbrev pub HasFault : Result StepText ScriptFaultAt → ScriptFaultAt → Type 0
 HasFault (Err found) fault = fault ≡ found
 HasFault (Ok step) fault = IsRefused step × (fault ≡ fault_at (codes "install") BadFilter)
 
--- the steps as they stand there, before any of them is looked at
+-- the steps as written there, before any of them is read
 unfoldable pub items_of : Data → Result (List Data) ScriptFaultAt
 items_of whole_tree = do
   tree ← or_else (fault_here WrongType) (object whole_tree)
@@ -207,7 +207,7 @@ items_of whole_tree = do
   refuse_if (nat_lt MAX_STEPS (length items)) (fault_at (codes "steps") TooMany)
   Ok items
 
--- the steps of a text, as they stand there
+-- the steps of a text, as written there
 unfoldable pub text_items : List ℕ → Result (List Data) ScriptFaultAt
 text_items bytes = do
   tree ← as_fault (λ fault. fault_here (fault_of_text fault)) (document_of bytes)
@@ -233,11 +233,11 @@ IsFirstIn (Ok items) fault = IsFirstOfSteps items fault
 abbrev pub IsFirstFaultAt : List ℕ → ScriptFaultAt → Type 0
 IsFirstFaultAt bytes found = IsFirstIn (text_items bytes) found
 
--- the same without the place
+-- the first fault without its place
 abbrev pub IsFirstFault : List ℕ → ScriptFault → Type 0
 IsFirstFault bytes fault = (found : ScriptFaultAt) × IsFirstFaultAt bytes found × (found.fault ≡ fault)
 
--- The rest is cited by private functions alone.
+-- Only private functions cite the rest.
 
 -- a row, number by number
 abbrev pub number_at : List Data → ℕ → Option ℕ
@@ -252,18 +252,18 @@ numbers_of items =
     (number_at items 2)) (number_at items 1)) (number_at items 0)
     else None
 
--- the call lends what is read as these rows
+-- the call returns items that are read as these rows
 abbrev pub LendsRows : Result (List Value) ScriptFaultAt → Result (List Row) ScriptFaultAt → Type 0
 LendsRows (Ok items) reading = (numbers : List Row) × (each row (map view items) ≡ Some numbers)
     × (reading ≡ Ok numbers)
 LendsRows (Err fault) reading = reading ≡ Err fault
 
--- the call gives the step, its filter judged, memory aside
+-- the call returns the step, with its filter checked, memory aside
 abbrev pub GivesStep : Result Step ScriptFaultAt → Result StepText ScriptFaultAt → Type 0
 GivesStep (Ok step) reading = (text : StepText) × (reading ≡ Ok text) × IsReadAs text step
 GivesStep (Err found) reading = found.fault ≢ Memory → HasFault reading found
 
--- the call gives the steps, memory aside
+-- the call returns the steps, memory aside
 abbrev pub GivesSteps : Result (List Step) ScriptFaultAt → Result (List Data) ScriptFaultAt → Type 0
 GivesSteps (Ok steps) reading = (items : List Data) × (reading ≡ Ok items) × Both IsStep items steps
 GivesSteps (Err found) reading = found.fault ≢ Memory → IsFirstIn reading found

@@ -1,5 +1,5 @@
--- Scripts as JSON trees, this project's own format: docs/SEMANTICS.md, "Scripts". Which tree is which
--- script, field by field; nothing here knows of an order in which the fields are read.
+-- Scripts as JSON trees, this project's own format: docs/SEMANTICS.md, "Scripts". Which tree is which script,
+-- field by field, in no order of reading.
 use Rattle.std.specs.Prelude.{◌≡◌, ◌⊎◌, ℕ, ◌<◌, ◌≤◌, List, [], ◌∷◌, length, codes, slice_index, nat_le}
 use Rattle.std.specs.Prelude.{if◌then◌else◌, IsTrue, Option, Some, None, unwrap_or, option_and_then}
 use Rattle.std.specs.List.{AllByRecursion, list_all}
@@ -32,7 +32,7 @@ abbrev pub IsCall : Data → ℕ → Type 0
 IsCall found nr = (word found ≡ Some nr) ⊎ ((name : List ℕ) × (text found ≡ Some name)
     × (number_of_name name ≡ Some nr))
 
--- six arguments: those that are given, and the rest are 0
+-- six arguments: the given ones, and 0 for the rest
 abbrev pub six : List ℕ → List ℕ
 six given = slice_index given 0 ∷ slice_index given 1 ∷ slice_index given 2 ∷ slice_index given 3
     ∷ slice_index given 4 ∷ slice_index given 5 ∷ []
@@ -53,7 +53,7 @@ pub record HasIp (tree : Data) (ip : ℕ) : Type 0 where
   pub there : MayHaveField whole (codes "ip") tree given
   pub is : ip ≡ unwrap_or given 0
 
--- what may stand beside a call; where there is no call it has no effect, but is of the same kind
+-- the fields beside a call; without a call they have no effect, but must have the right type
 pub record HasCallFields (tree : Data) (fields : CallFields) : Type 0 where
   pub args : HasArgs tree fields.args
   pub arch : HasArch tree fields.arch
@@ -72,7 +72,7 @@ row tree = option_and_then row_in (wholes tree)
 unfoldable pub rows : Data → Option (List Row)
 rows tree = option_and_then (each row) (list tree)
 
--- the numbers are an instruction's, and have room in it
+-- the numbers are an instruction's, and fit its fields
 pub record IsSpelled (row : Row) (insn : Insn) : Type 0 where
   pub spells : Spells insn row.code row.jt row.jf row.k
   pub fits : Fits insn

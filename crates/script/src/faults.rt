@@ -21,7 +21,7 @@ pub enum ScriptFault {
     TooMany,
     /// A code is above 255.
     BadCode,
-    /// The filter that is to be installed is not sound.
+    /// The filter to install is not sound.
     BadFilter,
     /// An allocation failed.
     Memory,

@@ -32,7 +32,7 @@ pub(crate) struct CallFields {
     pub(crate) on_error: Option<u8>,
 }
 
-/// The number of the call that `call` names or gives.
+/// The number of the call in `call`, which is a name or a number.
 #[tactic(auto, unfolding(crate::specs::Reading::call_of))]
 pub(crate) fn call(tree: &Value) -> Result<u32, ScriptFaultAt>
     ensures { result ≡ call_of (view tree.now) }
@@ -74,7 +74,7 @@ fn args(tree: &Value) -> Result<[u64; 6], ScriptFaultAt>
     under(Step::Member("args"), six_arguments(items))
 }
 
-/// The arguments that are given, and 0 for the others.
+/// The given arguments, and 0 for the others.
 #[tactic(auto, unfolding(crate::specs::Reading::six_of))]
 fn six_arguments(items: &[Value]) -> Result<[u64; 6], ScriptFaultAt>
     ensures { result ≡ six_of (map view items.now) }

@@ -18,7 +18,7 @@ use json_tree::{list, whole};
 use serde_json::Value;
 use std::alloc::Global;
 
-/// The four numbers of an instruction, as they stand in a text.
+/// The four numbers of an instruction, as written in a text.
 #[derive(Clone, Copy)]
 pub(crate) struct Row {
     pub(crate) code: u64,

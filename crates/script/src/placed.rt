@@ -56,7 +56,7 @@ impl ScriptFaultAt {
     }
 }
 
-/// The result of reading the member with this key, a fault placed at that member.
+/// The result of reading the member with this key, with a fault placed at that member.
 pub(crate) fn at<T>(key: &'static str, made: Result<T, ScriptFault>) -> Result<T, ScriptFaultAt>
     ensures { result ≡ at key.now made }
 {
@@ -66,7 +66,7 @@ pub(crate) fn at<T>(key: &'static str, made: Result<T, ScriptFault>) -> Result<T
     }
 }
 
-/// The result of reading what is under a step, a fault placed under that step.
+/// The result of reading the value under a step, with a fault placed under that step.
 pub(crate) fn under<T>(step: Step, read: Result<T, ScriptFaultAt>) -> Result<T, ScriptFaultAt>
     ensures { result ≡ under (part_of step) read }
 {
@@ -76,7 +76,7 @@ pub(crate) fn under<T>(step: Step, read: Result<T, ScriptFaultAt>) -> Result<T, 
     }
 }
 
-/// The result of reading the step with this index, a fault placed in that step.
+/// The result of reading the step with this index, with a fault placed in that step.
 pub(crate) fn in_step<T>(index: usize, read: Result<T, ScriptFaultAt>) -> Result<T, ScriptFaultAt>
     ensures { result ≡ as_fault (fault_of_step index) read }
 {

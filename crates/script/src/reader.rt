@@ -33,14 +33,14 @@ pub(crate) enum StepKind {
 /// The script of a text, or its first fault: of the text, then of the steps in order, and of the fields of a
 /// step in order. Unknown fields are ignored. If an allocation fails, the result is `Memory`.
 pub fn read(alloc: Global, bytes: &[u8]) -> Result<Script, ScriptFault>
-    // What is read is the text's script.
+    // The result is the text's script.
     ensures found { IfOk result (ReadsScript bytes.now) }
 
-    // What is a script is read, unless memory runs out.
+    // Every script is read, unless memory runs out.
     ensures only { (steps : List Step) → ReadsScript bytes.now steps
         → Gives ScriptFault.Memory (λ script. script) result (Ok steps) }
 
-    // A text that is refused has this fault first, and one that has a first fault is refused for it.
+    // A refused text has this fault first, and a text with a first fault is refused for it.
     ensures first { IfErr result (λ fault. fault ≢ ScriptFault.Memory → IsFirstFault bytes.now fault) }
     ensures told { (fault : ScriptFault) → IsFirstFault bytes.now fault
         → Gives ScriptFault.Memory (λ script. script) result (Err fault) }
@@ -48,7 +48,7 @@ pub fn read(alloc: Global, bytes: &[u8]) -> Result<Script, ScriptFault>
     Ok(read_placed(alloc, bytes)?)
 }
 
-/// Reads a script as [`read`] does, and gives the place of the first fault in the text.
+/// Reads a script as [`read`] does, and returns the place of the first fault in the text.
 pub fn read_placed(alloc: Global, bytes: &[u8]) -> Result<Script, ScriptFaultAt>
     ensures found { IfOk result (ReadsScript bytes.now) }
     ensures only { (steps : List Step) → ReadsScript bytes.now steps
@@ -73,7 +73,7 @@ fn reading(alloc: Global, bytes: &[u8]) -> Result<Script, ScriptFaultAt>
 fn script(alloc: Global, tree: &Value) -> Result<Script, ScriptFaultAt>
     ensures value { GivesSteps result (items_of (view tree.now)) }
 
-    // What is found before a step is looked at is reported even if memory runs out.
+    // A fault found before the steps are read is reported even if memory runs out.
     ensures told { (found : ScriptFaultAt) → items_of (view tree.now) ≡ Err found → result ≡ Err found }
 {
     let items = items(tree)?;

@@ -7,7 +7,7 @@ use std::alloc::AllocError;
 use std::marker::Model;
 use std::sync::ArcSlice;
 
-/// The most steps that a script has.
+/// The greatest number of steps of a script.
 pub const MAX_STEPS: usize = 4096;
 
 /// Exit codes of a script, one for each attempt. There is at least one.
@@ -64,7 +64,7 @@ pub enum Step {
     },
 }
 
-/// The steps of a container, in order. Its copies have one list of steps together.
+/// The steps of a container, in order. Its copies share one list of steps.
 #[derive(Drop)]
 pub struct Script {
     steps: ArcSlice<Step>,
@@ -95,7 +95,7 @@ impl Script {
     }
 
     /// A script with the same steps, which takes no memory of its own: the steps stay where they are until
-    /// the last script that has them is gone.
+    /// the last script that has them is dropped.
     pub fn share(&self) -> Result<Script, AllocError>
         ensures { IfOk result (λ script. script ≡ self.now) }
     {

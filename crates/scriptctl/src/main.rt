@@ -1,4 +1,4 @@
-//! Asks a container runtime about pods: `scriptctl --help` says how.
+//! Asks a container runtime about pods: see `scriptctl --help`.
 #![tactic(auto)]
 
 use host_io::open_closed;

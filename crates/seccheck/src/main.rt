@@ -1,4 +1,4 @@
-//! Inspects seccomp filters, and runs them: `seccheck --help` says how.
+//! Inspects seccomp filters, and runs them: see `seccheck --help`.
 #![tactic(auto)]
 
 use checker::seccheck_run;

@@ -90,7 +90,7 @@ module _ (R : List ℕ → List ℕ → Ordering) (total : IsTotalOrder R) (exac
               ∙ sym (eqb-true _ _ found.4),
         )
 
-    -- no two places have one text
+    -- no two places have the same text
     apart : (x : List ℕ) (i j : ℕ) → i < j → j < length order → text (get_or order i 0) ≡ x
         → text (get_or order j 0) ≡ x → ⊥
     apart x i j lt in_range at_i at_j = let below = rises [] order i j 0 rising lt in_range in
@@ -108,7 +108,7 @@ module _ (R : List ℕ → List ℕ → Ordering) (total : IsTotalOrder R) (exac
           | inr (inr lt) ↦ absurd (apart (c ∷ cs) k j lt j_in at_k at_j)
         ]
 
-    -- where a text stands, a look-up finds it
+    -- a look-up finds a text at its place
     pub found : (n c : ℕ) (cs : List ℕ) → text n ≡ c ∷ cs → place_in table (c ∷ cs) ≡ Some n
     found n c cs e = elim (cases_lt n (length table)) [
       | inr past ↦ let nothing = get_or_past table n [] past in cc
@@ -120,7 +120,7 @@ module _ (R : List ℕ → List ℕ → Ordering) (total : IsTotalOrder R) (exac
           rw here (cond-true _ _ _ (lt-ltb n (length table) in_range))
     ]
 
-    -- and a text that stands nowhere is not found
+    -- and a text that is at no place is not found
     pub absent : (c : ℕ) (cs : List ℕ) → ((n : ℕ) → text n ≢ c ∷ cs) → place_in table (c ∷ cs) ≡ None
     absent c cs none =
         let here = position_or_len_is (bytes_eq (c ∷ cs)) table (length table) [] (omega arith)
@@ -128,7 +128,7 @@ module _ (R : List ℕ → List ℕ → Ordering) (total : IsTotalOrder R) (exac
         (λ lt. absurd (omega arith)) in
         rw here (cond-false _ _ _ (le-ltb (length table) (length table) (omega arith)))
 
-    -- the comparisons with a name rise along the order, as a binary search asks
+    -- the comparisons with a name rise along the order, as a binary search requires
     searchable : (name : List ℕ) → IsNonDecreasingBy (λ n. ordering_index (R (text n) name)) order
     searchable name = searchable_from_sorted total text order name (λ k d _ lt.
         ap is_lt (total.antisymm _ _ ∙ ap ordering_reverse

@@ -3,11 +3,11 @@ use Rattle.std.specs.Prelude.{ℕ, List, [], ◌∷◌, map, slice_index_or, pos
 use Rattle.std.specs.Str.{bytes_eq}
 use Rattle.sys_table.specs.declared.table.TheConstants.{NAMES}
 
--- the table: at each number the name of the call, and an empty text where no call has the number
+-- the table: at each number the name of the call, and an empty text if no call has the number
 unfoldable pub names : List (List ℕ)
 names = map (λ name. name.now) NAMES
 
--- what the table has at this number
+-- the table's text at this number
 abbrev pub text_at : ℕ → List ℕ
 text_at number = slice_index_or names number []
 
@@ -16,7 +16,7 @@ abbrev pub named : List ℕ → Option (List ℕ)
 named [] = None
 named (c ∷ cs) = Some (c ∷ cs)
 
--- where a table has this name
+-- the place of this name in a table
 abbrev pub place_in : List (List ℕ) → List ℕ → Option ℕ
 place_in table [] = None
 place_in table (c ∷ cs) = position (bytes_eq (c ∷ cs)) table

@@ -1,5 +1,5 @@
-//! Trials of calls whose requests for memory can be refused: a trial is a call, the state before it, and what
-//! its result and its state are to be. Programs for tests make them and print what came of them.
+//! Trials of calls whose requests for memory can be refused: a trial is a call, the state before it, and the
+//! wanted result and state. Programs for tests make them and print the results.
 #![tactic(auto)]
 
 mod samples;

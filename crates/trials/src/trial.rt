@@ -1,12 +1,12 @@
-//! How a call is tried whose allocations can be refused.
+//! Trying a call whose allocations can be refused.
 use std::io::{self, Write};
 
 /// The result of a call.
 #[derive(Clone, Copy, PartialEq, Eq)]
 pub enum Came {
-    /// The answer that a first call with enough memory gives.
+    /// The answer that a first call with enough memory returns.
     Right,
-    /// Lack of memory.
+    /// Out of memory.
     Memory,
     /// Any other answer.
     Wrong,
@@ -47,14 +47,14 @@ pub enum Told {
     Right,
     /// The answer was wrong.
     Wrong,
-    /// Lack of memory, after which something had changed.
+    /// Out of memory, after which something had changed.
     Changed,
-    /// Lack of memory, after which nothing had changed, and the result of the same call then.
+    /// Out of memory, after which nothing had changed, and the result of the same call then.
     Refused(Came),
 }
 
 impl Told {
-    /// What a program that makes trials prints.
+    /// The text that a program of trials prints.
     pub fn text(self) -> &'static str {
         match self {
             Told::NotSetUp => "not set up",
@@ -69,7 +69,7 @@ impl Told {
     }
 }
 
-/// Makes the call between the two lines that show when allocations are to be counted and refused, and returns
+/// Makes the call between the two lines that delimit where allocations are counted and refused, and returns
 /// the result. After a refusal the same call is made once more.
 pub fn tried<T: Trial + Drop>(rt: &HostRuntime, trial: Option<T>) -> Told {
     let Some(mut trial) = trial else {

@@ -1,4 +1,4 @@
--- A stack of sound filters has a verdict of each call, and only one.
+-- A stack of sound filters has exactly one verdict on each call.
 use Rattle.std.proofs.Common.{◌≡◌, ℕ, ◌<◌, inl, inr, List, [], ◌∷◌, ◌++◌, length, refl, sym, ap, subst, ◌∙◌}
 use Rattle.std.proofs.Common.{arith, append_assoc}
 use Rattle.std.proofs.lemmas.Bool.{cases_lt}

@@ -1,4 +1,4 @@
--- More filters say nothing milder of a call.
+-- More filters never make the verdict on a call milder.
 use Rattle.std.proofs.Common.{◌≡◌, ℕ, ◌<◌, ◌≤◌, List, [], ◌∷◌, ◌++◌, length, refl, ap, subst, arith}
 use Rattle.std.proofs.Common.{length-append}
 use Rattle.std.proofs.lemmas.List.{get_or_append_left}

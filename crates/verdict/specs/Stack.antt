@@ -1,5 +1,5 @@
--- What the filters of a stack say of a call together: seccomp(2), "return values". All are run, the first
--- rank wins, and among values of that rank the newest filter's data.
+-- The joint verdict of a stack's filters on a call: seccomp(2), "return values". All are run, the first rank
+-- wins, and among values of that rank the newest filter's data.
 use Rattle.std.specs.Prelude.{◌≡◌, ℕ, ◌+◌, ◌<◌, ◌≤◌, List, [], ◌∷◌, length, slice_index}
 use Rattle.std.specs.List.{All}
 use Rattle.action.specs.declared.action.Action.TheVariants.{Allow}
@@ -27,7 +27,7 @@ HaveValues (code ∷ stack) call (value ∷ values) = ((steps : ℕ) × Runs cod
 abbrev pub rank_at : List ℕ → ℕ → ℕ
 rank_at values at = rank_of (verdict_of (slice_index values at)).action
 
--- the last one among those of first rank stands at this place
+-- the last one among those of first rank is at this place
 pub record IsChosen (values : List ℕ) (at : ℕ) : Type 0 where
   pub within : at < length values
   pub first_rank : (other : ℕ) → other < length values → rank_at values at ≤ rank_at values other
@@ -39,11 +39,11 @@ pub data IsVerdictOf (values : List ℕ) (verdict : Verdict) : Type 0 where
   of_chosen : (at : ℕ) → IsChosen values at → verdict ≡ verdict_of (slice_index values at)
       → IsVerdictOf values verdict
 
--- what the stack says of the call
+-- the stack's verdict on the call
 abbrev pub IsJudged : List (List Insn) → SysCall → Verdict → Type 0
 IsJudged stack call verdict = (values : List ℕ) × HaveValues stack call values × IsVerdictOf values verdict
 
--- the function that gives what the stack says of each call
+-- the function that returns the stack's verdict on each call
 abbrev pub Judges : List (List Insn) → (SysCall → Verdict) → Type 0
 Judges stack verdicts = (call : SysCall) → IsJudged stack call (verdicts call)
 
@@ -51,7 +51,7 @@ Judges stack verdicts = (call : SysCall) → IsJudged stack call (verdicts call)
 abbrev pub AllSound : List (List Insn) → Type 0
 AllSound stack = All IsSound stack
 
--- what the kernel counts for filters that are there already: each one's instructions, and four more
+-- what the kernel counts for filters already on the stack: each one's instructions, and four more
 abbrev pub counted : List (List Insn) → ℕ
 counted [] = 0
 counted (code ∷ stack) = length code + 4 + counted stack

@@ -100,13 +100,13 @@ impl Stack {
         ensures err { OnErr result (self.new.filters ≡ self.old.filters) }
         ensures back { IfErr result (λ refused. refused.0 ≡ filter) }
 
-        // It is too long exactly if its length and what is counted for the others exceed the limit.
+        // It is too long exactly if its length and the count for the others exceed the limit.
         ensures too_many { IfErr result (λ refused. refused.1 ≡ StackFault.TooManyInsns
             → MAX_STACK_INSNS < length filter + counted self.old.filters) }
         ensures refused { MAX_STACK_INSNS < length filter + counted self.old.filters
             → IsErrAnd result (λ refused. refused.1 ≡ StackFault.TooManyInsns) }
 
-        // Where there is room it takes no memory. A filter that is added takes the room of one.
+        // If there is room, it takes no memory. An added filter uses the room of one.
         ensures spared { IfErr result (λ refused. refused.1 ≡ StackFault.Memory → self.old.room ≡ 0) }
         ensures room { OnOk result (self.old.room ≤ self.new.room + 1) }
         ensures kept { OnErr result (self.old.room ≤ self.new.room) }

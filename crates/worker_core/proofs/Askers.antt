@@ -33,7 +33,7 @@ module _ (uid : List ℕ) (number : ℕ) (request : Request) where
   tick_silent true e = cc
   tick_silent false e = cc
 
--- the number that is told is the request's
+-- the answer's number is the request's
 numbered_so : (uid : List ℕ) (number : ℕ) (request : Request) (g : Option Grant)
     → grant_answer g ≡ Given uid number request → number ≡ request.id
 numbered_so uid number request None e = absurd cc

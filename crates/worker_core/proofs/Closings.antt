@@ -1,4 +1,4 @@
--- The order of the pods that can be given, once a pod has left and those behind it have moved up.
+-- The order of the pods that can be given, after a pod has left and those after it have moved up.
 use Rattle.std.proofs.Common.{◌≡◌, ◌⊎◌, inl, inr, ℕ, ◌+◌, ◌-◌, ◌<◌, ◌≤◌, nat_lt, Bool, true, false, not, ◌==◌}
 use Rattle.std.proofs.Common.{if◌then◌else◌, cond, List, [], ◌∷◌, map, Option, Some, None, length}
 use Rattle.std.proofs.Common.{refl, sym, ◌∙◌, ap, suc, zero, arith}
@@ -12,7 +12,7 @@ use Rattle.worker_core.specs.Slots.{free_due}
 use Rattle.worker_core.proofs.Orders.{AllFrom, Before, after_is, before_is, from_order, is_after, is_before}
 use Rattle.worker_core.proofs.Orders.{out_first, out_then_put_if, put_here, put_past, sorted_order}
 
--- where a pod stands once the one at this place has left
+-- the place of a pod after the one at this place has left
 abbrev moved : ℕ → ℕ → ℕ
 moved p place = if nat_lt p place then place - 1 else place
 
@@ -118,7 +118,7 @@ module _ (p : ℕ) where
         ∙ ap (λ (q : ℕ). put (record { place = q; from = from; worked = slot.state.worked })
         (map (closed_up p) ds)) e
 
-  -- those behind the place move up by one
+  -- those after the place move up by one
   all_up : (ss : List Slot) (at next : ℕ) → p ≤ at → next ≡ at + 1
       → map (closed_up p) (order_from next ss) ≡ order_from at ss
   all_up [] at next l e = refl
@@ -128,7 +128,7 @@ module _ (p : ℕ) where
       (apart_from (next + 1) (omega (arith, l, e)) (order_from (next + 1) ss) (from_order (next + 1) ss))
       ∙ ap (put_if (due_at at s)) (all_up ss (at + 1) (next + 1) (omega (arith, l)) (omega (arith, e)))
 
--- the order of those that are left
+-- the order of the remaining ones
 closed_from : (ss : List Slot) (at i p : ℕ) → p ≡ at + i → i < length ss
     → closed p (order_from at ss) ≡ order_from at (remove ss i)
 closed_from [] at i p e l = absurd (omega (arith, l))

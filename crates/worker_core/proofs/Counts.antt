@@ -23,7 +23,7 @@ pub all_counted_more : (number later : ℕ) → number ≤ later → (slots : Li
     → AllCounted later slots
 all_counted_more number later l slots all at slot here = counted_more number later l slot (all at slot here)
 
--- of a pod that was just admitted none began
+-- no run of a just admitted pod began
 pub counted_by_push : (number : ℕ) (old new : List Slot) (slot : Slot) → new ≡ old ++ slot ∷ []
     → IsCounted 0 slot → AllCounted number old → AllCounted number new
 counted_by_push number old new slot more fresh all at last e =
@@ -38,7 +38,7 @@ counted_by_remove number slots place all at slot e =
     let found : (j : ℕ) × (slice_get slots j ≡ Some slot) = in_remove slots place at slot e in
     all found.0 slot found.1
 
--- where one pod changes
+-- if one pod changes
 by_change : (f : Slot → Slot) (number later : ℕ) → number ≤ later
     → ((slot : Slot) → IsCounted number slot → IsCounted later (f slot))
     → (old new : List Slot) (place : ℕ) → new ≡ changed f old place

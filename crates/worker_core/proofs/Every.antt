@@ -116,7 +116,7 @@ module _
     → slice_get (read_off pod settings claims).tracks at ≡ Some track
     → track.init ≡ nat_lt at pod.containers.inits)
   where
-    -- what two claims of one place hold is the same
+    -- two claims of one place hold the same
     same_held : (node : NodeState) (worker other : ℕ) (uid another : List ℕ) (request its : Request)
         (h : Holds node worker uid request) (k : Holds node other another its) → h.place ≡ k.place
         → (worker ≡ other) × (uid ≡ another) × (request ≡ its)
@@ -262,7 +262,7 @@ module _
     nothing_law old answer new worker (inr lacks) said less = λ due.
         let differ : Nothing ≡ Refused Memory = sym said ∙ lacks.answer_is in cc
 
-    -- the last of a container's runs was told
+    -- the last of a container's runs was reported
     told_last : (uid : List ℕ) (claims : List Claimed) (name : List ℕ) (track : Track)
         → WasTold uid claims name track → (run : Run) → last_of track.runs ≡ Some run
         → (k : ℕ) × Told uid claims name k run
@@ -271,7 +271,7 @@ module _
         (get_or_from_slice_get track.runs (length track.runs - 1) run run last)
         (told.runs (length track.runs - 1) run (slice_get_within track.runs (length track.runs - 1) run last))
 
-    -- an init container that a creation came behind
+    -- an init container before a creation
     init_ended : (old : NodeState) (ls : List NodeLink) → Good ls old → (from : ℕ) (p : OnNode)
         → slice_get old.pods from ≡ Some p
         → (key : Key) (image : List ℕ) (profile : SeccompProfile)

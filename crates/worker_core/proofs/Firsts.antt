@@ -71,7 +71,7 @@ first_moment_is now slots ds e = ap (first_moment now) e ∙ none_else (first_mo
     none_else None = refl
     none_else (Some m) = refl
 
--- the pod that waited longest. It stands before the others in the order of the numbers of their claims
+-- the pod that waited longest. It is before the others in the order of the numbers of their claims
 abbrev as_due : Turn → Due
 as_due turn = record { place = turn.place; from = turn.worked; worked = turn.worked }
 
@@ -84,7 +84,7 @@ of_first best turn e = ap (λ (t : Bool). if t then turn else best) e
 of_last : (best turn : Turn) → stands_before (as_due turn) (as_due best) ≡ true → of_two best turn ≡ turn
 of_last best turn e = ap (λ (t : Bool). if t then turn else best) e
 
--- none of both stands before the other
+-- neither is before the other
 one_turn : (a b : Turn) → (Before (as_due a) (as_due b) → ⊥) → (Before (as_due b) (as_due a) → ⊥) → a ≡ b
 one_turn a b ab ba =
     elim (cases_order a.worked b.worked) [
@@ -182,7 +182,7 @@ module _ (now : ℕ) where
       → first_turn now best (x ∷ ds) ≡ best
   first_not x best ds e = ap (λ (t : Bool). if t then first_turn now (Some (prefer best x)) ds else best) e
 
-  -- one that is due counts, wherever it stands
+  -- a pod that is due counts, wherever it is in the order
   due_counts : (due : Due) → nat_le due.from now ≡ true → (ds : List Due) (best : Option Turn)
       → first_turn now best (put due ds) ≡ first_turn now (Some (prefer best due)) ds
   due_counts due v [] best = first_come due best [] v
@@ -199,7 +199,7 @@ module _ (now : ℕ) where
         ∙ sym (first_come x (Some (prefer best due)) ds u)
     by_test rest false e = first_come due best (x ∷ ds) v
 
-  -- and one that is not does not
+  -- and one that is not due does not
   late_counts_not : (due : Due) → nat_le due.from now ≡ false → (ds : List Due) (best : Option Turn)
       → first_turn now best (put due ds) ≡ first_turn now best ds
   late_counts_not due v [] best = first_not due best [] v

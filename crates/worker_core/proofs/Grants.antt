@@ -115,7 +115,7 @@ pub settings_is : (settings : Settings) (pod : Pod) (cs : List Ended)
 settings_is settings pod [] = refl
 settings_is settings pod (c ∷ cs) = settings_is settings pod cs
 
--- of a node
+-- a grant of a node
 pub record NodeGrant (old : NodeState) (grant : Grant) : Type 0 where
   pub pod : OnNode
   pub here : slice_get old.pods grant.place ≡ Some pod
@@ -135,7 +135,7 @@ free_if slot now e = by_held slot.held refl e where
   by_held None is e = is
   by_held (Some held) is e = absurd cc
 
--- a pod that nobody holds is open from its own moment on
+-- a pod that nobody holds is open from its own moment
 pub open_if : (slot : Slot) (now : ℕ) → slot.held ≡ None → has_come (due_of slot.state) now ≡ true
     → is_open now slot ≡ true
 open_if slot now free e = ap (λ (h : Option Held).

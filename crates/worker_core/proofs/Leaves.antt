@@ -22,7 +22,7 @@ use Rattle.worker_core.specs.Slots.{changed, holder_of, is_gone_slot, outcome_of
 use Rattle.worker_core.proofs.Lists.{changed_behind, there}
 use Rattle.worker_core.proofs.Moves.{holder_is}
 
--- what was there is there, or is the one that was changed
+-- an element is still there, or is the one that was changed
 still_changed : {A : Type 0} (f : A → A) (xs : List A) (place at : ℕ) (x : A) → slice_get xs at ≡ Some x
     → (slice_get (changed f xs place) at ≡ Some x) ⊎ (slice_get (changed f xs place) at ≡ Some (f x))
 still_changed f [] place at x e = absurd cc

@@ -1,4 +1,4 @@
--- Lists of which one element is changed or removed.
+-- Lists with one element changed or removed.
 use Rattle.std.proofs.Common.{◌≡◌, ◌⊎◌, inl, inr, ℕ, List, [], ◌∷◌, ◌++◌, length, Option, Some, None}
 use Rattle.std.proofs.Common.{slice_get, map, refl, ◌∙◌, sym, ap, suc, zero, arith}
 use Rattle.std.specs.List.{remove}
@@ -22,7 +22,7 @@ ended_by_remove now slots place by at slot e =
     let found : (j : ℕ) × (slice_get slots j ≡ Some slot) = in_remove slots place at slot e in
     by found.0 slot found.1
 
--- what is read off a list goes along with its changes
+-- mapping a list commutes with a change of one element
 pub changed_behind : {A : Type 0} (f : A → A) (x : A) (xs : List A) (place : ℕ) (o : Option A)
     → changed_to f (x ∷ xs) (suc place) o ≡ x ∷ changed_to f xs place o
 changed_behind f x xs place None = refl
@@ -54,7 +54,7 @@ in_changed f (x ∷ xs) (suc place) (suc at) y e =
       | inr found ↦ inr (found.0, ap (λ (n : ℕ). suc n) found.1, found.2, found.3)
     ]
 
--- where an element stood that is left
+-- the former place of an element that is left
 abbrev pub skip : ℕ → ℕ → ℕ
 skip zero at = suc at
 skip (suc place) zero = zero
@@ -87,7 +87,7 @@ in_push (z ∷ zs) x (suc at) y e =
       | inr found ↦ inr (omega (arith, found.0), found.1)
     ]
 
--- what is read off an element that is there
+-- an element of the mapped list comes from one of the list
 pub got : {A B : Type 0} (g : A → B) (xs : List A) (at : ℕ) (y : B) → slice_get (map g xs) at ≡ Some y
     → (x : A) × (slice_get xs at ≡ Some x) × (g x ≡ y)
 got g [] at y e = absurd cc

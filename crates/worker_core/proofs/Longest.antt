@@ -51,7 +51,7 @@ better_is now at slot best turn e = by_test (is_open now slot && is_longer best 
           })
       by_test false t e = inl e
 
--- the turn is that of a pod which is due
+-- the turn is that of a due pod
 pub record IsOpen (now at : ℕ) (slots : List Slot) (turn : Turn) : Type 0 where
   pub off : ℕ
   pub slot : Slot

@@ -44,7 +44,7 @@ pub record WasGiven (old : NodeState) (event : AgentEvent) (answer : Answer) (p 
   pub due : next_of (state_of old p) old.moment ≡ Some request.call
   pub is : new ≡ pod_claimed (record { worker = worker; request = request }) p
 
--- the worker that held the pod told how its claim ended
+-- the worker that held the pod reported how its claim ended
 pub record WasEnded (old : NodeState) (event : AgentEvent) (answer : Answer) (p new : OnNode) : Type 0 where
   pub held : Held
   pub how : Outcome

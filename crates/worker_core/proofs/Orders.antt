@@ -1,4 +1,4 @@
--- The order of the pods that can be given, as it goes along with their changes.
+-- The order of the pods that can be given, under their changes.
 use Rattle.std.proofs.Common.{◌≡◌, ◌⊎◌, inl, inr, ℕ, ◌+◌, ◌<◌, ◌≤◌, nat_lt, Bool, true, false, not, ◌==◌}
 use Rattle.std.proofs.Common.{◌||◌, ◌&&◌, if◌then◌else◌, cond, List, [], ◌∷◌, ◌++◌, length, Option, Some}
 use Rattle.std.proofs.Common.{None, slice_get, refl, sym, ◌∙◌, ap, suc, zero, arith}
@@ -11,7 +11,7 @@ use Rattle.worker_core.specs.Order.{reseated, stands_before, without}
 use Rattle.worker_core.specs.Slots.{changed, free_due}
 use Rattle.worker_core.proofs.Lists.{changed_behind}
 
--- of two pods one stands before the other
+-- one pod is before the other
 abbrev pub Before : Due → Due → Type 0
 Before a b = (a.from < b.from) ⊎ ((a.from ≡ b.from) × (a.place < b.place))
 
@@ -38,7 +38,7 @@ is_before a b (inr e) = by_from (nat_lt a.from b.from) where
 not_both : true ≡ false → ⊥
 not_both e = absurd cc
 
--- it does not stand before the other
+-- it is not before the other
 pub after_is : (a b : Due) → stands_before a b ≡ false → Before a b → ⊥
 after_is a b e h = not_both (sym (is_before a b h) ∙ e)
 
@@ -48,7 +48,7 @@ is_after a b never = by_test (stands_before a b) refl where
   by_test true e = absurd (never (before_is a b e))
   by_test false e = refl
 
--- so far every two of them are in some order
+-- two at different places are in some order
 one_before : (a b : Due) → (a.place ≡ b.place → ⊥) → Before a b ⊎ Before b a
 one_before a b apart =
     elim (cases_order a.from b.from) [
@@ -74,7 +74,7 @@ before_before a b c (inl l) (inr m) = inl (omega (arith, l, m.0))
 before_before a b c (inr l) (inl m) = inl (omega (arith, l.0, m))
 before_before a b c (inr l) (inr m) = inr (l.0 ∙ m.0, omega (arith, l.1, m.1))
 
--- b does not stand behind x, and x stands before a
+-- x is before a, and not before b
 pub before_through : (x a b : Due) → stands_before x a ≡ true → stands_before x b ≡ false
     → stands_before b a ≡ true
 before_through x a b e f = by_test (stands_before b a) refl where
@@ -100,7 +100,7 @@ before_through x a b e f = by_test (stands_before b a) refl where
   by_test true g = refl
   by_test false g = absurd (from_lemma (before_is x a e) (after_is x b f) (after_is b a g))
 
--- what stands at a place is put behind those before it
+-- an entry is put after those before it
 pub put_past : (x due : Due) (ds : List Due) → stands_before x due ≡ true → put due (x ∷ ds) ≡ x ∷ put due ds
 put_past x due ds e = ap (λ (t : Bool). if t then x ∷ put due ds else due ∷ x ∷ ds) e
 
@@ -147,7 +147,7 @@ put_twice a b apart (x ∷ ds) = by_test (put_twice a b apart ds) (stands_before
       by_test rest false e false f = ap (put a) (put_here x b ds f) ∙ both_here e f
           ∙ ap (put b) (sym (put_here x a ds e))
 
--- none of them stands before it
+-- none of them is before it
 abbrev pub Behind : Due → List Due → Type 0
 Behind due [] = Unit {0}
 Behind due (x ∷ ds) = (stands_before x due ≡ false) × Behind due ds
@@ -163,7 +163,7 @@ behind_put x due (y ∷ ds) e h = by_test (behind_put x due ds e h.1) (stands_be
   by_test rest true = (h.0, rest)
   by_test rest false = (e, h)
 
--- what none of these stand before, stands before none that they do not
+-- if x is not before it, and none of these is before x, none of them is before it
 behind_behind : (due x : Due) (ds : List Due) → stands_before x due ≡ false → Behind x ds → Behind due ds
 behind_behind due x [] e h = tt
 behind_behind due x (y ∷ ds) e h = (
@@ -232,7 +232,7 @@ out_then_put p due apart (x ∷ ds) s = by_test (out_then_put p due apart ds s.1
         ∙ sym (put_first due (without p (x ∷ ds)) (behind_without due p (x ∷ ds)
         (e, behind_behind due x ds e s.0)))
 
--- the same of what is due for a pod
+-- the same for what is due for a pod
 sorted_put_if : (place : ℕ) (slot : Slot) (ds : List Due) → Sorted ds → Sorted (put_if (due_at place slot) ds)
 sorted_put_if place slot ds s = by_due (free_due slot) where
   by_due : (o : Option ℕ) → Sorted (put_if (due_with place slot.state.worked o) ds)
@@ -312,7 +312,7 @@ pub out_first : (at : ℕ) (slot : Slot) (ss : List Slot)
 out_first at slot ss = put_if_then_out at slot (order_from (at + 1) ss)
     ∙ none_out at (at + 1) (omega arith) (order_from (at + 1) ss) (from_order (at + 1) ss)
 
--- a pod behind another is seated anew
+-- a pod after another is reseated
 behind_reseated : (at p : ℕ) (first new : Slot) (ds : List Due) → at < p → Sorted ds
     → put_if (due_at at first) (reseated p new ds) ≡ reseated p new (put_if (due_at at first) ds)
 behind_reseated at p first new ds l s =
@@ -335,7 +335,7 @@ order_changed f (x ∷ ss) at (suc i) p slot e here =
     ∙ ap (put_if (due_at at x)) (order_changed f ss (at + 1) i p slot (omega (arith, e)) here)
     ∙ behind_reseated at p x (f slot) (order_from (at + 1) ss) (omega (arith, e)) (sorted_order (at + 1) ss)
 
--- another one comes behind them
+-- another one is added after them
 pub order_pushed : (slot : Slot) (ss : List Slot) (at p : ℕ) → p ≡ at + length ss
     → order_from at (ss ++ slot ∷ []) ≡ reseated p slot (order_from at ss)
 order_pushed slot [] at p e =

@@ -32,7 +32,7 @@ use Rattle.worker_core.proofs.Grants.{IsGiven, given_is, pod_is}
 use Rattle.worker_core.proofs.Idle.{idle_holds_none}
 use Rattle.worker_core.proofs.Moves.{Came, Goes, IsFresh, Moves, WasEnded, WasGiven, moves, unknown_pod}
 
--- by what became of a pod
+-- by cases of what happened to a pod
 by_goes : (old : NodeState) (event : AgentEvent) (answer : Answer) (p new : OnNode) (P : OnNode → Type 0)
     → P p → P (pod_deleted p)
     → ((g : WasGiven old event answer p new)
@@ -55,7 +55,7 @@ pod_same : (old : NodeState) (event : AgentEvent) (answer : Answer) (p new : OnN
 pod_same old event answer p new = by_goes old event answer p new (λ (n : OnNode).
     n.past.pod ≡ p.past.pod) refl refl (λ g. refl) (λ e. ended_pod old.moment e.how p.past p.held)
 
--- what an admission says
+-- what an admission implies
 pub admits_is : (old : NodeState) (event : AgentEvent) (answer : Answer) (new : NodeState)
     → NodeStep old event answer new → (pod : Pod) → event ≡ Admit pod → answer ≡ Done
     → (is_known pod.uid old.admitted ≡ false) × (new.admitted ≡ pod.uid ∷ old.admitted)
@@ -73,7 +73,7 @@ admits_is old event answer new (inr lacks) pod is done =
     let differ : Done ≡ Refused Memory = sym done ∙ lacks.answer_is in
     absurd cc
 
--- what a claim says that was given
+-- what a given claim implies
 pub record GivesIs (old : NodeState) (worker : ℕ) (uid : List ℕ) (request : Request)
     (new : NodeState) : Type 0 where
   pub grant : Grant

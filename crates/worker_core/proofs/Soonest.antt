@@ -104,7 +104,7 @@ from_where now (s ∷ ss) best m e =
       })
     ]
 
--- a pod that nobody holds is due from its own moment on
+-- a pod that nobody holds is due from its own moment
 free_due_of : (slot : Slot) → slot.held ≡ None → free_due slot ≡ due_of slot.state
 free_due_of slot e = ap (λ (h : Option Held). if is_free h then due_of slot.state else None) e
 

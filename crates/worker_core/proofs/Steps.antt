@@ -1,4 +1,4 @@
--- What is kept after an event is what the claims say after it, of every node that was kept.
+-- After an event the kept state is what the claims make it, for every node that it stood for before.
 use Rattle.std.proofs.Common.{◌≡◌, inl, inr, ℕ, nat_le, nat_lt, Bool, true, false, ◌||◌, if◌then◌else◌, List}
 use Rattle.std.proofs.Common.{[], ◌∷◌, ◌++◌, length, map, Option, Some, None, slice_get, refl, sym, ◌∙◌, ap}
 use Rattle.std.proofs.Common.{subst, suc, zero, arith}
@@ -190,7 +190,7 @@ pub answers : (kept : KeptNode) (node : NodeState) → StandsFor kept node → (
 answers kept node s event = ap (λ (k : KeptNode). answer_of k event) (relists kept node s)
     ∙ answer_same node kept.known s.known event
 
--- it takes memory where it does for the node
+-- it takes memory if the node does
 takes_same : (node : NodeState) (known : List (List ℕ)) (event : AgentEvent)
     → takes_memory (relisted node known) event ≡ takes_memory (kept_of node) event
 takes_same node known (Admit pod) = refl

@@ -53,7 +53,7 @@ clash u x same other =
     let is : bytes_eq u x ≡ true = sym (is_eq-slice_cmp u x) ∙ ap is_eq same in
     let differ : true ≡ false = sym is ∙ other in absurd cc
 
--- a further uid is known, and no other one more
+-- one more uid is known, and no other
 pub known_with : (q u : List ℕ) (ks : List (List ℕ)) → is_known u ks ≡ false
     → is_known q (with_uid u ks) ≡ (bytes_eq q u || is_known q ks)
 known_with q u [] new = refl

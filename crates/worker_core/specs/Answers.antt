@@ -24,7 +24,7 @@ refusal_text NotYours = codes "NotYours"
 refusal_text ClockBack = codes "ClockBack"
 refusal_text Memory = codes "Memory"
 
--- a growth was refused
+-- an allocation failed
 abbrev pub is_want : NodeRefusal → Bool
 is_want Memory = true
 is_want refusal = false

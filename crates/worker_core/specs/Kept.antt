@@ -1,4 +1,4 @@
--- What a node's agent keeps, what it answers to an event, and what it keeps then: this project's own.
+-- What a node's agent keeps, its answer to an event, and what it keeps afterwards: this project's own.
 -- docs/SEMANTICS.md, "The agent: the node".
 use Rattle.std.specs.Prelude.{◌≡◌, ◌⊎◌, ℕ, ◌+◌, nat_le, nat_lt, Bool, true, false, ◌||◌, if◌then◌else◌, List}
 use Rattle.std.specs.Prelude.{[], ◌∷◌, ◌++◌, length, Option, Some, None, slice_get}
@@ -39,7 +39,7 @@ pub record KeptNode : Type 0 where
 abbrev pub fresh_node : Settings → KeptNode
 fresh_node settings = record { settings = settings; moment = 0; number = 0; known = []; slots = [] }
 
--- Admit: a uid that was admitted before is told first
+-- Admit: a uid that was admitted before is reported first
 abbrev pub is_full : KeptNode → Bool
 is_full kept = nat_le MAX_PODS (length kept.slots) || nat_le MAX_UIDS (length kept.known)
 
@@ -83,7 +83,7 @@ abbrev pub after_delete : KeptNode → Option ℕ → KeptNode
 after_delete kept None = kept
 after_delete kept (Some place) = with_slots kept (changed deleted kept.slots place)
 
--- Claim: what the worker is given, of the pod that was worked on longest ago, under the next number
+-- Claim: the worker gets the request of the pod that was worked on longest ago, under the next number
 abbrev pub grant_with : ℕ → List ℕ → Option Request → Option Grant
 grant_with place uid None = None
 grant_with place uid (Some request) = Some (record { place = place; uid = uid; request = request })
@@ -98,7 +98,7 @@ abbrev pub grant_of_turn : KeptNode → Option Turn → Option Grant
 grant_of_turn kept None = None
 grant_of_turn kept (Some turn) = grant_of_slot kept turn.place (slice_get kept.slots turn.place)
 
--- behind the last number nothing is given
+-- after the last number nothing is given
 abbrev pub grant_of : KeptNode → Option Grant
 grant_of kept = if nat_lt kept.number LAST_NUMBER then grant_of_turn kept (longest kept.moment kept.slots)
     else None
@@ -155,7 +155,7 @@ with_moment kept now = record {
 abbrev pub after_tick : KeptNode → ℕ → KeptNode
 after_tick kept now = if nat_lt now kept.moment then kept else with_moment kept now
 
--- what is answered, want of memory aside
+-- the answer, if memory suffices
 abbrev pub answer_of : KeptNode → AgentEvent → Answer
 answer_of kept (Admit pod) = admit_answer (refusal_of kept pod)
 answer_of kept (Delete uid) = delete_answer (place_of uid kept.slots)
@@ -164,7 +164,7 @@ answer_of kept (Report worker reported) = end_answer (holder_of worker kept.slot
 answer_of kept (Tick now) = tick_answer kept now
 answer_of kept (Abandon worker) = end_answer (holder_of worker kept.slots)
 
--- and what is kept then
+-- and what is kept afterwards
 abbrev pub after_event : KeptNode → AgentEvent → KeptNode
 after_event kept (Admit pod) = after_admit kept pod (refusal_of kept pod)
 after_event kept (Delete uid) = after_delete kept (place_of uid kept.slots)
@@ -180,13 +180,13 @@ changes (Claimed uid number request) = true
 changes Nothing = false
 changes (Refused refusal) = false
 
--- what may take memory
+-- the events that may take memory
 abbrev pub takes_memory : KeptNode → AgentEvent → Bool
 takes_memory kept (Admit pod) = true
 takes_memory kept (Claim worker) = true
 takes_memory kept event = false
 
--- want of memory is told last, and changes nothing
+-- out of memory is reported last, and changes nothing
 pub record LacksMemory (due : Answer) (may : Bool) (old : KeptNode) (answer : Answer)
     (new : KeptNode) : Type 0 where
   pub takes : may ≡ true
@@ -200,7 +200,7 @@ Takes due next may old answer new = ((answer ≡ due) × (new ≡ next)) ⊎ Lac
 abbrev pub KeptStep : KeptNode → AgentEvent → Answer → KeptNode → Type 0
 KeptStep old event = Takes (answer_of old event) (after_event old event) (takes_memory old event) old
 
--- what is foreseen of a step; a request that would be given is copied
+-- the predicted answer of a step; a request that would be given is copied
 pub record LacksCopy (due : Answer) (may : Bool) (answer : Answer) : Type 0 where
   pub takes : may ≡ true
   pub changing : changes due ≡ true

@@ -1,4 +1,4 @@
--- What holds of every run of a node: this project's own, over the order of init containers and restarts of
+-- Laws of every run of a node: this project's own, over the order of init containers and restarts of
 -- Kubernetes 1.27, pod lifecycle. docs/SEMANTICS.md, "The agent: the node".
 use Rattle.std.specs.Prelude.{◌≡◌, ◌⊎◌, ℕ, ◌+◌, ◌<◌, ◌≤◌, nat_lt, Bool, true, false, List, [], ◌∷◌, length}
 use Rattle.std.specs.Prelude.{Option, Some, None, slice_get}
@@ -45,7 +45,7 @@ IsNodeRun settings [] = Unit {0}
 IsNodeRun settings (l ∷ ls) = (l.old ≡ node_now settings ls) × NodeStep l.old l.event l.answer l.new
     × IsNodeRun settings ls
 
--- some link of the list is such
+-- some link of the list has the property
 abbrev pub Happened : (NodeLink → Type 0) → List NodeLink → Type 0
 Happened P [] = ⊥
 Happened P (l ∷ ls) = P l ⊎ Happened P ls
@@ -94,7 +94,7 @@ EndsBy (Report its reported) worker how = (its ≡ worker) × (outcome_of report
 EndsBy (Abandon its) worker how = (its ≡ worker) × (outcome.Abandoned ≡ how)
 EndsBy event worker how = ⊥
 
--- the claim of the pod of this uid ends: a worker that held the pod by its request told the outcome
+-- the claim of the pod of this uid ends: a worker that held the pod by its request reported the outcome
 pub record Ends (uid : List ℕ) (c : Claimed) (l : NodeLink) : Type 0 where
   pub worker : ℕ
   pub held : Holds l.old worker uid c.request
@@ -123,15 +123,15 @@ pub record NodeLaws (settings : Settings) (ls : List NodeLink) : Type 0 where
       → Holds (node_now settings ls) worker uid request → Happened (Gives worker uid request) ls
   pub admitted : (at : ℕ) (p : OnNode) → slice_get (node_now settings ls).pods at ≡ Some p
       → Happened (Admits p.past.pod) ls
-  -- what is asked for a pod is about the pod
+  -- each request for a pod is about the pod
   pub held_is_about : (worker : ℕ) (uid : List ℕ) (request : Request)
       → Holds (node_now settings ls) worker uid request → uid_of request.call ≡ uid
   pub claims_are_about : (at : ℕ) (p : OnNode) → slice_get (node_now settings ls).pods at ≡ Some p
       → AreOf p.past.pod.uid p.past.claims
-  -- each ended claim of a pod was held by a worker that told how it ended
+  -- each ended claim of a pod was held by a worker that reported how it ended
   pub ended : (at : ℕ) (p : OnNode) (c : Claimed) → slice_get (node_now settings ls).pods at ≡ Some p
       → Among c p.past.claims → Happened (Ends p.past.pod.uid c) ls
-  -- each container of the manifest has its track at its place, which says whether it is an init container
+  -- each container of the manifest has its track at its place, which shows whether it is an init container
   pub tracked : (at : ℕ) (p : OnNode) → slice_get (node_now settings ls).pods at ≡ Some p
       → length (read_off p.past.pod (node_now settings ls).settings p.past.claims).tracks
       ≡ length p.past.pod.containers.all
@@ -139,7 +139,8 @@ pub record NodeLaws (settings : Settings) (ls : List NodeLink) : Type 0 where
       → (place : ℕ) (track : Track) → slice_get
       (read_off p.past.pod (node_now settings ls).settings p.past.claims).tracks place ≡ Some track
       → track.init ≡ is_init p.past.pod place
-  -- the run at each place, from 0, was told by a reply to a claim of the container's attempt of that number
+  -- the run at each place, from 0, was reported by a reply to a claim of the container's attempt of that
+  -- number
   pub numbered : (at : ℕ) (p : OnNode) → slice_get (node_now settings ls).pods at ≡ Some p
       → (place : ℕ) (track : Track) (container : Container)
       → slice_get (read_off p.past.pod (node_now settings ls).settings p.past.claims).tracks place
@@ -147,7 +148,7 @@ pub record NodeLaws (settings : Settings) (ls : List NodeLink) : Type 0 where
       → slice_get p.past.pod.containers.all place ≡ Some container
       → (k : ℕ) (run : Run) → slice_get track.runs k ≡ Some run
       → Told p.past.pod.uid p.past.claims container.name k run
-  -- and where the container's attempt ended, the last run is that attempt's
+  -- and if the container's attempt ended, the last run is that attempt's
   pub told : (at : ℕ) (p : OnNode) → slice_get (node_now settings ls).pods at ≡ Some p
       → (place : ℕ) (track : Track) (container : Container)
       → slice_get (read_off p.past.pod (node_now settings ls).settings p.past.claims).tracks place
@@ -174,8 +175,8 @@ pub record GivenLaw (old : NodeState) (worker : ℕ) (uid : List ℕ) (request :
       → ((state_of old pod).worked ≤ (state_of old other).worked)
       × (at < place → (state_of old pod).worked < (state_of old other).worked)
 
--- attempt k is behind: its run is the last that the node holds, it was told, another may be, and the back-off
--- is over
+-- attempt k is over: its run is the node's last one, it was reported, another is allowed, and the back-off is
+-- over
 pub record Again (node : NodeState) (p : OnNode) (place : ℕ) (track : Track) (container : Container)
     (k : ℕ) : Type 0 where
   pub run : Run
@@ -184,7 +185,7 @@ pub record Again (node : NodeState) (p : OnNode) (place : ℕ) (track : Track) (
   pub may : may_restart p.past.pod.policy (is_init p.past.pod place) run.code ≡ true
   pub ready : ready_at track.runs ≤ node.moment
 
--- the last run that the node holds of this container was told, and ended with code 0
+-- the node's last run of this container was reported, and ended with code 0
 pub record EndedWithZero (node : NodeState) (p : OnNode) (place : ℕ) (container : Container) : Type 0 where
   pub track : Track
   pub here : slice_get (state_of node p).tracks place ≡ Some track
@@ -194,8 +195,8 @@ pub record EndedWithZero (node : NodeState) (p : OnNode) (place : ℕ) (containe
   pub attempt : ℕ
   pub was_told : Told p.past.pod.uid p.past.claims container.name attempt run
 
--- where an attempt at a container is made: the request is what the manifest says, the init containers, for
--- one of them those in front of it, have ended with code 0, and so on behind an attempt that ended
+-- if an attempt at a container is made: the request follows the manifest; the init containers, for one of
+-- them those before it, have ended with code 0; and a further attempt comes after one that ended
 pub record CreationLaw (old : NodeState) (uid : List ℕ) (key : Key) (image : List ℕ)
     (profile : SeccompProfile) : Type 0 where
   pub place : ℕ
@@ -215,15 +216,15 @@ pub record CreationLaw (old : NodeState) (uid : List ℕ) (key : Key) (image : L
   pub again : (k : ℕ) → key.container.attempt ≡ k + 1
       → Again old pod creation.place creation.track creation.container k
 
--- the pod is on the node still
+-- the pod is still on the node
 pub record Stays (new : NodeState) (p : OnNode) : Type 0 where
   pub place : ℕ
   pub now : OnNode
   pub here : slice_get new.pods place ≡ Some now
   pub same : now.past.pod ≡ p.past.pod
 
--- the worker that held the pod told how its claim ended, and with that claim the removal of its sandbox was
--- answered
+-- the worker that held the pod reported how its claim ended, and with that claim the removal of its sandbox
+-- was answered
 pub record HasLeft (old : NodeState) (event : AgentEvent) (p : OnNode) : Type 0 where
   pub held : Held
   pub by : p.held ≡ Some held
@@ -243,13 +244,13 @@ pub record NodeLinkLaws (l : NodeLink) (before : List NodeLink) : Type 0 where
   -- only a worker that claims is given a request
   pub asked : (uid : List ℕ) (number : ℕ) (request : Request) → l.answer ≡ Given uid number request
       → (worker : ℕ) × Gives worker uid request l
-  -- where a worker is given nothing, nothing is due, or there is no number left
+  -- if a worker is given nothing, nothing is due, or there is no number left
   pub nothing : (worker : ℕ) → l.event ≡ Claim worker → l.answer ≡ Nothing → l.old.number < LAST_NUMBER
       → ¬ IsDueAt l.old l.old.moment
   pub creation : (worker : ℕ) (uid : List ℕ) (request : Request) → Gives worker uid request l
       → (key : Key) (image : List ℕ) (profile : SeccompProfile)
       → request.call ≡ CreateContainer key image profile
       → CreationLaw l.old uid key image profile
-  -- a pod leaves only where the removal of its sandbox was answered
+  -- a pod leaves only if the removal of its sandbox was answered
   pub remains : (at : ℕ) (p : OnNode) → slice_get l.old.pods at ≡ Some p
       → Stays l.new p ⊎ HasLeft l.old l.event p

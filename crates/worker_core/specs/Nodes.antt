@@ -1,5 +1,5 @@
--- A node, as the whole list of each pod's ended claims says it, and what an event makes of it: this project's
--- own. docs/SEMANTICS.md, "The agent: the node".
+-- A node, by the whole list of each pod's ended claims, and the effect of an event on it: this project's own.
+-- docs/SEMANTICS.md, "The agent: the node".
 use Rattle.std.specs.Prelude.{◌≡◌, ◌⊎◌, ℕ, ◌≤◌, nat_lt, true, if◌then◌else◌, List, [], ◌∷◌, ◌++◌, length, map}
 use Rattle.std.specs.Prelude.{Option, Some, None, slice_get}
 use Rattle.std.specs.List.{remove}
@@ -24,7 +24,7 @@ use Rattle.worker_core.specs.Known.{is_known}
 use Rattle.worker_core.specs.Kept.{KeptNode, answer_of, grant_of, changes, refusal_of, takes_memory}
 use Rattle.worker_core.specs.Slots.{changed, holder_of, is_gone_slot, outcome_of, place_of}
 
--- a pod on the node, with all its claims that ended, and what a worker holds of it
+-- a pod on the node, with all its ended claims, and what a worker holds of it
 pub record OnNode : Type 0 where
   pub past : Past
   pub held : Option Held
@@ -42,7 +42,7 @@ pub record NodeState : Type 0 where
 abbrev pub empty_node : Settings → NodeState
 empty_node settings = record { settings = settings; moment = 0; number = 0; admitted = []; pods = [] }
 
--- what is read off the claims
+-- the state that is read off the claims
 abbrev pub slot_of : Settings → OnNode → Slot
 slot_of settings p = record { state = held_of settings p.past; held = p.held }
 
@@ -111,7 +111,7 @@ abbrev pub claim_node : NodeState → ℕ → Option ℕ → NodeState
 claim_node node worker None = give_node node worker (grant_of (kept_of node))
 claim_node node worker (Some place) = node
 
--- Report and Abandon: the claim ends now, and stands first among the pod's; a pod whose removal was answered
+-- Report and Abandon: the claim ends now, and is the first of the pod's; a pod whose removal was answered
 -- leaves
 abbrev pub past_ended : ℕ → Outcome → Past → Option Held → Past
 past_ended now how past None = past
@@ -144,7 +144,7 @@ at_moment node now = record {
 abbrev pub tick_node : NodeState → ℕ → NodeState
 tick_node node now = if nat_lt now node.moment then node else at_moment node now
 
--- what an event makes of the node, want of memory aside
+-- the node after an event, if memory suffices
 abbrev pub next_node : NodeState → AgentEvent → NodeState
 next_node node (Admit pod) = admit_node node pod (refusal_of (kept_of node) pod)
 next_node node (Delete uid) = delete_node node (place_of uid (slots_of node))
@@ -175,7 +175,7 @@ pub record SameUids (known admitted : List (List ℕ)) : Type 0 where
   pub each : (uid : List ℕ) → is_known uid known ≡ is_known uid admitted
   pub count : length known ≡ length admitted
 
--- what is kept is what the node's claims say
+-- the kept state is what the node's claims make it
 pub record StandsFor (kept : KeptNode) (node : NodeState) : Type 0 where
   pub settings : kept.settings ≡ node.settings
   pub moment : kept.moment ≡ node.moment
@@ -183,7 +183,7 @@ pub record StandsFor (kept : KeptNode) (node : NodeState) : Type 0 where
   pub known : SameUids kept.known node.admitted
   pub slots : kept.slots ≡ slots_of node
 
--- some step with this answer comes to a node that is kept then
+-- some step with this answer leads to a node that this state stands for
 pub record Comes (old : NodeState) (event : AgentEvent) (answer : Answer) (kept : KeptNode) : Type 0 where
   pub new : NodeState
   pub step : NodeStep old event answer new

@@ -1,4 +1,4 @@
--- The pods that can be given, in the order of the moments from which on they can: this project's own.
+-- The pods that can be given, in the order of the moments from which they can: this project's own.
 -- docs/DECISIONS.md, "The pods that can be given are kept in the order of their moments".
 use Rattle.std.specs.Prelude.{ℕ, ◌+◌, ◌-◌, nat_lt, nat_le, max, ◌==◌, Bool, not, ◌&&◌, ◌||◌, if◌then◌else◌}
 use Rattle.std.specs.Prelude.{List, [], ◌∷◌, map, filter, slice_get, Option, Some, None}
@@ -18,7 +18,7 @@ put due (d ∷ ds) = if stands_before d due then d ∷ put due ds else due ∷ d
 abbrev pub without : ℕ → List Due → List Due
 without place ds = filter (λ d. not (d.place == place)) ds
 
--- what stands there for a pod
+-- the entry for a pod
 abbrev pub due_with : ℕ → ℕ → Option ℕ → Option Due
 due_with place worked None = None
 due_with place worked (Some from) = Some (record { place = place; from = from; worked = worked })

@@ -23,7 +23,7 @@ use Rattle.worker_core.specs.declared.slots.Slot.{Slot}
 abbrev pub fresh_slot : Pod → Settings → Slot
 fresh_slot pod settings = record { state = start pod settings; held = None }
 
--- how a claim ends by what its worker tells
+-- how a claim ends, by the report of its worker
 abbrev pub outcome_of : Reported → Outcome
 outcome_of (Replied reply) = outcome.Replied reply
 outcome_of Lost = outcome.Lost
@@ -41,7 +41,7 @@ abbrev pub is_held_by : ℕ → Option Held → Bool
 is_held_by worker None = false
 is_held_by worker (Some held) = held.worker == worker
 
--- where the pod stands that this worker holds
+-- the place of the pod that this worker holds
 abbrev pub holder_of : ℕ → List Slot → Option ℕ
 holder_of worker slots = position (λ s. is_held_by worker s.held) slots
 
@@ -62,7 +62,7 @@ request_at slots (Some place) = request_in (slice_get slots place)
 abbrev pub claim_of : ℕ → List Slot → Option Request
 claim_of worker slots = request_at slots (holder_of worker slots)
 
--- where the pod of this uid stands
+-- the place of the pod of this uid
 abbrev pub place_of : List ℕ → List Slot → Option ℕ
 place_of uid slots = position (λ s. bytes_eq s.state.pod.uid uid) slots
 
@@ -97,11 +97,11 @@ is_settled slots = list_all (λ slot. is_final (phase_in slot.state)) slots
 abbrev pub has_failed : List Slot → Bool
 has_failed slots = list_any (λ slot. is_failed (phase_in slot.state)) slots
 
--- from when on a request is due that a worker can be given: the pod is one that nobody holds
+-- the moment from which a request is due that a worker can be given: nobody holds the pod
 abbrev pub free_due : Slot → Option ℕ
 free_due slot = if is_free slot.held then due_of slot.state else None
 
--- the list with what f makes of the element at this place, if one is there
+-- the list with f applied to the element at this place, if there is one
 abbrev pub changed_to : {A : Type 0} → (A → A) → List A → ℕ → Option A → List A
 changed_to f xs place None = xs
 changed_to f xs place (Some x) = slice_set xs place (f x)
@@ -139,12 +139,12 @@ ended_at now how slots place = left (changed (ended now how) slots place) place
 abbrev pub AllEndedBy : ℕ → List Slot → Type 0
 AllEndedBy now slots = (at : ℕ) (slot : Slot) → slice_get slots at ≡ Some slot → slot.state.latest ≤ now
 
--- At most so many runs of each of its containers began, or may yet begin by the claim of the pod.
+-- At most this many runs of each of its containers began, or may yet begin by the claim of the pod.
 pub record IsCounted (number : ℕ) (slot : Slot) : Type 0 where
   pub most : ℕ
   pub begun : AllWithin most slot.state.tracks
   pub few : most + (if is_free slot.held then 0 else 1) ≤ number
 
--- of each pod, where so many claims were given: each begins at most one run of a container
+-- the same for each pod, after this many claims: each begins at most one run of a container
 abbrev pub AllCounted : ℕ → List Slot → Type 0
 AllCounted number slots = (at : ℕ) (slot : Slot) → slice_get slots at ≡ Some slot → IsCounted number slot

@@ -1,5 +1,5 @@
--- Which pod a worker is given, and from when on one can be given: this project's own. docs/SEMANTICS.md,
--- "The agent: the node".
+-- Which pod a worker is given, and the moment from which one can be given: this project's own.
+-- docs/SEMANTICS.md, "The agent: the node".
 use Rattle.std.specs.Prelude.{ℕ, ◌+◌, nat_lt, min, max, Bool, true, ◌&&◌, if◌then◌else◌, List, [], ◌∷◌}
 use Rattle.std.specs.Prelude.{Option, Some, None}
 use Rattle.worker_pod.specs.Next.{has_come}
@@ -34,6 +34,6 @@ abbrev pub soonest_from : ℕ → Option ℕ → List Slot → Option ℕ
 soonest_from now best [] = best
 soonest_from now best (slot ∷ slots) = soonest_from now (sooner now best (free_due slot)) slots
 
--- from when on, and not before this moment, a request is due for a pod that nobody holds
+-- the moment, not before this one, from which a request is due for a pod that nobody holds
 abbrev pub soonest : ℕ → List Slot → Option ℕ
 soonest now slots = soonest_from now None slots

@@ -10,7 +10,7 @@ use thiserror::Error;
 /// Why a node refuses an event.
 #[derive(Clone, Copy, Debug, PartialEq, Eq, Error)]
 pub enum NodeRefusal {
-    /// The node has the most pods that it may have, or has admitted the most uids.
+    /// The node has the maximum number of pods, or has admitted the maximum number of uids.
     Full,
     /// A pod of this uid was admitted before, whether it is still there or not.
     KnownUid,
@@ -44,7 +44,7 @@ impl fmt::Display for NodeRefusal {
 }
 
 impl NodeRefusal {
-    /// Its number, from 1.
+    /// The refusal's number, from 1.
     pub fn number(self) -> u8
         ensures { result ≡ refusal_number self }
     {
@@ -59,11 +59,11 @@ impl NodeRefusal {
     }
 }
 
-/// What a node answers to an event.
+/// A node's answer to an event.
 #[derive(Debug, Drop)]
 pub enum Answer {
     Done,
-    /// The worker now holds this pod, and is to send this request, which has this number.
+    /// The worker now holds this pod, and must send this request, which has this number.
     Claimed {
         uid: Uid,
         number: u64,

@@ -7,7 +7,7 @@ use manifest::Uid;
 use std::alloc::{AllocError, Global};
 use worker_pod::PodState;
 
-// What a worker is given: the pod at this place, and its request.
+// A grant to a worker: the pod at this place, and its request.
 #[derive(Drop)]
 pub(crate) struct Grant {
     pub(crate) place: usize,

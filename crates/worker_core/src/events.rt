@@ -17,7 +17,7 @@ pub enum Reported {
 }
 
 impl Reported {
-    /// Whether both are the same.
+    /// Whether both reports are the same.
     pub fn same(&self, other: &Reported) -> bool
         ensures { IsTrue result ↔ (self.now ≡ other.now) }
     {
@@ -28,7 +28,7 @@ impl Reported {
         }
     }
 
-    /// A copy of it.
+    /// A copy of the report.
     pub fn try_clone(&self, alloc: Global) -> Result<Reported, AllocError>
         ensures { IfOk result (λ copy. copy ≡ self.now) }
     {
@@ -38,7 +38,7 @@ impl Reported {
         }
     }
 
-    // How it ends the claim.
+    // How the report ends the claim.
     pub(crate) fn outcome(self) -> Outcome
         ensures { result ≡ outcome_of self }
     {
@@ -52,15 +52,15 @@ impl Reported {
 /// What happens to a node. Workers are named by number, moments are in seconds.
 #[derive(Debug, Drop)]
 pub enum AgentEvent {
-    /// A pod is to run on the node.
+    /// A pod for the node.
     Admit(Pod),
-    /// The pod of this uid is to go.
+    /// The pod of this uid must leave.
     Delete(Uid),
     /// This worker asks for a request.
     Claim(u32),
     /// This worker reports the result of its request.
     Report(u32, Reported),
-    /// It is this moment now.
+    /// The time is this moment now.
     Tick(u64),
     /// This worker gives its request up.
     Abandon(u32),

@@ -1,4 +1,4 @@
-//! What holds of every run of a node, for the crates above.
+//! Laws of every run of a node, for the crates above.
 ghost use Rattle.std.specs.Prelude.{◌≡◌, ◌+◌, ◌^◌, true, false, List, ◌∷◌, length, None, Some};
 ghost use Rattle.manifest.specs.declared.pods.Pod.{Pod};
 ghost use Rattle.worker_pod.specs.declared.settings.Settings.{Settings};
@@ -14,8 +14,8 @@ use worker_pod::{
 };
 
 /// In every run a pod is held by at most one worker and a worker holds at most one pod, a uid is admitted
-/// once and a number used once, and an attempt at a container is made as the manifest says, in the order of
-/// the init containers, and after the back-off of a run that was reported.
+/// once and a number used once, and an attempt at a container follows the manifest, the order of the init
+/// containers, and the back-off of a run that was reported.
 pub fn every_run()
     ensures run { (settings : Settings) (ls : List NodeLink) → IsNodeRun settings ls → NodeLaws settings ls }
     ensures link { (settings : Settings) (l : NodeLink) (before : List NodeLink)
@@ -30,8 +30,8 @@ pub fn every_run()
     containers_have_tracks();
 }
 
-/// Once the most uids have been admitted, each of them is refused as known, and any other because the node is
-/// full, whatever pods are there.
+/// Once the maximum number of uids has been admitted, each of them is refused as known, and any other because
+/// the node is full, whatever pods are there.
 pub fn uids_end()
     ensures known { (kept : KeptNode) (pod : Pod) → length kept.known ≡ MAX_UIDS
         → is_known pod.uid kept.known ≡ true

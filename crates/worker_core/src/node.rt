@@ -141,7 +141,7 @@ impl Node {
         Ok(admit_answer(refusal))
     }
 
-    // All that allocates comes before the first change.
+    // Allocates everything before the first change.
     fn add(&mut self, pod: Pod) -> Result<(), AllocError>
         requires { length self.old.slots < MAX_PODS }
         ensures ok { OnOk result (self.new ≡ with_pod self.old pod) }
@@ -185,7 +185,7 @@ impl Node {
         }
     }
 
-    // What a worker is given.
+    // The grant that a worker gets, if there is one.
     fn grant(&self) -> Result<Option<Grant>, AllocError>
         ensures grant { IfOk result (λ grant. grant ≡ grant_of self.now) }
         ensures only { OnErr result (is_some (grant_of self.now) ≡ true) }
@@ -265,7 +265,7 @@ impl Node {
         }
     }
 
-    // A worker's claim ends so.
+    // Ends a worker's claim with this outcome.
     fn end(&mut self, worker: u32, outcome: Outcome) -> Answer
         ensures answer { result ≡ end_answer (holder_of worker self.old.slots) }
         ensures node { self.new ≡ after_end self.old outcome (holder_of worker self.old.slots) }
@@ -297,7 +297,7 @@ impl Node {
         }
     }
 
-    /// Applies an event, and returns the answer. If an allocation fails, the answer says so, and nothing
+    /// Applies an event, and returns the answer. If an allocation fails, the answer reports that, and nothing
     /// changes.
     pub fn apply(&mut self, event: AgentEvent) -> Answer
         ensures kept { KeptStep self.old event result self.new }
@@ -325,8 +325,8 @@ impl Node {
         }
     }
 
-    /// What [`apply`](Node::apply) would answer, lack of memory aside. Only a request that would be given is
-    /// copied, which may fail for lack of memory.
+    /// The answer that [`apply`](Node::apply) would return if memory sufficed. Only a request that would be
+    /// given is copied, which may run out of memory.
     pub fn answer(&self, event: &AgentEvent) -> Answer
         ensures kept { Foresees self.now event.now result }
         ensures answer { (node : NodeState) → StandsFor self.now node
@@ -387,8 +387,8 @@ impl Node {
         has_failed(self.pods.as_slice())
     }
 
-    /// The moment, in seconds and not before now, from which on a request is due for a pod that nobody holds,
-    /// if nothing else happens.
+    /// The moment, in seconds and not before now, from which a request is due for a pod that nobody holds, if
+    /// nothing else happens.
     pub fn next_due(&self) -> Option<u64>
         ensures kept { result ≡ soonest self.now.moment self.now.slots }
         ensures least { (node : NodeState) → StandsFor self.now node → IsNextDue node result }

@@ -1,4 +1,4 @@
-//! The pods that can be given, in the order of the moments from which on they can.
+//! The pods that can be given, in the order of the moments from which they can.
 ghost use Rattle.std.specs.Prelude.{◌≡◌, ◌<◌, ◌≤◌, length, vec_len, vec_capacity};
 ghost use Rattle.std.specs.List.{insert};
 ghost use Rattle.worker_core.specs.Order.{closed, closed_up, put, refreshed, reseated, stands_before};
@@ -6,8 +6,8 @@ ghost use Rattle.worker_core.specs.Order.{without};
 
 use crate::slots::Slot;
 
-// A pod that nobody holds, by its place: from when on a request is due for it, and the number of its last
-// claim that ended.
+// A pod that nobody holds, by its place: the moment from which a request is due for it, and the number of its
+// last ended claim.
 #[derive(Clone, Copy)]
 pub(crate) struct Due {
     pub(crate) place: usize,
@@ -21,7 +21,7 @@ fn stands_before(due: Due, other: Due) -> bool
     due.from < other.from || due.from == other.from && due.place < other.place
 }
 
-// Where it is put.
+// The index at which to insert it.
 fn place_for(due: Due, order: &[Due]) -> usize
     ensures put { insert order.now result due ≡ put due order.now }
     ensures within { result ≤ length order.now }
@@ -33,7 +33,7 @@ fn place_for(due: Due, order: &[Due]) -> usize
     at
 }
 
-// No memory is taken.
+// Allocates nothing.
 fn put(order: &mut Vec<Due>, due: Due)
     requires { vec_len order.old < vec_capacity order.old }
     ensures order { order.new.items ≡ put due order.old.items }
@@ -53,7 +53,7 @@ fn take_out(order: &mut Vec<Due>, place: usize)
     order.retain(|due| due.place != place);
 }
 
-// Puts the pod at this place where it belongs by now, if it can be given.
+// Moves the pod at this place to where it belongs now, if it can be given.
 fn reseat(order: &mut Vec<Due>, place: usize, slot: &Slot)
     requires { length (without place order.old.items) < vec_capacity order.old }
     ensures order { order.new.items ≡ reseated place slot.now order.old.items }
@@ -73,7 +73,7 @@ fn reseat(order: &mut Vec<Due>, place: usize, slot: &Slot)
     }
 }
 
-// The pod at this place has changed.
+// Updates the order after the pod at this place has changed.
 pub(crate) fn refresh(order: &mut Vec<Due>, place: usize, slots: &[Slot])
     requires { place < length slots.now → length (without place order.old.items) < vec_capacity order.old }
     ensures order { order.new.items ≡ refreshed place slots.now order.old.items }
@@ -92,7 +92,7 @@ fn close_up(due: &mut Due, gone: usize)
     }
 }
 
-// The pod at this place has left, and those behind it have moved up.
+// Updates the order after the pod at this place has left, and those after it have moved up.
 pub(crate) fn close(order: &mut Vec<Due>, gone: usize)
     ensures order { order.new.items ≡ closed gone order.old.items }
     ensures room { vec_capacity order.new ≡ vec_capacity order.old }

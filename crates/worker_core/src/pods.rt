@@ -14,9 +14,9 @@ use std::alloc::{AllocError, Global};
 use std::marker::Model;
 use worker_pod::Outcome;
 
-// The pods of a node, in order of admission. Those that can be given are kept in the order of their moments
-// besides, so that none of the others is looked at. There is room for all of them, so that only an admission
-// takes memory.
+// The pods of a node, in order of admission. Those that can be given are also kept in the order of their
+// moments, so that none of the others is looked at. There is room for all of them, so that only an admission
+// allocates.
 #[derive(Drop)]
 pub(crate) struct Pods {
     slots: Vec<Slot>,
@@ -67,14 +67,14 @@ impl Pods {
         first_turn(now, self.order.as_slice())
     }
 
-    // The moment, not before this one, from which on a worker can be given a request.
+    // The moment, not before this one, from which a worker can be given a request.
     pub(crate) fn soonest(&self, now: u64) -> Option<u64>
         ensures { result ≡ soonest now self.now }
     {
         first_moment(now, self.order.as_slice())
     }
 
-    // Adds an admitted pod as the last one, and its uid as known. All that allocates comes before the first
+    // Adds an admitted pod as the last one, and its uid as known. Allocates everything before the first
     // change.
     pub(crate) fn admit(
         &mut self,

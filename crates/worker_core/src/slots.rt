@@ -24,7 +24,7 @@ pub(crate) struct Held {
     pub(crate) request: Request,
 }
 
-// A pod on the node, and by whom it is held.
+// A pod on the node, and who holds it.
 #[derive(Drop)]
 pub(crate) struct Slot {
     pub(crate) state: PodState,
@@ -79,7 +79,7 @@ impl Slot {
         }
     }
 
-    // The moment from which on a request is due that a worker can be given.
+    // The moment from which a request is due that a worker can be given.
     pub(crate) fn free_due(&self) -> Option<u64>
         ensures { result ≡ free_due self.now }
     {
@@ -113,8 +113,7 @@ pub(crate) fn fresh_slot(alloc: Global, pod: Pod, settings: Settings) -> Result<
     Ok(Slot { state, held: None })
 }
 
-// Adds an admitted pod as the last one, and its uid as known. All that allocates comes before the first
-// change.
+// Adds an admitted pod as the last one, and its uid as known. Allocates everything before the first change.
 pub(crate) fn admitted(
     slots: &mut Vec<Slot>,
     known: &mut KnownUids,

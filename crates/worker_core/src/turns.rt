@@ -3,7 +3,7 @@ ghost use Rattle.worker_core.specs.Order.{first_moment, first_turn, is_ahead, pr
 
 use crate::order::Due;
 
-// The pod that a worker is given, by its place, and the number of its last claim that ended.
+// The pod that a worker is given, by its place, and the number of its last ended claim.
 #[derive(Clone, Copy)]
 pub(crate) struct Turn {
     pub(crate) place: usize,
@@ -25,7 +25,7 @@ fn is_ahead(due: Due, best: Turn) -> bool
     due.worked < best.worked || due.worked == best.worked && due.place < best.place
 }
 
-// Of pods that were worked on equally long ago the first on the node.
+// Prefers the pod that was worked on longer ago, and of equal ones the first on the node.
 fn prefer(best: Option<Turn>, due: Due) -> Turn
     ensures { result ≡ prefer best due }
 {
@@ -36,8 +36,8 @@ fn prefer(best: Option<Turn>, due: Due) -> Turn
     }
 }
 
-// The pod that a worker is given at this moment, if a request is due for one. Looks at those alone for which
-// one is.
+// The pod that a worker is given at this moment, if a request is due for one. Looks only at pods with a
+// request due.
 pub(crate) fn first_turn(now: u64, order: &[Due]) -> Option<Turn>
     ensures { result ≡ first_turn now None order.now }
 {
@@ -52,7 +52,7 @@ pub(crate) fn first_turn(now: u64, order: &[Due]) -> Option<Turn>
     best
 }
 
-// The moment, not before this one, from which on a worker can be given a request.
+// The moment, not before this one, from which a worker can be given a request.
 pub(crate) fn first_moment(now: u64, order: &[Due]) -> Option<u64>
     ensures { result ≡ first_moment now order.now }
 {

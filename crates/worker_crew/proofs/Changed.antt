@@ -1,4 +1,4 @@
--- What an observer adds, by what is known of the pod that was looked up.
+-- What an observer adds, given the pod that was looked up.
 use Rattle.std.proofs.Common.{◌≡◌, ◌<◌, ◌++◌, inl, inr, ℕ, List, [], ◌∷◌, length, Option, None, Some}
 use Rattle.std.proofs.Common.{option_map, Result, Ok, Err, ap}
 use Rattle.std.proofs.Common.{IfOk, subst, sym}
@@ -8,6 +8,7 @@ use Rattle.std.specs.String.{string_bytes}
 use Rattle.lifecycle.specs.declared.phases.Phase.{Phase}
 use Rattle.lifecycle.specs.declared.track.Track.{Track}
 use Rattle.manifest.specs.declared.pods.Pod.{Pod}
+use Rattle.node_watch.specs.declared.counts.Counted.{Counted}
 use Rattle.node_watch.specs.declared.forms.Form.{Form}
 use Rattle.node_watch.specs.declared.seen.PodSeen.{PodSeen}
 use Rattle.node_watch.specs.declared.reasons.Reason.{Reason}
@@ -22,34 +23,37 @@ use Rattle.worker_crew.specs.declared.observer.TheConstants.{MAX_CHANGES}
 use Rattle.worker_crew.specs.Observed.{Adds, AdmitsSeen, AdmitsWaits, Beside, IsChange, IsFirst}
 use Rattle.worker_crew.specs.Observed.{IsWaitChange}
 
--- how a pod was seen that was looked up, and the text of what changed since
-abbrev pub IsText : Form → ℕ → Pod → List Track → Phase → Option PodSeen → List ℕ → Type 0
-IsText form moment pod tracks phase was text = (now : PodSeen) × (now.uid ≡ pod.uid) × (now.phase ≡ phase)
-    × (now.containers.items ≡ containers_seen pod.policy pod.containers.all tracks)
+-- the looked-up pod as it is seen now, and the text of what changed since
+abbrev pub IsText : Form → ℕ → List Counted → Pod → List Track → Phase → Option PodSeen → List ℕ → Type 0
+IsText form moment cs pod tracks phase was text = (now : PodSeen) × (now.uid ≡ pod.uid)
+    × (now.phase ≡ phase)
+    × (now.containers.items ≡ containers_seen pod.policy pod.uid cs pod.containers.all tracks)
     × (text ≡ pod_changes form moment was now)
 
-pub changed_there : (form : Form) (moment : ℕ) (uid : List ℕ) (slot : Option Slot) (pod : Pod)
+pub changed_there : (form : Form) (moment : ℕ) (cs : List Counted) (uid : List ℕ) (slot : Option Slot) (pod : Pod)
     (tracks : List Track) (phase : Phase) (was : Option PodSeen) (text : List ℕ)
     → Some pod ≡ option_map (λ s. s.state.pod) slot → Some tracks ≡ option_map (λ s. s.state.tracks) slot
     → Some phase ≡ option_map (λ s. phase_in s.state) slot
-    → IsText form moment pod tracks phase was text → IsChange form moment uid slot was text
-changed_there form moment uid None pod tracks phase was text a b c is = absurd cc
-changed_there form moment uid (Some s) pod tracks phase was text a b c (now, u, p, i, t) =
+    → IsText form moment cs pod tracks phase was text → IsChange form moment cs uid slot was text
+changed_there form moment cs uid None pod tracks phase was text a b c is = absurd cc
+changed_there form moment cs uid (Some s) pod tracks phase was text a b c (now, u, p, i, t) =
     (now, (cc, cc, cc), t)
 
-pub first_there : (form : Form) (moment : ℕ) (slot : Option Slot) (pod : Pod)
+pub first_there : (form : Form) (moment : ℕ) (cs : List Counted) (slot : Option Slot) (pod : Pod)
     (tracks : List Track) (phase : Phase) (text : List ℕ)
     → Some pod ≡ option_map (λ s. s.state.pod) slot → Some tracks ≡ option_map (λ s. s.state.tracks) slot
     → Some phase ≡ option_map (λ s. phase_in s.state) slot
-    → IsText form moment pod tracks phase None text → IsFirst form moment slot text
-first_there form moment None pod tracks phase text a b c is = absurd cc
-first_there form moment (Some s) pod tracks phase text a b c (now, u, p, i, t) = (now, (cc, cc, cc), t)
+    → IsText form moment cs pod tracks phase None text → IsFirst form moment cs slot text
+first_there form moment cs None pod tracks phase text a b c is = absurd cc
+first_there form moment cs (Some s) pod tracks phase text a b c (now, u, p, i, t) = (now, (cc, cc, cc), t)
 
 pub adds_so : {P Q : List ℕ → Type 0} {old new : Beside} → ((text : List ℕ) → P text → Q text)
     → Adds P old new → Adds Q old new
 adds_so so adds = record {
   observed = adds.observed;
+  counting = adds.counting;
   reasons = adds.reasons;
+  counts = adds.counts;
   lines = elim adds.lines [
     | inl none ↦ inl (so _ none.0, none.1, none.2)
     | inr (inl one) ↦ inr (inl (one.0, so _ one.1, one.2, one.3, one.4))
@@ -62,7 +66,7 @@ pub made_so : {A E : Type 0} {P Q : A → Type 0} (result : Result A E) → ((a 
 made_so (Ok a) so is = so a is
 made_so (Err e) so is = tt
 
--- the text of a line that was made
+-- the text of a made line
 pub text_of : (Q : List ℕ → Type 0) {E : Type 0} (line : Result (String Global) E)
     → IfOk line (λ made. Q (string_bytes made)) → (text : List ℕ)
     → (made : String Global) × (line ≡ Ok made) × (text ≡ string_bytes made) → Q text
@@ -70,12 +74,12 @@ text_of Q line is text (made, ok, same) =
     subst Q (sym same) (subst (λ r. IfOk r (λ m. Q (string_bytes m))) ok is)
 
 pub admits_there : (form : Form) (moment : ℕ) (slot : Option Slot) (pod : Pod) {old new : Beside}
-    → Some pod ≡ option_map (λ s. s.state.pod) slot → Adds (IsFirst form moment slot) old new
+    → Some pod ≡ option_map (λ s. s.state.pod) slot → Adds (IsFirst form moment old.counts slot) old new
     → AdmitsSeen form moment slot old new
 admits_there form moment None pod there adds = absurd cc
 admits_there form moment (Some s) pod there adds = adds
 
--- why the containers of a pod wait that was looked up, and what is told of it
+-- why the containers of the looked-up pod wait, and the text on it
 abbrev pub IsWaitText : Form → ℕ → List Reason → Pod → List Track → Option PodWaits → List ℕ → Type 0
 IsWaitText form moment reasons pod tracks was text = (now : PodWaits) × (now.uid ≡ pod.uid)
     × (now.containers.items ≡ waits_of pod.policy pod.uid reasons moment pod.containers.all tracks)
@@ -94,17 +98,21 @@ pub admits_waits_there : (form : Form) (moment : ℕ) (slot : Option Slot) (pod 
 admits_waits_there form moment None pod there adds = absurd cc
 admits_waits_there form moment (Some s) pod there adds = adds
 
--- a line that was put behind the others
+-- a line that was added after the others
 pub puts : {P : List ℕ → Type 0} (line : String Global) {old new : Beside} → P (string_bytes line)
     → (length old.lines < MAX_CHANGES) × (new ≡ record {
       observed = old.observed;
+      counting = old.counting;
       reasons = old.reasons;
+      counts = old.counts;
       lines = old.lines ++ line ∷ [];
       left_out = old.left_out;
     })
     → Adds P old new
 puts line is (few, same) = record {
   observed = ap (λ k. k.observed) same;
+  counting = ap (λ k. k.counting) same;
   reasons = ap (λ k. k.reasons) same;
+  counts = ap (λ k. k.counts) same;
   lines = inr (inl (line, is, ap (λ k. k.lines) same, few, ap (λ k. k.left_out) same));
 }

@@ -14,7 +14,7 @@ use Rattle.worker_crew.specs.declared.pace.Next.{Next}
 use Rattle.worker_crew.specs.declared.pace.Next.TheVariants as next
 use Rattle.worker_crew.specs.declared.shared.TheConstants.{MAX_AT_MOMENT}
 
--- from when on a request is due for a pod that nobody holds
+-- the moment from which a request is due for a pod that nobody holds
 abbrev pub due_in : Books → Option ℕ
 due_in book = soonest book.node.moment book.node.slots
 
@@ -35,7 +35,7 @@ abbrev pub IsBusy : Books → ℕ → ℕ → Type 0
 IsBusy book workers now = (0 < workers) × ((0 < held_in book.node.slots)
     ⊎ (HasRoom book × ((due : ℕ) × (due_in book ≡ Some due) × (due ≤ now))))
 
--- What stops the node at this moment; none where the workers have something to do. Each case excludes the
+-- What stops the node at this moment; none if the workers have something to do. Each case excludes the
 -- others.
 abbrev pub Stands : Books → ℕ → ℕ → Option Standstill → Type 0
 Stands book workers now None = IsBusy book workers now
@@ -52,7 +52,7 @@ Stands book workers now (Some idle.Endless) = ⊥
 abbrev pub entries_since : Books → ℕ → ℕ
 entries_since book ticked = last_number book - ticked
 
--- the same by the virtual clock: a moment with too many entries is taken for one that never ends
+-- the same by the virtual clock: a moment with too many entries counts as endless
 abbrev pub StandsByCount : Books → ℕ → ℕ → ℕ → Option Standstill → Type 0
 StandsByCount book workers ticked now None = IsBusy book workers now
     × (entries_since book ticked ≤ MAX_AT_MOMENT)
@@ -60,8 +60,8 @@ StandsByCount book workers ticked now (Some idle.Endless) = IsBusy book workers 
     × (MAX_AT_MOMENT < entries_since book ticked)
 StandsByCount book workers ticked now found = Stands book workers now found
 
--- when the machine's clock is to be looked at again, if nothing changes before: in a second, if workers have
--- something to do
+-- when to read the machine's clock again, if nothing changes before: in a second, if workers have something
+-- to do
 abbrev pub next_look : Option Standstill → ℕ → ℕ
 next_look None now = later now 1
 next_look (Some (idle.At due)) now = due

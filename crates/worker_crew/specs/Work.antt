@@ -1,5 +1,5 @@
--- What a worker of the agent does, as its receipts tell it: this project's own. docs/SEMANTICS.md, "The
--- agent: workers".
+-- What a worker of the agent does, by its receipts: this project's own. docs/SEMANTICS.md, "The agent:
+-- workers".
 use Rattle.std.specs.Prelude.{◌≡◌, ℕ, ◌<◌, List, [], ◌∷◌, ◌++◌, Option, Some, None, Result, Ok, Err}
 use Rattle.cri_frames.specs.declared.faults.Lost.{Lost}
 use Rattle.cri_msgs.specs.declared.calls.Request.{Request}
@@ -13,17 +13,17 @@ use Rattle.worker_core.specs.declared.events.Reported.{Reported}
 use Rattle.worker_core.specs.declared.events.Reported.TheVariants as reported
 use Rattle.node_lock.specs.Receipts.{Received}
 
--- what a worker is to call, by the answer to its claim
+-- the request that a worker makes, from the answer to its claim
 abbrev pub request_of : Answer → Option Request
 request_of (Claimed uid number request) = Some request
 request_of answer = None
 
--- and by an entry: only a claim gives one
+-- and from an entry: only a claim has one
 abbrev pub claim_in : AgentEvent → Answer → Option Request
 claim_in (Claim worker) answer = request_of answer
 claim_in event answer = None
 
--- what is told of the claim's call is what the peer may give to its request
+-- the reported result of the claim's call is one that the peer may return for its request
 abbrev pub MayTell : (Request → Result Reply Lost → Type 0) → Option Request → Reported → Type 0
 MayTell may None told = ⊥
 MayTell may (Some request) (reported.Replied reply) = may request (Ok reply)
@@ -39,7 +39,7 @@ abbrev pub refused_by : Answer → Option NodeRefusal
 refused_by (Refused refusal) = Some refusal
 refused_by answer = None
 
--- an event of the worker became an entry, whose receipt comes last, and it is told why the node refused it
+-- an event of the worker became an entry, its receipt is the last, and the result is why the node refused it
 pub record Recorded (worker : ℕ) (event : AgentEvent) (told : Option NodeRefusal)
     (old new : List Received) : Type 0 where
   pub receipt : Received
@@ -48,8 +48,8 @@ pub record Recorded (worker : ℕ) (event : AgentEvent) (told : Option NodeRefus
   pub event_is : receipt.entry.event ≡ event
   pub refused : told ≡ refused_by receipt.entry.answer
 
--- from a claim's request and the number of its entry on: the numbers rise, the entries are the worker's, and
--- each report comes right behind its claim
+-- starting with a claim's request and the number of its entry: the numbers rise, the entries are the
+-- worker's, and each report comes directly after its claim
 abbrev pub IsWorkFrom : (Request → Result Reply Lost → Type 0) → ℕ → Option Request → ℕ → List Received
     → Type 0
 IsWorkFrom may worker before low [] = Unit {0}
@@ -60,7 +60,7 @@ IsWorkFrom may worker before low (r ∷ rs) =
 abbrev pub IsWork : (Request → Result Reply Lost → Type 0) → ℕ → List Received → Type 0
 IsWork may worker receipts = IsWorkFrom may worker None 0 receipts
 
--- the number and the claim that stand last
+-- the last number and the last claim
 abbrev pub number_after : ℕ → List Received → ℕ
 number_after low [] = low
 number_after low (r ∷ rs) = number_after r.number rs

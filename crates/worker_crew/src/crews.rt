@@ -22,7 +22,7 @@ struct WorkerEnd<L: Ledger, P> {
     peer: P,
 }
 
-// It gives back its part.
+// The worker returns its part.
 #[derive(Clone, Copy)]
 struct OnePart;
 
@@ -39,7 +39,7 @@ struct WorkerPool<L: Ledger, P: Drop> {
     complete: bool,
 }
 
-// What a worker's thread does.
+// The body of a worker's thread.
 fn serve<L: Ledger, P: Peer + Drop, G: Gate, R: Wait>(
     rt: &R,
     alloc: Global,
@@ -57,7 +57,7 @@ fn serve<L: Ledger, P: Peer + Drop, G: Gate, R: Wait>(
     WorkerEnd { tally, peer }
 }
 
-// Gives each peer a worker, numbered from 1, in a thread of its own.
+// Starts a worker for each peer, numbered from 1, in a thread of its own.
 fn start_workers<
     's,
     'e,
@@ -134,7 +134,7 @@ fn join_workers<L: Ledger, P: Drop, R: Threads>(
     whole
 }
 
-// Who works at a part of a history, and what worker 0 does besides advancing the time.
+// Who works at a part of a history, and the errands of worker 0.
 #[derive(Drop)]
 struct WorkGroup<L: Ledger, P: Drop, E: Drop> {
     coordinator: Coordinator<L>,
@@ -142,8 +142,8 @@ struct WorkGroup<L: Ledger, P: Drop, E: Drop> {
     errands: E,
 }
 
-// What is left of a part: the receipts for all that was done in it, if they could be joined, the peers, and
-// what worker 0 does besides advancing the time.
+// The end of a part: the receipts for all that was done in it, if they could be joined, the peers, and the
+// errands of worker 0.
 #[derive(Drop)]
 struct PartEnd<L: Ledger, P: Drop, E: Drop> {
     ended: Ended,
@@ -152,7 +152,7 @@ struct PartEnd<L: Ledger, P: Drop, E: Drop> {
     errands: E,
 }
 
-/// What is left of a crew.
+/// The end of a crew.
 #[derive(Drop)]
 pub struct CrewEnd<L: Ledger, E: Drop> {
     /// Why it ended.
@@ -218,7 +218,7 @@ fn work_part<
     }
 }
 
-// One part of a history.
+// Works at one part of a history.
 fn part<
     L: Ledger + Send + Sync,
     P: Peer + Send + Drop,

@@ -7,31 +7,30 @@ use worker_core::{AgentEvent, NodeRefusal};
 
 /// What worker 0 does besides advancing the time: it records pods that come and go, and reports what changed.
 pub trait Errands {
-    /// The next event to record, if there is one now. The same one is returned until it was
-    /// recorded.
+    /// The next event to record, if there is one now. Returns the same event until it is recorded.
     fn next(&mut self) -> Option<AgentEvent>
         ensures { IfSome result (λ event. worker_of event ≡ 0) };
 
-    /// It is this moment from now on.
+    /// Called when the time has advanced to this moment.
     fn ticks(&mut self, moment: u64);
 
-    /// Says that the event became an entry, and why the node refused it, if it did.
+    /// Called when the event has become an entry, with the reason if the node refused it.
     fn recorded(&mut self, refusal: Option<NodeRefusal>);
 
-    /// In how many seconds of the machine's clock there may be an event again. `None` if there will be none.
+    /// The seconds of the machine's clock until there may be an event again. `None` if there will be none.
     fn pause(&self) -> Option<u64>;
 
     /// Reports what changed since the last call.
     fn tell(&mut self, changes: Changes);
 
-    /// Whether the crew is to end at once.
+    /// Whether the crew must end at once.
     fn stops(&self) -> bool;
 
-    /// The last moment of the virtual clock, where the crew's own would be this one.
+    /// The last moment of the virtual clock. `until` is the crew's own.
     fn until(&self, until: u64) -> u64;
 
-    /// Called when the virtual clock has come to this end, at this moment. Returns how the crew ends, or
-    /// `None` if there is more to do.
+    /// Called when the virtual clock ends this way, at this moment. Returns how the crew ends, or `None` if
+    /// there is more to do.
     fn at_end(&mut self, ended: Ended, now: u64) -> Option<Ended>;
 }
 

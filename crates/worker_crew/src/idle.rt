@@ -18,7 +18,7 @@ pub(crate) enum Standstill {
     At(u64),
     /// Nothing will ever be due.
     Never,
-    /// Workers have something to do, and have had at this moment for so long that it is taken for endless.
+    /// Workers have had something to do at this moment for so long that it counts as endless.
     Endless,
 }
 
@@ -33,7 +33,7 @@ pub(crate) fn standstill_of<L: Ledger>(book: &Book<L>, workers: u32, now: u64) -
     if node.held() > 0 {
         return None;
     }
-    // A pod that is over has something due if it was deleted: it has to leave.
+    // A pod that is over has something due if it was deleted: it must leave.
     let due = node.next_due();
     if due.is_none() && node.is_settled() {
         return Some(Standstill::Over);

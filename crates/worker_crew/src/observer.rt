@@ -1,5 +1,5 @@
-//! What is kept beside a node's book about the changes that its entries made: lines that were not printed
-//! yet, and why containers wait. It is updated under the book's lock, so that no change is missed.
+//! What is kept beside a node's book about the changes by its entries: the lines not printed yet, and why
+//! containers wait. It is updated under the book's lock, so that no change is missed.
 
 ghost use Rattle.std.specs.Prelude.{◌≡◌, ◌<◌, ◌++◌, [], ◌∷◌, IfOk, IfSome, IsTrue, Ok, length};
 ghost use Rattle.std.specs.Prelude.{option_copied, option_map};
@@ -19,7 +19,8 @@ ghost use Rattle.node_watch.specs.declared.waits.PodWaits.{PodWaits};
 ghost use Rattle.worker_core.specs.Slots.{claim_of, slot_of};
 ghost use Rattle.worker_crew.specs.declared.observer.TheConstants.{MAX_CHANGES};
 ghost use Rattle.worker_crew.specs.Observed.{Adds, Admits, AdmitsSeen, AdmitsTold, AdmitsWaits};
-ghost use Rattle.worker_crew.specs.Observed.{AreWaitsBefore, Ends, EndsTold, IsBefore, IsChange, IsSeenBefore};
+ghost use Rattle.worker_crew.specs.Observed.{AreWaitsBefore, CountsTo, Ends, EndsCounted, EndsTold, IsBefore};
+ghost use Rattle.worker_crew.specs.Observed.{IsChange, IsSeenBefore, counts_behind, counts_told};
 ghost use Rattle.worker_crew.specs.Observed.{IsWaitChange, Notes, reasons_behind, refusal_by, refusal_in};
 ghost use Rattle.worker_crew.specs.Observed.{trouble_by, trouble_of};
 
@@ -27,15 +28,16 @@ use cri_msgs::{Answer, Call, Refusal};
 use manifest::Uid;
 use node_lock::Entry;
 use node_watch::{
-    Form, PodSeen, PodWaits, Reasons, Trouble, gone_line, pod_changes, uid_of, wait_changes,
+    Counts, Form, PodSeen, PodWaits, Reasons, Trouble, gone_line, pod_changes, uid_of, wait_changes,
 };
+use refusal_causes::CauseText;
 use std::alloc::{AllocError, Global};
 use std::marker::Model;
 use std::mem;
 use worker_core::{AgentEvent, Node, Reported};
 use worker_pod::PodView;
 
-/// The most lines of changes that wait to be printed. Those beyond are left out, and counted.
+/// The most lines of changes that wait to be printed. Further lines are left out, and counted.
 pub const MAX_CHANGES: usize = 16_384;
 
 /// What is kept beside a book.
@@ -47,7 +49,7 @@ pub enum Observed {
     Reasons,
     /// What changed in pods and their containers, in lines of this form.
     Changes(Form),
-    /// The same, and after it why containers wait.
+    /// The same lines, and after them why containers wait.
     ChangesAndReasons(Form),
 }
 
@@ -63,7 +65,10 @@ pub struct Changes {
 pub(crate) struct Observer {
     alloc: Global,
     observed: Observed,
+    // Whether counts of calls are kept.
+    counting: bool,
     reasons: Reasons,
+    counts: Counts,
     changes: Changes,
 }
 
@@ -74,13 +79,15 @@ impl Model for Observer {
 
     ghost view = { λ o. record {
       observed = o.observed;
+      counting = o.counting;
       reasons = o.reasons;
+      counts = o.counts;
       lines = o.changes.lines.items;
       left_out = o.changes.left_out;
     } };
 }
 
-/// A worker's claim before it ends: its call, how its pod is seen then, and why the pod's containers wait.
+/// A worker's claim before it ends: its call, its pod as it is seen then, and why the pod's containers wait.
 #[derive(Drop)]
 pub(crate) struct Before {
     call: Call,
@@ -88,7 +95,16 @@ pub(crate) struct Before {
     waits: Option<PodWaits>,
 }
 
-// The refusal that an event brings.
+impl Before {
+    /// The call of the claim.
+    pub(crate) fn call(&self) -> &Call
+        ensures { result.now ≡ self.now.call }
+    {
+        &self.call
+    }
+}
+
+// The refusal in an event.
 fn refusal_by(event: &AgentEvent) -> Option<Refusal>
     ensures { result ≡ refusal_by event.now }
 {
@@ -101,7 +117,7 @@ fn refusal_by(event: &AgentEvent) -> Option<Refusal>
     }
 }
 
-// Why a claim failed, if it did. What the node keeps of its pod says whether the call was lost.
+// Why a claim failed, if it did. `lost` is whether the node keeps the pod's last call as lost.
 fn trouble_by(refusal: Option<Refusal>, lost: Option<bool>) -> Option<Trouble>
     ensures { result ≡ trouble_by refusal lost }
 {
@@ -112,7 +128,7 @@ fn trouble_by(refusal: Option<Refusal>, lost: Option<bool>) -> Option<Trouble>
     }
 }
 
-// The same for the claim of a call that this event ended.
+// Why the claim of a call failed, if it did, by the event that ended it.
 fn trouble_of(event: &AgentEvent, node: &Node, call: &Call) -> Option<Trouble>
     ensures { result ≡ trouble_of event.now (slot_of (uid_of call.now) node.now.slots) }
 {
@@ -125,13 +141,22 @@ fn trouble_of(event: &AgentEvent, node: &Node, call: &Call) -> Option<Trouble>
 
 impl Observer {
     /// Nothing was kept yet.
-    pub(crate) fn new(alloc: Global, observed: Observed) -> Observer
-        ensures { result ≡ record { observed = observed; reasons = []; lines = []; left_out = 0 } }
+    pub(crate) fn new(alloc: Global, observed: Observed, counting: bool) -> Observer
+        ensures { result ≡ record {
+          observed = observed;
+          counting = counting;
+          reasons = [];
+          counts = [];
+          lines = [];
+          left_out = 0;
+        } }
     {
         Observer {
             alloc,
             observed,
+            counting,
             reasons: Reasons::new(alloc),
+            counts: Counts::new(alloc),
             changes: Changes {
                 lines: Vec::new(alloc),
                 left_out: 0,
@@ -139,14 +164,14 @@ impl Observer {
         }
     }
 
-    /// Whether there are changes that were not printed yet.
+    /// Whether there are changes not printed yet.
     pub(crate) fn has_changes(&self) -> bool
         ensures { OnFalse result ((self.now.lines ≡ []) × (self.now.left_out ≡ 0)) }
     {
         !self.changes.lines.is_empty() || self.changes.left_out > 0
     }
 
-    /// Takes out the changes that were not printed yet.
+    /// Takes out the changes not printed yet.
     pub(crate) fn take(&mut self) -> Changes
         ensures lines { result.lines.items ≡ self.old.lines }
         ensures left_out { result.left_out ≡ self.old.left_out }
@@ -166,20 +191,28 @@ impl Observer {
         &self.reasons
     }
 
-    /// Why containers wait. Drops all else that is kept.
-    pub(crate) fn into_reasons(self) -> Reasons
-        ensures { result ≡ self.reasons }
+    /// The counts of the containers' calls.
+    pub(crate) fn counts(&self) -> &Counts
+        ensures { result.now ≡ self.now.counts }
+    {
+        &self.counts
+    }
+
+    /// Why containers wait, and the counts of their calls. Drops all else that is kept.
+    pub(crate) fn into_parts(self) -> (Reasons, Counts)
+        ensures { result ≡ (self.reasons, self.counts) }
     {
         let Observer {
             reasons,
+            counts,
             changes,
             ..
         } = self;
         drop(changes);
-        reasons
+        (reasons, counts)
     }
 
-    // Adds a line, if it has a text. One that could not be made is counted.
+    // Adds a line, if it has a text. A line that could not be made is counted.
     fn add(&mut self, line: Result<String, AllocError>)
         ensures { Adds (λ text. (made : String Global) × (line ≡ Ok made) × (text ≡ string_bytes made))
             self.old self.new }
@@ -216,19 +249,20 @@ impl Observer {
         self.changes.left_out = self.changes.left_out.saturating_add(1);
     }
 
-    // How the pod of a call is seen, where changes are kept.
+    // The pod of a call as it is seen, if changes are kept.
     fn seen(&self, node: &Node, call: &Call) -> Result<Option<PodSeen>, AllocError>
-        ensures { IfOk result (IsSeenBefore self.now.observed (slot_of (uid_of call.now) node.now.slots)) }
+        ensures { IfOk result (IsSeenBefore self.now.observed self.now.counts
+            (slot_of (uid_of call.now) node.now.slots)) }
     {
         match (self.observed, node.pod_of(uid_of(call))) {
             (Observed::Changes(_) | Observed::ChangesAndReasons(_), Some(view)) => {
-                Ok(Some(PodSeen::of(self.alloc, view)?))
+                Ok(Some(PodSeen::of(self.alloc, view, &self.counts)?))
             }
             _ => Ok(None),
         }
     }
 
-    // Why the containers of the pod of a call wait, where that is kept beside changes.
+    // Why the containers of the pod of a call wait, if that is kept beside changes.
     fn waits(&self, moment: u64, node: &Node, call: &Call) -> Result<Option<PodWaits>, AllocError>
         ensures { IfOk result (AreWaitsBefore self.now.observed self.now.reasons moment
             (slot_of (uid_of call.now) node.now.slots)) }
@@ -243,7 +277,7 @@ impl Observer {
 
     fn copy_of(&self, moment: u64, node: &Node, call: &Call) -> Result<Before, AllocError>
         ensures call { IfOk result (λ before. before.call ≡ call.now) }
-        ensures seen { IfOk result (λ before. IsSeenBefore self.now.observed
+        ensures seen { IfOk result (λ before. IsSeenBefore self.now.observed self.now.counts
             (slot_of (uid_of call.now) node.now.slots) before.seen) }
         ensures waits { IfOk result (λ before. AreWaitsBefore self.now.observed self.now.reasons moment
             (slot_of (uid_of call.now) node.now.slots) before.waits) }
@@ -258,16 +292,17 @@ impl Observer {
         })
     }
 
-    /// The call of a worker's claim, how its pod is seen, and why the pod's containers wait, before the claim
-    /// ends at this moment. `None` if nothing is kept, or memory runs out.
+    /// A worker's claim before it ends at this moment: its call, its pod as it is seen, and why the pod's
+    /// containers wait. `None` if nothing is kept, or memory runs out.
     pub(crate) fn before(&mut self, moment: u64, node: &Node, worker: u32) -> Option<Before>
-        ensures before { IfSome result (λ b. IsBefore self.old.observed self.old.reasons moment node.now worker
-            b.call b.seen b.waits) }
+        ensures before { IfSome result (λ b. IsBefore self.old moment node.now worker b.call b.seen b.waits) }
         ensures observed { self.new.observed ≡ self.old.observed }
+        ensures counting { self.new.counting ≡ self.old.counting }
         ensures reasons { self.new.reasons ≡ self.old.reasons }
+        ensures counts { self.new.counts ≡ self.old.counts }
         ensures lines { self.new.lines ≡ self.old.lines }
     {
-        if self.observed == Observed::Nothing {
+        if self.observed == Observed::Nothing && !self.counting {
             return None;
         }
         let request = node.claim_of(worker)?;
@@ -280,43 +315,104 @@ impl Observer {
         }
     }
 
-    /// Records that the claim has ended at this moment, by this entry.
-    pub(crate) fn ended(&mut self, moment: u64, node: &Node, entry: &Entry, before: &Before)
-        ensures { Ends self.old.observed moment node.now entry.now.event before.now.call before.now.seen
-            before.now.waits self.old self.new }
+    /// Records that the claim has ended at this moment, by this entry, for this cause if it is known.
+    pub(crate) fn ended(
+        &mut self,
+        moment: u64,
+        node: &Node,
+        entry: &Entry,
+        cause: Option<CauseText>,
+        before: &Before,
+    )
+        ensures { Ends self.old.observed moment node.now entry.now.event cause before.now.call
+            before.now.seen before.now.waits self.old self.new }
     {
-        match self.observed {
-            Observed::Nothing => {}
-            Observed::Reasons => self.note(moment, node, entry, before),
-            Observed::Changes(form) => self.add_change(form, moment, node, before),
-            Observed::ChangesAndReasons(form) => self.tell_end(form, moment, node, entry, before),
+        self.count(node, entry, before);
+        self.ended_counted(moment, node, entry, cause, before);
+    }
+
+    // Updates the counts. If memory runs out, they stay as they were.
+    fn count(&mut self, node: &Node, entry: &Entry, before: &Before)
+        ensures { CountsTo (counts_behind self.old.counting before.now.call entry.now.event
+            (slot_of (uid_of before.now.call) node.now.slots) self.old.counts) self.old self.new }
+    {
+        if !self.counting {
+            return;
+        }
+        match node.pod_of(uid_of(&before.call)) {
+            Some(_) => self.count_by(&entry.event, &before.call),
+            None => self.counts.forget(uid_of(&before.call)),
         }
     }
 
-    // If memory runs out, the reason is not kept.
-    fn note(&mut self, moment: u64, node: &Node, entry: &Entry, before: &Before)
-        ensures { Notes (noted moment before.now.call
-            (trouble_of entry.now.event (slot_of (uid_of before.now.call) node.now.slots)) self.old.reasons)
-            self.old self.new }
+    fn count_by(&mut self, event: &AgentEvent, call: &Call)
+        ensures { CountsTo (counts_told call.now event.now self.old.counts) self.old self.new }
     {
-        let trouble = trouble_of(&entry.event, node, &before.call);
-        let _ = self.reasons.note(moment, &before.call, trouble);
+        if let AgentEvent::Report(_, Reported::Replied(reply)) = event {
+            let _ = self.counts.note(call, &reply.answer);
+        }
     }
 
-    // The same, but a pod that has left is forgotten.
-    fn note_or_forget(&mut self, moment: u64, node: &Node, entry: &Entry, before: &Before)
+    // Records the end of a claim, after its counts.
+    fn ended_counted(
+        &mut self,
+        moment: u64,
+        node: &Node,
+        entry: &Entry,
+        cause: Option<CauseText>,
+        before: &Before,
+    )
+        ensures { EndsCounted self.old.observed moment node.now entry.now.event cause before.now.call
+            before.now.seen before.now.waits self.old self.new }
+    {
+        match self.observed {
+            Observed::Nothing => {}
+            Observed::Reasons => self.note(moment, node, entry, cause, before),
+            Observed::Changes(form) => self.add_change(form, moment, node, before),
+            Observed::ChangesAndReasons(form) => {
+                self.add_end(form, moment, node, entry, cause, before)
+            }
+        }
+    }
+
+    // Updates the reasons. If memory runs out, they stay as they were.
+    fn note(
+        &mut self,
+        moment: u64,
+        node: &Node,
+        entry: &Entry,
+        cause: Option<CauseText>,
+        before: &Before,
+    )
+        ensures { Notes (noted moment before.now.call
+            (trouble_of entry.now.event (slot_of (uid_of before.now.call) node.now.slots)) cause
+            self.old.reasons) self.old self.new }
+    {
+        let trouble = trouble_of(&entry.event, node, &before.call);
+        let _ = self.reasons.note(moment, &before.call, trouble, cause);
+    }
+
+    // The same, but forgets a pod that has left.
+    fn note_or_forget(
+        &mut self,
+        moment: u64,
+        node: &Node,
+        entry: &Entry,
+        cause: Option<CauseText>,
+        before: &Before,
+    )
         ensures { Notes (reasons_behind moment before.now.call
-            (trouble_of entry.now.event (slot_of (uid_of before.now.call) node.now.slots))
+            (trouble_of entry.now.event (slot_of (uid_of before.now.call) node.now.slots)) cause
             (slot_of (uid_of before.now.call) node.now.slots) self.old.reasons) self.old self.new }
     {
         match node.pod_of(uid_of(&before.call)) {
-            Some(_) => self.note(moment, node, entry, before),
+            Some(_) => self.note(moment, node, entry, cause, before),
             None => self.reasons.forget(uid_of(&before.call)),
         }
     }
 
     fn add_change(&mut self, form: Form, moment: u64, node: &Node, before: &Before)
-        ensures { Adds (IsChange form moment (uid_of before.now.call)
+        ensures { Adds (IsChange form moment self.old.counts (uid_of before.now.call)
             (slot_of (uid_of before.now.call) node.now.slots) before.now.seen) self.old self.new }
     {
         let line = self.change_of(form, moment, node, before);
@@ -331,15 +427,23 @@ impl Observer {
         self.add(line);
     }
 
-    // What changed comes before why containers wait.
-    fn tell_end(&mut self, form: Form, moment: u64, node: &Node, entry: &Entry, before: &Before)
+    // Adds what changed, and then why containers wait.
+    fn add_end(
+        &mut self,
+        form: Form,
+        moment: u64,
+        node: &Node,
+        entry: &Entry,
+        cause: Option<CauseText>,
+        before: &Before,
+    )
         ensures { EndsTold form moment before.now.call
-            (trouble_of entry.now.event (slot_of (uid_of before.now.call) node.now.slots))
+            (trouble_of entry.now.event (slot_of (uid_of before.now.call) node.now.slots)) cause
             (slot_of (uid_of before.now.call) node.now.slots) before.now.seen before.now.waits self.old
             self.new }
     {
         self.add_change(form, moment, node, before);
-        self.note_or_forget(moment, node, entry, before);
+        self.note_or_forget(moment, node, entry, cause, before);
         self.add_wait_change(form, moment, node, before);
     }
 
@@ -360,7 +464,7 @@ impl Observer {
         }
     }
 
-    // What is told anew of why the containers of a pod wait, which waited so before, or were not seen.
+    // The text on why a pod's containers wait, given how they waited before, if they were seen.
     fn waits_since(
         &self,
         form: Form,
@@ -384,7 +488,7 @@ impl Observer {
         node: &Node,
         before: &Before,
     ) -> Result<String, AllocError>
-        ensures { IfOk result (λ line. IsChange form moment (uid_of before.now.call)
+        ensures { IfOk result (λ line. IsChange form moment self.now.counts (uid_of before.now.call)
             (slot_of (uid_of before.now.call) node.now.slots) before.now.seen (string_bytes line)) }
     {
         let uid = uid_of(&before.call);
@@ -394,7 +498,7 @@ impl Observer {
         }
     }
 
-    // What changed of a pod that was seen so before, or not at all.
+    // The text of what changed of a pod, given how it was seen before, if it was.
     fn changes_since(
         &self,
         form: Form,
@@ -404,10 +508,11 @@ impl Observer {
     ) -> Result<String, AllocError>
         ensures { IfOk result (λ line. (now : PodSeen) × (now.uid ≡ view.entry.pod.now.uid)
             × (now.phase ≡ view.entry.phase) × (now.containers.items
-            ≡ containers_seen view.entry.pod.now.policy view.entry.pod.now.containers.all view.entry.tracks.now)
+            ≡ containers_seen view.entry.pod.now.policy view.entry.pod.now.uid self.now.counts
+            view.entry.pod.now.containers.all view.entry.tracks.now)
             × (string_bytes line ≡ pod_changes form moment (option_copied old.entry) now)) }
     {
-        let seen = PodSeen::of(self.alloc, view)?;
+        let seen = PodSeen::of(self.alloc, view, &self.counts)?;
         pod_changes(self.alloc, form, moment, old, &seen)
     }
 

@@ -51,11 +51,11 @@ pub trait Counterpart {
 /// The longest time between two looks at the machine's clock, in seconds.
 pub(crate) const LONGEST_WAIT: u64 = 3_600;
 
-/// Advances the time beside workers, from one start on over all parts of a history.
+/// Advances the time beside workers, with one start for all parts of a history.
 #[derive(Clone, Copy)]
 pub(crate) struct TimeKeeper {
     pace: Pace,
-    // None if the clock can't be read. It then stands still.
+    // None if the clock can't be read. The time does not advance then.
     start: Option<Instant>,
 }
 
@@ -85,8 +85,8 @@ impl TimeKeeper {
         }
     }
 
-    /// Waits for the workers of a part that is full, each of which ends once its call has come back, but no
-    /// longer than to the last moment.
+    /// Waits for the workers of a full part, each of which ends once its call has returned, but no longer
+    /// than to the last moment.
     pub(crate) fn rest<L: Ledger, R: Wait + Clock>(&self, rt: &R, shared: &Shared<L>) -> Ended {
         if let Pace::Machine(Some(until)) = self.pace {
             for _ in rt.forever() {
@@ -114,7 +114,7 @@ impl TimeKeeper {
         self.elapsed(rt).as_secs()
     }
 
-    // How long it is until this moment.
+    // The time left until this moment, at most `LONGEST_WAIT`.
     fn left_until<R: Clock>(&self, rt: &R, moment: u64) -> Duration {
         Duration::from_secs(moment)
             .saturating_sub(self.elapsed(rt))
@@ -160,7 +160,7 @@ impl TimeKeeper {
     }
 }
 
-// When the clock is to be looked at again, if nothing changes before: in a second, if workers have something
+// When to read the machine's clock again, if nothing changes before: in a second, if workers have something
 // to do.
 fn next_look(found: Option<Standstill>, now: u64) -> u64
     ensures { result ≡ next_look found now }
@@ -180,7 +180,7 @@ fn next_errand<E: Errands>(errands: &E, now: u64) -> u64 {
     }
 }
 
-// Records what is to be recorded at this moment, and reports what changed. False if the book took no entry.
+// Records the events due at this moment, and reports what changed. False if the book took no entry.
 fn ran_errands<L: Ledger, E: Errands, R: Wait>(
     rt: &R,
     shared: &Shared<L>,
@@ -215,8 +215,8 @@ fn fault_of<L: Ledger, R: Wait>(rt: &R, shared: &Shared<L>) -> Ended {
     }
 }
 
-// Advances the time to this moment. Workers that the tick wakes are to find it. False if the book took no
-// entry.
+// Advances the time to this moment. It is set first, so that workers woken by the tick see it. False if the
+// book took no entry.
 fn ticked<L: Ledger, E: Errands, R: Wait>(
     rt: &R,
     shared: &Shared<L>,
@@ -233,11 +233,11 @@ fn ticked<L: Ledger, E: Errands, R: Wait>(
         .is_ok()
 }
 
-// What is next by the virtual clock.
+// What the virtual clock does next.
 enum Next {
     // It goes on to this moment.
     To(u64),
-    // It has come to an end.
+    // It ends this way.
     End(Ended),
     // The book takes no entry.
     Stuck,
@@ -285,7 +285,7 @@ fn count<L: Ledger, C: Counterpart, E: Errands, R: Wait>(
                 }
             }
             Next::To(due) => {
-                // So what is asked at the next moment does not depend on how far a runner has come.
+                // So the requests at the next moment do not depend on how far a runner has come.
                 counterpart.wait_idle();
                 if !ticked(rt, shared, coordinator, errands, due) {
                     return fault_of(rt, shared);

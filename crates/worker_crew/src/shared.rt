@@ -7,15 +7,17 @@ ghost use Rattle.worker_crew.specs.Observed.{Ends, IsBefore, Observes, ticked_by
 
 use crate::idle::{Standstill, standstill_of};
 use crate::observer::{Before, Changes, Observed, Observer};
+use cri_msgs::Call;
 use manifest::Uid;
 use node_lock::{Book, BookFault, Entry, Receipt, Tally};
-use node_watch::Reasons;
+use node_watch::{Counts, Reasons, container_of, uid_of};
+use refusal_causes::{CauseText, Causes};
 use std::alloc::{AllocError, Global};
 use std::sync::atomic::{AtomicU64, Ordering};
 use std::sync::ledger::{Ledger, Share};
-use std::sync::{Condvar, CondvarTimeouts, Mutex, Wait};
+use std::sync::{Arc, Condvar, CondvarTimeouts, Mutex, Wait};
 use std::time::{Clock, Duration};
-use worker_core::{AgentEvent, Answer, Node};
+use worker_core::{AgentEvent, Answer, Node, Reported};
 
 /// What the lock protects: the book, how many workers have not ended, the number of the last entry that
 /// advanced the time, and what is kept of the entries beside the book.
@@ -27,8 +29,7 @@ struct Guarded<L: Ledger> {
     observer: Observer,
 }
 
-/// The most entries at one moment of the virtual clock. Beyond it the moment is taken for one that never
-/// ends.
+/// The most entries at one moment of the virtual clock. With more, the moment counts as endless.
 pub(crate) const MAX_AT_MOMENT: u64 = 1_048_576;
 
 /// A node's book, which its workers share. Its lock is held for one step at a time, and never while a call is
@@ -45,10 +46,22 @@ pub struct Shared<L: Ledger> {
     changed: Condvar,
     // The current moment, readable without the lock.
     moment: AtomicU64,
+    // Why a runtime in this process refused requests, if there is one. Its lock is taken under the book's.
+    causes: Option<Arc<Mutex<Causes>, Global>>,
 }
 
-// Records an event, after the entry of this number. No fact survives the release of a lock, so the check that
-// the entry is there is made again.
+/// What is kept beside a book.
+#[derive(Drop)]
+pub struct BesideBook {
+    pub observed: Observed,
+    /// Whether the counts of containers' calls are kept.
+    pub counting: bool,
+    /// Collects why a runtime in this process refuses requests, if that is needed.
+    pub causes: Option<Arc<Mutex<Causes>, Global>>,
+}
+
+// Records an event, after the entry of this number. No fact survives the release of a lock, so the presence
+// of the entry is checked again.
 fn record_behind<L: Ledger>(
     book: &mut Book<L>,
     share: &mut Share<L>,
@@ -71,7 +84,7 @@ fn record_behind<L: Ledger>(
     book.record(share, worker, event).ok()
 }
 
-// Whether the worker has to wait: the book is open, and a claim would be given nothing.
+// Whether the worker has to wait: the book is open, and a claim would get nothing.
 fn has_nothing<L: Ledger>(book: &Book<L>, worker: u32) -> bool {
     let claim = AgentEvent::Claim(worker);
     !book.is_closed() && matches!(book.node().answer(&claim), Answer::Nothing)
@@ -82,11 +95,16 @@ pub trait NodeTeller {
     /// The description.
     type Told;
 
-    /// Describes the node, and why its containers wait. Uses no file and no socket.
-    fn tell(&self, node: &Node, reasons: &Reasons) -> Result<Self::Told, AllocError>;
+    /// Describes the node, why its containers wait, and their calls' counts. Uses no file and no socket.
+    fn tell(
+        &self,
+        node: &Node,
+        reasons: &Reasons,
+        counts: &Counts,
+    ) -> Result<Self::Told, AllocError>;
 }
 
-// The same by the virtual clock.
+// What worker 0 has to do, by the virtual clock.
 fn counted_standstill<L: Ledger>(guarded: &Guarded<L>, now: u64) -> Option<Standstill>
     ensures { StandsByCount guarded.now.book guarded.now.workers guarded.now.ticked now result }
 {
@@ -120,8 +138,8 @@ fn observe<L: Ledger>(guarded: &mut Guarded<L>, receipt: &Receipt, moment: u64)
 }
 
 fn before_of<L: Ledger>(guarded: &mut Guarded<L>, worker: u32, moment: u64) -> Option<Before>
-    ensures before { IfSome result (λ b. IsBefore guarded.old.observer.observed guarded.old.observer.reasons
-        moment guarded.old.book.node worker b.call b.seen b.waits) }
+    ensures before { IfSome result (λ b. IsBefore guarded.old.observer moment guarded.old.book.node worker
+        b.call b.seen b.waits) }
     ensures book { guarded.new.book ≡ guarded.old.book }
     ensures workers { guarded.new.workers ≡ guarded.old.workers }
     ensures ticked { guarded.new.ticked ≡ guarded.old.ticked }
@@ -130,32 +148,52 @@ fn before_of<L: Ledger>(guarded: &mut Guarded<L>, worker: u32, moment: u64) -> O
 }
 
 // Observes what a worker reported of its claim.
-fn observe_end<L: Ledger>(guarded: &mut Guarded<L>, receipt: &Receipt, before: &Before, moment: u64)
+fn observe_end<L: Ledger>(
+    guarded: &mut Guarded<L>,
+    receipt: &Receipt,
+    cause: Option<CauseText>,
+    before: &Before,
+    moment: u64,
+)
     ensures observer { Ends guarded.old.observer.observed moment guarded.old.book.node
-        receipt.now.entry.event before.now.call before.now.seen before.now.waits guarded.old.observer
+        receipt.now.entry.event cause before.now.call before.now.seen before.now.waits guarded.old.observer
         guarded.new.observer }
     ensures book { guarded.new.book ≡ guarded.old.book }
     ensures workers { guarded.new.workers ≡ guarded.old.workers }
     ensures ticked { guarded.new.ticked ≡ guarded.old.ticked }
 {
-    guarded
-        .observer
-        .ended(moment, guarded.book.node(), receipt.entry(), before);
+    guarded.observer.ended(moment, guarded.book.node(), receipt.entry(), cause, before);
 }
 
 impl<L: Ledger> Shared<L> {
     /// Shares a book, and keeps what is observed of its entries.
     pub fn new(alloc: Global, book: Book<L>, observed: Observed) -> Shared<L> {
+        let beside = BesideBook {
+            observed,
+            counting: false,
+            causes: None,
+        };
+        Shared::watching(alloc, book, beside)
+    }
+
+    /// Shares a book, and keeps this beside it.
+    pub fn watching(alloc: Global, book: Book<L>, beside: BesideBook) -> Shared<L> {
+        let BesideBook {
+            observed,
+            counting,
+            causes,
+        } = beside;
         Shared {
             guarded: Mutex::new(Guarded {
                 book,
                 workers: 0,
                 ticked: 0,
-                observer: Observer::new(alloc, observed),
+                observer: Observer::new(alloc, observed, counting),
             }),
             due: Condvar::new(),
             changed: Condvar::new(),
             moment: AtomicU64::new(0),
+            causes,
         }
     }
 
@@ -164,17 +202,29 @@ impl<L: Ledger> Shared<L> {
         self.into_parts().0
     }
 
-    /// The book, and why containers wait, once nobody shares it any longer.
-    pub fn into_parts(self) -> (Book<L>, Reasons) {
+    /// The book, why containers wait, and the counts of their calls, once nobody shares it any longer.
+    pub fn into_parts(self) -> (Book<L>, Reasons, Counts) {
         let Shared {
             guarded,
             due,
             changed,
             moment: _,
+            causes,
         } = self;
-        drop((due, changed));
+        drop((due, changed, causes));
         let Guarded { book, observer, .. } = guarded.into_inner();
-        (book, observer.into_reasons())
+        let (reasons, counts) = observer.into_parts();
+        (book, reasons, counts)
+    }
+
+    // Why the runtime refused the call, if this event reports a refusal and the runtime noted its cause.
+    fn cause_of<R: Wait>(&self, rt: &R, event: &AgentEvent, call: &Call) -> Option<CauseText> {
+        let causes = self.causes.as_ref()?;
+        let AgentEvent::Report(_, Reported::Replied(reply)) = event else {
+            return None;
+        };
+        let name = container_of(call)?;
+        causes.lock(rt).take(reply.id, uid_of(call), name)
     }
 
     // Whether a request is due for a pod that nobody holds.
@@ -234,9 +284,13 @@ impl<L: Ledger> Shared<L> {
         let mut guarded = self.guarded.lock(rt);
         let moment = self.moment();
         let before = before_of(&mut guarded, worker, moment);
+        let cause = match &before {
+            Some(before) => self.cause_of(rt, &event, before.call()),
+            None => None,
+        };
         let recorded = record_behind(&mut guarded.book, share, worker, event, last);
         if let (Some(before), Some(receipt)) = (&before, &recorded) {
-            observe_end(&mut guarded, receipt, before, moment);
+            observe_end(&mut guarded, receipt, cause, before, moment);
         }
         drop(guarded);
         self.changed.notify_all();
@@ -292,7 +346,7 @@ impl<L: Ledger> Shared<L> {
         self.changed.notify_all();
     }
 
-    /// What worker 0 is to do at this moment. `None` if workers have something to do.
+    /// What worker 0 has to do at this moment. `None` if workers have something to do.
     pub(crate) fn standstill<R: Wait>(&self, rt: &R, now: u64) -> Option<Standstill> {
         let guarded = self.guarded.lock(rt);
         standstill_of(&guarded.book, guarded.workers, now)
@@ -308,8 +362,8 @@ impl<L: Ledger> Shared<L> {
         counted_standstill(&guarded, now)
     }
 
-    /// Waits until there is something else to do at this moment than what was found, or a change that was not
-    /// printed, for this long at most.
+    /// Waits, for this long at most, until there is something else to do at this moment than was found, or a
+    /// change that was not printed.
     pub(crate) fn wait_change<R: Wait + Clock>(
         &self,
         rt: &R,
@@ -356,7 +410,7 @@ impl<L: Ledger> Shared<L> {
         self.guarded.lock(rt).book.end_part(tally)
     }
 
-    /// Takes out what changed and was not printed yet.
+    /// Takes out the changes not printed yet.
     pub(crate) fn take_changes<R: Wait>(&self, rt: &R) -> Changes {
         self.guarded.lock(rt).observer.take()
     }
@@ -381,14 +435,16 @@ impl<L: Ledger> Shared<L> {
         }
     }
 
-    /// What a teller tells of the node and of why its containers wait, made under the lock.
+    /// A teller's description of the node, of why its containers wait and of their calls, made under the
+    /// lock.
     pub fn told_by<R: Wait, T: NodeTeller>(
         &self,
         rt: &R,
         teller: &T,
     ) -> Result<T::Told, AllocError> {
         let guarded = self.guarded.lock(rt);
-        teller.tell(guarded.book.node(), guarded.observer.reasons())
+        let observer = &guarded.observer;
+        teller.tell(guarded.book.node(), observer.reasons(), observer.counts())
     }
 
     /// Whether the book still has room for a claim.

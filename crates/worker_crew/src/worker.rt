@@ -16,7 +16,7 @@ use std::sync::Wait;
 use std::sync::ledger::{Ledger, Share};
 use worker_core::{AgentEvent, Answer, Reported};
 
-/// Answers a worker's requests. `may` says what a request may get.
+/// Answers a worker's requests. `may` relates a request to its possible results.
 pub trait Peer {
     ghost may: { Request → Result Reply Lost → Type 0 };
 
@@ -27,14 +27,14 @@ pub trait Peer {
 
 /// Hooks around each call. A call has the number of its request.
 pub trait Gate {
-    /// Whether the call is to be made.
+    /// Whether to make the call.
     fn before(&self, call: u64) -> bool;
 
-    /// The call came back.
+    /// Called when the call has returned.
     fn after(&self, call: u64);
 }
 
-/// Lets each call be made.
+/// A gate that allows each call.
 #[derive(Clone, Copy)]
 pub struct Always;
 
@@ -46,7 +46,7 @@ impl Gate for Always {
     fn after(&self, _call: u64) {}
 }
 
-// How the claim ends that got this answer. `None` if it got no request. No lock is held here.
+// The end of the claim that got this answer. `None` if it got no request. No lock is held here.
 fn end_of<P: Peer, G: Gate>(
     worker: u32,
     answer: &Answer,
@@ -71,7 +71,7 @@ fn end_of<P: Peer, G: Gate>(
     Some(AgentEvent::Report(worker, told))
 }
 
-// Records how the claim ended. If memory for the report runs out, the claim is given up, which takes none.
+// Records how the claim ended. If memory for the report runs out, gives up the claim, which needs none.
 fn report<L: Ledger, P: Peer, R: Wait>(
     rt: &R,
     shared: &Shared<L>,
@@ -172,7 +172,7 @@ pub fn work<L: Ledger, P: Peer, G: Gate, R: Wait>(
     requires fresh { share.amount ≡ 0 }
     ensures parts { result.parts ≡ share.parts }
 
-    // The numbers rise, and each report comes right after its claim and says what the peer may answer it.
+    // The numbers rise, and each report comes right after its claim, with a result that the peer may return.
     ensures work { IsWork P.may worker result.receipts }
 {
     let mut share = share;

@@ -25,7 +25,7 @@ unfolding AllWithin
 none_begun c [] = tt
 none_begun c (place ∷ places) = (omega arith, none_begun c places)
 
--- none, at a pod without claims
+-- none, for a pod without claims
 pub fresh_within : (c : ContainerList) (tracks : List Track) → tracks ≡ fresh_tracks c → AllWithin 0 tracks
 fresh_within c tracks e = rw e (none_begun c (range_with_len 0 (length c.all)))
 
@@ -36,7 +36,7 @@ going s = if is_some (running_in s) then 1 else 0
 abbrev counted : List Run → Stage → ℕ
 counted runs s = length runs + going s
 
--- What is told of an attempt begins at most one run of it:
+-- News of an attempt begins at most one run of it:
 module _ (now of most : ℕ) (runs : List Run) where
   started_grows : (attempt : ℕ) (b : Bool) → length runs ≤ most
       → counted runs (if b then stage.Running attempt now None else stage.Made attempt) ≤ most + 1
@@ -54,7 +54,7 @@ module _ (now of most : ℕ) (runs : List Run) where
   cleared_grows attempt true few = omega (arith, few)
   cleared_grows attempt false few = omega (arith, few)
 
-  -- at an exit the one that went on is recorded
+  -- at an exit the one that is going on is recorded
   exited_grows : (attempt started : ℕ) (polled : Option ℕ) (run : Run) (b : Bool) → length runs + 1 ≤ most
       → counted (with_run (if b then Some run else None) runs)
       (if b then stage.Exited attempt else stage.Running attempt started polled) ≤ most + 1
@@ -96,7 +96,7 @@ module _ (now of most : ℕ) (runs : List Run) where
   grown_at news.Cleared (stage.Removed attempt) few = omega (arith, few)
   grown_at news.Nothing s few = omega (arith, few)
 
--- and so does the end of a claim, of each container
+-- and so does the end of a claim, for each container
 module _ (now : ℕ) (request : Request) (how : Outcome) where
   track_grown : (name : List ℕ) (t : Track) (most : ℕ) → begun_of t ≤ most
       → begun_of (track_after now request how name t) ≤ most + 1
@@ -123,7 +123,7 @@ module _ (now : ℕ) (request : Request) (how : Outcome) where
       → (most : ℕ) → AllWithin most old → AllWithin (most + 1) new
   all_grown cs old new e most few = rw e (tracks_grown cs old most few)
 
--- A run is recorded of one that is going on.
+-- A recorded run was going on before.
 exits_going : (now of code : ℕ) (s : Stage) → is_some (exit_at now of code s) ≡ true → going s ≡ 1
 exits_going now of code stage.Absent e = absurd cc
 exits_going now of code (stage.Made attempt) e = absurd cc
@@ -151,7 +151,7 @@ was_going now request how name s = by_attempt (worked_in request.call name s) wh
   by_attempt None e = absurd cc
   by_attempt (Some of) e = ends_going now of (told_of name of request how) s e
 
--- so where no other can be recorded, more of them began
+-- so if no other run can be recorded, more of them began
 pub beyond_first : (now : ℕ) (request : Request) (how : Outcome) (name : List ℕ) (t : Track) (ts : List Track)
     (limit : ℕ) → is_some (run_after now request how name t.stage) ≡ true → limit ≤ length t.runs
     → (most : ℕ) → AllWithin most (t ∷ ts) → limit < most

@@ -1,4 +1,4 @@
--- A request is due exactly from the moment on that is told.
+-- A request is due exactly from the reported moment.
 use Rattle.std.proofs.Common.{◌≡◌, ℕ, ◌+◌, ◌<◌, nat_le, nat_lt, min, max, Bool, true, false, ◌&&◌}
 use Rattle.std.proofs.Common.{if◌then◌else◌, List, [], ◌∷◌, length, Option, Some, None, slice_get, inl, inr}
 use Rattle.std.proofs.Common.{refl, sym, ◌∙◌, ap, suc, zero, arith}
@@ -23,7 +23,7 @@ use Rattle.worker_pod.specs.Wants.{turn_of}
 use Rattle.worker_pod.proofs.Offers.{chosen_among, pick_of}
 use Rattle.worker_pod.proofs.Places.{length_is, pod_is}
 
--- the least of two has come where one has
+-- the earlier of two moments has come if one has
 sooner_come : (a b now : ℕ) → nat_le a now ≡ false → nat_le (min a b) now ≡ nat_le b now
 sooner_come a b now e = grind (arith, nat_tests)
 
@@ -75,7 +75,7 @@ same_from policy poll now front at best moment (t ∷ ts) e =
     same_from policy poll now front (at + 1) (better now best at t turn) (sooner moment turn) ts
     (same_step now at t turn best moment e)
 
--- a container stands where one was chosen
+-- a chosen place has a container
 there : (cs : List Container) (at : ℕ) → at < length cs → (c : Option Container) → slice_get cs at ≡ c
     → is_some c ≡ true
 there cs at l (Some c) e = refl

@@ -1,4 +1,4 @@
--- Only statuses tell of an exit, and what one claim makes of one container's track.
+-- Only statuses report an exit, and the effect of one claim on one container's track.
 use Rattle.std.proofs.Common.{◌≡◌, ℕ, ◌-◌, ◌==◌, Bool, true, false, cond, find, if◌then◌else◌, List, [], ◌∷◌}
 use Rattle.std.proofs.Common.{◌++◌, length, Option, Some, None, slice_get, refl, sym, ◌∙◌, ap, suc}
 use Rattle.std.proofs.Common.{length-append, arith}
@@ -127,7 +127,7 @@ statuses_are u uid name of (answer.Container id) code same e = absurd cc
 statuses_are u uid name of (answer.Status status) code same e = absurd cc
 statuses_are u uid name of (answer.List items) code same e = absurd cc
 
--- an answer to the call tells the exit of the attempt that the claim works on
+-- an answer to the call reports the exit of the attempt that the claim works on
 answer_is : (c : Call) (a : Answer) (uid name : List ℕ) (s : Stage) (of code : ℕ) → uid_of c ≡ uid
     → worked_in c name s ≡ Some of
     → answer_tells_of name of c a ≡ news.Exited code → TellsExit c a (key_named uid name of) code
@@ -149,7 +149,7 @@ answer_is (call.ListContainers u) a uid name s of code same works e = absurd cc
 answer_is (call.ContainerStatuses u) a uid name s of code same works e = statuses_are u uid name of
     a code same e
 
--- the claim's reply told the exit of the attempt
+-- the claim's reply reported the exit of the attempt
 pub record IsTold (request : Request) (how : Outcome) (key : Key) (code : ℕ) : Type 0 where
   pub reply : Reply
   pub is : how ≡ outcome.Replied reply
@@ -185,12 +185,12 @@ pub told_is : (request : Request) (how : Outcome) (uid name : List ℕ) (s : Sta
 told_is request how uid name s of code same works e =
     by_answer request how (heard request how) refl uid name s of code same works e
 
--- told before is told
+-- what was reported before still is
 pub told_more : (uid : List ℕ) (c : Claimed) (cs : List Claimed) (name : List ℕ) (k : ℕ) (run : Run)
     → Told uid cs name k run → Told uid (c ∷ cs) name k run
 told_more uid c cs name k run t = (suc t.0, t.1, omega (arith, t.2), t.3, t.4)
 
--- a track with the same runs, none of whose attempts ended but those that had
+-- a track with the same runs, and without a newly ended attempt
 unchanged : (uid : List ℕ) (c : Claimed) (cs : List Claimed) (name : List ℕ) (old new : Track)
     → new.runs ≡ old.runs
     → ((k : ℕ) → HasEnded k new.stage → HasEnded k old.stage) → WasTold uid cs name old
@@ -245,7 +245,7 @@ last_pushed runs run =
     let end : length (runs ++ run ∷ []) - 1 ≡ length runs = omega (arith, length-append runs (run ∷ [])) in
     ap (slice_get (runs ++ run ∷ [])) end ∙ at_end runs run
 
--- an exit was told
+-- an exit was reported
 exited : (uid : List ℕ) (c : Claimed) (cs : List Claimed) (name : List ℕ) (of : ℕ) (old : Track)
     (attempt started code : ℕ) (polled : Option ℕ)
     → TellsRun (key_named uid name of) (record { started = started; code = code; recorded = c.moment }) c
@@ -303,7 +303,7 @@ by_stage uid c cs name of code old tells (stage.Exited attempt) at was =
 by_stage uid c cs name of code old tells (stage.Removed attempt) at was =
     unchanged uid c cs name old _ refl (λ k h. rw at h) was
 
--- the track behind a claim that worked on this attempt, and told this of it
+-- the track after a claim that worked on this attempt, with this news of it
 abbrev behind : Claimed → ℕ → News → Track → Track
 behind c of n old = record {
   init = old.init;

@@ -1,4 +1,4 @@
--- When what runs of a pod was started.
+-- When the running attempts of a pod were started.
 use Rattle.std.proofs.Common.{◌≡◌, ℕ, ◌≤◌, nat_lt, List, [], ◌∷◌, length, map, arith}
 use Rattle.std.specs.List.{range_with_len}
 use Rattle.lifecycle.specs.declared.track.Stage.{Stage}
@@ -14,7 +14,7 @@ unfolding AllStartedBy
 none_started c [] = tt
 none_started c (place ∷ places) = (tt, none_started c places)
 
--- nothing, at a pod without claims
+-- nothing runs, for a pod without claims
 pub fresh_started : (c : ContainerList) (tracks : List Track) → tracks ≡ fresh_tracks c
     → AllStartedBy 0 tracks
 fresh_started c tracks e = rw e (none_started c (range_with_len 0 (length c.all)))

@@ -1,4 +1,4 @@
--- Which init containers have succeeded where another container's turn has come.
+-- Which init containers have succeeded when another container's turn has come.
 use Rattle.std.proofs.Common.{◌≡◌, ℕ, ◌<◌, ◌≤◌, ◌==◌, Bool, true, false, not, ◌&&◌, if◌then◌else◌, List}
 use Rattle.std.proofs.Common.{length, Option, Some, None, slice_get, get_or, nat_lt, cond, refl, sym, ◌∙◌, ap}
 use Rattle.std.proofs.Common.{arith}
@@ -70,7 +70,7 @@ none_open : (b : Bool) (place : ℕ) → cond b (Some place) None ≡ None → b
 none_open true place e = absurd cc
 none_open false place e = refl
 
--- the init containers in front of the place, and all of them where it is no init container's
+-- the init containers before the place, and all of them if the place is not an init container's
 pub in_front : (policy : RestartPolicy) (tracks : List Track) (front : Option ℕ)
     → front_of policy tracks ≡ front
     → (place : ℕ) (track : Track) → slice_get tracks place ≡ Some track → is_in_turn front place track ≡ true

@@ -48,7 +48,7 @@ record Counted (uid : List ℕ) (cs : List Claimed) (name : List ℕ) (track : T
   count : CountIs track.stage (length track.runs)
   each : (k : ℕ) (run : Run) → slice_get track.runs k ≡ Some run → Told uid cs name k run
 
--- Of the news only that a container was made can begin an attempt.
+-- Only the news that a container was made can begin an attempt.
 done_makes : (n : News) (a : Answer) → done_tells n a ≡ news.Made → n ≡ news.Made
 done_makes n answer.Done e = e
 done_makes n (answer.Refused refusal) e = absurd cc

@@ -16,11 +16,11 @@ pub and_right : (a b : Bool) → (a && b) ≡ true → b ≡ true
 and_right true b e = e
 and_right false b e = absurd cc
 
--- the pick of a container by what is to be done for it
+-- the pick of a container, with the work due for it
 abbrev pub pick_of : ℕ → Track → Want → Pick
 pick_of at t want = record { at = at; worked = t.worked; work = want.work }
 
--- the pick is the container at this place, by what is to be done for it
+-- the pick is the container at this place, with the work due for it
 pub record IsOffer (now at : ℕ) (t : Track) (turn : Option Want) (best : Option Pick)
     (pick : Pick) : Type 0 where
   pub want : Want
@@ -49,7 +49,7 @@ better_is now at t None best pick e = inl e
 better_is now at t (Some want) best pick e =
     by_test now at t want best pick (nat_le want.from now && is_longer best t.worked) refl e
 
--- the pick is one of these containers, the first of which stands at this place
+-- the pick is one of these containers, the first of which is at this place
 pub record IsAmong (policy : RestartPolicy) (poll now : ℕ) (front : Option ℕ) (at : ℕ) (ts : List Track)
     (pick : Pick) : Type 0 where
   pub off : ℕ

@@ -1,4 +1,4 @@
--- What is held of a container's runs was told: by induction over the pod's claims.
+-- The kept runs of a container were reported: by induction over the pod's claims.
 use Rattle.std.proofs.Common.{◌≡◌, ℕ, Bool, List, [], ◌∷◌, Some, slice_get, nat_lt, inl, inr, sym, ◌∙◌, ap}
 use Rattle.std.proofs.lemmas.List.Elements.{All-nil}
 use Rattle.std.proofs.lemmas.Option.{same_Some}

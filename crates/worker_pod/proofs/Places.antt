@@ -15,7 +15,7 @@ use Rattle.worker_pod.specs.declared.settings.Settings.{Settings}
 use Rattle.worker_pod.specs.Past.{Claimed, fresh_tracks, read_off}
 use Rattle.worker_pod.specs.Tracks.{fresh, track_after, tracks_after}
 
--- the track is the container's, behind the end of a claim
+-- the track is the container's, after the end of a claim
 pub record IsBehind (containers : List Container) (now : ℕ) (request : Request) (how : Outcome)
     (tracks : List Track) (at : ℕ) (new : Track) : Type 0 where
   pub container : Container
@@ -84,7 +84,7 @@ range_at a zero at k e = absurd cc
 range_at a (suc n) zero k e = let same : a ≡ k = same_Some a k e in omega (arith, same)
 range_at a (suc n) (suc at) k e = omega (arith, range_at (a + 1) n at k e)
 
--- nothing was told of a container before the first claim
+-- nothing was reported of a container before the first claim
 pub fresh_at : (c : ContainerList) (at : ℕ) (t : Track) → slice_get (fresh_tracks c) at ≡ Some t
     → fresh (nat_lt at c.inits) ≡ t
 fresh_at c at t e = by_place (slice_get range at) refl (sym (slice_get-map (fresh_in c) range at) ∙ e) where

@@ -26,7 +26,7 @@ offer_behind now at t turn best b pick o behind =
       | inr lower ↦ inr (omega (arith, less, worked, lower))
     ]
 
--- a better one is there where one was
+-- with a best one so far, the better one exists
 better_there : (now at : ℕ) (t : Track) (turn : Option Want) (best : Pick) → (b : Pick)
     × (better now (Some best) at t turn ≡ Some b)
 better_there now at t None best = (best, refl)
@@ -50,7 +50,7 @@ best_behind policy poll now front at best (t ∷ ts) pick e =
       | inr offer ↦ offer_behind now at t turn best there.0 pick offer rest
     ]
 
--- what is better than a container that is due: it is the container or was worked on no later
+-- the better of the best so far and a due container: it was worked on no later
 record IsNoLater (now at : ℕ) (t : Track) (best : Option Pick) (want : Want) : Type 0 where
   pick : Pick
   is : better now best at t (Some want) ≡ Some pick
@@ -83,7 +83,7 @@ no_later now at t (Some b) want due = by_test (nat_lt t.worked b.worked) refl wh
     place = λ before. omega (arith, before b refl);
   }
 
--- a better one stands no later than here
+-- a better one is placed no later than here
 better_before : (now at : ℕ) (t : Track) (turn : Option Want) (best : Option Pick)
     → ((b : Pick) → best ≡ Some b → b.at < at)
     → (b : Pick) → better now best at t turn ≡ Some b → b.at < at + 1

@@ -1,4 +1,4 @@
--- What holds of every pod on a node: this project's own, over the order of init containers and restarts of
+-- Laws of every pod on a node: this project's own, over the order of init containers and restarts of
 -- Kubernetes 1.27, pod lifecycle. docs/SEMANTICS.md, "The agent: one pod".
 use Rattle.std.specs.Prelude.{◌≡◌, ℕ, ◌+◌, ◌<◌, ◌≤◌, true, List, [], ◌∷◌, length, Some, slice_get}
 use Rattle.std.specs.List.{All, AllByRecursion, Any}
@@ -55,18 +55,18 @@ pub record Creation (kept : Kept) (now : ℕ) (key : Key) (image : List ℕ)
   pub here : slice_get kept.tracks place ≡ Some track
   pub named : slice_get kept.pod.containers.all place ≡ Some container
   pub of_container : key ≡ key_in kept.pod container key.container.attempt
-  -- what is sent is what the manifest says
+  -- what is sent follows the manifest
   pub its_image : image ≡ container.image
   pub its_profile : profile ≡ choice_of kept.pod.profile container kept.settings.seccomp_default
   pub in_turn : is_in_turn (front_of kept.pod.policy kept.tracks) place track ≡ true
-  -- the init containers, for one of them those in front of it, have succeeded
+  -- the init containers, for one of them those before it, have succeeded
   pub in_order : (at : ℕ) (t : Track) → slice_get kept.tracks at ≡ Some t → t.init ≡ true
       → (track.init ≡ true → at < place) → EndedWell kept.pod.policy t
-  -- the first attempt is made where none was, any other one behind the one before
+  -- the first attempt is made if there was none, any other one after the one before
   pub first : key.container.attempt ≡ 0 → track.stage ≡ stage.Absent
   pub follows : (k : ℕ) → key.container.attempt ≡ k + 1 → Follows kept.pod.policy track k now
 
--- a reply to this claim told the run's exit of that attempt, when the run was recorded
+-- a reply to this claim reported the run's exit of that attempt, when the run was recorded
 pub record TellsRun (key : Key) (run : Run) (c : Claimed) : Type 0 where
   pub reply : Reply
   pub is : c.outcome ≡ Replied reply
@@ -92,12 +92,12 @@ pub record LastRun (uid : List ℕ) (cs : List Claimed) (name : List ℕ) (track
   pub last : last_of track.runs ≡ Some run
   pub told : Told uid cs name k run
 
--- what is held of a container's runs was told by replies to claims of its attempts
+-- the kept runs of a container were reported by replies to claims of its attempts
 pub record WasTold (uid : List ℕ) (cs : List Claimed) (name : List ℕ) (track : Track) : Type 0 where
   pub ended : (k : ℕ) → HasEnded k track.stage → LastRun uid cs name track k
   pub runs : All (λ (run : Run). (k : ℕ) × Told uid cs name k run) track.runs
 
--- the container's turn has come, and so has the moment from which on something is to be done for it
+-- the container's turn has come, and so has the moment from which its work is due
 abbrev pub IsDue : RestartPolicy → ℕ → ℕ → List Track → ℕ → Track → Type 0
 IsDue policy poll now tracks at track =
     (want : Want) × (turn_of policy poll (front_of policy tracks) at track ≡ Some want) × (want.from ≤ now)

@@ -1,5 +1,5 @@
--- What the end of a claim tells of a pod: this project's own, over the calls of CRI v1.
--- docs/SEMANTICS.md, "The agent: one pod".
+-- The news of a pod at the end of a claim: this project's own, over the calls of CRI v1. docs/SEMANTICS.md,
+-- "The agent: one pod".
 use Rattle.std.specs.Prelude.{ℕ, ◌==◌, ◌&&◌, Bool, true, false, if◌then◌else◌, List, Option, Some, None, find}
 use Rattle.std.specs.Str.{bytes_eq}
 use Rattle.cri_msgs.specs.declared.calls.Call.{Call}
@@ -18,7 +18,7 @@ use Rattle.worker_pod.specs.declared.news.News.TheVariants as news
 use Rattle.worker_pod.specs.declared.settings.Outcome.{Outcome}
 use Rattle.worker_pod.specs.declared.settings.Outcome.TheVariants as outcome
 
--- Of each call, what the answer of its kind tells. A refusal is of every kind; an answer of another kind
+-- For each call, the news in an answer of its kind. A refusal is of every kind; an answer of another kind
 -- counts as a lost one.
 abbrev pub done_tells : News → Answer → News
 done_tells n answer.Done = n
@@ -68,7 +68,7 @@ heard request (outcome.Replied reply) = if reply.id == request.id then Some repl
 heard request outcome.Lost = None
 heard request outcome.Abandoned = None
 
--- what it tells of the pod
+-- its news of the pod
 abbrev pub hearing : Call → Option Answer → News
 hearing call None = news.Lost
 hearing call (Some said) = answer_tells call said
@@ -80,8 +80,8 @@ abbrev pub is_lost : News → Bool
 is_lost news.Lost = true
 is_lost n = false
 
--- What it tells of an attempt at one of its containers. A list of statuses tells of each: the first cell of
--- that name and attempt, and of an attempt that it lacks that it was seen and has not exited.
+-- Its news of an attempt at one of the pod's containers. A list of statuses has news of each: the first cell
+-- of that name and attempt; an attempt that it lacks was seen, and has not exited.
 abbrev pub is_cell_of : List ℕ → ℕ → ListedStatus → Bool
 is_cell_of name attempt listed = listed.container.attempt == attempt && bytes_eq listed.container.name name
 

@@ -1,4 +1,4 @@
--- A pod's next request, and from which moment on it is due: this project's own. docs/SEMANTICS.md, "The
+-- A pod's next request, and the moment from which it is due: this project's own. docs/SEMANTICS.md, "The
 -- agent: one pod".
 use Rattle.std.specs.Prelude.{ℕ, nat_le, max, Bool, true, false, if◌then◌else◌, Option, Some, None, slice_get}
 use Rattle.std.specs.Option.{option_map}
@@ -50,7 +50,7 @@ duty_in p s = making s
 abbrev pub duty_of : Kept → Duty
 duty_of kept = if kept.deleted then unmaking kept.sandbox else duty_in (phase_in kept) kept.sandbox
 
--- from when on
+-- the moment from which it is due
 abbrev pub due_by : Kept → Duty → Option ℕ
 due_by kept duty.Nothing = None
 due_by kept duty.RunSandbox = Some kept.rest
@@ -74,7 +74,7 @@ abbrev pub look_by : Version → Key → Call
 look_by V1 key = ContainerStatus key
 look_by V2 key = ContainerStatuses key.uid
 
--- the call by which the work on the container is done
+-- the call that does the work on the container
 abbrev pub call_of : Pod → Settings → Container → Work → Call
 call_of pod settings c (Create attempt) =
     CreateContainer (key_in pod c attempt) c.image (choice_of pod.profile c settings.seccomp_default)

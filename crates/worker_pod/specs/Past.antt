@@ -1,4 +1,4 @@
--- What an agent holds of a pod, read off the whole list of the pod's ended claims: this project's own.
+-- What an agent keeps of a pod, read off the whole list of the pod's ended claims: this project's own.
 -- docs/SEMANTICS.md, "The agent: one pod". Moments are whole seconds below 2 ^ 64.
 use Rattle.std.specs.Prelude.{◌≡◌, ℕ, nat_lt, Bool, true, false, List, [], ◌∷◌, length, map}
 use Rattle.std.specs.List.{range_with_len}
@@ -21,7 +21,7 @@ pub record Kept : Type 0 where
   pub pod : Pod
   pub settings : Settings
   pub deleted : Bool
-  -- how far the pod's sandbox came
+  -- the state of the pod's sandbox
   pub sandbox : Sandbox
   -- whether the last claim was lost or abandoned
   pub lost : Bool
@@ -46,7 +46,7 @@ rest_at now news.Lost = later now REST
 rest_at now news.Refused = later now REST
 rest_at now n = 0
 
--- once the claim of the request has ended, now and so
+-- after the claim of the request has ended, now and with this outcome
 abbrev pub after : ℕ → Request → Outcome → Kept → Kept
 after now request how kept = record {
   pod = kept.pod;
@@ -64,7 +64,7 @@ after now request how kept = record {
 abbrev pub records_exit : ℕ → Request → Outcome → Kept → Bool
 records_exit now request how kept = records_in now request how kept.pod.containers.all kept.tracks
 
--- nothing was told of its containers, the first of which are the init ones
+-- nothing was reported of its containers, the first of which are the init ones
 abbrev pub fresh_tracks : ContainerList → List Track
 fresh_tracks c = map (λ place. fresh (nat_lt place c.inits)) (range_with_len 0 (length c.all))
 
@@ -103,7 +103,7 @@ with_claim past c = record { pod = past.pod; deleted = past.deleted; claims = c 
 abbrev pub as_deleted : Past → Past
 as_deleted past = record { pod = past.pod; deleted = true; claims = past.claims }
 
--- what the claims say
+-- the state that follows from the claims
 abbrev pub read_off : Pod → Settings → List Claimed → Kept
 read_off pod settings [] = start pod settings
 read_off pod settings (c ∷ cs) = after c.moment c.request c.outcome (read_off pod settings cs)
@@ -124,6 +124,6 @@ with_deleted kept deleted = record {
 abbrev pub held_of : Settings → Past → Kept
 held_of settings past = with_deleted (read_off past.pod settings past.claims) past.deleted
 
--- what is held is what the pod's past says
+-- the kept state is the one that follows from the pod's past
 abbrev pub StandsFor : Kept → Past → Type 0
 StandsFor kept past = kept ≡ held_of kept.settings past

@@ -1,5 +1,5 @@
--- What the end of a claim makes of a pod's containers: this project's own. docs/SEMANTICS.md, "The agent:
--- one pod".
+-- The effect of a claim's end on a pod's containers: this project's own. docs/SEMANTICS.md, "The agent: one
+-- pod".
 use Rattle.std.specs.Prelude.{ℕ, ◌+◌, ◌≤◌, ◌==◌, Bool, false, ◌||◌, if◌then◌else◌, List, [], ◌∷◌, ◌++◌}
 use Rattle.std.specs.Prelude.{length, Option, Some, None}
 use Rattle.std.specs.List.{AllByRecursion}
@@ -22,11 +22,11 @@ use Rattle.worker_pod.specs.declared.news.News.TheVariants as news
 use Rattle.worker_pod.specs.declared.settings.Outcome.{Outcome}
 use Rattle.worker_pod.specs.News.{told_of}
 
--- a container that nothing was told of
+-- a container of which nothing was reported
 abbrev pub fresh : Bool → Track
 fresh init = record { init = init; stage = stage.Absent; runs = []; worked = 0 }
 
--- One container, by what was told of its attempt `of`. Only what is told of the current attempt counts.
+-- One container, by the news of its attempt `of`. Only news of the current attempt counts.
 abbrev pub made_at : ℕ → Stage → Stage
 made_at of s = stage.Made of
 
@@ -35,7 +35,7 @@ started_at now of (stage.Made attempt) = if attempt == of then stage.Running att
     else stage.Made attempt
 started_at now of s = s
 
--- its status was told, and it has not exited
+-- its status was reported, and it has not exited
 abbrev pub seen_at : ℕ → ℕ → Stage → Stage
 seen_at now of (stage.Running attempt started polled) =
     if attempt == of then stage.Running attempt started (Some now) else stage.Running attempt started polled
@@ -58,7 +58,7 @@ stage_at now of (news.Exited code) s = exited_at of s
 stage_at now of news.Cleared s = cleared_at of s
 stage_at now of n s = s
 
--- the run that ends by what was told: its exit is recorded now
+-- the run that ends by the news: its exit is recorded now
 abbrev pub exit_at : ℕ → ℕ → ℕ → Stage → Option Run
 exit_at now of code (stage.Running attempt started polled) =
     if attempt == of then Some (record { started = started; code = code; recorded = now }) else None
@@ -80,8 +80,8 @@ running_in s = None
 abbrev pub named_in : Key → List ℕ → Option ℕ
 named_in key name = if bytes_eq key.container.name name then Some key.container.attempt else None
 
--- Which attempt at the container of this name, at this stage, a claim of the call works on: the one that
--- the call names, and by a call for the statuses of all containers the one that is going on.
+-- Which attempt at the container of this name, at this stage, a claim of the call works on: the one that the
+-- call names; if the call is for the statuses of all containers, the one that is going on.
 abbrev pub worked_in : Call → List ℕ → Stage → Option ℕ
 worked_in (RunPodSandbox uid) name s = None
 worked_in (StopPodSandbox uid grace) name s = None
@@ -94,7 +94,7 @@ worked_in (ContainerStatus key) name s = named_in key name
 worked_in (ListContainers uid) name s = None
 worked_in (ContainerStatuses uid) name s = running_in s
 
--- The container of this name, once the claim of the request has ended so: how far it is,
+-- The container of this name, after the claim of the request has ended so: its stage,
 abbrev pub stage_by : ℕ → Request → Outcome → List ℕ → Stage → Option ℕ → Stage
 stage_by now request how name s None = s
 stage_by now request how name s (Some of) = stage_at now of (told_of name of request how) s
@@ -140,7 +140,7 @@ records_in now request how (c ∷ cs) [] = false
 records_in now request how (c ∷ cs) (t ∷ ts) =
     is_some (run_after now request how c.name t.stage) || records_in now request how cs ts
 
--- what runs was started by this moment
+-- a running attempt was started by this moment
 abbrev pub StartedBy : ℕ → Stage → Type 0
 StartedBy now (stage.Running attempt started polled) = started ≤ now
 StartedBy now s = Unit {0}
@@ -152,6 +152,6 @@ AllStartedBy now tracks = AllByRecursion (λ (track : Track). StartedBy now trac
 abbrev pub begun_of : Track → ℕ
 begun_of track = length track.runs + (if is_some (running_in track.stage) then 1 else 0)
 
--- of each of them at most so many
+-- each of them has at most this many
 unfoldable pub AllWithin : ℕ → List Track → Type 0
 AllWithin most tracks = AllByRecursion (λ (track : Track). begun_of track ≤ most) tracks

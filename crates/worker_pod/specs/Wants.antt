@@ -16,12 +16,12 @@ use Rattle.worker_pod.specs.declared.wants.Want.{Want}
 use Rattle.worker_pod.specs.declared.wants.Work.{Work}
 use Rattle.worker_pod.specs.declared.wants.Work.TheVariants.{Create, Start, Look, Clear}
 
--- from when on the status is asked for: at once, then so many seconds after it was told last
+-- the moment from which the status is asked for: at once, then `poll` seconds after the last report
 abbrev pub look_from : ℕ → Option ℕ → ℕ
 look_from poll None = 0
 look_from poll (Some polled) = later polled poll
 
--- from when on there may be another attempt behind this one, whose run is the last, if there may be one
+-- the moment from which another attempt may follow this one, whose run is the last, if one may
 abbrev pub again_behind : RestartPolicy → Track → ℕ → Option Run → Option ℕ
 again_behind policy track attempt None = None
 again_behind policy track attempt (Some run) =
@@ -34,7 +34,7 @@ again policy track attempt = again_behind policy track attempt (last_of track.ru
 abbrev pub wanted : Work → ℕ → Want
 wanted work from = record { from = from; work = work }
 
--- what is to be done for a container, and from when on
+-- the work due for a container, and the moment from which it is due
 abbrev pub want_in : RestartPolicy → ℕ → Track → Stage → Option Want
 want_in policy poll track stage.Absent = Some (record { from = 0; work = Create 0 })
 want_in policy poll track (stage.Made attempt) = Some (record { from = 0; work = Start attempt })
@@ -52,7 +52,7 @@ want_of policy poll track = want_in policy poll track track.stage
 abbrev pub front_of : RestartPolicy → List Track → Option ℕ
 front_of policy tracks = position (λ t. t.init && not (is_succeeded policy t)) tracks
 
--- it alone is worked on, else all that are no init containers
+-- it alone is worked on; if there is none, all that are not init containers
 abbrev pub is_in_turn : Option ℕ → ℕ → Track → Bool
 is_in_turn None at track = not track.init
 is_in_turn (Some first) at track = at == first
@@ -90,6 +90,6 @@ soonest_from policy poll front at best [] = best
 soonest_from policy poll front at best (t ∷ ts) =
     soonest_from policy poll front (at + 1) (sooner best (turn_of policy poll front at t)) ts
 
--- from when on one of those whose turn it is is due
+-- the moment from which one of those whose turn it is is due
 abbrev pub soonest : RestartPolicy → ℕ → List Track → Option ℕ
 soonest policy poll tracks = soonest_from policy poll (front_of policy tracks) 0 None tracks

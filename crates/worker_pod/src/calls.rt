@@ -66,7 +66,7 @@ fn look_by(
     }
 }
 
-// The call by which the work on the container at this place is done.
+// The call that does the work on the container at this place.
 fn call_of(
     alloc: Global,
     pod: &Pod,

@@ -35,7 +35,7 @@ fn making(sandbox: Sandbox) -> Duty
     }
 }
 
-// What is to do for a pod in this phase.
+// What is left to do for a pod in this phase.
 pub(crate) fn duty_in(phase: Phase, sandbox: Sandbox) -> Duty
     ensures { result ≡ duty_in phase sandbox }
 {

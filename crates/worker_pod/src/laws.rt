@@ -21,15 +21,15 @@ ghost use Rattle.worker_pod.specs.Next.{due_of, has_come, next_of};
 ghost use Rattle.worker_pod.specs.Past.{Claimed, Kept, Past, held_of, read_off};
 ghost use Rattle.worker_pod.specs.Wants.{chosen, want_of};
 
-/// An attempt at a container is made as the manifest says, once the init containers in front have succeeded,
-/// and, behind an attempt that ended, where another may be and not before its back-off is over.
+/// An attempt at a container follows the manifest, and is made once the init containers before it have
+/// succeeded; after an attempt that ended, only if another is allowed, and not before its back-off is over.
 pub fn creations_follow()
     ensures { (kept : Kept) (now : ℕ) (key : Key) (image : List ℕ) (profile : SeccompProfile)
         → next_of kept now ≡ Some (Call.CreateContainer key image profile)
         → Creation kept now key image profile }
 {}
 
-/// Each run that is held was told by a reply to a claim of that container's attempt.
+/// Each kept run was reported by a reply to a claim of that container's attempt.
 pub fn runs_were_told()
     ensures { (settings : Settings) (pod : Pod) (claims : List Claimed) → AreOf pod.uid claims
         → (at : ℕ) (track : Track) (container : Container)
@@ -45,7 +45,7 @@ pub fn creations_are_numbered()
         → IsNumberedIn past.pod.containers.all (read_off past.pod settings past.claims).tracks call }
 {}
 
-/// Where creations are, the run at each place, from 0, was told of the attempt of that number.
+/// If creations are numbered so, the run at each place, from 0, was reported for the attempt of that number.
 pub fn runs_are_numbered()
     ensures { (settings : Settings) (pod : Pod) (claims : List Claimed) → AreOf pod.uid claims
         → AreNumbered settings pod claims
@@ -64,7 +64,7 @@ pub fn containers_have_tracks()
         → track.init ≡ nat_lt at pod.containers.inits }
 {}
 
-/// Behind the last attempt at a container there is no other; behind the one before it there is.
+/// After the last attempt at a container there is no other; after the one before it there is.
 pub fn attempts_end_at_the_last()
     ensures exited { (policy : RestartPolicy) (poll : ℕ) (track : Track)
         → track.stage ≡ stage.Exited LAST_ATTEMPT → want_of policy poll track ≡ None }
@@ -78,13 +78,13 @@ pub fn attempts_end_at_the_last()
     }) ≡ Some (record { from = 15; work = Create LAST_ATTEMPT }) }
 {}
 
-/// A request is due from the moment on that is told.
+/// A request is due exactly from the reported moment.
 pub fn due_is_when_next_is()
     ensures { (settings : Settings) (past : Past) (now : ℕ)
         → is_some (next_of (held_of settings past) now) ≡ has_come (due_of (held_of settings past)) now }
 {}
 
-/// Of the containers that are due the one that was worked on longest ago is next.
+/// Of the containers that are due, the one that was worked on longest ago is next.
 pub fn longest_waits_first()
     ensures { (policy : RestartPolicy) (poll now : ℕ) (tracks : List Track) (pick : Pick)
         → chosen policy poll now tracks ≡ Some pick → WaitedLongest policy poll now tracks pick }
@@ -96,7 +96,7 @@ pub fn calls_are_of_the_pod()
         → uid_of call ≡ kept.pod.uid }
 {}
 
-/// What the constants of this crate are.
+/// The values of this crate's constants.
 pub fn constants_are_as_stated()
     // ten seconds
     ensures rest { REST ≡ 10 }

@@ -7,7 +7,7 @@ use crate::settings::Outcome;
 use cri_msgs::{Answer, Call, ListedStatus, Request, State, Statuses};
 use manifest::Label;
 
-// What the end of a claim tells.
+// The news at the end of a claim.
 #[derive(Clone, Copy)]
 pub(crate) enum News {
     // Nobody knows whether the request was carried out.
@@ -21,7 +21,7 @@ pub(crate) enum News {
     NotExited,
     Exited(u8),
     Cleared,
-    // Something that the agent does not go by.
+    // Something that the agent ignores.
     Nothing,
 }
 
@@ -46,7 +46,7 @@ fn heard<'o>(request: &Request, outcome: &'o Outcome) -> Option<&'o Answer>
     }
 }
 
-// Of the pod.
+// The news of the pod.
 pub(crate) fn news_of(request: &Request, outcome: &Outcome) -> News
     ensures { result ≡ told request.now outcome.now }
 {
@@ -132,7 +132,7 @@ fn statuses_news(answer: &Answer) -> News
     }
 }
 
-// Of an attempt at one of its containers.
+// The news of an attempt at one of its containers.
 pub(crate) fn told_of(name: &Label, attempt: u32, request: &Request, outcome: &Outcome) -> News
     ensures { result ≡ told_of name.now attempt request.now outcome.now }
 {

@@ -22,18 +22,18 @@ use manifest::Pod;
 use std::alloc::{AllocError, Global};
 use std::marker::Model;
 
-/// A pod as it is seen from outside, lent.
+/// A pod as it is seen from outside, borrowed.
 #[derive(Clone, Copy)]
 pub struct PodView<'p> {
     pub pod: &'p Pod,
-    /// What became of its containers, init ones first, as they stand in the manifest.
+    /// The tracks of its containers, init ones first, in the order of the manifest.
     pub tracks: &'p [Track],
     pub phase: Phase,
     /// Whether its last claim was lost or given up.
     pub lost: bool,
 }
 
-/// A pod on a node, and what was told of it.
+/// A pod on a node, and what was reported of it.
 #[derive(Drop)]
 pub struct PodState {
     alloc: Global,
@@ -70,7 +70,7 @@ impl Model for PodState {
       tracks = s.tracks.items;
     } };
 
-    // What runs was not started later than the last claim ended.
+    // No running attempt was started after the last claim ended.
     ghost invariant = { λ s. record {
       started : AllStartedBy s.latest s.tracks.items;
       phase : s.phase ≡ phase_of s.pod.policy s.lost s.tracks.items;
@@ -117,7 +117,7 @@ impl PodState {
         }
     }
 
-    /// The number of the last claim of the pod that ended, 0 for none.
+    /// The number of the pod's last ended claim, 0 for none.
     pub fn worked(&self) -> u64
         ensures { result ≡ self.now.worked }
     {
@@ -139,7 +139,7 @@ impl PodState {
         self.sandbox.is_gone()
     }
 
-    /// From which moment on a request is due, in seconds, if one is without a further claim.
+    /// The moment from which a request is due, in seconds, if one is due without a further claim.
     pub fn due(&self) -> Option<u64>
         ensures { result ≡ due_of self.now }
     {
@@ -178,7 +178,7 @@ impl PodState {
     pub fn next(&self, now: u64, number: u64) -> Result<Option<Request>, AllocError>
         ensures next { IfOk result (λ next. next ≡ option_map (numbered number) (next_of self.now now)) }
 
-        // Where none is due, no memory is taken.
+        // If none is due, no memory is taken.
         ensures none { next_of self.now now ≡ None → result ≡ Ok None }
     {
         match self.next_call(now)? {
@@ -231,8 +231,8 @@ impl PodState {
         call_by(self.alloc, &self.pod, self.settings, chosen)
     }
 
-    /// The claim of this request ends at this moment, in seconds. No memory is taken. Where a container has
-    /// [`MAX_RUNS`](lifecycle::MAX_RUNS) past runs, and an exit of it was told, nothing changes.
+    /// Ends the claim of this request at this moment, in seconds. Takes no memory. If a container has
+    /// [`MAX_RUNS`](lifecycle::MAX_RUNS) past runs, and an exit of it was reported, nothing changes.
     #[tactic(auto, using(crate::proofs::Silent::given_up, crate::proofs::Fresh::all_later))]
     pub fn ended(&mut self, now: u64, request: &Request, outcome: Outcome) -> Result<(), AllocError>
         requires { self.old.latest ≤ now }
@@ -246,11 +246,11 @@ impl PodState {
         ensures free { OnErr result (records_exit now request.now outcome self.old ≡ true) }
         ensures abandoned { outcome ≡ Outcome.Abandoned → IsOk result }
 
-        // Of each container at most one more run began.
+        // At most one more run of each container began.
         ensures begun { OnOk result ((most : ℕ) → AllWithin most self.old.tracks
             → AllWithin (most + 1) self.new.tracks) }
 
-        // It is refused only where more runs of a container began than can be counted.
+        // It is refused only if more runs of a container began than can be counted.
         ensures full { OnErr result ((most : ℕ) → AllWithin most self.old.tracks → MAX_RUNS < most) }
     {
         tracks_ended(

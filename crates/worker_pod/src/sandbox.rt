@@ -4,7 +4,7 @@ ghost use Rattle.worker_pod.specs.Next.{is_gone};
 
 use crate::news::News;
 
-// How far a pod's sandbox came, by what was answered.
+// The state of a pod's sandbox, by the answers.
 #[derive(Clone, Copy)]
 pub(crate) enum Sandbox {
     Absent,

@@ -6,15 +6,15 @@ use std::alloc::{AllocError, Global};
 // How many seconds a pod rests after a refusal, a loss or an abandoned claim.
 pub(crate) const REST: u64 = 10;
 
-// The attempt behind which there is none.
+// The last attempt: none follows it.
 pub(crate) const LAST_ATTEMPT: u32 = 4_294_967_295;
 
-/// What a node's agent goes by.
+/// The settings of a node's agent.
 #[derive(Clone, Copy, Debug, PartialEq, Eq)]
 pub struct Settings {
-    /// Whether a container for which no profile is given gets the profile of the runtime.
+    /// Whether a container without a profile gets the profile of the runtime.
     pub seccomp_default: bool,
-    /// How many seconds after the status of a container was reported it is asked for again.
+    /// The seconds between a report of a container's status and the next request for it.
     pub poll: u64,
     /// The version in which it speaks to the runtime. By version 2 it asks for the statuses of a pod's
     /// containers with one request.
@@ -33,7 +33,7 @@ pub enum Outcome {
 }
 
 impl Outcome {
-    /// The same outcome once more.
+    /// A copy of the outcome.
     pub fn try_clone(&self, alloc: Global) -> Result<Outcome, AllocError>
         ensures { IfOk result (λ copy. copy ≡ self.now) }
     {

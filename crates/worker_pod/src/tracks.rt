@@ -15,7 +15,7 @@ use lifecycle::{MAX_RUNS, PastRun, Runs, Stage, Track};
 use manifest::{Container, Containers, Label};
 use std::alloc::{AllocError, Global};
 
-// A container that nothing was told of.
+// A container of which nothing was reported.
 fn fresh(init: bool) -> Track
     ensures { result ≡ fresh init }
 {
@@ -35,7 +35,7 @@ pub(crate) fn fresh_tracks(alloc: Global, containers: &Containers) -> Result<Vec
     (0..count).map(|place| fresh(place < inits)).collect(alloc)
 }
 
-// What was told of the attempt `of` moves the container on only where it is the current one.
+// News of the attempt `of` moves the container on only if that attempt is the current one.
 fn stage_at(now: u64, of: u32, news: News, stage: Stage) -> Stage
     ensures value { result ≡ stage_at now of news stage }
     ensures started { StartedBy now stage → StartedBy now result }
@@ -67,7 +67,7 @@ fn stage_at(now: u64, of: u32, news: News, stage: Stage) -> Stage
     }
 }
 
-// The run that ends by what was told.
+// The run that ends by the news.
 fn run_at(now: u64, of: u32, news: News, stage: Stage) -> Option<PastRun>
     requires { StartedBy now stage }
     ensures { result ≡ run_at now of news stage }
@@ -166,8 +166,8 @@ fn put(runs: &mut Runs, run: PastRun)
     drop(pushed);
 }
 
-// What the end of the request's claim makes of the containers. Only a record of an exit can be refused, where
-// no further run can be counted: that is asked of all containers before anything changes.
+// Applies the end of the request's claim to the containers. Only a record of an exit can be refused, if no
+// further run can be counted: that is checked for all containers before anything changes.
 #[tactic(auto, unfolding(crate::specs::Tracks::AllStartedBy), using(crate::proofs::Begun::beyond_first))]
 pub(crate) fn tracks_ended(
     containers: &[Container],

@@ -48,7 +48,7 @@ fn is_longer(best: Option<Pick>, worked: u64) -> bool
     }
 }
 
-// Of containers that were worked on equally long ago the first stays.
+// Of containers that were worked on equally long ago, the first stays.
 fn better(
     now: u64,
     best: Option<Pick>,
@@ -90,7 +90,7 @@ fn sooner(best: Option<u64>, want: Option<Want>) -> Option<u64>
     }
 }
 
-// From when on one is due.
+// The moment from which one is due.
 pub(crate) fn soonest(policy: RestartPolicy, poll: u64, tracks: &[Track]) -> Option<u64>
     ensures { result ≡ soonest policy poll tracks.now }
 {

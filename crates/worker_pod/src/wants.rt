@@ -15,14 +15,14 @@ pub(crate) enum Work {
     Clear(u32),
 }
 
-// What is to be done for a container, and from which moment on.
+// The work due for a container, and the moment from which it is due.
 #[derive(Clone, Copy)]
 pub(crate) struct Want {
     pub(crate) from: u64,
     pub(crate) work: Work,
 }
 
-// The container that is worked on, by its place, and the number of the last claim that did.
+// The container that is worked on, by its place, and the number of the last claim that worked on it.
 #[derive(Clone, Copy)]
 pub(crate) struct Pick {
     pub(crate) at: usize,
@@ -39,7 +39,7 @@ fn look_from(poll: u64, polled: Option<u64>) -> u64
     }
 }
 
-// From when on there may be another attempt behind this one, whose run is the last.
+// The moment from which another attempt may follow this one, whose run is the last.
 fn again(policy: RestartPolicy, track: &Track, attempt: u32) -> Option<u64>
     ensures value { result ≡ again policy track.now attempt }
     ensures more { IfSome result (λ _. attempt < LAST_ATTEMPT) }

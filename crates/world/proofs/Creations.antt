@@ -1,4 +1,4 @@
--- Each container is made as its pod's manifest says, and in its turn.
+-- Each container follows its pod's manifest, and is made in its turn.
 use Rattle.std.proofs.Common.{◌≡◌, ◌⊎◌, inl, inr, ℕ, ◌+◌, ◌<◌, true, List, [], ◌∷◌, ◌++◌, Option, Some}
 use Rattle.std.proofs.Common.{slice_get, append-nil, refl, sym, ◌∙◌, ap, subst}
 use Rattle.bpf_code.specs.declared.insn.Insn.{Insn}
@@ -27,7 +27,7 @@ use Rattle.world.specs.World.Event.{Acted, Served, Reported, Lost, Stepped, Kill
 use Rattle.world.proofs.Exits.{EndTruly, in_push, told_truly}
 use Rattle.world.proofs.Parts.{Parts, ended_more, happened_more, parts}
 
--- The manifest of an admitted pod asks for this creation, whose turn has come. Once it is so it stays so.
+-- The manifest of an admitted pod asks for this creation, whose turn has come. Once true, this stays true.
 pub record Asked (settings : Settings) (ls : List WorldLink) (key : Key) (image : List ℕ)
     (profile : SeccompProfile) : Type 0 where
   pub pod : Pod
@@ -265,7 +265,7 @@ module _
           | inr before ↦ served_asked settings baseline ls run.2 link before key image profile files answer is
         ])
 
-    -- of one that the last event served too
+    -- the same for one that the last event served
     pub served_before : (settings : Settings) (baseline : Option (List Insn)) (l : WorldLink)
         (ls : List WorldLink) → IsWorldRun settings baseline (l ∷ ls)
         → (link : Link) → In link (runtime_part (l ∷ ls))

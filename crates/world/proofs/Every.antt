@@ -45,7 +45,7 @@ module _
         → IsWorldRun settings baseline ls → EndTruly ls
     truly = ends_truly run_links node_laws
 
-    -- under a uid one pod was admitted
+    -- one pod was admitted under a uid
     uid_known : (other : Pod) (uid : List ℕ) (ls : List NodeLink) → other.uid ≡ uid
         → Happened (Admits other) ls → Happened (AdmitsUid uid) ls
     uid_known other uid [] e h = h

@@ -38,7 +38,7 @@ among_of [] at c less e = absurd (omega (arith, less))
 among_of (d ∷ cs) zero c less e = inl e
 among_of (d ∷ cs) (suc at) c less e = inr (among_of cs at c (omega (arith, less)) e)
 
--- each exit that a reply of the bag tells is that of a cell
+-- each exit that a reply in the bag reports is that of a cell
 abbrev pub TellTruly : List WorldLink → List Exchange → Type 0
 TellTruly ls given = (which : ℕ) (x : Exchange) → slice_get given which ≡ Some x → (key : Key) (code : ℕ)
     → TellsExit x.request.call x.reply.answer key code → EndedWith ls key code
@@ -59,7 +59,7 @@ acts_end_none (Tick now) worker reply e = e
 acts_end_none (Abandon its) worker reply e = let differ : outcome.Abandoned ≡ outcome.Replied reply = e.1 in
     cc
 
--- a run that a node was told of is the end of a cell
+-- a run that was reported to a node is the end of a cell
 pub told_truly : (ls : List WorldLink) → EndTruly ls → (uid : List ℕ) (cs : List Claimed)
     → ((c : Claimed) → Among c cs → Happened (Ends uid c) (node_part ls))
     → (name : List ℕ) (k : ℕ) (run : Run) → Told uid cs name k run

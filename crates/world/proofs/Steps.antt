@@ -1,4 +1,4 @@
--- What the agent and the runtime promise of a call makes a step of the world.
+-- What the contracts of the agent and the runtime state of a call is a step of the world.
 use Rattle.std.proofs.Common.{◌≡◌, inl, inr, ℕ, nat_lt, Bool, true, false, if◌then◌else◌, List, [], ◌∷◌, ◌++◌}
 use Rattle.std.proofs.Common.{Option, Some, None, slice_get, append-nil, refl, sym, ◌∙◌, ap, subst}
 use Rattle.cri_msgs.specs.declared.calls.Request.{Request}
@@ -33,7 +33,7 @@ use Rattle.world.specs.Kept.{Comes, IsClaim, IsReached, KeptWorld, StandsFor, Wa
 use Rattle.world.specs.World.{WorldState, agent_event, sent_by, world_now}
 use Rattle.world.specs.World.Event.{Acted, Served, Reported, Lost, Stepped, Killed}
 
--- what a step comes to is reached
+-- the result of a step is reached
 pub reached_more : (old new : KeptWorld) (event : WorldEvent)
     → ((world : WorldState) → StandsFor old world → Comes world event new) → IsReached old → IsReached new
 reached_more old new event comes r =
@@ -230,7 +230,7 @@ pub was_killed : (old new : Runtime) (id code : ℕ) (cell : Cell) → Reads old
 was_killed old new id code cell there None may = absurd (may.0 there.0 cell there.1 there.2)
 was_killed old new id code cell there (Some found) may = may
 
--- by anything but a claim nothing is sent
+-- anything but a claim sends nothing
 sends_none : (kept : KeptNode) (act : Act) → ¬ IsClaim act → sent_by (answer_of kept (agent_event act)) ≡ []
 sends_none kept (Admit pod) other = by_refusal (refusal_of kept pod) where
   by_refusal : (r : Option NodeRefusal) → sent_by (admit_answer r) ≡ []

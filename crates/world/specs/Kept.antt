@@ -31,7 +31,7 @@ pub record StandsFor (kept : KeptWorld) (world : WorldState) : Type 0 where
   pub sent : kept.sent ≡ world.sent
   pub given : kept.given ≡ world.given
 
--- the event happens, and leads to a world that is kept then
+-- the event happens, and leads to a world that this state stands for
 pub record Comes (old : WorldState) (event : WorldEvent) (kept : KeptWorld) : Type 0 where
   pub happened : Event
   pub is : event_of happened ≡ event
@@ -39,7 +39,7 @@ pub record Comes (old : WorldState) (event : WorldEvent) (kept : KeptWorld) : Ty
   pub step : WorldStep old happened new
   pub stands : StandsFor kept new
 
--- what is kept stands for the end of some run
+-- the kept state stands for the end of some run
 pub record IsReached (kept : KeptWorld) : Type 0 where
   pub settings : Settings
   pub baseline : Option (List Insn)
@@ -64,7 +64,7 @@ abbrev pub LacksRequest : List Request → ℕ → WorldFault → Type 0
 LacksRequest sent which fault = ((fault ≡ NoSuchRequest) × (slice_get sent which ≡ None))
     ⊎ ((fault ≡ Memory) × ((request : Request) × (slice_get sent which ≡ Some request)))
 
--- of what the agent does by itself only a claim takes memory of the bag
+-- of the agent's own acts, only a claim takes memory of the bag
 abbrev pub IsClaim : Act → Type 0
 IsClaim (Claim worker) = ⊤
 IsClaim (Admit pod) = ⊥
@@ -72,7 +72,7 @@ IsClaim (Delete uid) = ⊥
 IsClaim (Tick now) = ⊥
 IsClaim (Abandon worker) = ⊥
 
--- why an event can't happen: want of memory is told only of one that else could
+-- why an event can't happen: out of memory is reported only for one that otherwise could
 abbrev pub IsCause : KeptWorld → WorldEvent → WorldFault → Type 0
 IsCause kept (Agent act) fault = (fault ≡ Memory) × IsClaim act
 IsCause kept (Serve which files) fault = LacksRequest kept.sent which fault

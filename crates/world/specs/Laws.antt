@@ -1,6 +1,6 @@
--- What holds in every run of the world, whatever is served again, lost, late or never served: this project's
--- own, over the order of init containers and restarts of Kubernetes 1.27, pod lifecycle. docs/SEMANTICS.md,
--- "The world".
+-- Laws of every run of the world, whatever is served again, lost, late or never served: this project's own,
+-- over the order of init containers and restarts of Kubernetes 1.27, pod lifecycle. docs/SEMANTICS.md, "The
+-- world".
 use Rattle.std.specs.Prelude.{◌≡◌, ℕ, ◌+◌, ◌<◌, Bool, true, List, Option, Some, slice_get}
 use Rattle.bpf_code.specs.declared.insn.Insn.{Insn}
 use Rattle.lifecycle.specs.BackOff.{Run}
@@ -52,8 +52,8 @@ pub record IsContainer (pod : Pod) (name : List ℕ) (place : ℕ) (container : 
 abbrev pub profile_of : Settings → Pod → Container → SeccompProfile
 profile_of settings pod container = choice_of pod.profile container settings.seccomp_default
 
--- A cell was made as the manifest of its uid says: from the container's image and the profile that is chosen
--- for it, and from what the files gave when it was made. So its filters are the node's own and that of the
+-- A cell follows the manifest of its uid: it was made from the container's image and the profile chosen for
+-- it, and from the results of the files at that time. So its filters are the node's own and that of the
 -- profile.
 pub record IsFromManifest (settings : Settings) (baseline : Option (List Insn)) (ls : List WorldLink)
     (key : Key) (making : Making) : Type 0 where
@@ -71,7 +71,7 @@ pub record IsFromManifest (settings : Settings) (baseline : Option (List Insn)) 
   pub from : IsMadeFrom baseline id key.container container.image (profile_of settings pod container) files
       making
 
--- attempt k ended, with a code behind which another may be
+-- attempt k ended, with a code after which another is allowed
 pub record HasEndedBefore (ls : List WorldLink) (pod : Pod) (place : ℕ) (key : Key) (k : ℕ) : Type 0 where
   pub code : ℕ
   pub ended : EndedWith ls (key_named key.uid key.container.name k) code
@@ -82,8 +82,8 @@ pub record HasSucceeded (ls : List WorldLink) (uid name : List ℕ) : Type 0 whe
   pub attempt : ℕ
   pub ended : EndedWith ls (key_named uid name attempt) 0
 
--- An attempt comes in its turn: behind the end of the attempt before it, and of all init containers, for an
--- init container of those in front of it.
+-- An attempt comes in its turn: after the end of the attempt before it, and of all init containers, for an
+-- init container of those before it.
 pub record IsInTurn (ls : List WorldLink) (key : Key) : Type 0 where
   pub pod : Pod
   pub is_pod : IsPodOf ls key.uid pod
@@ -104,11 +104,11 @@ pub record WorldLaws (settings : Settings) (baseline : Option (List Insn))
   pub runtime_is : now baseline (runtime_part ls) ≡ (world_now settings baseline ls).runtime
   pub node : NodeLaws settings (node_part ls)
   pub node_is : node_now settings (node_part ls) ≡ (world_now settings baseline ls).node
-  -- the filters of a cell's start are those that the manifest asks for which was admitted under its uid
+  -- the filters of a cell's start are those that the manifest admitted under its uid asks for
   pub from_manifest : (key : Key) (cell : Cell) → Seen (runtime_part ls) key cell
       → IsFromManifest settings baseline ls key cell.making
-  -- the run at each place, from 0, that the node holds of a container is that of the attempt of this number:
-  -- the attempt's cell ended with the run's code
+  -- the node's run at each place, from 0, of a container is that of the attempt of this number: the attempt's
+  -- cell ended with the run's code
   pub codes : (at : ℕ) (p : OnNode) → slice_get (world_now settings baseline ls).node.pods at ≡ Some p
       → (place : ℕ) (track : Track) (container : Container)
       → slice_get (read_off p.past.pod settings p.past.claims).tracks place ≡ Some track
@@ -127,7 +127,7 @@ pub record WorldLinkLaws (l : WorldLink) (before : List WorldLink) : Type 0 wher
   pub runtime : (link : Link) → runtime_link l ≡ Some link → LinkLaws link (runtime_part before)
   -- a uid is admitted once, a number is used once, and the back-off is kept
   pub node : (link : NodeLink) → node_link l ≡ Some link → NodeLinkLaws link (node_part before)
-  -- an attempt is asked for, and made, behind all that had to end first
+  -- an attempt is asked for, and made, after all that had to end first
   pub asked : (link : NodeLink) (worker : ℕ) (uid : List ℕ) (request : Request) → node_link l ≡ Some link
       → Gives worker uid request link
       → (key : Key) (image : List ℕ) (profile : SeccompProfile)

@@ -41,9 +41,9 @@ empty_world settings baseline = record {
   given = [];
 }
 
--- What happened, and what came of it:
+-- What happened, and its result:
 --   the agent acted by itself, and answered;
---   the request at this place of the bag was served, its files having given this, and was answered;
+--   the request at this place of the bag was served, with these results of its files, and was answered;
 --   the worker reported the reply at this place of the bag, or that none came;
 --   the cell of this id did a step, or was ended by this code.
 pub data Event : Type 0 where
@@ -54,7 +54,7 @@ pub data Event : Type 0 where
   Stepped : ℕ → Did → Event
   Killed : ℕ → ℕ → Event
 
--- the event without what came of it
+-- the event without its result
 abbrev pub event_of : Event → WorldEvent
 event_of (Acted act answer) = event.Agent act
 event_of (Served which request files reply) = event.Serve which files
@@ -63,7 +63,7 @@ event_of (Lost worker answer) = event.Lose worker
 event_of (Stepped id did) = event.StepCell id
 event_of (Killed id code) = event.KillCell id code
 
--- what the agent does by itself is anything but a report
+-- the agent's own acts are all of its events but reports
 abbrev pub agent_event : Act → AgentEvent
 agent_event (Admit pod) = agent.Admit pod
 agent_event (Delete uid) = agent.Delete uid
@@ -112,7 +112,7 @@ pub record Losing (old : WorldState) (worker : ℕ) (answer : Answer) (new : Wor
   pub sent : new.sent ≡ old.sent
   pub given : new.given ≡ old.given
 
--- what happens to a cell nobody else learns of
+-- an event of a cell changes nothing else
 pub record AtCell (old new : WorldState) : Type 0 where
   pub node : new.node ≡ old.node
   pub sent : new.sent ≡ old.sent
@@ -142,7 +142,7 @@ IsWorldRun settings baseline [] = ⊤
 IsWorldRun settings baseline (l ∷ ls) = (l.old ≡ world_now settings baseline ls)
     × WorldStep l.old l.event l.new × IsWorldRun settings baseline ls
 
--- the part of it that is the node's, if any
+-- the node's part of it, if any
 abbrev pub node_event : NodeState → Event → NodeState → Option NodeLink
 node_event old (Acted act answer) new =
     Some (record { old = old; event = agent_event act; answer = answer; new = new })
@@ -159,7 +159,7 @@ node_event old (Lost worker answer) new =
 node_event old (Stepped id did) new = None
 node_event old (Killed id code) new = None
 
--- and the part that is the runtime's
+-- and the runtime's part
 abbrev pub runtime_event : Runtime → Event → Runtime → Option Link
 runtime_event old (Acted act answer) new = None
 runtime_event old (Served which request files reply) new =

@@ -5,16 +5,16 @@ use manifest::{Pod, Uid};
 use runtime_core::FileAnswers;
 use worker_core::AgentEvent;
 
-/// What the agent does by itself. Workers are named by number, moments are in seconds.
+/// The agent's own acts. Workers are named by number, moments are in seconds.
 #[derive(Drop)]
 pub enum Act {
-    /// A pod is to run on the node.
+    /// A pod for the node.
     Admit(Pod),
-    /// The pod of this uid is to go.
+    /// The pod of this uid must leave.
     Delete(Uid),
     /// This worker asks for a request. If it is given one, that is sent.
     Claim(u32),
-    /// It is this moment now.
+    /// The time is this moment now.
     Tick(u64),
     /// This worker gives its request up.
     Abandon(u32),

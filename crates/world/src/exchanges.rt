@@ -72,7 +72,7 @@ pub(crate) fn keep_sent(sent: &mut Vec<Request>, answer: Answer)
     }
 }
 
-// Appends it. There has to be room.
+// Appends the item, for which there is room.
 pub(crate) fn pushed<T: Drop>(list: &mut Vec<T>, item: T)
     requires { vec_len list.old < vec_capacity list.old }
     ensures { list.new.items ≡ list.old.items ++ item ∷ [] }

@@ -40,7 +40,7 @@ impl Model for World {
           w.given.items;
     } };
 
-    // What is kept stands for the end of a run, so that the laws of every run hold of it.
+    // The kept state stands for the end of a run, so the laws of every run apply to it.
     ghost invariant = { λ w. IsReached (record {
       node = w.node;
       runtime = w.runtime;
@@ -67,7 +67,7 @@ impl World {
     pub fn node(&self) -> &Node
         ensures node { result.now ≡ self.now.node }
 
-        // The laws of every run hold of the run that led here.
+        // The laws of every run apply to the run that led here.
         ensures reached { IsReached self.now }
     {
         &self.node
@@ -98,7 +98,7 @@ impl World {
     /// Takes a step, if the event can happen. A refusal by the agent or the runtime is an answer, not a
     /// fault. A fault changes nothing.
     pub fn step(&mut self, event: WorldEvent) -> Result<(), WorldFault>
-        // It is a step of every world that what was kept stands for.
+        // It is a step of every world that the old state stands for.
         ensures step { OnOk result ((world : WorldState) → StandsFor self.old world
             → Comes world event self.new) }
         ensures same { OnErr result (self.new ≡ self.old) }
@@ -131,7 +131,7 @@ impl World {
         }
     }
 
-    // Room for the request comes first.
+    // Makes room for the request first.
     fn claim(&mut self, worker: u32) -> Result<(), WorldFault>
         ensures step { OnOk result ((world : WorldState) → StandsFor self.old world
             → Comes world (Agent (act.Claim worker)) self.new) }
@@ -144,7 +144,7 @@ impl World {
         Ok(())
     }
 
-    // Anything but a claim. It sends nothing.
+    // Any act but a claim. It sends nothing.
     fn go_on(&mut self, act: Act)
         requires { ¬ IsClaim act }
         ensures { (world : WorldState) → StandsFor self.old world → Comes world (Agent act) self.new }
@@ -152,7 +152,7 @@ impl World {
         drop(self.node.apply(act.event()));
     }
 
-    // Room for the exchange comes first.
+    // Makes room for the exchange first.
     fn serve(&mut self, which: usize, files: FileAnswers) -> Result<(), WorldFault>
         ensures step { OnOk result ((world : WorldState) → StandsFor self.old world
             → Comes world (Serve which files) self.new) }

@@ -47,7 +47,7 @@ struct Drawn {
     world: World,
     recorded: Recorded,
     moment: u64,
-    // of each request that was sent, whether its claim ended by a loss before it was served
+    // for each request that was sent, whether its claim ended by a loss before it was served
     lost: Vec<bool>,
     served_late: u32,
 }

@@ -1,5 +1,5 @@
-//! Tests of the world: worked rows as lists of events, and drawn lists of which plain code checks what was
-//! recorded. They stand beside it, so that its proof is made once.
+//! Tests of the world: worked rows as lists of events, and drawn lists whose records plain code checks. They
+//! are apart from the world, so that its proof is made once.
 #![tactic(auto)]
 
 #[cfg(test)]

@@ -1,5 +1,4 @@
-// Drawn whole numbers, the same in every run: a linear congruence modulo 2 ^ 64, of which the upper half is
-// taken.
+// Drawn whole numbers, the same in every run: the upper half of a linear congruence modulo 2 ^ 64.
 #[derive(Clone, Copy)]
 pub(crate) struct Numbers {
     state: u64,
@@ -12,7 +11,7 @@ impl Numbers {
         }
     }
 
-    // A number below the bound, and 0 where that is 0.
+    // A number below the bound, and 0 if the bound is 0.
     pub(crate) fn below(&mut self, bound: u64) -> u64 {
         self.state = self
             .state

@@ -12,8 +12,8 @@ use world::{Act, World, WorldEvent};
 //   admit NAME, delete NAME, claim WORKER, tick MOMENT, abandon WORKER, report WORKER PLACE, lose WORKER,
 //   step ID, kill ID CODE, and serve PLACE, followed by the faults of its files, the script's and the
 //   profile's, if they can't be read.
-// The result of a line is shown: of a claim the request that was sent, of a serving the answer, of a step the
-// state of the cell, or the fault.
+// The result of a line is shown: for a claim the request that was sent, for a serving the answer, for a step
+// the state of the cell, or the fault.
 #[derive(Drop)]
 pub(crate) struct Play {
     alloc: Global,
@@ -108,7 +108,7 @@ impl Play {
         })
     }
 
-    // What the files of the request at this place give, with the faults that the line names.
+    // The results of the files of the request at this place, with the faults that the line names.
     fn files(&self, line: &str, which: usize) -> Result<FileAnswers, AllocError> {
         let mut files = match self.world.sent().get(which) {
             Some(request) => files_of(self.alloc, request)?,
@@ -159,7 +159,7 @@ impl Play {
         }
     }
 
-    // Does what the line says, and returns the result.
+    // Carries out the line, and returns the result.
     pub(crate) fn does(&mut self, line: &str, spec: &str) -> Result<String, Fail> {
         match word(line, 0) {
             "cell" => {

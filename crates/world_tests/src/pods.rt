@@ -49,7 +49,7 @@ fn file_at<T: ReadAs + Drop>(
     Ok(Err(FileFault::NotFound))
 }
 
-// What the files of a request give, where all of them can be read.
+// The results of a request's files, if all of them can be read.
 pub(crate) fn files_of(alloc: Global, request: &Request) -> Result<FileAnswers, AllocError> {
     let Call::CreateContainer { image, profile, .. } = &request.call else {
         return Ok(no_files());

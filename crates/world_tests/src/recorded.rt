@@ -5,7 +5,7 @@ use std::alloc::{AllocError, Global};
 use std::mem;
 use world::{Exchange, World};
 
-// A cell as it was seen: the attempt that it is of, whether it was started, and with which code it ended.
+// A cell as it was seen: its attempt, whether it was started, and its exit code.
 #[derive(Drop)]
 pub(crate) struct Seen {
     id: u64,
@@ -32,7 +32,7 @@ struct Counted {
     runs: usize,
 }
 
-// All that was seen of a world, by plain code, and how often the rare cases came.
+// All that was seen of a world, by plain code, and how often the rare cases occurred.
 #[derive(Drop)]
 pub(crate) struct Recorded {
     alloc: Global,
@@ -200,7 +200,7 @@ impl Recorded {
         cells.any(|seen| seen.gone && world.runtime().cell(seen.id).is_some())
     }
 
-    // The code with which the cell of the attempt ended, as it was seen.
+    // The exit code of the attempt's cell, as it was seen.
     pub(crate) fn code_of(&self, uid: &str, name: &str, attempt: usize) -> Option<u8> {
         let mut cells = self.cells.as_slice().iter();
         let found = cells.find(|c| {
@@ -209,7 +209,7 @@ impl Recorded {
         found.and_then(|c| c.code)
     }
 
-    // How many runs of the container were seen before, where there are so many now.
+    // How many runs of the container were seen before, given how many there are now.
     fn counts(&mut self, uid: &str, name: &str, runs: usize) -> Result<usize, AllocError> {
         for counted in self.counted.as_mut_slice() {
             if counted.uid.as_str() == uid && counted.name.as_str() == name {
@@ -226,7 +226,7 @@ impl Recorded {
     }
 
     // Whether the container has as many runs as were seen before, or one more, and the last one is of the
-    // cell of the last attempt of so many, the first one being 0.
+    // cell of the last attempt, counted from 0.
     fn is_of_cell(&mut self, uid: &str, name: &str, runs: &Runs) -> Result<bool, AllocError> {
         let count = runs.count();
         let before = self.counts(uid, name, count)?;
@@ -240,8 +240,8 @@ impl Recorded {
         })
     }
 
-    // Whether the runs that the node counts are those of the cells. It is asked behind each report, which
-    // records one run of a container at most.
+    // Whether the runs that the node counts are those of the cells. Checked after each report, which records
+    // at most one run of a container.
     pub(crate) fn runs_are_of_cells(&mut self, world: &World) -> Result<bool, AllocError> {
         for i in 0..worker_core::MAX_PODS {
             let Some(view) = world.node().pod(i) else {

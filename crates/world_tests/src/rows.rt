@@ -73,7 +73,7 @@ cell 1=>false
 serve 0=>9
 table=>no pod"#;
 
-// A sandbox that was never seen is removed, and can't be run any more.
+// A sandbox that was never seen is removed, and can't be run again.
 const NEVER_SEEN: &str = r#"admit one=>done
 claim 1=>RunPodSandbox
 lose 1=>done
@@ -109,7 +109,7 @@ report 1 4=>done
 claim 1=>nothing
 table=>Failed, setup Terminated 3 1, main Waiting 0"#;
 
-// The same, where the statuses of all containers are asked for at once.
+// The same, with the statuses of all containers asked for at once.
 const BOOT_BY_LISTS: &str = r#"admit boot=>done
 claim 1=>RunPodSandbox
 serve 0=>ok

@@ -20,7 +20,7 @@ loop-container-preserved c =
       c.in-Some.container,
       c.in-Some.track,
     ) c.in-Some.is c.next.ensures.steps in
-    let line = container_line c.args.form c.args.reasons.now c.args.pod.now.uid c.args.pod.now.policy in
+    let line = container_line c.args.form c.args.reasons.now c.args.counts.now c.args.pod.now.uid c.args.pod.now.policy in
     let one = line (c.in-Some.container.now, c.in-Some.track.now) in
     let so_far = flat_map line (take (length c.loop-container.yielded) (zip all tracks)) in
     let start = string_bytes c.add_phase.new.text in
@@ -42,7 +42,7 @@ returns c =
     let end = zip_end all tracks c.loop-container.yielded items c.loop-container.container-iterator
     c.next.new.self c.next.result first second c.loop-container.yielded_by c.in-None.is
     c.next.ensures.steps in
-    let line = container_line c.args.form c.args.reasons.now c.args.pod.now.uid c.args.pod.now.policy in
+    let line = container_line c.args.form c.args.reasons.now c.args.counts.now c.args.pod.now.uid c.args.pod.now.policy in
     let whole = take_all (length c.loop-container.yielded) (zip all tracks)
     (omega (arith, end, length-zip all tracks)) in
     let rows = flat_map line (zip all tracks) in

@@ -12,15 +12,15 @@ loop-place-preserved c = elim c.match-pod.branch [
       let view = w.in-Some.view in
       let told = w.in-Some.ensures in (
         ap string_bytes w.text-is ∙ w.in_ok-add_pod.ensures
-            ∙ ap (λ text. text ++ pod_lines c.args.form c.args.reasons.now view.pod.now view.tracks.now
+            ∙ ap (λ text. text ++ pod_lines c.args.form c.args.reasons.now c.args.counts.now view.pod.now view.tracks.now
             view.phase) c.loop-place.invariant.0
-            ∙ sym (one_more_pod c.args.form c.args.reasons.now c.args.node.now.slots c.loop-place.place
+            ∙ sym (one_more_pod c.args.form c.args.reasons.now c.args.counts.now c.args.node.now.slots c.loop-place.place
             view.pod.now view.tracks.now view.phase told.pod told.tracks told.phase),
         λ _. c.pod.ensures.few,
       )
   | in_default w ↦ (
     ap string_bytes w.text-is ∙ c.loop-place.invariant.0
-        ∙ ap (flat_map (slot_lines c.args.form c.args.reasons.now))
+        ∙ ap (flat_map (slot_lines c.args.form c.args.reasons.now c.args.counts.now))
         (sym (no_more c.args.node.now.slots c.loop-place.place (sym c.pod.ensures.there
         ∙ ap is_some w.in_default.is))),
     λ _. c.pod.ensures.few,
@@ -30,7 +30,7 @@ loop-place-preserved c = elim c.match-pod.branch [
 pub returns : goal.returns
 returns c =
     c.loop-place.invariant.0
-    ∙ ap (flat_map (slot_lines c.args.form c.args.reasons.now))
+    ∙ ap (flat_map (slot_lines c.args.form c.args.reasons.now c.args.counts.now))
     (take_all c.loop-place.place c.args.node.now.slots
     (omega (
       arith,

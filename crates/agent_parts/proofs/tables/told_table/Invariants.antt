@@ -7,5 +7,5 @@ use Rattle.agent_parts.proofs.tables.told_table.Given as goal
 
 abbrev pub invariant-loop-place : goal.invariant-loop-place
 invariant-loop-place l =
-    (string_bytes l.text ≡ flat_map (slot_lines l.form l.reasons) (take l.place l.node.slots))
+    (string_bytes l.text ≡ flat_map (slot_lines l.form l.reasons l.counts) (take l.place l.node.slots))
     × (0 < l.place → length l.node.slots ≤ MAX_PODS)

@@ -1,4 +1,4 @@
--- The ledger is that of the blank, and the node has the table of the history that begins.
+-- The ledger comes from the blank, and the node's table from the history that begins.
 use Rattle.agent_trials.proofs.crew_tests.held_up.Given as goal
 
 abbrev pub ghosts-entries_at_call-L-Ledger : goal.ghosts-entries_at_call-L-Ledger

@@ -1,4 +1,4 @@
--- The ledger is that of the blank, and the node has the table of the history that begins.
+-- The ledger comes from the blank, and the node's table from the history that begins.
 use Rattle.agent_trials.proofs.report_tests.compares.Given as goal
 
 abbrev pub ghosts-compared-L-Ledger : goal.ghosts-compared-L-Ledger

@@ -1,4 +1,4 @@
--- So many peers as there were turns.
+-- One peer for each pass so far.
 use Rattle.std.proofs.Common.{◌≡◌, vec_len}
 use Rattle.agent_trials.proofs.report_tests.keepers.Given as goal
 

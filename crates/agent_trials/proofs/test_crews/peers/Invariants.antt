@@ -1,4 +1,4 @@
--- So many peers as were asked for, at most 64.
+-- One peer for each pass so far, at most 64.
 use Rattle.std.proofs.Common.{◌≡◌, ◌≤◌, vec_len}
 use Rattle.agent_trials.proofs.test_crews.peers.Given as goal
 

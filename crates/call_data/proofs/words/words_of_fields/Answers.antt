@@ -8,12 +8,12 @@ use Rattle.call_data.specs.declared.sys_call.SysCall.{SysCall}
 use Rattle.call_data.specs.CallData.{bytes_of_call}
 use Rattle.call_data.proofs.words.words_of_fields.Goals as goal
 
--- eight bytes an argument
+-- eight bytes for each argument
 length-arguments : (xs : List ℕ) → length (flat_map (to_le_bytes w64) xs) ≡ 8 * length xs
 length-arguments [] = refl
 length-arguments (x ∷ xs) = omega (arith, length-arguments xs)
 
--- an argument's bytes stand behind those of the arguments before it
+-- an argument's bytes follow those of the arguments before it
 from_argument : (xs : List ℕ) (i k : ℕ) → i < length xs
     → drop (8 * i + k) (flat_map (to_le_bytes w64) xs)
     ≡ drop k (to_le_bytes w64 (slice_index xs i) ++ flat_map (to_le_bytes w64) (drop (suc i) xs))
@@ -24,7 +24,7 @@ from_argument (x ∷ xs) (suc i) k h =
     rw e (drop-append-add (to_le_bytes w64 x) (flat_map (to_le_bytes w64) xs) (8 * i + k)
     ∙ from_argument xs i k (omega arith))
 
--- the arguments stand behind the 16 bytes of the other fields
+-- the arguments follow the 16 bytes of the other fields
 at_argument : (call : SysCall) (i k n : ℕ) → n ≡ 16 + (8 * i + k) → i < length call.args
     → drop n (bytes_of_call call) ≡ drop k
     (to_le_bytes w64 (slice_index call.args i) ++ flat_map (to_le_bytes w64) (drop (suc i) call.args))

@@ -1,4 +1,4 @@
--- A walk comes to each place that is marked so far.
+-- A walk reaches each place that is marked so far.
 use Rattle.call_names.specs.Marks.{Reaches}
 use Rattle.call_names.proofs.comparing.mark_reached.Given as goal
 

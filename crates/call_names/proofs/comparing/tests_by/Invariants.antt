@@ -1,4 +1,4 @@
--- There is an answer for each place before this one, and those that say yes are right.
+-- There is an answer for each place before this one, and each yes is right.
 use Rattle.std.proofs.Common.{◌≡◌, ℕ, true, false, length, get_or}
 use Rattle.call_names.specs.Tests.{IsNumberTest}
 use Rattle.call_names.proofs.comparing.tests_by.Given as goal

@@ -1,4 +1,4 @@
--- What was written, and the tallies from here on, are all together.
+-- What was written, followed by the tallies from here on, is the text of all.
 use Rattle.std.proofs.Common.{◌≡◌, ◌++◌, drop, string_bytes}
 use Rattle.cell_records.specs.RecordText.{other_tallies, tallies_text}
 use Rattle.cell_records.proofs.line.tallies_text.Given as goal

@@ -1,5 +1,5 @@
--- The tallies so far, and those from here on, are all together; and the kinds of the tallies so far are
--- those of the calls so far.
+-- The tallies so far, followed by those from here on, are all of them; and the kinds of the tallies so far
+-- are those of the calls so far.
 use Rattle.std.proofs.Common.{◌≡◌, ◌++◌, drop, take}
 use Rattle.std.specs.Prelude.{filter_map}
 use Rattle.std.specs.List.{enumerate_from, list_any}

@@ -1,4 +1,4 @@
--- What the rules that are still to come return is what all of them do, if it is the value.
+-- If the rules that are still to come return the value, all of them do.
 use Rattle.compile.proofs.Common.{◌≡◌, ℕ, drop, SysCall, first_value}
 use Rattle.compile.proofs.apart.certain.Given as goal
 

@@ -1,4 +1,4 @@
--- The first so many bytes were read.
+-- The first `count` bytes were read.
 use Rattle.std.proofs.Common.{◌≤◌, ◌-◌, length, take}
 use Rattle.std.specs.Io.KnownBytes.{Consumes, Keeps}
 use Rattle.cri_frames.proofs.moving.read_all.Given as goal

@@ -1,4 +1,4 @@
--- The first so many bytes were written.
+-- The first `count` bytes were written.
 use Rattle.std.proofs.Common.{◌≤◌, ◌-◌, length, take}
 use Rattle.std.specs.Io.KnownBytes.{Appends, Keeps}
 use Rattle.cri_frames.proofs.moving.write_all.Given as goal

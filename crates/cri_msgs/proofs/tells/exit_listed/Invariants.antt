@@ -1,4 +1,4 @@
--- The entries so far tell no exit of the container.
+-- The entries so far report no exit of the container.
 use Rattle.std.proofs.Common.{take}
 use Rattle.std.specs.List.{AllByRecursion}
 use Rattle.cri_msgs.specs.Tells.{IsSilentOn}

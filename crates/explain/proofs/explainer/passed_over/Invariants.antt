@@ -1,4 +1,4 @@
--- What was told, and what is to be told from this place on, are all together.
+-- What was listed, followed by what is to be listed from this place on, is all of it.
 use Rattle.std.proofs.Common.{◌≡◌, ◌++◌, drop}
 use Rattle.std.specs.Prelude.{filter_map}
 use Rattle.std.specs.List.{enumerate_from}

@@ -1,4 +1,4 @@
--- What was written, and the objects from here on, are all together.
+-- What was written, followed by the objects from here on, is the whole text.
 use Rattle.std.proofs.Common.{◌≡◌, ◌++◌, drop}
 use Rattle.std.specs.Prelude.{string_bytes}
 use Rattle.explain.specs.Objects.{passed_objects}

@@ -1,4 +1,4 @@
--- What the steps keep.
+-- The contents that the steps keep.
 use Rattle.std.proofs.Common.{string_bytes, subst}
 use Rattle.host_io.specs.Places.{KeepsOthers, Moves}
 use Rattle.host_io.proofs.Spared.{others_more, spares_moved, spares_others}

@@ -1,4 +1,4 @@
--- What stands under the steps that are left is what stands under all.
+-- The value under the remaining steps is the value under all.
 use Rattle.std.proofs.Common.{◌≡◌, map, drop}
 use Rattle.serde_json.specs.View.{view}
 use Rattle.json_place.specs.Places.{part_of}

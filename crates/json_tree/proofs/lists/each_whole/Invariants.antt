@@ -1,4 +1,4 @@
--- The items so far are all whole numbers, and these.
+-- The items so far are all whole numbers, and were read.
 use Rattle.std.proofs.Common.{◌≡◌, Some, map, take}
 use Rattle.serde_json.specs.View.{view}
 use Rattle.json_tree.specs.Tree.{each, whole}

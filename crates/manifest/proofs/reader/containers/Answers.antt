@@ -1,4 +1,4 @@
--- What was read of both lists is a list of containers that a pod may have.
+-- The containers read from both lists are a list that a pod may have.
 use Rattle.std.proofs.Common.{◌≡◌, ◌≤◌, ◌+◌, ◌<◌, codes, length, [], map, Ok, subst, arith}
 use Rattle.std.proofs.lemmas.List.{length-map}
 use Rattle.serde_json.specs.View.{view}

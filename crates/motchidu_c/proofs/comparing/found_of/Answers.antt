@@ -22,7 +22,7 @@ returns-in-Ok-compare-clause-found c = record {
   says = c.in-Ok-compare.ensures;
 }
 
--- want of memory is no fault of either
+-- running out of memory is no fault of either
 pub returns-clause-refused : goal.returns-clause-refused
 returns-clause-refused c =
     IsOneRefused.is_first (record {

@@ -1,4 +1,4 @@
--- What was read is a list of conditions that an entry may have.
+-- The conditions that were read are a list that an entry may have.
 use Rattle.std.proofs.Common.{map, arith}
 use Rattle.serde_json.specs.View.{view}
 use Rattle.json_tree.proofs.After.{after_ends}

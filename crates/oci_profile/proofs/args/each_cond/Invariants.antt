@@ -1,4 +1,4 @@
--- What the items from this one on give after the conditions so far is what all of them give.
+-- Reading the items from this one on after the conditions so far returns what reading all of them does.
 use Rattle.std.proofs.Common.{◌≡◌, [], map, drop}
 use Rattle.serde_json.specs.View.{view}
 use Rattle.json_tree.specs.Reading.{in_order_after}

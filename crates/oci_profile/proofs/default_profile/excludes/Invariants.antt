@@ -1,4 +1,4 @@
--- Whether the names from this one on have the text says whether all do.
+-- The text is among the names from this one on exactly if it is among all.
 use Rattle.std.proofs.Common.{◌≡◌, map, drop}
 use Rattle.std.specs.List.{list_any}
 use Rattle.std.specs.Str.{bytes_eq}

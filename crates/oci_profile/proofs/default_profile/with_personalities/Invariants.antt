@@ -1,4 +1,4 @@
--- The entries so far, and then those of the other personalities, are all.
+-- The entries so far, followed by those of the other personalities, are all.
 use Rattle.std.proofs.Common.{◌≡◌, ◌++◌, map, drop}
 use Rattle.oci_profile.specs.RuntimeDefault.{personality_entry, personalities}
 use Rattle.oci_profile.proofs.default_profile.with_personalities.Given as goal

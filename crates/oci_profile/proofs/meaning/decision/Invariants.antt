@@ -1,4 +1,4 @@
--- What the entries from this one on decide is what all of them do.
+-- The entries from this one on decide what all of them do.
 use Rattle.std.proofs.Common.{◌≡◌, drop}
 use Rattle.oci_profile.specs.Meaning.{decision_of}
 use Rattle.oci_profile.proofs.meaning.decision.Given as goal

@@ -1,4 +1,4 @@
--- The numbers of the names so far, and then those of the others, are the numbers of all.
+-- The numbers of the names so far, followed by those of the others, are the numbers of all.
 use Rattle.std.proofs.Common.{◌≡◌, ◌++◌, map, drop}
 use Rattle.std.specs.Prelude.{filter_map}
 use Rattle.serde_json.specs.View.{view}

@@ -1,4 +1,4 @@
--- What was added, and those of the others from here on, are all together.
+-- What was added, followed by the near ones of the others from here on, is all of them.
 use Rattle.std.proofs.Common.{◌≡◌, ◌++◌, drop}
 use Rattle.profile_lint.specs.Sameness.{near}
 use Rattle.profile_lint.proofs.copies.add_near.Given as goal

@@ -1,4 +1,4 @@
--- What was added, and the entries of this kind from here on, are all together.
+-- What was added, followed by the entries of this kind from here on, is all of them.
 use Rattle.std.proofs.Common.{◌≡◌, ◌++◌, ◌&&◌, drop}
 use Rattle.std.specs.Prelude.{filter}
 use Rattle.profile_lint.specs.Engines.{is_kept, is_of}

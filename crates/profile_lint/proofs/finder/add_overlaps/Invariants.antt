@@ -1,4 +1,4 @@
--- What was found before and since is so.
+-- The findings from before and since are true.
 use Rattle.std.specs.Prelude.{All}
 use Rattle.profile_lint.specs.Findings.{IsSo}
 use Rattle.profile_lint.proofs.finder.add_overlaps.Given as goal

@@ -1,4 +1,4 @@
--- What was found is so.
+-- The findings are true.
 use Rattle.std.specs.Prelude.{All}
 use Rattle.profile_lint.specs.Findings.{IsSo}
 use Rattle.profile_lint.proofs.finder.of_entries.Given as goal

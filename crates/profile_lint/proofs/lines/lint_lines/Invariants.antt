@@ -1,4 +1,4 @@
--- What was written, and the lines from here on, are all together.
+-- What was written, followed by the lines from here on, is the whole text.
 use Rattle.std.proofs.Common.{◌≡◌, ◌++◌, drop, map}
 use Rattle.std.specs.Prelude.{flat_map, string_bytes}
 use Rattle.profile_lint.specs.Passed.{told}

@@ -1,4 +1,4 @@
--- What was told, and what is told of the members from here on, are all together.
+-- The findings so far, followed by those about the members from here on, are all of them.
 use Rattle.std.proofs.Common.{◌≡◌, ◌++◌, map}
 use Rattle.std.specs.Prelude.{filter_map}
 use Rattle.serde_json.specs.View.{members_view}

@@ -1,5 +1,5 @@
--- What was told, and what is told of the names from here on, are all together; the numbers of those before
--- were seen.
+-- The findings so far, followed by those about the names from here on, are all of them; the numbers of the
+-- names before were seen.
 use Rattle.std.proofs.Common.{◌≡◌, ◌++◌, drop, map, take}
 use Rattle.std.specs.Prelude.{filter_map}
 use Rattle.std.specs.List.{enumerate_from}

@@ -1,4 +1,4 @@
--- What was told, and what is told of the entries from here on, are all together.
+-- The findings so far, followed by those about the entries from here on, are all of them.
 use Rattle.std.proofs.Common.{◌≡◌, ◌++◌, drop, map}
 use Rattle.std.specs.Prelude.{flat_map}
 use Rattle.std.specs.List.{enumerate_from}

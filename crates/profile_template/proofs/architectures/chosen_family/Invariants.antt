@@ -1,4 +1,4 @@
--- None of the families so far is it.
+-- None of the families so far is the architecture's.
 use Rattle.std.proofs.Common.{◌≡◌}
 use Rattle.std.specs.Prelude.{find, option_map}
 use Rattle.profile_template.specs.Reading.{is_family}

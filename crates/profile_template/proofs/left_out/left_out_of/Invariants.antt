@@ -1,4 +1,4 @@
--- What is told of the entries so far, and then of the others, is what is told of all.
+-- The names left out so far, followed by those of the other entries, are those of all.
 use Rattle.std.proofs.Common.{◌≡◌, ◌++◌, drop}
 use Rattle.std.specs.Prelude.{flat_map}
 use Rattle.std.specs.List.{enumerate_from}

@@ -1,4 +1,4 @@
--- The entries so far whose conditions are met, and then those of the others, are those of all.
+-- The entries so far whose conditions are met, followed by those of the others, are those of all.
 use Rattle.std.proofs.Common.{◌≡◌, ◌++◌}
 use Rattle.profile_template.specs.Resolved.{met_entries}
 use Rattle.profile_template.proofs.left_out.met_entries.Given as goal

@@ -1,4 +1,4 @@
--- What is told of the names so far, and then of the others, is what is told of all.
+-- The names left out so far, followed by those of the other names, are all of them.
 use Rattle.std.proofs.Common.{◌≡◌, ◌++◌, drop, map}
 use Rattle.std.specs.Prelude.{filter_map, string_bytes}
 use Rattle.std.specs.List.{enumerate_from}

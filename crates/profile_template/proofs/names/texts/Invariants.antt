@@ -1,4 +1,4 @@
--- The texts so far, and then those of the other items, are those of all.
+-- The texts so far, followed by those of the other items, are those of all.
 use Rattle.std.proofs.Common.{◌≡◌, ◌++◌, drop, map}
 use Rattle.std.specs.Prelude.{filter_map, string_bytes}
 use Rattle.serde_json.specs.View.{view}

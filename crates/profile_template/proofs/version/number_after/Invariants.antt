@@ -1,4 +1,4 @@
--- The digits from this one on, behind the number so far, write what all of them write.
+-- The number so far with the digits from this one on is the number of all digits.
 use Rattle.std.proofs.Common.{◌≡◌, drop}
 use Rattle.profile_template.specs.Version.{number_after}
 use Rattle.profile_template.proofs.version.number_after.Given as goal

@@ -1,4 +1,4 @@
--- The names so far that are taken, and then those of the others, are those of all.
+-- The taken names so far, followed by those of the others, are those of all.
 use Rattle.std.proofs.Common.{◌≡◌, ◌++◌, drop, map}
 use Rattle.std.specs.Prelude.{filter, string_bytes}
 use Rattle.serde_json.specs.Data.{string}

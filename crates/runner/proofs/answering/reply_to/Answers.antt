@@ -1,4 +1,4 @@
--- A text that was not read though there was memory is no request, and is told with its number.
+-- A text that was not read though there was memory is no request, and is reported with its number.
 use Rattle.std.proofs.Common.{◌≡◌, ◌≢◌, ℕ, Result, Ok, Err, inr, refl, ap}
 use Rattle.cri_msgs.specs.declared.calls.Request.{Request}
 use Rattle.cri_msgs.specs.declared.faults.MessageFault.{MessageFault}

@@ -1,4 +1,4 @@
--- One frame more.
+-- One more frame.
 use Rattle.std.proofs.Common.{[], arith}
 use Rattle.std.proofs.KnownBytes.{Keeps-refl, Keeps-trans}
 use Rattle.runner.proofs.Exits.{on_err}

@@ -1,4 +1,4 @@
--- The frames so far were answered, and what is left of them stands in the feed.
+-- The frames so far were answered, and what is left after them is in the feed.
 use Rattle.std.proofs.Common.{◌≤◌, [], length}
 use Rattle.std.specs.Io.KnownBytes.{Keeps}
 use Rattle.runner.specs.Connection.{Answers, Talk}

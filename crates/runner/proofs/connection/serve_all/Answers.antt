@@ -1,4 +1,4 @@
--- One read more, and what it brings.
+-- One more read, and what it adds.
 use Rattle.std.proofs.Common.{◌≡◌, List, [], ◌++◌, sym, ap, ◌∙◌, subst, arith, append-nil}
 use Rattle.std.proofs.KnownBytes.{Consumes-nil}
 use Rattle.cri_frames.specs.Frames.{BeginsNone}

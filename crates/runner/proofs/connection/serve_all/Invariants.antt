@@ -1,4 +1,4 @@
--- All that was read was answered, but for what stands in the feed.
+-- All that was read was answered, except what is in the feed.
 use Rattle.std.proofs.Common.{ℕ, ◌≤◌, List, []}
 use Rattle.std.specs.Io.KnownBytes.{Consumes}
 use Rattle.cri_frames.specs.Frames.{BeginsNone}

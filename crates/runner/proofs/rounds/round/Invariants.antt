@@ -1,4 +1,4 @@
--- What a round has asked so far.
+-- What a round has asked for so far.
 use Rattle.std.proofs.Common.{◌≡◌, ◌-◌, ◌^◌, ◌++◌, List}
 use Rattle.std.specs.Option.{option_map}
 use Rattle.runner.specs.Rounds.{Asked, AreVisits, last_of, seen_after, went_on}

@@ -1,4 +1,4 @@
--- The node's own filter is that of the line, and its table that of the history that begins.
+-- The node's own filter comes from the line, its table from the history that begins.
 use Rattle.runtime_server.proofs.scriptd.run.Given as goal
 
 abbrev pub ghosts-run_line : goal.ghosts-run_line

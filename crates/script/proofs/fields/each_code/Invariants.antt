@@ -1,4 +1,4 @@
--- What the numbers from this one on give behind the codes so far is what all of them give.
+-- Reading the numbers from this one on after the codes so far returns what reading all of them does.
 use Rattle.std.proofs.Common.{◌≡◌, [], drop}
 use Rattle.json_tree.specs.Reading.{in_order_after}
 use Rattle.script.specs.Reading.{code_at}

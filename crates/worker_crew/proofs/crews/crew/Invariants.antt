@@ -1,4 +1,4 @@
--- From part to part the coordinator has all parts of the count, and there are as few peers.
+-- In each part the coordinator has all parts of the count, and there are fewer peers than these.
 use Rattle.std.proofs.Common.{◌≡◌, ◌<◌, vec_len}
 use Rattle.node_lock.specs.declared.limits.TheConstants.{PARTS}
 use Rattle.worker_crew.proofs.crews.crew.Given as goal

@@ -1,5 +1,5 @@
--- As long as nothing was lost, what was joined and what is left are all parts; there is a peer at most for
--- each thread that is not left.
+-- As long as nothing was lost, the joined parts and the threads left are all parts; there is at most one peer
+-- for each joined thread.
 use Rattle.std.proofs.Common.{◌≡◌, ◌+◌, ◌≤◌, IsTrue, length, vec_len}
 use Rattle.worker_crew.proofs.crews.join_workers.Given as goal
 

@@ -1,4 +1,4 @@
--- The coordinator has a part more than there are peers left, and gave one to each thread.
+-- The coordinator has more parts than there are peers left, and gave one part to each thread.
 use Rattle.std.proofs.Common.{◌≡◌, ◌+◌, ◌<◌, length, vec_len}
 use Rattle.worker_crew.proofs.crews.start_workers.Given as goal
 

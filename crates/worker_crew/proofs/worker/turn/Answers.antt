@@ -1,4 +1,4 @@
--- A report follows its claim, which is the receipt that stands last.
+-- A report follows its claim, which is the last receipt.
 use Rattle.std.proofs.Common.{◌≡◌, ap, sym, subst, ◌∙◌}
 use Rattle.worker_crew.specs.Work.{MayFollow, claim_in, request_of}
 use Rattle.worker_crew.proofs.worker.turn.Goals as goal

@@ -1,4 +1,4 @@
--- What stands for the stream is one of its splits, and each split has the same rest.
+-- The feed keeps one split of the stream, and each split has the same rest.
 use Rattle.std.proofs.Common.{sym, subst}
 use Rattle.cri_frames.specs.Streams.{HasBadRest}
 use Rattle.cri_frames.proofs.OneSplit.{bad_rest, has_bad_rest}

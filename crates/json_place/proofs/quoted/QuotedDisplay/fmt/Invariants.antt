@@ -1,4 +1,4 @@
--- What is written so far, and what is shown of the characters that are left, is what is shown of all.
+-- What is written so far, followed by the remaining characters as shown, is the whole text as shown.
 use Rattle.std.proofs.Common.{◌≡◌, ◌++◌, ℕ, List, IsUtf8, chars}
 use Rattle.std.specs.Fmt.{HasWritten, IsPlainFormatter}
 use Rattle.std.specs.Str.Iter.{chars_rest}

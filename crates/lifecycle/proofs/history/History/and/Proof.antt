@@ -1,4 +1,4 @@
--- What is made has no bytes, and its runs are those that there were and one more.
+-- The new history has no bytes, and its runs are those there were and one more.
 use Rattle.std.proofs.Common.{[], ◌∷◌, ◌++◌, refl}
 use Rattle.std.proofs.raw_atomic.Walks.{proved}
 use mir.Syntax.{named}

@@ -1,4 +1,4 @@
--- What is made has no bytes, and its runs are none.
+-- The new history has no bytes and no runs.
 use Rattle.std.proofs.Common.{[], ◌∷◌, refl}
 use Rattle.std.proofs.raw_atomic.Walks.{proved}
 use mir.Val.{vstruct, vnil}

@@ -4,7 +4,7 @@ use Rattle.node_lock.specs.Histories.{EndsAt}
 use Rattle.node_lock.proofs.Histories.{ends_pushed, fits, kept_on}
 use Rattle.node_lock.proofs.books.Book.record.Goals as goal
 
--- the entry, and the node behind it
+-- the entry, and the node after it
 pub invariant_of-self-2 : goal.invariant_of-self-2
 invariant_of-self-2 g c =
     let old = c.self.inside in

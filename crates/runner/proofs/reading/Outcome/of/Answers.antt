@@ -1,4 +1,4 @@
--- What was read is said by the text's own reading.
+-- The result follows from the text's own reading.
 use Rattle.std.proofs.Common.{◌≡◌, ◌≢◌, Ok, List, ℕ, subst}
 use Rattle.std.specs.Prelude.{IfOk, IfErr}
 use Rattle.cri_msgs.specs.declared.calls.Request.{Request}

@@ -1,4 +1,4 @@
--- Of the ids up to the last one that was looked at, none is of the share.
+-- No id up to the last one that was looked at is of the share.
 use Rattle.std.proofs.Common.{◌-◌, ◌^◌}
 use Rattle.registry.specs.Kept.{home_in}
 use Rattle.runner.specs.Labelled.{Passed, of_share, visited}

@@ -1,4 +1,4 @@
--- As many places as were made so far, each of them free.
+-- One place for each pass so far, all free.
 use Rattle.std.proofs.Common.{◌≡◌, ◌≤◌, None, vec_len}
 use Rattle.std.specs.List.{AllByRecursion}
 use Rattle.runtime_server.proofs.places.Places.new.Given as goal

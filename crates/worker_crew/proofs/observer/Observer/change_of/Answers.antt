@@ -8,13 +8,13 @@ use Rattle.worker_crew.proofs.observer.Observer.change_of.Goals as goal
 
 pub returns-in-Some : goal.returns-in-Some
 returns-in-Some c = subst
-    (λ uid. IfOk c.changes_since.result (λ line. IsChange c.args.form c.args.moment uid
+    (λ uid. IfOk c.changes_since.result (λ line. IsChange c.args.form c.args.moment c.args.self.now.counts uid
     (slot_of uid c.args.node.now.slots) c.args.before.now.seen (string_bytes line)))
     c.uid_of-uid.ensures
     (subst
-    (λ was. IfOk c.changes_since.result (λ line. IsChange c.args.form c.args.moment c.uid_of-uid.result.now
+    (λ was. IfOk c.changes_since.result (λ line. IsChange c.args.form c.args.moment c.args.self.now.counts c.uid_of-uid.result.now
     (slot_of c.uid_of-uid.result.now c.args.node.now.slots) was (string_bytes line)))
     c.as_ref.ensures.value
-    (made_so c.changes_since.result (λ line is. changed_there c.args.form c.args.moment
+    (made_so c.changes_since.result (λ line is. changed_there c.args.form c.args.moment c.args.self.now.counts
     c.uid_of-uid.result.now (slot_of c.uid_of-uid.result.now c.args.node.now.slots) _ _ _ _ (string_bytes line)
     c.in-Some.ensures.pod c.in-Some.ensures.tracks c.in-Some.ensures.phase is) c.changes_since.ensures))

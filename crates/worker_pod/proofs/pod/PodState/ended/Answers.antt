@@ -7,7 +7,7 @@ use Rattle.worker_pod.specs.Tracks.{AllWithin}
 use Rattle.worker_pod.proofs.Begun.{all_grown}
 use Rattle.worker_pod.proofs.pod.PodState.ended.Goals as goal
 
--- what is put back over all of a list is the list then
+-- a list put back over all of a list replaces it
 all_new : {A : Type 0} (len : ℕ) (new old : List A) → length new ≡ length old → len ≡ length old
     → take len (new ++ drop (length new) old) ≡ new
 all_new len new old same counted =

@@ -1,5 +1,0 @@
--- The ledger is that of the blank.
-use Rattle.agent.proofs.nodeagent.run.Given as goal
-
-abbrev pub ghosts-run_line : goal.ghosts-run_line
-ghosts-run_line g a = record { name = a.blank.name; parts = a.blank.parts }

@@ -1,0 +1,5 @@
+pub mod AnswerObjects
+pub mod BadWords
+pub mod NoteText
+pub mod StopText
+pub mod Stops

@@ -1,8 +1,0 @@
-/// How answers are written.
-#[derive(Clone, Copy, Debug, PartialEq, Eq)]
-pub(crate) enum Form {
-    /// As words.
-    Text,
-    /// As an object of JSON (RFC 8259) a line.
-    Json,
-}

@@ -1,0 +1,53 @@
+//! What is written for other programs: a filter's file, and a unit of systemd.
+ghost use Rattle.std.specs.Prelude.{◌≡◌, IfOk};
+ghost use Rattle.checker.specs.Written.{file_bytes};
+
+use base64::engine::general_purpose::STANDARD;
+use check_stops::{Output, Stop, bytes_at, profile_stop};
+use fault_notes::ShownPath;
+use profile_unit::{UnitFault, unit_of, unit_text};
+use std::alloc::{AllocError, Global};
+use std::rt;
+
+/// The bytes of the file of a filter with this code.
+pub(crate) fn file_bytes(
+    alloc: Global,
+    code: Vec<u8>,
+    is_base64: bool,
+) -> Result<Vec<u8>, AllocError>
+    ensures { IfOk result (λ bytes. bytes.items ≡ file_bytes is_base64 code.items) }
+{
+    if !is_base64 {
+        return Ok(code);
+    }
+    let mut line = STANDARD.encode(alloc, code.as_slice())?;
+    line.push_str("\n")?;
+    Ok(line.into_bytes())
+}
+
+/// The profile as the lines of a unit of systemd.
+pub(crate) fn unit_output<'a, R: rt::Files + AllocGlobal>(
+    rt: &R,
+    path: &'a str,
+) -> Result<Output, Stop<'a>> {
+    let alloc = rt.alloc();
+    let bytes = bytes_at(rt, path)?;
+    let profile = oci_profile::read_placed(alloc, &bytes).map_err(|found| profile_stop(
+        path, found,
+    ))?;
+    match unit_of(alloc, &profile) {
+        Ok(unit) => Ok(Output::plain(alloc, unit_text(alloc, &unit)?)),
+        Err(UnitFault::Memory) => Err(Stop::Memory),
+        Err(fault) => Ok(refused(alloc, path, fault)?),
+    }
+}
+
+/// The refusal of a profile that no unit has, and beside it the reason.
+fn refused(alloc: Global, path: &str, fault: UnitFault) -> Result<Output, AllocError> {
+    let (name, path) = (fault.name(), ShownPath(path));
+    Ok(Output {
+        text: format!(in alloc; "refused {name}\n")?,
+        aside: format!(in alloc; "seccheck: {path}: {fault}\n")?,
+        status: 1,
+    })
+}

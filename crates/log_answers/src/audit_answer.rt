@@ -1,0 +1,119 @@
+//! The answer of `seccheck explain --audit`: the calls that a kernel's log reports as denied, each with the
+//! entries of a profile that may have denied it.
+use crate::lines::FoundLine;
+use crate::log_file::{LineSink, Position, add_file};
+use crate::reports::Reports;
+use check_stops::{Form, Output, Stop, bytes_at, profile_stop};
+use denied_calls::{
+    AuditedCounts, AuditedKind, AuditedRow, DeniedCall, Returned, aligned, audited_head,
+    audited_line, audited_object, by_cell, by_member, deciders,
+};
+use oci_profile::Profile;
+use seen_calls::{LineFault, audited_call};
+use std::alloc::{AllocError, Global};
+use std::rt;
+
+/// The calls of the log, the most frequent first. A broken line of an audit is reported on standard error, and
+/// the status is 1.
+pub fn audit_output<'a, R: rt::Files + AllocGlobal>(
+    rt: &R,
+    profile: &'a str,
+    log: &'a str,
+    form: Form,
+) -> Result<Output, Stop<'a>> {
+    let alloc = rt.alloc();
+    let bytes = bytes_at(rt, profile)?;
+    let profile = oci_profile::read_placed(alloc, &bytes).map_err(|found| profile_stop(
+        profile, found,
+    ))?;
+    let mut audited = Audited {
+        counts: AuditedCounts::new(alloc),
+        reports: Reports::new(alloc),
+    };
+    add_file(rt, log, &mut audited)?;
+    let Audited {
+        counts,
+        mut reports,
+    } = audited;
+    reports.add_count()?;
+    let rows = counts.rows(alloc)?;
+    let text = match form {
+        Form::Text => table(alloc, &profile, rows.as_slice())?,
+        Form::Json => objects(alloc, &profile, rows.as_slice())?,
+    };
+    Ok(Output::with_faults(text, reports.text))
+}
+
+/// The calls of an audit so far.
+#[derive(Drop)]
+struct Audited {
+    counts: AuditedCounts,
+    reports: Reports,
+}
+
+impl LineSink for Audited {
+    fn is_done(&self) -> bool {
+        false
+    }
+
+    fn add_line(
+        &mut self,
+        _: Global,
+        at: &Position<'_>,
+        line: FoundLine<'_>,
+    ) -> Result<(), AllocError> {
+        let line = match line {
+            FoundLine::Whole(line) => line,
+            FoundLine::TooLong(line) => {
+                return self
+                    .reports
+                    .add(at.path, at.number, line, LineFault::TooLong);
+            }
+        };
+        match audited_call(line) {
+            Ok(Some(call)) => self.counts.add(AuditedKind {
+                nr: call.nr,
+                arch: call.arch,
+                value: call.value,
+            }),
+            Ok(None) => Ok(()),
+            Err(fault) => self.reports.add(at.path, at.number, line, fault),
+        }
+    }
+}
+
+/// A line for each kind of call.
+fn table(alloc: Global, profile: &Profile, rows: &[AuditedRow]) -> Result<String, AllocError> {
+    if rows.is_empty() {
+        return String::from_str(alloc, "no call was denied\n");
+    }
+    let mut head = audited_head(alloc)?;
+    head.push(String::from_str(alloc, "BY")?)?;
+    let mut lines = vec![in alloc; head]?;
+    for row in rows {
+        let mut line = audited_line(alloc, *row)?;
+        let by = deciders(alloc, profile, &denied(row))?;
+        line.push(by_cell(alloc, by.as_slice())?)?;
+        lines.push(line)?;
+    }
+    aligned(alloc, lines.as_slice())
+}
+
+/// An object for each kind of call.
+fn objects(alloc: Global, profile: &Profile, rows: &[AuditedRow]) -> Result<String, AllocError> {
+    let mut text = String::new(alloc);
+    for row in rows {
+        let by = deciders(alloc, profile, &denied(row))?;
+        let by = by_member(alloc, by.as_slice())?;
+        text.push_str(audited_object(alloc, *row, by.as_str())?.as_str())?;
+    }
+    Ok(text)
+}
+
+fn denied(row: &AuditedRow) -> DeniedCall {
+    DeniedCall {
+        nr: row.kind.nr,
+        arch: row.kind.arch,
+        returned: Returned::ActionOf(row.kind.value),
+    }
+}

@@ -1,0 +1,108 @@
+ghost use Rattle.std.specs.Prelude.{◌≡◌, ◌≢◌, ◌⊎◌, ℕ, List, IfErr, IfOk, string_bytes};
+ghost use Rattle.motchidu_c.specs.declared.status.Status.TheVariants.{Accepted, Memory, NoRoom};
+ghost use Rattle.motchidu_c.specs.Room.{IsGiven};
+ghost use Rattle.motchidu_c.specs.Status.{number_of, status_of_template, status_of_write};
+ghost use Rattle.motchidu_c.specs.Templates.{HasNoProfile, IsResolved, IsUnresolved, ReadsTemplate};
+ghost use Rattle.motchidu_c.specs.Templates.{TellsNoProfile};
+
+use crate::capabilities::caps_in;
+use crate::compiling::status_of_profile;
+use crate::room::give;
+use crate::status::Status;
+use profile_template::{Settings, TemplateFault, Version};
+use profile_text::WriteFault;
+use std::alloc::Global;
+
+/// Resolves a template to the plain profile of a container with these capabilities, on x86-64 and a kernel of
+/// this version. A bit of the mask is a capability's number.
+#[unsafe(no_mangle)]
+pub extern "C" fn motchidu_resolve(
+    alloc: Global,
+    template: &[u8],
+    caps: u64,
+    kernel_major: u32,
+    kernel_minor: u32,
+    text: &mut [u8],
+    len: &mut usize,
+) -> u32
+    // A text that reads as the plain profile, if there is room for it.
+    ensures resolved { (result ≡ number_of Accepted) ⊎ (result ≡ number_of NoRoom) → (bytes : List ℕ)
+        × IsResolved template.now bytes caps kernel_major kernel_minor
+        × IsGiven bytes text.old text.new len.new result }
+
+    // If there is none, the template's first fault, or that the profile has too many bytes.
+    ensures refused { result ≢ number_of Accepted → result ≢ number_of NoRoom → result ≢ number_of Memory
+        → TellsNoProfile template.now result caps kernel_major kernel_minor }
+
+    // Only that text is written.
+    ensures kept { result ≢ number_of Accepted → text.new ≡ text.old }
+    ensures len_kept { result ≢ number_of Accepted → result ≢ number_of NoRoom → len.new ≡ len.old }
+{
+    let kernel = Version {
+        major: kernel_major,
+        minor: kernel_minor,
+    };
+    match text_for(alloc, template, caps, kernel) {
+        Ok(found) => give(found.as_bytes(), text, len).number(),
+        Err(status) => status.number(),
+    }
+}
+
+/// The plain profile's text, for these capabilities and this kernel.
+fn text_for(alloc: Global, template: &[u8], caps: u64, kernel: Version) -> Result<String, Status>
+    ensures resolved { IfOk result (λ text. IsResolved template.now (string_bytes text) caps kernel.major
+        kernel.minor) }
+    ensures refused { IfErr result (λ status. status ≢ Memory
+        → HasNoProfile template.now status caps kernel.major kernel.minor) }
+    ensures none { IfErr result (λ status. (status ≢ Accepted) × (status ≢ NoRoom)) }
+{
+    let caps = match caps_in(alloc, caps) {
+        Ok(caps) => caps,
+        Err(_) => return Err(Status::Memory),
+    };
+    let settings = Settings {
+        caps: caps.as_slice(),
+        arch: "amd64",
+        kernel: Some(kernel),
+    };
+    text_under(alloc, template, &settings)
+}
+
+/// The plain profile's text under these settings.
+fn text_under(alloc: Global, template: &[u8], settings: &Settings<'_>) -> Result<String, Status>
+    ensures resolved { IfOk result (λ text. ReadsTemplate settings.now template.now (string_bytes text)) }
+    ensures refused { IfErr result (λ status. status ≢ Memory
+        → IsUnresolved settings.now template.now status) }
+    ensures none { IfErr result (λ status. (status ≢ Accepted) × (status ≢ NoRoom)) }
+{
+    let template = match profile_template::read(alloc, template, settings) {
+        Ok(template) => template,
+        Err(found) => return Err(status_of_template(found.fault)),
+    };
+    match template.write(alloc) {
+        Ok(text) => Ok(text),
+        Err(fault) => Err(status_of_write(fault)),
+    }
+}
+
+/// The status of a template's fault for C.
+fn status_of_template(fault: TemplateFault) -> Status
+    ensures { result ≡ status_of_template fault }
+{
+    match fault {
+        TemplateFault::Profile(fault) => status_of_profile(fault),
+        TemplateFault::Both => Status::Both,
+        TemplateFault::UnknownErrno => Status::UnknownErrno,
+        TemplateFault::BadKernel => Status::BadKernel,
+    }
+}
+
+/// The status for C if the profile of a template is not written.
+fn status_of_write(fault: WriteFault) -> Status
+    ensures { result ≡ status_of_write fault }
+{
+    match fault {
+        WriteFault::NoName | WriteFault::TooLarge => Status::TooLarge,
+        WriteFault::Memory => Status::Memory,
+    }
+}

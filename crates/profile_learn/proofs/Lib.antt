@@ -1,0 +1,6 @@
+mod Distinct
+mod Fits
+mod Meanings
+mod Noted
+mod Numbers
+mod Summaries
