@@ -30,7 +30,8 @@ part() { # NAME COMMAND..
 }
 
 c_examples() {
-  make --no-print-directory lib && tools/c_examples.sh
+  tools/proved_library.sh && tools/pack_library.sh crates/motchidu_c/out/libmotchidu_c.a out/c &&
+    tools/c_examples.sh
 }
 
 part "rt ci" tools/gate_times.py out/gate_times rt ci
