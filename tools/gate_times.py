@@ -1,8 +1,8 @@
 #!/usr/bin/env python3
 """gate_times.py FILE COMMAND..: runs the command, says which crate of how many is under way, and writes to
 FILE the processor seconds that the prover spent below it, crate by crate: on the crate, on its tests, and on
-its must-fail edits. gate_times.py FILE: prints that table. A process is seen five times a second, so its last
-fifth is lost.
+its must-fail edits. gate_times.py FILE: prints that table. A process is seen once a second, so its last
+second is lost.
 """
 import os
 import subprocess
@@ -75,7 +75,7 @@ def watch(command, crates):
                     began[what].append(name)
                     place = f"{len(began[what])} of {all_of[what]} crates"
                     print(f"under way: {what} of {name}, {place}", flush=True)
-        time.sleep(0.2)
+        time.sleep(1)
     table = {}
     for (_, (crate, part)), seconds in spent.items():
         row = table.setdefault(crate, dict.fromkeys(PARTS, 0))

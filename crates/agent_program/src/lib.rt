@@ -21,17 +21,12 @@
 
 mod counterpart;
 mod dialing;
-mod errands;
-mod folders;
 mod laws;
 mod leftovers;
 mod limits;
 mod nodeagent;
 mod peers;
-mod reader;
-mod removal;
 mod tellers;
-mod troubles;
 mod working;
 
 pub use laws::constants_are_as_stated;

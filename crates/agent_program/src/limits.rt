@@ -13,9 +13,3 @@ pub(crate) const LAST_CALLS: u64 = 1_000;
 
 /// How often calls in progress are checked in that time.
 pub(crate) const LOOKS: u64 = 100;
-
-/// How often worker 0 checks for errands, in seconds of the machine's clock.
-pub(crate) const ERRAND_LOOK: u64 = 1;
-
-/// How many milliseconds worker 0 looks at files before it looks at its clock again.
-pub(crate) const SLICE: u64 = 50;

@@ -2,12 +2,10 @@ ghost use Rattle.std.specs.Prelude.{◌≡◌};
 ghost use Rattle.node_lock.specs.declared.limits.TheConstants.{PARTS};
 
 use crate::counterpart::RuntimeBehind;
-use crate::errands::AgentErrands;
-use crate::folders::{FileTeller, PodsFolder};
 use crate::peers::{CallLog, Calls};
 use crate::tellers::{Tellers, causes_for, shared_causes};
-use crate::troubles::Troubles;
 use crate::working::{Left, run_crew, run_own};
+use agent_errands::{AgentErrands, FileTeller, PodsFolder, Troubles};
 use agent_parts::{
     AgentStop, FolderLines, Removal, RunEnd, StateFile, TableTeller, form_of, limit_of, note_of,
     observed_of, pod_at, run_end, run_name, settings_of,

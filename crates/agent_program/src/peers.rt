@@ -3,7 +3,7 @@ ghost use Rattle.std.specs.Prelude.{◌≡◌, IfOk};
 
 use crate::dialing::{Deadline, TimedStream, connect};
 use crate::limits::PATIENCE;
-use crate::troubles::Troubles;
+use agent_errands::Troubles;
 use agent_parts::{LostCall, Why, call_line};
 use cri_frames::{Lost, call_over};
 use cri_msgs::{Reply, Request, Version};

@@ -5,11 +5,11 @@ ghost use Rattle.agent_parts.specs.CommandLine.{version_for};
 ghost use Rattle.node_lock.specs.declared.limits.TheConstants.{PARTS};
 
 use crate::counterpart::RuntimeBehind;
-use crate::errands::AgentErrands;
 use crate::leftovers::sweep;
 use crate::limits::{MAX_WORKERS, RUNNERS};
 use crate::peers::{Calls, SocketPeer};
 use crate::tellers::Tellers;
+use agent_errands::AgentErrands;
 use agent_parts::{AgentStop, TableEnd, address_of, pace_of, version_of, working_line};
 use bpf_verify::Filter;
 use command_line::NodeagentLine;

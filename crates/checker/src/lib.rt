@@ -3,29 +3,26 @@
 //! was denied.
 //!
 //! The functions are generic over the runtime and over the writers for standard output and standard
-//! error. Answers come from `check_answers`, `container_answers`, `explain` and the crates of profiles. A `Stop`
-//! of `check_stops` is why the program ends before its work is done.
+//! error. The command line is `check_words`'s. Answers come from `check_answers`, `container_answers`, `explain`
+//! and the crates of profiles. A `Stop` of `check_stops` is why the program ends before its work is done.
 //!
 //! # What is proved
 //!
 //! - RuntimeDefault as it is printed reads as RuntimeDefault.
 //! - The file that is read as a profile when two are compared: `is_profile`, `same_or_stop`.
-//! - The call that a command line writes, by number or name, over clap's matches: `call_at`, `attempt_at`.
 //! - The settings of a template that words spell: `settings_of` (caps, arch, kernel).
 //! - The bytes of a filter's file, also as Base64: `file_bytes`.
 //!
-//! Only tested: files; that what is printed reaches the writers; the command lines that clap refuses; which
-//! words are no settings; that a template's profile and the names left out are those of `profile_template`.
+//! Only tested: files; that what is printed reaches the writers; which words are no settings; that a template's
+//! profile and the names left out are those of `profile_template`.
 #![tactic(auto)]
 
-mod call_words;
 mod compared;
 mod file;
 mod linting;
 mod profiles;
 mod resolving;
 mod seccheck;
-mod words;
 mod written;
 
 pub use check_answers::{Judged, Outcome, judge, play};

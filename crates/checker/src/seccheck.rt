@@ -3,7 +3,6 @@ use crate::file::is_same_file;
 use crate::linting::{beside, lint_output};
 use crate::profiles::{default_line, explain_text};
 use crate::resolving::{resolve_text, settings_of};
-use crate::words::{attempt_at, call_at, command, word_at};
 use crate::written::{file_bytes, unit_output};
 use bpf_compare::{Scope, compare};
 use bpf_verify::{Filter, Refusal, filter_of};
@@ -18,6 +17,7 @@ use check_stops::{
     AnswerObject, Form, Output, Stop, bytes_at, compile_stop, filter_at, filter_stop,
     manifest_stop, print_note, profile_stop, script_stop, stack_filter_stop, stack_stop, stop_at,
 };
+use check_words::{attempt_at, call_at, command, word_at};
 use clap::ArgMatches;
 use clap::error::ErrorKind;
 use compile::compile;

@@ -1,5 +1,5 @@
 ghost use Rattle.std.specs.Prelude.{◌≡◌, map, option_map};
-ghost use Rattle.checker.specs.CallWords.{argument_of, arguments_of, call_number_of, call_of};
+ghost use Rattle.check_words.specs.CallWords.{argument_of, arguments_of, call_number_of, call_of};
 ghost use Rattle.command_line.specs.Words.{told};
 
 use call_data::{NATIVE_ARCH, SysCall};

@@ -4,7 +4,7 @@ use Rattle.std.specs.Prelude.{ℕ, ◌^◌, List, [], codes, option_map, unwrap_
 use Rattle.clap.specs.Matches.{first_value, matched_of, raw_values}
 use Rattle.clap.specs.declared.parser.matches.Found.{Found}
 use Rattle.call_data.specs.declared.sys_call.SysCall.{SysCall}
-use Rattle.checker.specs.CallWords.{call_of}
+use Rattle.check_words.specs.CallWords.{call_of}
 use Rattle.command_line.specs.Words.{written_or}
 
 -- the word of a required argument

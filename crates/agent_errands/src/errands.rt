@@ -22,37 +22,37 @@ use worker_crew::{Changes, Ended, Errands, Shared};
 
 /// The errands of an agent.
 #[derive(Drop)]
-pub(crate) struct AgentErrands<'s, 'a, L: Ledger, R: Wait> {
-    pub(crate) rt: &'s R,
-    pub(crate) system: HostRuntime,
-    pub(crate) shared: &'s Shared<L>,
-    pub(crate) table: TableTeller,
+pub struct AgentErrands<'s, 'a, L: Ledger, R: Wait> {
+    pub rt: &'s R,
+    pub system: HostRuntime,
+    pub shared: &'s Shared<L>,
+    pub table: TableTeller,
     /// The folder of manifests whose pods come and go with the files.
-    pub(crate) folder: Option<PodsFolder<'s, 'a, L, R>>,
+    pub folder: Option<PodsFolder<'s, 'a, L, R>>,
     /// What is left to do at the end, if pods are removed then.
-    pub(crate) removal: Option<Removal>,
+    pub removal: Option<Removal>,
     /// The current moment, for the log of calls.
-    pub(crate) moment: &'s AtomicU64,
+    pub moment: &'s AtomicU64,
     /// The file of the uids that must not stay in the runtime.
-    pub(crate) state: Option<StateFile<'a>>,
+    pub state: Option<StateFile<'a>>,
     /// Why the last uid could not be kept, if it could not.
-    pub(crate) unkept: Option<CausedFault>,
+    pub unkept: Option<CausedFault>,
     /// What went wrong with calls.
-    pub(crate) troubles: &'s Troubles,
+    pub troubles: &'s Troubles,
     /// Where faults are reported.
-    pub(crate) teller: &'s Teller,
+    pub teller: &'s Teller,
     /// The pods whose loss was reported.
-    pub(crate) told: Vec<Uid>,
+    pub told: Vec<Uid>,
     /// Whether the reader of the changes is gone.
-    pub(crate) unread: bool,
+    pub unread: bool,
     /// Where changes are printed.
-    pub(crate) changes: Option<&'s Teller>,
+    pub changes: Option<&'s Teller>,
 }
 
 impl<L: Ledger, R: Wait> AgentErrands<'_, '_, L, R> {
     /// The table of the pods as they were before they were removed, if they were, and whether the reader of
     /// the changes is gone.
-    pub(crate) fn into_end(self) -> (Option<TableEnd>, bool) {
+    pub fn into_end(self) -> (Option<TableEnd>, bool) {
         let AgentErrands {
             folder,
             removal,
@@ -126,7 +126,7 @@ impl<L: Ledger, R: Wait + Clock> AgentErrands<'_, '_, L, R> {
 
     /// Reports each pod that the runtime has lost once, and moves it to its next uid if its file is in the
     /// folder.
-    pub(crate) fn report_losses(&mut self) {
+    pub fn report_losses(&mut self) {
         for lost in self.troubles.take_lost(self.rt) {
             let moves = match &mut self.folder {
                 Some(folder) => folder.lost(&lost.uid),

@@ -8,7 +8,7 @@ use std::sync::{Mutex, Wait};
 
 /// What went wrong with the calls of all workers.
 #[derive(Drop)]
-pub(crate) struct Troubles {
+pub struct Troubles {
     alloc: Global,
     socket: String,
     // Whether anything but lost pods is reported.
@@ -18,7 +18,7 @@ pub(crate) struct Troubles {
 
 impl Troubles {
     /// No call was made yet. `is_told` is false if each call is logged: then only lost pods are reported.
-    pub(crate) fn new(alloc: Global, socket: &str, is_told: bool) -> Result<Troubles, AllocError> {
+    pub fn new(alloc: Global, socket: &str, is_told: bool) -> Result<Troubles, AllocError> {
         let socket = String::from_str(alloc, socket)?;
         Ok(Troubles {
             alloc,
@@ -29,7 +29,7 @@ impl Troubles {
     }
 
     /// Records the end of a call at this moment, and prints the reports due after it.
-    pub(crate) fn note<R: Wait>(
+    pub fn note<R: Wait>(
         &self,
         rt: &R,
         teller: &Teller,
@@ -62,7 +62,7 @@ impl Troubles {
     }
 
     /// Takes out the pods that the runtime has lost since the last call.
-    pub(crate) fn take_lost<R: Wait>(&self, rt: &R) -> Vec<LostPod> {
+    pub fn take_lost<R: Wait>(&self, rt: &R) -> Vec<LostPod> {
         self.state.lock(rt).take_lost()
     }
 }

@@ -1,6 +1,6 @@
 ghost use Rattle.std.specs.Prelude.{◌≡◌};
 ghost use Rattle.clap.specs.Matches.{found_of};
-ghost use Rattle.checker.specs.Words.{attempt_in, call_in, word_in};
+ghost use Rattle.check_words.specs.Words.{attempt_in, call_in, word_in};
 ghost use Rattle.command_line.specs.Words.{told};
 
 use crate::call_words::call;
@@ -13,7 +13,7 @@ use std::alloc::{AllocError, Global};
 pub(crate) const PROGRAM: &str = "seccheck";
 
 /// The command line of `seccheck`.
-pub(crate) fn command<'a>(alloc: Global) -> Result<Command<'a>, AllocError> {
+pub fn command<'a>(alloc: Global) -> Result<Command<'a>, AllocError> {
     Command::new(alloc, PROGRAM)
         .version(VERSION)
         .about(
@@ -356,7 +356,7 @@ fn option<'a>(alloc: Global, id: &'static str, value: &'static str, help: &'stat
 }
 
 /// The call that the command line of `run` or `explain` writes.
-pub(crate) fn call_at<'a>(matches: &ArgMatches<'a>) -> Result<SysCall, &'a str>
+pub fn call_at<'a>(matches: &ArgMatches<'a>) -> Result<SysCall, &'a str>
     ensures { told result ≡ call_in (found_of matches.now) }
 {
     call(
@@ -368,14 +368,14 @@ pub(crate) fn call_at<'a>(matches: &ArgMatches<'a>) -> Result<SysCall, &'a str>
 }
 
 /// Which attempt the command line of `play` writes.
-pub(crate) fn attempt_at<'a>(matches: &ArgMatches<'a>) -> Result<u32, &'a str>
+pub fn attempt_at<'a>(matches: &ArgMatches<'a>) -> Result<u32, &'a str>
     ensures { told result ≡ attempt_in (found_of matches.now) }
 {
     word_or(0, matches.get_str("attempt"))
 }
 
 /// The word of a required argument.
-pub(crate) fn word_at<'a>(matches: &ArgMatches<'a>, id: &str) -> &'a str
+pub fn word_at<'a>(matches: &ArgMatches<'a>, id: &str) -> &'a str
     ensures { result.now ≡ word_in id.now (found_of matches.now) }
 {
     // clap gives a required argument a value.

@@ -21,11 +21,11 @@ use worker_crew::Shared;
 
 /// Reads manifests, reports faulty files on standard error, and knows which pods are on the node.
 #[derive(Drop)]
-pub(crate) struct FileTeller<'s, 'a, L: Ledger, R: Wait> {
-    pub(crate) rt: &'s R,
-    pub(crate) shared: &'s Shared<L>,
-    pub(crate) teller: &'s Teller,
-    pub(crate) lines: FolderLines<'a>,
+pub struct FileTeller<'s, 'a, L: Ledger, R: Wait> {
+    pub rt: &'s R,
+    pub shared: &'s Shared<L>,
+    pub teller: &'s Teller,
+    pub lines: FolderLines<'a>,
 }
 
 impl<L: Ledger, R: Wait> FileTeller<'_, '_, L, R> {
@@ -57,7 +57,7 @@ impl<L: Ledger, R: Wait> OnNode for FileTeller<'_, '_, L, R> {
 
 /// The folder, and the state of its files.
 #[derive(Drop)]
-pub(crate) struct PodsFolder<'s, 'a, L: Ledger, R: Wait> {
+pub struct PodsFolder<'s, 'a, L: Ledger, R: Wait> {
     reader: FileTeller<'s, 'a, L, R>,
     folder: Folder<'a>,
     // The look in progress, and how long it took so far.
@@ -80,10 +80,7 @@ pub(crate) struct PodsFolder<'s, 'a, L: Ledger, R: Wait> {
 
 impl<'s, 'a, L: Ledger, R: Wait + Clock> PodsFolder<'s, 'a, L, R> {
     /// A folder that was not read yet.
-    pub(crate) fn new(
-        reader: FileTeller<'s, 'a, L, R>,
-        naming: Naming<'a>,
-    ) -> PodsFolder<'s, 'a, L, R> {
+    pub fn new(reader: FileTeller<'s, 'a, L, R>, naming: Naming<'a>) -> PodsFolder<'s, 'a, L, R> {
         let folder = Folder::new(reader.lines.alloc, naming);
         PodsFolder {
             reader,

@@ -1,0 +1,26 @@
+//! What worker 0 of `nodeagent` does besides advancing the time: it admits and deletes the pods of a folder,
+//! prints changes, reports lost calls and lost pods, and removes the pods at the end of a run.
+//!
+//! # What is proved
+//!
+//! - Each event that it asks for is one of worker 0: `AgentErrands` as `Errands`.
+//! - The constants: `constants_are_as_stated`.
+//!
+//! What it decides is in crates below: which pods a folder wants (`pod_folder`), and which reports are made, what
+//! they say, and which pods are removed (`agent_parts`). What is left here are locks, clocks and a descriptor. It is
+//! only tested (`tests/daemons`, `tests/pods`).
+#![tactic(auto)]
+
+mod errands;
+mod folders;
+mod laws;
+mod limits;
+mod reader;
+mod removal;
+mod troubles;
+
+pub use errands::AgentErrands;
+pub use folders::{FileTeller, PodsFolder};
+pub use laws::constants_are_as_stated;
+pub use limits::{ERRAND_LOOK, SLICE};
+pub use troubles::Troubles;

@@ -1,0 +1,2 @@
+pub mod CallWords
+pub mod Words
