@@ -5,14 +5,14 @@ make quick    for use while editing: skips the proofs. Compiles programs and tes
               tests and cases. Eight to thirteen minutes on four cores
 make test     the gate: proves every crate from nothing, tries the must-fail edits, runs the tests, the stored
               runs, the examples in C and the cases, and checks README and the manual pages against the programs.
-              One to two hours on four cores
+              About two hours on four cores, three on slow ones
 make times    prints the processor seconds that the last gate spent, crate by crate. At once
 make planted  tries all wrong bodies, also those that the gate leaves out; CRATE=NAME.. those of some crates.
               Each costs up to 30 CPU seconds, plus two proofs per crate: about two hours on four cores for all
 make mutants  plants the wrong bodies of tests/mutants that no contract reaches, and runs the cases that should
               notice; PROGRAM=NAME.. those of some programs. A minute and a half for each, two at a time
 make cases    runs the cases of tests/ with the programs that make test built, or those in BIN=FOLDER;
-              CASES=FILE.. runs some of them. A minute or two
+              CASES=FILE.. runs some of them. Ten minutes; with QUICK=1, which leaves out the long ones, three
 make demo     compiles a profile, judges calls with its filter, plays scripts, settles pods over a socket, and runs
               the pods of a folder, before any proof. A first verdict after half a minute, three minutes in all
 make try      installs the programs, their manual pages and completions to PREFIX (/usr/local), compiled with
