@@ -5,7 +5,7 @@ make quick    for use while editing: skips the proofs. Compiles programs and tes
               tests and cases. Eight to thirteen minutes on four cores
 make test     the gate: proves every crate from nothing, tries the must-fail edits, runs the tests, the stored
               runs, the examples in C and the cases, and checks README and the manual pages against the programs.
-              About two hours on four cores, three on slow ones
+              Two to three hours on four cores
 make times    prints the processor seconds that the last gate spent, crate by crate. At once
 make planted  tries all wrong bodies, also those that the gate leaves out; CRATE=NAME.. those of some crates.
               Each costs up to 30 CPU seconds, plus two proofs per crate: about two hours on four cores for all

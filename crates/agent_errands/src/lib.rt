@@ -6,9 +6,10 @@
 //! - Each event that it asks for is one of worker 0: `AgentErrands` as `Errands`.
 //! - The constants: `constants_are_as_stated`.
 //!
-//! What it decides is in crates below: which pods a folder wants (`pod_folder`), and which reports are made, what
-//! they say, and which pods are removed (`agent_parts`). What is left here are locks, clocks and a descriptor. It is
-//! only tested (`tests/daemons`, `tests/pods`).
+//! Decisions are made in crates below: `pod_folder` decides which pods a folder wants, and `agent_parts` which
+//! reports are made, what they print, and which pods are removed. The rest is locks, clocks and a descriptor.
+//!
+//! Only tested: the folder's looks, the reports and the removal (`tests/daemons`, `tests/pods`).
 #![tactic(auto)]
 
 mod errands;

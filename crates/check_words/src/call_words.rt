@@ -5,11 +5,10 @@ ghost use Rattle.command_line.specs.Words.{told};
 use call_data::{NATIVE_ARCH, SysCall};
 use command_line::{number_or, word_of, word_or};
 
-// Each answers, where a word writes no number of its range, nor names a call where one may be named, that
-// word.
+// Each returns the word as the error if it is no number of its range and, for a call, no name of one.
 
-/// The call that these words write: its number or name, its arguments, of which there may be fewer than six,
-/// and its architecture and address, which may be left out.
+/// The call that these words write: its number or name, up to six arguments, and its architecture and address.
+/// All but the first may be absent.
 #[tactic(auto, unfolding(crate::specs::CallWords::call_of))]
 pub(crate) fn call<'w>(
     nr: &'w str,

@@ -8,10 +8,10 @@
 //! - [`Learned::new`] is the summary of no sightings: `empty`.
 //! - [`Learned::note`] adds one sighting: the summary of a list becomes that of the list with the sighting at
 //!   its end: `noted`.
-//! - [`Learned::is_seen`] returns whether a call was seen, for each list of sightings of which this is the
-//!   summary: `seen`.
+//! - [`Learned::is_seen`] returns whether a call was seen, for each list of sightings with this summary:
+//!   `seen`.
 //! - [`Learned::is_unclear`] returns whether a call was seen without a value of its small argument, for each
-//!   list of sightings of which this is the summary: `unclear`.
+//!   list of sightings with this summary: `unclear`.
 //! - [`profile_of`] returns a profile that allows a call of x86-64 if the call was seen, under `args` with a
 //!   value that was seen, or if it is one of the needed calls and these are wanted. On every other call the
 //!   profile has the value of the base: `means`.

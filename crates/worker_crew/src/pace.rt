@@ -85,8 +85,8 @@ impl TimeKeeper {
         }
     }
 
-    /// Waits for the workers of a full part, each of which ends once its call has returned, but no longer
-    /// than to the last moment.
+    /// Waits for the workers of a full part, until the last moment at most. Each worker ends once its call has
+    /// returned.
     pub(crate) fn rest<L: Ledger, R: Wait + Clock>(&self, rt: &R, shared: &Shared<L>) -> Ended {
         if let Pace::Machine(Some(until)) = self.pace {
             for _ in rt.forever() {

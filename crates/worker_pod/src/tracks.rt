@@ -15,7 +15,7 @@ use lifecycle::{MAX_RUNS, PastRun, Runs, Stage, Track};
 use manifest::{Container, Containers, Label};
 use std::alloc::{AllocError, Global};
 
-// A container of which nothing was reported.
+// A container without any report.
 fn fresh(init: bool) -> Track
     ensures { result ≡ fresh init }
 {
