@@ -12,7 +12,7 @@ make planted  tries all wrong bodies, also those that the gate leaves out; CRATE
 make mutants  plants the wrong bodies of tests/mutants that no contract reaches, and runs the cases that should
               notice; PROGRAM=NAME.. those of some programs. A minute and a half for each, two at a time
 make cases    runs the cases of tests/ with the programs that make test built, or those in BIN=FOLDER;
-              CASES=FILE.. runs some of them. Five minutes; QUICK=1 leaves out the long ones
+              CASES=FILE.. runs some of them. Seven minutes; QUICK=1 leaves out the long ones
 make demo     compiles a profile, judges calls with its filter, plays scripts, settles pods over a socket, and runs
               the pods of a folder, before any proof. A first verdict after half a minute, three minutes in all
 make try      installs the programs, their manual pages and completions to PREFIX (/usr/local), compiled with
