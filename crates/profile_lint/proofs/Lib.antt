@@ -1,4 +1,6 @@
+pub mod Alike
 pub mod Compared
 pub mod Near
+pub mod Reports
 pub mod Seen
 pub mod Views

@@ -42,7 +42,7 @@ any_at [] nr test there holds = there
 any_at (n ∷ numbers) nr test there holds = grind (arith, any_at numbers nr test)
 
 -- one that names a call of the entry is near it
-shares_named : (entry other : Entry) (nr : ℕ) → names entry nr ≡ true → names other nr ≡ true
+pub shares_named : (entry other : Entry) (nr : ℕ) → names entry nr ≡ true → names other nr ≡ true
     → shares entry other ≡ true
 unfolding names shares
 shares_named entry other nr there holds = any_at entry.numbers nr (names other) there holds
@@ -75,7 +75,7 @@ LeaveOpen entry entries = (default : Decision) (nr : ℕ) (call : SysCall) → n
 abbrev pub around : Entry → List Entry → List Entry → List Entry → List Entry
 around entry xs middle ys = near entry xs ++ (middle ++ near entry ys)
 
-around_decides : (entry : Entry) (xs middle ys : List Entry) (default : Decision) (nr : ℕ) (call : SysCall)
+pub around_decides : (entry : Entry) (xs middle ys : List Entry) (default : Decision) (nr : ℕ) (call : SysCall)
     → names entry nr ≡ true
     → decision_of (around entry xs middle ys) default nr call
     ≡ decision_of (xs ++ (middle ++ ys)) default nr call

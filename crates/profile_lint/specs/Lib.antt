@@ -3,5 +3,6 @@ pub mod Entries
 pub mod Findings
 pub mod Objects
 pub mod Passed
+pub mod Readings
 pub mod Sameness
 pub mod Text

@@ -55,6 +55,7 @@ found_object (found.NeverDecides place) = entry_object (codes "NeverDecides") pl
 found_object (found.SameWithout place) = entry_object (codes "Redundant") place
 found_object (found.NotFoundOut place) = entry_object (codes "NotFoundOut") place
 found_object (found.NotLookedAt place) = entry_object (codes "NotLookedAt") place
+found_object (found.NotCompared place) = entry_object (codes "NotCompared") place
 found_object (found.ReadOtherwise place call here there) = codes "{\"place\":\"syscalls["
     ++ (decimal place ++ (codes "]\",\"kind\":\"EnginesDiffer\"," ++ (call_members call ++ (codes ",\"here\":"
     ++ (value_object here ++ (codes ",\"runc\":" ++ (value_object there ++ codes "}")))))))

@@ -1,16 +1,21 @@
 //! Where engines read a profile differently: `specs/Engines.antt` defines how they read it.
-ghost use Rattle.std.specs.Prelude.{◌≡◌, ◌&&◌, ◌++◌, IfOk, IfSome, filter, slice_get, Some};
+ghost use Rattle.std.specs.Prelude.{◌≡◌, ◌<◌, ◌++◌, [], ◌∷◌, IfOk, IsTrue, false, filter, slice_get, Some};
+ghost use Rattle.std.specs.List.{list_any};
+ghost use Rattle.explain.specs.Explained.{IsJudged, applies};
 ghost use Rattle.oci_profile.specs.Entries.{IsFit};
-ghost use Rattle.profile_lint.specs.Engines.{AreBoth, IsReadOtherwise, Overlap, as_engines_read, is_kept};
-ghost use Rattle.profile_lint.specs.Engines.{is_of};
+ghost use Rattle.profile_lint.specs.Engines.{IsApart, ReadsAlike, as_engines_read, is_kept, is_kept_of, is_of, kept_of};
+ghost use Rattle.profile_lint.specs.Entries.{before, with_entries};
+ghost use Rattle.profile_lint.specs.Readings.{AreAsked, OverlapsAs, OverlapsOn, Reads, in_queue};
+ghost use Rattle.profile_lint.specs.Sameness.{Says, middle_of, near};
+ghost use Rattle.profile_lint.specs.declared.engines.Kind.TheVariants.{Bare};
 
 use crate::copies::{add_near, copy, shares, with_entries};
 use crate::entries::{Middle, add_middle, has_many_near};
 use crate::sameness::{Sameness, compared};
 use crate::witness::likely_call;
-use call_data::SysCall;
+use call_data::{NATIVE_ARCH, SysCall, fields_fit};
 use explain::{Decider, applies, explain};
-use oci_profile::{Entry, Profile};
+use oci_profile::{Entry, Profile, X32_BIT};
 use std::alloc::{AllocError, Global};
 
 /// Whether an entry has conditions.
@@ -22,12 +27,26 @@ pub(crate) enum Kind {
     Asking,
 }
 
-/// A call, and its values under a profile and under engines.
+/// How engines read an entry.
 #[derive(Clone, Copy, Debug, PartialEq, Eq)]
-pub(crate) struct Reading {
-    pub call: SysCall,
-    pub here: u32,
-    pub there: u32,
+pub(crate) enum Reading {
+    /// The entry decides the call. The profile's value for it is the first one, that of engines the second.
+    Differs(SysCall, u32, u32),
+    /// Engines have the profile's value for each call that the entry decides.
+    Same,
+    /// No answer was found.
+    Unknown,
+}
+
+/// Whether two entries with conditions overlap.
+#[derive(Clone, Copy, Debug, PartialEq, Eq)]
+pub(crate) enum Overlapping {
+    /// On this call.
+    On(SysCall),
+    /// On no call.
+    Never,
+    /// No answer was found.
+    Unknown,
 }
 
 /// The profile as engines read it.
@@ -41,6 +60,21 @@ pub(crate) fn as_engines_read(alloc: Global, profile: &Profile) -> Result<Profil
     Ok(with_entries(profile, list))
 }
 
+/// The profile with only the entries without conditions that engines have.
+pub(crate) fn bare_of(alloc: Global, profile: &Profile) -> Result<Profile, AllocError>
+    ensures { IfOk result (λ p. p ≡ with_entries profile.now (kept_of Bare profile.now)) }
+{
+    let mut list = Vec::new(alloc);
+    add_kept(
+        alloc,
+        &mut list,
+        profile,
+        profile.entries.as_slice(),
+        Kind::Bare,
+    )?;
+    Ok(with_entries(profile, list))
+}
+
 fn add_kept(
     alloc: Global,
     list: &mut Vec<Entry>,
@@ -48,15 +82,22 @@ fn add_kept(
     entries: &[Entry],
     kind: Kind,
 ) -> Result<(), AllocError>
-    ensures { IfOk result (λ _. list.new.items ≡ list.old.items
-        ++ filter (λ entry. is_kept profile.now entry && is_of kind entry) entries.now) }
+    ensures { IfOk result (λ _. list.new.items
+        ≡ list.old.items ++ filter (is_kept_of kind profile.now) entries.now) }
 {
     for entry in entries {
-        if is_kept(profile, entry) && is_of(kind, entry) {
+        if is_kept_of(kind, profile, entry) {
             list.push(copy(alloc, entry)?)?;
         }
     }
     Ok(())
+}
+
+/// Whether engines have the entry, and it is of this kind.
+fn is_kept_of(kind: Kind, profile: &Profile, entry: &Entry) -> bool
+    ensures { result ≡ is_kept_of kind profile.now entry.now }
+{
+    is_kept(profile, entry) && is_of(kind, entry)
 }
 
 fn is_kept(profile: &Profile, entry: &Entry) -> bool
@@ -74,56 +115,68 @@ fn is_of(kind: Kind, entry: &Entry) -> bool
     }
 }
 
-/// A call that the entry at this place decides, and engines decide differently, if one is found.
-pub(crate) fn read_otherwise(
+/// How engines read the entry at this place.
+pub(crate) fn compare_reading(
     alloc: Global,
     profile: &Profile,
     engines: &Profile,
     place: usize,
     entry: &Entry,
-) -> Result<Option<Reading>, AllocError>
+) -> Result<Reading, AllocError>
     requires read { engines.now ≡ as_engines_read profile.now }
     requires at { slice_get profile.now.entries place ≡ Some entry.now }
-    ensures { IfOk result (λ found. IfSome found (λ r.
-        IsReadOtherwise profile.now place r.call r.here r.there)) }
+    ensures { IfOk result (λ r. Reads r profile.now place) }
 {
-    // An entry without conditions that is not left out decides the same calls for engines, and one without
-    // names decides none.
-    if is_kept(profile, entry) && is_of(Kind::Bare, entry) || entry.numbers.as_slice().is_empty() {
-        return Ok(None);
+    if is_read_alike(profile, place, entry) {
+        return Ok(Reading::Same);
     }
     for number in entry.numbers.as_slice() {
         let call = likely_call(entry, *number);
-        if let Some(found) = judged(alloc, profile, engines, place, call)? {
-            return Ok(Some(found));
+        let found = judged(alloc, profile, engines, place, call)?;
+        if let Reading::Differs(_, _, _) = found {
+            return Ok(found);
         }
     }
+    if has_many_near(profile.entries.as_slice(), entry) {
+        return Ok(Reading::Unknown);
+    }
     match decided_otherwise(alloc, profile, engines, place, entry)? {
-        Some(call) => judged(alloc, profile, engines, place, call),
-        None => Ok(None),
+        Sameness::Same => Ok(Reading::Same),
+        Sameness::Differ(call) => judged(alloc, profile, engines, place, call),
+        Sameness::Unknown => Ok(Reading::Unknown),
     }
 }
 
-/// A call that is likely decided differently: one on which it matters whether the entry comes after those
-/// before it, and before those that engines have.
+/// An entry without conditions that is not left out decides the same calls for engines, and one without names
+/// decides none.
+#[tactic(auto, using(crate::proofs::Alike::bare_alike, crate::proofs::Alike::unnamed_alike))]
+fn is_read_alike(profile: &Profile, place: usize, entry: &Entry) -> bool
+    requires { slice_get profile.now.entries place ≡ Some entry.now }
+    ensures { IsTrue result → ReadsAlike profile.now place }
+{
+    if is_kept_of(Kind::Bare, profile, entry) {
+        return true;
+    }
+    entry.numbers.as_slice().is_empty()
+}
+
+/// How the entries before this one, the entry, and those that engines have compare with the same entries
+/// without it: a call that they decide differently is likely one that engines read differently.
 fn decided_otherwise(
     alloc: Global,
     profile: &Profile,
     engines: &Profile,
     place: usize,
     entry: &Entry,
-) -> Result<Option<SysCall>, AllocError>
+) -> Result<Sameness, AllocError>
     requires { slice_get profile.now.entries place ≡ Some entry.now }
+    ensures { IfOk result (λ s. Says s
+        (in_queue profile.now engines.now place entry.now (entry.now ∷ []))
+        (in_queue profile.now engines.now place entry.now [])) }
 {
-    if has_many_near(profile.entries.as_slice(), entry) {
-        return Ok(None);
-    }
     let with = queue(alloc, profile, engines, place, entry, Middle::Kept)?;
     let without = queue(alloc, profile, engines, place, entry, Middle::LeftOut)?;
-    match compared(alloc, &with, &without)? {
-        Sameness::Differ(call) => Ok(Some(call)),
-        Sameness::Same | Sameness::Unknown => Ok(None),
-    }
+    compared(alloc, &with, &without)
 }
 
 /// The entries before this one, what replaces it, and the entries that engines have: of each list only those
@@ -137,6 +190,8 @@ fn queue(
     middle: Middle,
 ) -> Result<Profile, AllocError>
     requires { slice_get profile.now.entries place ≡ Some entry.now }
+    ensures { IfOk result (λ p.
+        p ≡ in_queue profile.now engines.now place entry.now (middle_of entry.now middle)) }
 {
     let mut list = Vec::new(alloc);
     let entries = profile.entries.as_slice();
@@ -153,92 +208,110 @@ fn judged(
     engines: &Profile,
     place: usize,
     call: SysCall,
-) -> Result<Option<Reading>, AllocError>
+) -> Result<Reading, AllocError>
     requires { engines.now ≡ as_engines_read profile.now }
-    ensures { IfOk result (λ found. IfSome found (λ r.
-        IsReadOtherwise profile.now place r.call r.here r.there)) }
+    ensures { IfOk result (λ r. Reads r profile.now place) }
 {
     let here = profile.value_on(&call);
     let there = engines.value_on(&call);
     let explanation = explain(alloc, profile, &call)?;
     match explanation.decider {
         Decider::Entry(found) if found == place && here != there => {
-            Ok(Some(Reading { call, here, there }))
+            Ok(Reading::Differs(call, here, there))
         }
-        _ => Ok(None),
+        _ => Ok(Reading::Unknown),
     }
 }
 
-/// A call to which both entries apply, if both have conditions, engines have both, and they decide it
-/// differently.
+/// Whether the entries at both places overlap.
 pub(crate) fn overlap(
     alloc: Global,
     profile: &Profile,
+    bare: &Profile,
     place: usize,
     one: &Entry,
-    other_place: usize,
-    other: &Entry,
-) -> Result<Option<SysCall>, AllocError>
+    second: usize,
+    two: &Entry,
+) -> Result<Overlapping, AllocError>
+    requires bare { bare.now ≡ with_entries profile.now (kept_of Bare profile.now) }
     requires one_fit { IsFit one.now }
-    requires other_fit { IsFit other.now }
+    requires two_fit { IsFit two.now }
     requires one_at { slice_get profile.now.entries place ≡ Some one.now }
-    requires other_at { slice_get profile.now.entries other_place ≡ Some other.now }
-    ensures { IfOk result (λ found. IfSome found (Overlap profile.now place other_place)) }
+    requires two_at { slice_get profile.now.entries second ≡ Some two.now }
+    requires ordered { place < second }
+    ensures { IfOk result (λ o. OverlapsAs o profile.now place second) }
 {
-    if !(is_asked(profile, one) && is_asked(profile, other) && shares(one, other))
-        || one.decision.value() == other.decision.value()
-        || has_many_near(profile.entries.as_slice(), one)
-    {
-        return Ok(None);
+    if are_apart(profile, place, one, second, two) {
+        return Ok(Overlapping::Never);
     }
-    let first = pair(alloc, profile, one, other)?;
-    let second = pair(alloc, profile, other, one)?;
-    match compared(alloc, &first, &second)? {
-        Sameness::Differ(call) => Ok(both(one, other, call)),
-        Sameness::Same | Sameness::Unknown => Ok(None),
+    if has_many_near(profile.entries.as_slice(), one) {
+        return Ok(Overlapping::Unknown);
+    }
+    let first = pair(alloc, bare, one, one, two)?;
+    let turned = pair(alloc, bare, one, two, one)?;
+    match compared(alloc, &first, &turned)? {
+        Sameness::Same => Ok(Overlapping::Never),
+        Sameness::Differ(call) => Ok(overlap_on(bare, one, two, call)),
+        Sameness::Unknown => Ok(Overlapping::Unknown),
     }
 }
 
-/// Whether engines have the entry, and it has conditions.
-pub(crate) fn is_asked(profile: &Profile, entry: &Entry) -> bool {
-    is_kept(profile, entry) && is_of(Kind::Asking, entry)
+/// Whether engines lack one of the entries, or it has no conditions, or they share no call, or have one value.
+#[tactic(auto, using(crate::proofs::Alike::unkept_apart, crate::proofs::Alike::unshared_apart, crate::proofs::Alike::equal_apart))]
+fn are_apart(profile: &Profile, place: usize, one: &Entry, second: usize, two: &Entry) -> bool
+    requires one_at { slice_get profile.now.entries place ≡ Some one.now }
+    requires two_at { slice_get profile.now.entries second ≡ Some two.now }
+    ensures apart { IsTrue result → IsApart profile.now place second }
+    ensures asks { result ≡ false → AreAsked profile.now one.now two.now }
+{
+    let asks = is_kept_of(Kind::Asking, profile, one) && is_kept_of(Kind::Asking, profile, two);
+    if !asks {
+        return true;
+    }
+    if !shares(one, two) {
+        return true;
+    }
+    one.decision.value() == two.decision.value()
 }
 
-/// The call, if both apply to it and decide it differently.
-fn both(one: &Entry, other: &Entry, call: SysCall) -> Option<SysCall>
-    ensures { IfSome result (AreBoth one.now other.now) }
+/// The call, if both entries apply to it and no entry without conditions decides it.
+fn overlap_on(bare: &Profile, one: &Entry, two: &Entry, call: SysCall) -> Overlapping
+    ensures { OverlapsOn result bare.now one.now two.now }
 {
-    let differ = one.decision.value() != other.decision.value();
-    if differ && applies(one, &call) && applies(other, &call) {
-        Some(call)
+    let is_native = call.arch == NATIVE_ARCH && call.nr < X32_BIT;
+    if is_native && applies(one, &call) && applies(two, &call) && !is_settled(bare, &call) {
+        Overlapping::On(call)
     } else {
-        None
+        Overlapping::Unknown
     }
 }
 
-/// The profile with just these two entries.
-fn pair(alloc: Global, profile: &Profile, one: &Entry, other: &Entry) -> Result<Profile, AllocError>
+/// The entries without conditions that share a call with the entry, and then these two.
+fn pair(
+    alloc: Global,
+    bare: &Profile,
+    entry: &Entry,
+    one: &Entry,
+    two: &Entry,
+) -> Result<Profile, AllocError>
     requires one_fit { IsFit one.now }
-    requires other_fit { IsFit other.now }
+    requires two_fit { IsFit two.now }
+    ensures { IfOk result (λ p. p ≡ with_entries bare.now
+        (near entry.now bare.now.entries ++ (one.now ∷ two.now ∷ []))) }
 {
     let mut list = Vec::new(alloc);
+    add_near(alloc, &mut list, entry, bare.entries.as_slice())?;
     list.push(copy(alloc, one)?)?;
-    list.push(copy(alloc, other)?)?;
-    Ok(with_entries(profile, list))
+    list.push(copy(alloc, two)?)?;
+    Ok(with_entries(bare, list))
 }
 
-/// Whether an entry without conditions decides the call for engines.
-pub(crate) fn is_settled(
-    alloc: Global,
-    engines: &Profile,
-    call: &SysCall,
-) -> Result<bool, AllocError> {
-    let explanation = explain(alloc, engines, call)?;
-    Ok(match explanation.decider {
-        Decider::Entry(place) => match engines.entries.as_slice().get(place) {
-            Some(entry) => is_of(Kind::Bare, entry),
-            None => false,
-        },
-        _ => false,
-    })
+/// Whether an entry of the profile applies to the call.
+fn is_settled(bare: &Profile, call: &SysCall) -> bool
+    ensures { result ≡ list_any (applies call.now) bare.now.entries }
+{
+    bare.entries
+        .as_slice()
+        .iter()
+        .any(|entry| applies(entry, call))
 }

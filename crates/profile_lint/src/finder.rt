@@ -1,9 +1,15 @@
-ghost use Rattle.std.specs.Prelude.{◌≡◌, All, IfOk, IfSome};
+ghost use Rattle.std.specs.Prelude.{◌≡◌, ℕ, All, ◌++◌, IfOk, IfSome, option_map, option_to_list, slice_get, Some};
 ghost use Rattle.oci_profile.specs.declared.profile.Profile.{Profile};
-ghost use Rattle.profile_lint.specs.Engines.{IsReadOtherwise, as_engines_read};
-ghost use Rattle.profile_lint.specs.Findings.{IsSo, newer_of};
+ghost use Rattle.profile_lint.specs.Engines.{as_engines_read, kept_of};
+ghost use Rattle.profile_lint.specs.Entries.{Stands, with_entries};
+ghost use Rattle.profile_lint.specs.Findings.{AreAll, HasNeed, HasOverlap, HasReading, IsReported, IsSo, newer_of};
+ghost use Rattle.profile_lint.specs.Readings.{OverlapsAs, Reads};
+ghost use Rattle.profile_lint.specs.declared.engines.Kind.TheVariants.{Bare};
+ghost use Rattle.profile_lint.specs.declared.engines.Overlapping.TheVariants as of_overlap;
+ghost use Rattle.profile_lint.specs.declared.engines.Reading.TheVariants as of_reading;
+ghost use Rattle.profile_lint.specs.declared.finding.Finding.TheVariants.{NewerCalls, NotCompared};
 
-use crate::engines::{Reading, as_engines_read, is_asked, is_settled, overlap, read_otherwise};
+use crate::engines::{Overlapping, Reading, as_engines_read, bare_of, compare_reading, overlap};
 use crate::entries::standing;
 use crate::finding::Finding;
 use crate::stands::Standing;
@@ -16,34 +22,37 @@ use std::alloc::{AllocError, Global};
 const MAX_NAMES: usize = 511;
 
 /// The findings about a profile: about its entries in order, then about its default.
+#[tactic(auto, using(crate::proofs::Reports::so_more, crate::proofs::Reports::newer_so, crate::proofs::Reports::newer_all))]
 pub fn findings(alloc: Global, profile: &Profile) -> Result<Vec<Finding>, AllocError>
-    ensures { IfOk result (λ v. All (IsSo profile.now) v.items) }
+    // Each finding is true.
+    ensures so { IfOk result (λ v. All (IsSo profile.now) v.items) }
+
+    // What is not reported is not so.
+    ensures all { IfOk result (λ v. AreAll profile.now v.items) }
 {
-    let mut found = of_entries_or_none(alloc, profile)?;
-    add_newer_calls(&mut found, profile)?;
+    let mut found = about_entries_or_none(alloc, profile)?;
+    add(&mut found, newer_at(newer_calls(profile)))?;
     Ok(found)
 }
 
-fn of_entries_or_none(alloc: Global, profile: &Profile) -> Result<Vec<Finding>, AllocError>
-    ensures { IfOk result (λ v. All (IsSo profile.now) v.items) }
+/// The finding about calls above the table's last number, if there is one.
+fn newer_at(errno: Option<u16>) -> Option<Finding>
+    ensures { result ≡ option_map (λ code. NewerCalls code) errno }
+{
+    Some(Finding::NewerCalls(errno?))
+}
+
+fn about_entries_or_none(alloc: Global, profile: &Profile) -> Result<Vec<Finding>, AllocError>
+    ensures so { IfOk result (λ v. All (IsSo profile.now) v.items) }
+    ensures all { IfOk result (λ v. (place : ℕ) → IsReported profile.now v.items place) }
 {
     if has_many_names(profile.entries.as_slice()) {
         let mut found = Vec::new(alloc);
         found.push(Finding::NotLookedAt(0))?;
         Ok(found)
     } else {
-        of_entries(alloc, profile)
+        about_entries(alloc, profile)
     }
-}
-
-fn add_newer_calls(found: &mut Vec<Finding>, profile: &Profile) -> Result<(), AllocError>
-    ensures { IfOk result (λ _. All (IsSo profile.now) found.old.items
-        → All (IsSo profile.now) found.new.items) }
-{
-    if let Some(errno) = newer_calls(profile) {
-        found.push(Finding::NewerCalls(errno))?;
-    }
-    Ok(())
 }
 
 /// The errno of calls above the table's last number, unless it is ENOSYS, on which programs fall back to
@@ -68,137 +77,170 @@ fn has_many_names(entries: &[Entry]) -> bool {
     false
 }
 
-fn of_entries(alloc: Global, profile: &Profile) -> Result<Vec<Finding>, AllocError>
-    ensures { IfOk result (λ v. All (IsSo profile.now) v.items) }
+#[tactic(auto, using(crate::proofs::Reports::reported_next, crate::proofs::Reports::reported_all))]
+fn about_entries(alloc: Global, profile: &Profile) -> Result<Vec<Finding>, AllocError>
+    ensures so { IfOk result (λ v. All (IsSo profile.now) v.items) }
+    ensures all { IfOk result (λ v. (place : ℕ) → IsReported profile.now v.items place) }
 {
     let engines = as_engines_read(alloc, profile)?;
+    let bare = bare_of(alloc, profile)?;
     let mut found = Vec::new(alloc);
     for place in 0..profile.entries.as_slice().len() {
-        add_at(alloc, &mut found, profile, &engines, place)?;
+        let here = about_place(alloc, profile, &engines, &bare, place)?;
+        found.extend_from_slice(here.as_slice())?;
     }
     Ok(found)
 }
 
-/// Adds the findings about the entry at this place.
-fn add_at(
+/// The findings about the entry at this place.
+#[tactic(auto, using(crate::proofs::Reports::past_reported))]
+fn about_place(
     alloc: Global,
-    found: &mut Vec<Finding>,
     profile: &Profile,
     engines: &Profile,
+    bare: &Profile,
     place: usize,
-) -> Result<(), AllocError>
+) -> Result<Vec<Finding>, AllocError>
     requires read { engines.now ≡ as_engines_read profile.now }
-    requires so { All (IsSo profile.now) found.old.items }
-    ensures { IfOk result (λ _. All (IsSo profile.now) found.new.items) }
+    requires bare { bare.now ≡ with_entries profile.now (kept_of Bare profile.now) }
+    ensures so { IfOk result (λ v. All (IsSo profile.now) v.items) }
+    ensures all { IfOk result (λ v. IsReported profile.now v.items place) }
 {
-    let one = of_entry(alloc, profile, place)?;
-    add(found, profile, one)?;
-    let one = of_engines(alloc, profile, engines, place)?;
-    add(found, profile, one)?;
-    add_overlaps(alloc, found, profile, engines, place)
+    match profile.entries.as_slice().get(place) {
+        Some(entry) => about_entry(alloc, profile, engines, bare, place, entry),
+        None => Ok(Vec::new(alloc)),
+    }
+}
+
+#[tactic(auto, using(crate::proofs::Reports::so_more, crate::proofs::Reports::all_reported))]
+fn about_entry(
+    alloc: Global,
+    profile: &Profile,
+    engines: &Profile,
+    bare: &Profile,
+    place: usize,
+    entry: &Entry,
+) -> Result<Vec<Finding>, AllocError>
+    requires read { engines.now ≡ as_engines_read profile.now }
+    requires bare { bare.now ≡ with_entries profile.now (kept_of Bare profile.now) }
+    requires at { slice_get profile.now.entries place ≡ Some entry.now }
+    ensures so { IfOk result (λ v. All (IsSo profile.now) v.items) }
+    ensures all { IfOk result (λ v. IsReported profile.now v.items place) }
+{
+    let mut found = Vec::new(alloc);
+    add(&mut found, need_at(place, standing(alloc, profile, place)?))?;
+    let others = about_engines(alloc, profile, engines, bare, place, entry)?;
+    found.extend_from_slice(others.as_slice())?;
+    Ok(found)
 }
 
 /// Adds the finding, if there is one.
-fn add(found: &mut Vec<Finding>, profile: &Profile, one: Option<Finding>) -> Result<(), AllocError>
-    requires one_so { IfSome one (IsSo profile.now) }
-    requires so { All (IsSo profile.now) found.old.items }
-    ensures { IfOk result (λ _. All (IsSo profile.now) found.new.items) }
+fn add(found: &mut Vec<Finding>, one: Option<Finding>) -> Result<(), AllocError>
+    ensures { IfOk result (λ _. found.new.items ≡ found.old.items ++ option_to_list one) }
 {
-    match one {
-        Some(one) => Ok(found.push(one)?),
-        None => Ok(()),
-    }
-}
-
-fn of_entry(alloc: Global, profile: &Profile, place: usize) -> Result<Option<Finding>, AllocError>
-    ensures { IfOk result (λ found. IfSome found (IsSo profile.now)) }
-{
-    Ok(match standing(alloc, profile, place)? {
-        Standing::Needed(_) => None,
-        Standing::NeverDecides => Some(Finding::NeverDecides(place)),
-        Standing::SameWithout => Some(Finding::SameWithout(place)),
-        Standing::Unknown => Some(Finding::NotFoundOut(place)),
-    })
-}
-
-fn of_engines(
-    alloc: Global,
-    profile: &Profile,
-    engines: &Profile,
-    place: usize,
-) -> Result<Option<Finding>, AllocError>
-    requires { engines.now ≡ as_engines_read profile.now }
-    ensures { IfOk result (λ found. IfSome found (IsSo profile.now)) }
-{
-    let entries = profile.entries.as_slice();
-    match entries.get(place) {
-        Some(entry) => {
-            let reading = read_otherwise(alloc, profile, engines, place, entry)?;
-            Ok(reading_at(place, reading))
-        }
-        None => Ok(None),
-    }
-}
-
-fn reading_at(place: usize, reading: Option<Reading>) -> Option<Finding>
-    ensures { (profile : Profile) → IfSome reading (λ r. IsReadOtherwise profile place r.call r.here r.there)
-        → IfSome result (IsSo profile) }
-{
-    let reading = reading?;
-    Some(Finding::ReadOtherwise(place, reading.call, reading.here, reading.there))
-}
-
-/// Adds the overlaps of this entry with later ones.
-fn add_overlaps(
-    alloc: Global,
-    found: &mut Vec<Finding>,
-    profile: &Profile,
-    engines: &Profile,
-    place: usize,
-) -> Result<(), AllocError>
-    requires so { All (IsSo profile.now) found.old.items }
-    ensures { IfOk result (λ _. All (IsSo profile.now) found.new.items) }
-{
-    if !may_overlap(profile, place) {
-        return Ok(());
-    }
-    for other in 0..profile.entries.as_slice().len() {
-        let one = of_two(alloc, profile, engines, place, other)?;
-        add(found, profile, one)?;
+    if let Some(one) = one {
+        found.push(one)?;
     }
     Ok(())
 }
 
-/// Whether the entry at this place has conditions and names, and engines have it.
-fn may_overlap(profile: &Profile, place: usize) -> bool {
-    match profile.entries.as_slice().get(place) {
-        Some(entry) => is_asked(profile, entry) && !entry.numbers.as_slice().is_empty(),
-        None => false,
+/// The finding about the need for the entry at this place, if there is one.
+fn need_at(place: usize, standing: Standing) -> Option<Finding>
+    ensures so { (profile : Profile) → Stands profile place standing → IfSome result (IsSo profile) }
+    ensures all { (profile : Profile) → Stands profile place standing
+        → HasNeed profile (option_to_list result) place }
+{
+    match standing {
+        Standing::Needed(_) => None,
+        Standing::NeverDecides => Some(Finding::NeverDecides(place)),
+        Standing::SameWithout => Some(Finding::SameWithout(place)),
+        Standing::Unknown => Some(Finding::NotFoundOut(place)),
     }
 }
 
-/// The two entries, if the second comes after the first, and they overlap on a call that no entry without
-/// conditions decides for engines.
-#[tactic(auto, using(crate::proofs::Near::fit_at))]
-fn of_two(
+/// The findings about how engines read this entry, alone and beside later ones. If it is not known how they
+/// read it alone, that is the only one.
+#[tactic(auto, using(crate::proofs::Reports::so_more, crate::proofs::Reports::reading_left, crate::proofs::Reports::overlap_right, crate::proofs::Reports::uncompared))]
+fn about_engines(
     alloc: Global,
     profile: &Profile,
     engines: &Profile,
+    bare: &Profile,
     place: usize,
-    other: usize,
-) -> Result<Option<Finding>, AllocError>
-    ensures { IfOk result (λ found. IfSome found (IsSo profile.now)) }
+    entry: &Entry,
+) -> Result<Vec<Finding>, AllocError>
+    requires read { engines.now ≡ as_engines_read profile.now }
+    requires bare { bare.now ≡ with_entries profile.now (kept_of Bare profile.now) }
+    requires at { slice_get profile.now.entries place ≡ Some entry.now }
+    ensures so { IfOk result (λ v. All (IsSo profile.now) v.items) }
+    ensures reading { IfOk result (λ v. HasReading profile.now v.items place) }
+    ensures overlaps { IfOk result (λ v. (second : ℕ) → HasOverlap profile.now v.items place second) }
 {
-    let entries = profile.entries.as_slice();
-    match (entries.get(place), entries.get(other)) {
-        (Some(one), Some(two)) if place < other => {
-            match overlap(alloc, profile, place, one, other, two)? {
-                Some(call) if !is_settled(alloc, engines, &call)? => {
-                    Ok(Some(Finding::Overlap(place, other, call)))
-                }
-                _ => Ok(None),
-            }
+    let mut found = Vec::new(alloc);
+    let reading = compare_reading(alloc, profile, engines, place, entry)?;
+    add(&mut found, reading_at(place, reading))?;
+    if let Reading::Unknown = reading {
+        return Ok(found);
+    }
+    let others = overlaps(alloc, profile, bare, place, entry)?;
+    found.extend_from_slice(others.as_slice())?;
+    Ok(found)
+}
+
+/// The finding about how engines read the entry at this place, if there is one.
+fn reading_at(place: usize, reading: Reading) -> Option<Finding>
+    ensures so { (profile : Profile) → Reads reading profile place → IfSome result (IsSo profile) }
+    ensures all { (profile : Profile) → Reads reading profile place
+        → HasReading profile (option_to_list result) place }
+    ensures unknown { reading ≡ of_reading.Unknown → result ≡ Some (NotCompared place) }
+{
+    match reading {
+        Reading::Differs(call, here, there) => {
+            Some(Finding::ReadOtherwise(place, call, here, there))
         }
-        _ => Ok(None),
+        Reading::Same => None,
+        Reading::Unknown => Some(Finding::NotCompared(place)),
+    }
+}
+
+/// The overlaps of this entry with later ones. If one is not known, it is the last finding.
+#[tactic(auto, using(crate::proofs::Near::fit_at, crate::proofs::Reports::so_more, crate::proofs::Reports::apart_start, crate::proofs::Reports::apart_more, crate::proofs::Reports::apart_all, crate::proofs::Reports::uncompared))]
+fn overlaps(
+    alloc: Global,
+    profile: &Profile,
+    bare: &Profile,
+    place: usize,
+    entry: &Entry,
+) -> Result<Vec<Finding>, AllocError>
+    requires bare { bare.now ≡ with_entries profile.now (kept_of Bare profile.now) }
+    requires at { slice_get profile.now.entries place ≡ Some entry.now }
+    ensures so { IfOk result (λ v. All (IsSo profile.now) v.items) }
+    ensures all { IfOk result (λ v. (second : ℕ) → HasOverlap profile.now v.items place second) }
+{
+    let mut found = Vec::new(alloc);
+    let entries = profile.entries.as_slice();
+    for second in place + 1..entries.len() {
+        let other = &entries[second];
+        let overlapping = overlap(alloc, profile, bare, place, entry, second, other)?;
+        add(&mut found, overlap_at(place, second, overlapping))?;
+        if let Overlapping::Unknown = overlapping {
+            return Ok(found);
+        }
+    }
+    Ok(found)
+}
+
+/// The finding about the overlap of the entries at both places, if there is one.
+fn overlap_at(place: usize, second: usize, overlapping: Overlapping) -> Option<Finding>
+    ensures so { (profile : Profile) → OverlapsAs overlapping profile place second
+        → IfSome result (IsSo profile) }
+    ensures all { (profile : Profile) → OverlapsAs overlapping profile place second
+        → HasOverlap profile (option_to_list result) place second }
+    ensures unknown { overlapping ≡ of_overlap.Unknown → result ≡ Some (NotCompared place) }
+{
+    match overlapping {
+        Overlapping::On(call) => Some(Finding::Overlap(place, second, call)),
+        Overlapping::Never => None,
+        Overlapping::Unknown => Some(Finding::NotCompared(place)),
     }
 }

@@ -11,6 +11,8 @@ pub enum Finding {
     NotFoundOut(usize),
     /// It was not checked whether the entries from this place on ever decide a call.
     NotLookedAt(usize),
+    /// It is not known whether engines read the entry at this place differently.
+    NotCompared(usize),
     /// The entry at this place decides the call. The profile's value for it is the first one; the filter that
     /// engines make of the profile returns the second one.
     ReadOtherwise(usize, SysCall, u32, u32),

@@ -14,15 +14,17 @@
 //! - Whether an entry is needed: `standing`. An entry reported to decide no call decides none, whatever its
 //!   decision is. Without an entry reported as redundant, the profile means the same at every call. An entry
 //!   reported as needed has a call that the profile decides differently without it.
-//! - All findings are true, and these reports make them: `findings`. An entry that engines are reported to
-//!   read differently decides the call that is shown, and the model of engines has another value there. Two
-//!   entries reported to overlap both apply to the call that is shown, and decide it differently.
+//! - All findings are true: `findings`. An entry that engines are reported to read differently decides the
+//!   call that is shown, and the model of engines has another value there. Two entries reported to overlap
+//!   both apply to the call that is shown, and decide it differently, and no entry without conditions decides
+//!   it for engines.
+//! - No finding is left out: `findings`. An entry that is not reported is needed, engines read it alike, and
+//!   it overlaps with no later entry, or it is reported as not found out, not looked at or not compared.
 //! - The errno of calls newer than the table, exactly: `newer_calls`.
 //! - The printed lines and the JSON objects, byte by byte: `lint_lines`, `lint_objects`, `Display` of
 //!   `Passed`, `Finding`, `Holder`.
 //!
-//! Only tested: that an entry of these kinds is reported, unless it is reported as not known, and that runc
-//! and libseccomp behave as modelled.
+//! Only tested: how seldom an entry is reported as not known, and that runc and libseccomp behave as modelled.
 #![tactic(auto)]
 
 mod copies;

@@ -191,6 +191,10 @@ impl fmt::Display for Finding {
                 f,
                 "syscalls[{place}]: NotLookedAt: from here on entries may decide no call, or be redundant"
             ),
+            Finding::NotCompared(place) => write!(
+                f,
+                "syscalls[{place}]: NotCompared: engines may read it differently"
+            ),
             Finding::ReadOtherwise(place, call, here, there) => {
                 let (call, here, there) = (Words(*call), Value(*here), Value(*there));
                 write!(

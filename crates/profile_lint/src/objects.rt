@@ -157,6 +157,12 @@ impl fmt::Display for Object {
                     "{{\"place\":\"syscalls[{place}]\",\"kind\":\"NotLookedAt\"}}"
                 )
             }
+            Finding::NotCompared(place) => {
+                write!(
+                    f,
+                    "{{\"place\":\"syscalls[{place}]\",\"kind\":\"NotCompared\"}}"
+                )
+            }
             Finding::ReadOtherwise(place, call, here, there) => {
                 let call = CallMembers(call);
                 let (here, there) = (ValueObject(here), ValueObject(there));
