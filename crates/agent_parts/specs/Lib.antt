@@ -5,6 +5,7 @@ pub mod NodeEnds
 pub mod CommandLine
 pub mod Looks
 pub mod LostText
+pub mod Removal
 pub mod Repeats
 pub mod Reach
 pub mod State

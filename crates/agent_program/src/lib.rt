@@ -19,12 +19,14 @@
 //! - The frames of all ten calls of a pod's life, byte for byte.
 #![tactic(auto)]
 
+mod admission;
 mod counterpart;
 mod dialing;
 mod laws;
 mod leftovers;
 mod limits;
 mod nodeagent;
+mod outside;
 mod peers;
 mod tellers;
 mod working;

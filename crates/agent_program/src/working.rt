@@ -4,9 +4,11 @@ ghost use Rattle.std.specs.List.{AllByRecursion};
 ghost use Rattle.agent_parts.specs.CommandLine.{version_for};
 ghost use Rattle.node_lock.specs.declared.limits.TheConstants.{PARTS};
 
+use crate::admission::Admission;
 use crate::counterpart::RuntimeBehind;
 use crate::leftovers::sweep;
 use crate::limits::{MAX_WORKERS, RUNNERS};
+use crate::outside::Outside;
 use crate::peers::{Calls, SocketPeer};
 use crate::tellers::Tellers;
 use agent_errands::AgentErrands;
@@ -86,12 +88,8 @@ fn left_by<L: Ledger, R: Wait + Clock>(
     }
 }
 
-/// Works until there is nothing left to wait for.
-pub(crate) fn run_crew<
-    L: Ledger + Send + Sync,
-    B: Node + Send + Sync,
-    R: Threads + Wait + Clock + Sync,
->(
+// Works until there is nothing left to wait for.
+fn run_crew<L: Ledger + Send + Sync, B: Node + Send + Sync, R: Threads + Wait + Clock + Sync>(
     rt: &R,
     system: &HostRuntime,
     line: &NodeagentLine<'_>,
@@ -147,12 +145,61 @@ fn swept<L: Ledger, R: Wait + Clock>(
     sweep(rt, state, &mut peer, line.numbers.until)
 }
 
-/// Runs the crew with a runtime of a node with this filter, in threads beside the workers.
-pub(crate) fn run_own<
+/// Runs a crew for the admitted pods, with a runtime of a node with this filter in this process if the line
+/// asks for it.
+pub(crate) fn run_admitted<
     'a,
     L: Ledger + Send + Sync,
     R: Threads + Wait + Clock + Copy + Send + Sync + 'static,
 >(
+    rt: &R,
+    system: &HostRuntime,
+    line: &NodeagentLine<'a>,
+    baseline: Option<Filter>,
+    shared: &Shared<L>,
+    outside: &Outside,
+    admission: Admission<'a, L>,
+) -> Result<Left, AgentStop<'a>>
+    requires parts { admission.coordinator.parts ≡ PARTS }
+    requires whole { L.parts ≡ PARTS }
+{
+    let Admission {
+        coordinator,
+        naming,
+        state,
+    } = admission;
+    let calls = outside.calls(rt, line);
+    let errands = outside.errands(rt, system, line, shared, naming, state);
+    if line.with_runtime {
+        run_own(
+            rt,
+            system,
+            line,
+            baseline,
+            &outside.tellers,
+            shared,
+            &calls,
+            coordinator,
+            errands,
+        )
+    } else {
+        let other: RuntimeBehind<'_, '_, '_, Brand, R> = RuntimeBehind::Other(rt, &outside.open);
+        let left = run_crew(
+            rt,
+            system,
+            line,
+            shared,
+            &calls,
+            &other,
+            coordinator,
+            errands,
+        );
+        Ok(left?)
+    }
+}
+
+// Runs the crew with a runtime of a node with this filter, in threads beside the workers.
+fn run_own<'a, L: Ledger + Send + Sync, R: Threads + Wait + Clock + Copy + Send + Sync + 'static>(
     rt: &R,
     system: &HostRuntime,
     line: &NodeagentLine<'a>,
@@ -201,18 +248,31 @@ fn run_beside<
     requires whole { L.parts ≡ PARTS }
     requires own { begun ≡ (B.filter, B.table) }
 {
+    let site = site_of::<B, R>(rt, system, line, begun, tellers)?;
+    let left = run_at(rt, system, line, &site, shared, calls, coordinator, errands);
+    site.engine.finish(rt);
+    Ok(left?)
+}
+
+// The runtime at the line's socket.
+fn site_of<'a, B: Node + Send + Sync, R: Threads + Wait + Clock + Copy + Send + Sync + 'static>(
+    rt: &R,
+    system: &HostRuntime,
+    line: &NodeagentLine<'a>,
+    begun: Begun,
+    tellers: &Tellers,
+) -> Result<Site<'a, B>, AgentStop<'a>>
+    requires own { begun ≡ (B.filter, B.table) }
+{
     let recorder = match recorder_for(rt, system, "nodeagent", line.records, line.records_all) {
         Ok(recorder) => recorder,
         Err(stop) => return Err(AgentStop::Server(stop)),
     };
     let reports = tellers.reports(recorder)?;
-    let site = match Site::<B>::open(rt, system, address_of(line), begun, reports) {
-        Ok(site) => site,
-        Err(fault) => return Err(AgentStop::Server(socket_stop(line.socket, fault))),
-    };
-    let left = run_at(rt, system, line, &site, shared, calls, coordinator, errands);
-    site.engine.finish(rt);
-    Ok(left?)
+    match Site::<B>::open(rt, system, address_of(line), begun, reports) {
+        Ok(site) => Ok(site),
+        Err(fault) => Err(AgentStop::Server(socket_stop(line.socket, fault))),
+    }
 }
 
 fn run_at<L: Ledger + Send + Sync, B: Node + Send + Sync, R: Threads + Wait + Clock + Sync>(
