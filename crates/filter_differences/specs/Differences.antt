@@ -9,7 +9,7 @@ use Rattle.filter_differences.specs.declared.finding.Finding.{Finding}
 use Rattle.filter_differences.specs.declared.finding.Found.{Found}
 use Rattle.filter_differences.specs.declared.finding.Found.TheVariants.{Differs, Undecided}
 use Rattle.filter_differences.specs.declared.part.Part.{Part}
-use Rattle.filter_differences.specs.Parts.{IsPart, place_of, calls_of}
+use Rattle.filter_differences.specs.Parts.{IsPart, calls_of, first_of, last_of}
 
 -- the call is not in the finding's part
 abbrev pub Misses : SysCall → Finding → Type 0
@@ -26,9 +26,9 @@ IsTrue first second finding = IsPart finding.part × IsFoundOn first second find
 
 -- the finding's part comes before this place
 abbrev pub IsBelow : ℕ → Finding → Type 0
-IsBelow place finding = place_of finding.part < place
+IsBelow place finding = last_of finding.part < place
 
--- the parts are in order, and none is there twice
+-- the parts are in order: each ends before the next begins
 abbrev pub Ascend : List Finding → Type 0
 Ascend findings = (i j : ℕ) (d : Finding) → i < j → j < length findings
-    → place_of (slice_index_or findings i d).part < place_of (slice_index_or findings j d).part
+    → last_of (slice_index_or findings i d).part < first_of (slice_index_or findings j d).part

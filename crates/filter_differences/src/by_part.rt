@@ -5,10 +5,10 @@ ghost use Rattle.call_data.specs.CallData.{IsCall};
 ghost use Rattle.bpf_compare.specs.Agree.{Agree, IsOf, scope_of};
 ghost use Rattle.bpf_compare.specs.declared.scope.Scope.TheVariants.{NativeCalls};
 ghost use Rattle.filter_differences.specs.Differences.{Ascend, IsBelow, IsFoundOn, IsTrue, Misses};
-ghost use Rattle.filter_differences.specs.Parts.{IsPart, calls_of, place_of};
+ghost use Rattle.filter_differences.specs.Parts.{IsPart, calls_of, first_of, last_of};
 
 use crate::finding::{Finding, Found};
-use crate::part::{LATER, Part};
+use crate::part::{LATER, Part, last_from};
 use bpf_compare::{Calls, Comparison, compare};
 use bpf_verify::Filter;
 use std::alloc::{AllocError, Global};
@@ -29,7 +29,7 @@ pub fn differences(
     // A reported difference is one, on a call of its part.
     ensures real { IfOk result (λ found. All (IsTrue first.now second.now) found.items) }
 
-    // No part is reported twice.
+    // No call is in two reported parts.
     ensures in_order { IfOk result (λ found. Ascend found.items) }
 {
     match calls {
@@ -70,8 +70,14 @@ fn native_differences(
     ensures below { IfOk result (λ found. All (IsBelow 441) found.items) }
 {
     let mut found = Vec::new(alloc);
+    let mut next = 0;
     for nr in 0..LATER {
-        add(alloc, &mut found, first, second, Part::Number(nr), budget)?;
+        if nr < next {
+            continue;
+        }
+        let last = last_from(nr);
+        add(alloc, &mut found, first, second, Part::Numbers(nr, last), budget)?;
+        next = last + 1;
     }
     add(alloc, &mut found, first, second, Part::Later, budget)?;
     Ok(found)
@@ -89,14 +95,14 @@ fn add(
     requires is { IsPart part }
     requires real { All (IsTrue first.now second.now) found.old.items }
     requires in_order { Ascend found.old.items }
-    requires below { All (IsBelow (place_of part)) found.old.items }
+    requires below { All (IsBelow (first_of part)) found.old.items }
     ensures complete { IfOk result (λ _. (call : SysCall) → IsOf (calls_of part) call
         → All (Misses call) found.new.items → Agree first.now second.now call) }
     ensures kept { IfOk result (λ _. (call : SysCall) → All (Misses call) found.new.items
         → All (Misses call) found.old.items) }
     ensures real { IfOk result (λ _. All (IsTrue first.now second.now) found.new.items) }
     ensures in_order { IfOk result (λ _. Ascend found.new.items) }
-    ensures below { IfOk result (λ _. All (IsBelow (place_of part + 1)) found.new.items) }
+    ensures below { IfOk result (λ _. All (IsBelow (last_of part + 1)) found.new.items) }
 {
     if let Some(one) = found_on(alloc, first, second, part, budget)? {
         found.push(Finding { part, found: one })?;

@@ -12,14 +12,19 @@ use Rattle.check_answers.specs.Compared.{arg_text, reason_of, same_text, value_t
 use Rattle.explain.specs.declared.explanation.Decider.{Decider}
 use Rattle.explain.specs.Text.{decider_text}
 use Rattle.filter_differences.specs.declared.part.Part.{Part}
-use Rattle.filter_differences.specs.declared.part.Part.TheVariants.{Number, Later, X32, OtherArchitectures}
+use Rattle.filter_differences.specs.declared.part.Part.TheVariants.{Numbers, Later, X32, OtherArchitectures}
 use Rattle.shown_differences.specs.declared.line.Line.{Line}
 use Rattle.shown_differences.specs.declared.line.Line.TheVariants.{Differs, Undecided}
 use Rattle.shown_differences.specs.declared.line.Told.{Told}
 
+-- the name of a call, or numbers without names
+unfoldable pub numbers_text : ℕ → ℕ → List ℕ
+numbers_text low high = if low == high then call_text naming.Name low
+    else decimal low ++ (codes " to " ++ decimal high)
+
 -- the calls that are meant: 440 is the first number above the table's
 abbrev pub part_text : Part → List ℕ
-part_text (Number nr) = call_text naming.Name nr
+part_text (Numbers low high) = numbers_text low high
 part_text Later = codes "440 and above"
 part_text X32 = codes "x32"
 part_text OtherArchitectures = codes "other architectures"

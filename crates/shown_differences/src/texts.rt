@@ -11,7 +11,32 @@ use filter_differences::Part;
 use std::alloc::{AllocError, Global};
 use std::fmt;
 
-/// The calls of a part: the name of a call, or `440 and above`, `x32`, `other architectures`.
+/// The calls with numbers from the first to the second: the name of a single number, or `335 to 423`.
+#[derive(Clone, Copy)]
+struct NumbersName(u32, u32);
+
+impl fmt::Display for NumbersName {
+    ghost use Rattle.std.specs.Prelude.{Some};
+    ghost use Rattle.shown_differences.specs.Texts.{numbers_text};
+
+    ghost output = { λ name. Some (numbers_text name.0 name.1) };
+
+    #[tactic(auto, unfolding(crate::specs::Texts::numbers_text))]
+    fn fmt<W: fmt::Write>(&self, f: &mut fmt::Formatter<W>) -> fmt::Result {
+        let (low, high) = (self.0, self.1);
+        if low == high {
+            let word = CallWord {
+                nr: low,
+                naming: Naming::Name,
+            };
+            write!(f, "{word}")
+        } else {
+            write!(f, "{low} to {high}")
+        }
+    }
+}
+
+/// The calls of a part: `socket`, `335 to 423`, `440 and above`, `x32`, `other architectures`.
 #[derive(Clone, Copy)]
 pub struct PartName(pub Part);
 
@@ -23,13 +48,7 @@ impl fmt::Display for PartName {
 
     fn fmt<W: fmt::Write>(&self, f: &mut fmt::Formatter<W>) -> fmt::Result {
         match self.0 {
-            Part::Number(nr) => {
-                let word = CallWord {
-                    nr,
-                    naming: Naming::Name,
-                };
-                write!(f, "{word}")
-            }
+            Part::Numbers(low, high) => write!(f, "{}", NumbersName(low, high)),
             Part::Later => f.write_str("440 and above"),
             Part::X32 => f.write_str("x32"),
             Part::OtherArchitectures => f.write_str("other architectures"),
