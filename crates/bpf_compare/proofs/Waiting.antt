@@ -7,7 +7,7 @@ use Rattle.call_data.specs.declared.sys_call.SysCall.{SysCall}
 use Rattle.call_data.specs.CallData.{IsCall}
 use Rattle.bpf_compare.specs.declared.path.Path.{Path}
 use Rattle.bpf_compare.specs.declared.scope.Scope.{Scope}
-use Rattle.bpf_compare.specs.declared.scope.Scope.TheVariants.{EveryCall, NativeCalls}
+use Rattle.bpf_compare.specs.declared.scope.Scope.TheVariants.{EveryCall, NativeCalls, Numbers, OtherArchitectures}
 use Rattle.bpf_compare.specs.declared.comparison.Comparison.{Comparison}
 use Rattle.bpf_compare.specs.declared.comparison.Comparison.TheVariants.{Same, Undecided}
 use Rattle.bpf_compare.specs.declared.comparison.Doubt.{Doubt}
@@ -17,6 +17,8 @@ use Rattle.bpf_compare.specs.Paths.{Takes, TakesOne, IsHeld}
 pub is_call : (scope : Scope) (call : SysCall) → IsOf scope call → IsCall call
 is_call EveryCall call is = is
 is_call NativeCalls call is = is.0
+is_call (Numbers low high) call is = is.0
+is_call OtherArchitectures call is = is.0
 
 takes_more : (a b : List Insn) (call : SysCall) (paths : List Path) (path : Path) → TakesOne a b call paths
     → TakesOne a b call (paths ++ path ∷ [])

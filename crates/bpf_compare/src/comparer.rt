@@ -26,7 +26,7 @@ pub fn compare(
         return Ok(Comparison::Same);
     }
     let mut waiting = Vec::new(alloc);
-    let mut path = Path::start(alloc, scope);
+    let mut path = Path::start(alloc, scope)?;
     let mut doubt = None;
     for _ in 0..budget {
         let ended = match path.advance(alloc, first, second, scope)? {

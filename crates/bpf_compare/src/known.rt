@@ -1,6 +1,8 @@
 ghost use Rattle.std.specs.Prelude.{◌≡◌, ◌≢◌, ◌<◌, ℕ, IfOk, IfSome, IsSomeAnd, IsTrue, length};
 ghost use Rattle.std.specs.List.{All};
 ghost use Rattle.call_data.specs.declared.sys_call.SysCall.{SysCall};
+ghost use Rattle.call_data.specs.declared.sys_call.TheConstants.{NATIVE_ARCH};
+ghost use Rattle.call_data.specs.CallData.{IsCall};
 ghost use Rattle.bpf_compare.specs.Agree.{IsOf};
 ghost use Rattle.bpf_compare.specs.Known.{Avoids, FallsIn, IsAmong, IsIn, IsLeft, IsWithin, Keeps};
 ghost use Rattle.bpf_compare.specs.Known.{answer_on, number_at};
@@ -13,6 +15,7 @@ use crate::range::Range;
 use crate::scope::Scope;
 use crate::value::Value;
 use crate::word::Word;
+use call_data::NATIVE_ARCH;
 use std::alloc::{AllocError, Global};
 
 /// What is known of the calls of a set, word by word.
@@ -49,21 +52,47 @@ pub(crate) enum Left {
 
 impl Known {
     /// The calls of a scope.
-    pub(crate) fn new(alloc: Global, scope: Scope) -> Known
-        ensures { (call : SysCall) → IsOf scope call → IsAmong result call }
+    pub(crate) fn new(alloc: Global, scope: Scope) -> Result<Known, AllocError>
+        ensures { IfOk result (λ known. (call : SysCall) → IsOf scope call → IsAmong known call) }
+    {
+        words_fit();
+        match scope {
+            Scope::EveryCall => Ok(Known::within(alloc, Range::ALL, Range::ALL)),
+            Scope::NativeCalls => Ok(Known::within(alloc, Range::BELOW_X32, Range::NATIVE)),
+            Scope::Numbers(low, high) => {
+                Ok(Known::within(alloc, Range::between(low, high), Range::NATIVE))
+            }
+            Scope::OtherArchitectures => Known::without_native(alloc),
+        }
+    }
+
+    /// The calls whose numbers and architectures are in these ranges.
+    fn within(alloc: Global, numbers: Range, architectures: Range) -> Known
+        ensures { (call : SysCall) → IsCall call → IsIn numbers call.nr → IsIn architectures call.arch
+            → IsAmong result call }
     {
         words_fit();
         let mut ranges = [Range::ALL; 16];
-        if scope == Scope::NativeCalls {
-            ranges[0] = Range::BELOW_X32;
-            ranges[1] = Range::NATIVE;
-        }
+        ranges[0] = numbers;
+        ranges[1] = architectures;
         Known {
             ranges,
             excluded: Vec::new(alloc),
             bounded: Vec::new(alloc),
             splits: 0,
         }
+    }
+
+    /// The calls of all architectures but x86-64.
+    fn without_native(alloc: Global) -> Result<Known, AllocError>
+        ensures { IfOk result (λ known. (call : SysCall) → IsCall call → call.arch ≢ NATIVE_ARCH
+            → IsAmong known call) }
+    {
+        words_fit();
+        let mut known = Known::within(alloc, Range::ALL, Range::ALL);
+        let native = Excluded::all_of(Word { place: 1 }, NATIVE_ARCH);
+        known.excluded.push(native)?;
+        Ok(known)
     }
 
     /// How many numbers to try for a word: some for each rule, since most rules exclude a single run.

@@ -38,4 +38,4 @@ mod word;
 
 pub use comparer::compare;
 pub use comparison::{Comparison, Doubt};
-pub use scope::Scope;
+pub use scope::{Calls, Scope};

@@ -48,18 +48,18 @@ pub(crate) enum Progress {
 
 impl Path {
     /// All calls of the scope, at the start of the first filter.
-    pub(crate) fn start(alloc: Global, scope: Scope) -> Path
-        ensures { (first second : List Insn) (call : SysCall) → IsOf scope call
-            → Takes first second call result }
+    pub(crate) fn start(alloc: Global, scope: Scope) -> Result<Path, AllocError>
+        ensures { IfOk result (λ path. (first second : List Insn) (call : SysCall) → IsOf scope call
+            → Takes first second call path) }
     {
-        Path {
+        Ok(Path {
             first: None,
             walk: Walk {
                 registers: Registers::START,
                 words: [Value::Unknown; 16],
-                known: Known::new(alloc, scope),
+                known: Known::new(alloc, scope)?,
             },
-        }
+        })
     }
 
     /// Goes on by one instruction, or learns a bit of its calls.

@@ -1,4 +1,4 @@
-ghost use Rattle.std.specs.Prelude.{◌≡◌, ℕ, ◌^◌, IsTrue, IfSome, IsSomeAnd, bit_and};
+ghost use Rattle.std.specs.Prelude.{◌≡◌, ◌≢◌, ◌<◌, ℕ, ◌^◌, IsTrue, IfSome, IsSomeAnd, bit_and};
 ghost use Rattle.bpf_compare.specs.Known.{IsIn, IsWithin, Lacks, answer, answer_of};
 
 use crate::bounded::Bounded;
@@ -95,6 +95,19 @@ impl Question {
 }
 
 impl Excluded {
+    /// The bits of this number, all of them.
+    #[tactic(auto, using(std::proofs::lemmas::Nat::and_mask))]
+    pub(crate) fn all_of(word: Word, number: u32) -> Excluded
+        ensures word { result.word ≡ word }
+        ensures lacks { (n : ℕ) → n < 2 ^ 32 → n ≢ number → Lacks result n }
+    {
+        Excluded {
+            word,
+            mask: u32::MAX,
+            bits: number,
+        }
+    }
+
     /// Whether this number has these bits.
     pub(crate) fn has(&self, number: u32) -> bool {
         number & self.mask == self.bits

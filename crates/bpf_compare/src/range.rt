@@ -39,6 +39,19 @@ impl Range {
         bits: NATIVE_ARCH,
     };
 
+    /// The numbers between two bounds, both included.
+    pub(crate) fn between(low: u32, high: u32) -> Range
+        ensures { (n : ℕ) → low ≤ n → n ≤ high → IsIn result n }
+    {
+        let mask = shared_bits(low, high);
+        Range {
+            low,
+            high,
+            mask,
+            bits: low & mask,
+        }
+    }
+
     /// The same numbers, if there is one, with bounds and known bits that narrow each other.
     fn settled(self) -> Option<Range>
         ensures { (n : ℕ) → IsIn self n → IsSomeAnd result (λ range. IsIn range n) }

@@ -4,8 +4,8 @@ use Rattle.std.specs.Fmt.{decimal, digits}
 use Rattle.action.specs.Verdict.{name_of, verdict_of}
 use Rattle.bpf_compare.specs.declared.comparison.Doubt.{Doubt}
 use Rattle.bpf_compare.specs.declared.comparison.Doubt.TheVariants.{Budget, Arithmetic}
-use Rattle.bpf_compare.specs.declared.scope.Scope.{Scope}
-use Rattle.bpf_compare.specs.declared.scope.Scope.TheVariants.{EveryCall, NativeCalls}
+use Rattle.bpf_compare.specs.declared.scope.Calls.{Calls}
+use Rattle.bpf_compare.specs.declared.scope.Calls.TheVariants.{Every, Native}
 use Rattle.check_answers.specs.declared.compared.Difference.{Difference}
 use Rattle.check_answers.specs.Texts.{eight_digits}
 
@@ -33,6 +33,6 @@ abbrev pub reason_of : Doubt → List ℕ
 reason_of Budget = codes "they have too many paths"
 reason_of Arithmetic = codes "one of them computes with loaded data"
 
-abbrev pub same_text : Scope → List ℕ
-same_text EveryCall = codes "same on every call\n"
-same_text NativeCalls = codes "same on every native call\n"
+abbrev pub same_text : Calls → List ℕ
+same_text Every = codes "same on every call\n"
+same_text Native = codes "same on every native call\n"

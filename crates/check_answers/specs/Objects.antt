@@ -3,8 +3,8 @@
 use Rattle.std.specs.Prelude.{ℕ, List, ◌++◌, codes}
 use Rattle.std.specs.Fmt.{decimal}
 use Rattle.action.specs.Verdict.{name_of, verdict_of}
-use Rattle.bpf_compare.specs.declared.scope.Scope.{Scope}
-use Rattle.bpf_compare.specs.declared.scope.Scope.TheVariants.{EveryCall, NativeCalls}
+use Rattle.bpf_compare.specs.declared.scope.Calls.{Calls}
+use Rattle.bpf_compare.specs.declared.scope.Calls.TheVariants.{Every, Native}
 use Rattle.check_answers.specs.Compared.{arg_text}
 use Rattle.check_answers.specs.declared.compared.Difference.{Difference}
 use Rattle.check_answers.specs.declared.judging.Judged.{Judged}
@@ -28,9 +28,9 @@ judged_object judged =
     ++ (codes "\",\"data\":" ++ (decimal judged.verdict.ret_data
     ++ (codes ",\"steps\":" ++ (decimal judged.steps ++ codes "}\n")))))))
 
-abbrev pub same_object : Scope → List ℕ
-same_object EveryCall = codes "{\"answer\":\"same\",\"calls\":\"every\"}\n"
-same_object NativeCalls = codes "{\"answer\":\"same\",\"calls\":\"native\"}\n"
+abbrev pub same_object : Calls → List ℕ
+same_object Every = codes "{\"answer\":\"same\",\"calls\":\"every\"}\n"
+same_object Native = codes "{\"answer\":\"same\",\"calls\":\"native\"}\n"
 
 -- a value, its action and data
 abbrev pub value_object : ℕ → List ℕ

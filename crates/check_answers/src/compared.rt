@@ -3,16 +3,16 @@ ghost use Rattle.std.specs.Prelude.{◌≡◌, IfOk, string_bytes};
 ghost use Rattle.check_answers.specs.Compared.{reason_of, same_text};
 
 use action::Verdict;
-use bpf_compare::{Doubt, Scope};
+use bpf_compare::{Calls, Doubt};
 use call_data::SysCall;
 use std::alloc::{AllocError, Global};
 use std::fmt;
 
 /// A value that a filter returns, as it is printed: `7fff0000 ALLOW 0`.
 #[derive(Clone, Copy)]
-struct Value(u32);
+pub struct ShownValue(pub u32);
 
-impl fmt::Display for Value {
+impl fmt::Display for ShownValue {
     ghost use Rattle.std.specs.Prelude.{Some};
     ghost use Rattle.check_answers.specs.Compared.{value_text};
 
@@ -48,7 +48,7 @@ impl fmt::Display for Difference {
     fn fmt<W: fmt::Write>(&self, f: &mut fmt::Formatter<W>) -> fmt::Result {
         let (nr, args) = (self.call.nr, self.call.args);
         let (arch, ip) = (self.call.arch, self.call.ip);
-        let (first, second) = (Value(self.first), Value(self.second));
+        let (first, second) = (ShownValue(self.first), ShownValue(self.second));
         write!(
             f,
             "differ at {nr} {} {} {} {} {} {} --arch 0x{arch:x} --ip 0x{ip:x}: {first}, {second}",
@@ -67,13 +67,13 @@ pub fn reason(doubt: Doubt) -> &'static str
     }
 }
 
-/// The line for filters that are the same on the calls of this scope.
-pub fn same_line(alloc: Global, scope: Scope) -> Result<String, AllocError>
-    ensures { IfOk result (λ text. string_bytes text ≡ same_text scope) }
+/// The line for filters that are the same on these calls.
+pub fn same_line(alloc: Global, calls: Calls) -> Result<String, AllocError>
+    ensures { IfOk result (λ text. string_bytes text ≡ same_text calls) }
 {
-    let calls = match scope {
-        Scope::EveryCall => "call",
-        Scope::NativeCalls => "native call",
+    let calls = match calls {
+        Calls::Every => "call",
+        Calls::Native => "native call",
     };
     format!(in alloc; "same on every {calls}\n")
 }

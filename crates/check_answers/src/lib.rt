@@ -10,10 +10,11 @@
 //! - A played script has its outcome: every judged call, performed or not, and the code: `play`,
 //!   `Outcome::entries`, `code`.
 //! - The text of what is judged, shown, compared, played and picked, byte by byte: `Display` of `Judged`,
-//!   `Difference`, `reason`, `same_line`, `accepted_line`, `compiled_line`, `longest_line`, `judged_line`,
-//!   `code_lines`, `outcome_lines`, `picked_lines`.
-//! - Its JSON objects, byte by byte: `Display` of `DifferenceObject`, `accepted_object`, `compiled_object`,
-//!   `longest_object`, `judged_object`, `same_object`, `record_objects`, `code_objects`, `picked_objects`.
+//!   `Difference`, `ShownValue`, `reason`, `same_line`, `accepted_line`, `compiled_line`, `longest_line`,
+//!   `judged_line`, `code_lines`, `outcome_lines`, `picked_lines`.
+//! - Its JSON objects, byte by byte: `Display` of `DifferenceObject`, `ValueObject`, `accepted_object`,
+//!   `compiled_object`, `longest_object`, `judged_object`, `same_object`, `record_objects`, `code_objects`,
+//!   `picked_objects`.
 #![tactic(auto)]
 
 mod compared;
@@ -26,12 +27,13 @@ mod playing;
 mod pod_play;
 mod show;
 
-pub use compared::{Difference, reason, same_line};
+pub use compared::{Difference, ShownValue, reason, same_line};
 pub use judging::{Judged, judge};
 pub use line::{accepted_line, compiled_line, judged_line, longest_line, outcome_lines};
 pub use list_objects::{code_objects, picked_objects, record_objects};
 pub use objects::{
-    DifferenceObject, accepted_object, compiled_object, judged_object, longest_object, same_object,
+    DifferenceObject, ValueObject, accepted_object, compiled_object, judged_object, longest_object,
+    same_object,
 };
 pub use picked::picked_lines;
 pub use playing::{Outcome, play};

@@ -7,7 +7,7 @@ ghost use Rattle.check_answers.specs.Objects.{same_object};
 use crate::compared::Difference;
 use crate::judging::Judged;
 use action::Verdict;
-use bpf_compare::Scope;
+use bpf_compare::Calls;
 use std::alloc::{AllocError, Global};
 use std::fmt;
 
@@ -43,20 +43,20 @@ pub fn judged_object(alloc: Global, judged: &Judged) -> Result<String, AllocErro
     )
 }
 
-/// The object for filters that are the same on the calls of this scope.
-pub fn same_object(alloc: Global, scope: Scope) -> Result<String, AllocError>
-    ensures { IfOk result (λ text. string_bytes text ≡ same_object scope) }
+/// The object for filters that are the same on these calls.
+pub fn same_object(alloc: Global, calls: Calls) -> Result<String, AllocError>
+    ensures { IfOk result (λ text. string_bytes text ≡ same_object calls) }
 {
-    let calls = match scope {
-        Scope::EveryCall => "every",
-        Scope::NativeCalls => "native",
+    let calls = match calls {
+        Calls::Every => "every",
+        Calls::Native => "native",
     };
     format!(in alloc; "{{\"answer\":\"same\",\"calls\":\"{calls}\"}}\n")
 }
 
 /// A value that a filter returns: `{"value":2147418112,"action":"ALLOW","data":0}`.
 #[derive(Clone, Copy)]
-struct ValueObject(u32);
+pub struct ValueObject(pub u32);
 
 impl fmt::Display for ValueObject {
     ghost use Rattle.std.specs.Prelude.{Some};

@@ -165,6 +165,11 @@ fn compare<'a>(alloc: Global) -> Result<Command<'a>, AllocError> {
                 .action(ArgAction::SetTrue)
                 .help("Compare the calls of x86-64 only, without those of x32"),
         )?
+        .arg(flag(
+            alloc,
+            "all",
+            "Print each call on which they differ, by name",
+        ))?
         .arg(json(alloc))
 }
 

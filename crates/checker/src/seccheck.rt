@@ -1,17 +1,17 @@
-use crate::compared::{BUDGET, is_profile, same_or_stop};
+use crate::compared::{compare_text, differences_output};
 use crate::file::is_same_file;
 use crate::linting::{beside, lint_output};
 use crate::profiles::{default_line, explain_text};
 use crate::resolving::{resolve_text, settings_of};
 use crate::written::{file_bytes, unit_output};
-use bpf_compare::{Scope, compare};
-use bpf_verify::{Filter, Refusal, filter_of};
+use bpf_compare::Calls;
+use bpf_verify::{Refusal, filter_of};
 use call_data::SysCall;
 use call_names::{Naming, number_tests};
 use check_answers::{
     Outcome, accepted_line, accepted_object, code_lines, code_objects, compiled_line,
     compiled_object, judge, judged_line, judged_object, longest_line, longest_object,
-    outcome_lines, picked_lines, picked_objects, play, record_objects, same_line, same_object,
+    outcome_lines, picked_lines, picked_objects, play, record_objects,
 };
 use check_stops::{
     AnswerObject, Form, Output, Stop, bytes_at, compile_stop, filter_at, filter_stop,
@@ -123,6 +123,10 @@ fn output_of<'a, R: rt::Files + AllocGlobal>(
             audit_output(rt, word_at(matches, "PROFILE"), log, form)
         }
         "lint" => lint_output(rt, word_at(matches, "PROFILE"), form),
+        "compare" if matches.get_flag("all") => {
+            let (first, second) = (word_at(matches, "A"), word_at(matches, "B"));
+            differences_output(rt, first, second, calls_at(matches), form)
+        }
         "play" if matches.get_str("pod").is_some() => pod_output(rt, pod_asked(matches, form)?),
         "denied" => {
             let asked = DeniedAsked {
@@ -176,6 +180,15 @@ fn naming_at(matches: &ArgMatches<'_>) -> Naming {
     }
 }
 
+/// The calls on which two filters are compared.
+fn calls_at(matches: &ArgMatches<'_>) -> Calls {
+    if matches.get_flag("native") {
+        Calls::Native
+    } else {
+        Calls::Every
+    }
+}
+
 /// What a command prints that tells nothing beside it.
 fn text_of<'a, R: rt::Files + AllocGlobal>(
     rt: &R,
@@ -197,18 +210,8 @@ fn text_of<'a, R: rt::Files + AllocGlobal>(
         "budget" => budget_text(rt, word_at(matches, "FILTER"), form),
         "show" => show_text(rt, word_at(matches, "FILTER"), form),
         "compare" => {
-            let scope = if matches.get_flag("native") {
-                Scope::NativeCalls
-            } else {
-                Scope::EveryCall
-            };
-            compare_text(
-                rt,
-                word_at(matches, "A"),
-                word_at(matches, "B"),
-                scope,
-                form,
-            )
+            let (first, second) = (word_at(matches, "A"), word_at(matches, "B"));
+            compare_text(rt, first, second, calls_at(matches), form)
         }
         "play" => {
             let attempt = attempt_at(matches).map_err(Stop::BadNumber)?;
@@ -310,23 +313,6 @@ fn run_text<'a, R: rt::Files + AllocGlobal>(
     })
 }
 
-/// That the filters of two files are the same on the calls that are asked about.
-fn compare_text<'a, R: rt::Files + AllocGlobal>(
-    rt: &R,
-    first: &'a str,
-    second: &'a str,
-    scope: Scope,
-    form: Form,
-) -> Result<String, Stop<'a>> {
-    let first = filter_or_profile_at(rt, first)?;
-    let second = filter_or_profile_at(rt, second)?;
-    same_or_stop(compare(rt.alloc(), &first, &second, scope, BUDGET)?)?;
-    Ok(match form {
-        Form::Text => same_line(rt.alloc(), scope)?,
-        Form::Json => same_object(rt.alloc(), scope)?,
-    })
-}
-
 /// What came of a script that is played under the filters.
 fn played_at<'a, R: rt::Files + AllocGlobal>(
     rt: &R,
@@ -384,30 +370,6 @@ fn stack_at<'a, R: rt::Files + AllocGlobal>(rt: &R, paths: &[&'a str]) -> Result
         }
     }
     Ok(stack)
-}
-
-/// The filter in a file, or that of the profile in it.
-fn filter_or_profile_at<'a, R: rt::Files + AllocGlobal>(
-    rt: &R,
-    path: &'a str,
-) -> Result<Filter, Stop<'a>> {
-    let bytes = bytes_at(rt, path)?;
-    if is_profile(&bytes) {
-        profile_filter(rt, path, &bytes)
-    } else {
-        filter_of(rt.alloc(), &bytes).map_err(|refusal| filter_stop(path, refusal))
-    }
-}
-
-/// The filter of the profile that these bytes of a file are.
-fn profile_filter<'a, R: rt::Files + AllocGlobal>(
-    rt: &R,
-    path: &'a str,
-    bytes: &[u8],
-) -> Result<Filter, Stop<'a>> {
-    let alloc = rt.alloc();
-    let profile = profile_of(alloc, path, bytes)?;
-    compile(alloc, &profile).map_err(|fault| compile_stop(path, fault))
 }
 
 /// The profile that these bytes of a file are.

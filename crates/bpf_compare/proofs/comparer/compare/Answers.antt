@@ -10,8 +10,8 @@ loop-preserved-in-Splits c = λ sure call is.
 
 pub loop-preserved : goal.loop-preserved
 loop-preserved c = λ sure call is.
-    let none = no_doubt c.match-branch-2.ended c.loop.doubt c.or-doubt.result c.or-doubt.ensures sure in
-    elim c.match-branch-2.branch [
+    let none = no_doubt c.match-branch-3.ended c.loop.doubt c.or-doubt.result c.or-doubt.ensures sure in
+    elim c.match-branch-3.branch [
       | in-Agrees w ↦
           next _ _ call c.loop.path c.in-Some.next c.pop.new.self.items
           (rw w.in-Agrees.is at (c.in_ok-advance.ensures.becomes call is))
@@ -22,10 +22,10 @@ loop-preserved c = λ sure call is.
 pub returns-in-None : goal.returns-in-None
 returns-in-None c = says c.args.scope c.args.first.now c.args.second.now _ _ c.ending.ensures.told
     c.ending.ensures.none (λ sure call is.
-    let none = no_doubt c.match-branch-2.ended c.loop.doubt c.or-doubt.result c.or-doubt.ensures sure in
+    let none = no_doubt c.match-branch-3.ended c.loop.doubt c.or-doubt.result c.or-doubt.ensures sure in
     let empty = emptied c.loop.waiting.items c.pop.new.self.items _ c.in-None.ensures.cases.0
     c.in-None.ensures.items c.in-None.ensures.rest in
-    elim c.match-branch-2.branch [
+    elim c.match-branch-3.branch [
       | in-Agrees w ↦
           done _ _ call c.loop.path
           (rw w.in-Agrees.is at (c.in_ok-advance.ensures.becomes call is))

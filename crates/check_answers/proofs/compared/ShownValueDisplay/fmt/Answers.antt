@@ -1,7 +1,7 @@
 use Rattle.std.proofs.Common.{false}
 use Rattle.std.specs.Fmt.{digits}
 use Rattle.check_answers.proofs.Digits.{padded_to_eight}
-use Rattle.check_answers.proofs.compared.ValueDisplay.fmt.Goals as goal
+use Rattle.check_answers.proofs.compared.ShownValueDisplay.fmt.Goals as goal
 
 pub returns-clause-writes : goal.returns-clause-writes
 returns-clause-writes g c =

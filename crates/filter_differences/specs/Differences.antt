@@ -1,0 +1,34 @@
+-- The parts of all calls on which two filters were not found to be the same, this project's own:
+-- docs/SEMANTICS.md, "Comparing filters".
+use Rattle.std.specs.Prelude.{◌<◌, ℕ, List, length, slice_index_or}
+use Rattle.std.specs.List.{All}
+use Rattle.bpf_code.specs.declared.insn.Insn.{Insn}
+use Rattle.call_data.specs.declared.sys_call.SysCall.{SysCall}
+use Rattle.bpf_compare.specs.Agree.{Disagree, IsOf}
+use Rattle.filter_differences.specs.declared.finding.Finding.{Finding}
+use Rattle.filter_differences.specs.declared.finding.Found.{Found}
+use Rattle.filter_differences.specs.declared.finding.Found.TheVariants.{Differs, Undecided}
+use Rattle.filter_differences.specs.declared.part.Part.{Part}
+use Rattle.filter_differences.specs.Parts.{IsPart, calls_of, first_of, last_of}
+
+-- the call is not in the finding's part
+abbrev pub Misses : SysCall → Finding → Type 0
+Misses call finding = IsOf (calls_of finding.part) call → ⊥
+
+-- what was found about a part is so: a difference is one, on a call of the part
+abbrev pub IsFoundOn : List Insn → List Insn → Part → Found → Type 0
+IsFoundOn first second part (Differs call one other) =
+    IsOf (calls_of part) call × Disagree first second call one other
+IsFoundOn first second part (Undecided why) = Unit {0}
+
+abbrev pub IsTrue : List Insn → List Insn → Finding → Type 0
+IsTrue first second finding = IsPart finding.part × IsFoundOn first second finding.part finding.found
+
+-- the finding's part comes before this place
+abbrev pub IsBelow : ℕ → Finding → Type 0
+IsBelow place finding = last_of finding.part < place
+
+-- the parts are in order: each ends before the next begins
+abbrev pub Ascend : List Finding → Type 0
+Ascend findings = (i j : ℕ) (d : Finding) → i < j → j < length findings
+    → last_of (slice_index_or findings i d).part < first_of (slice_index_or findings j d).part

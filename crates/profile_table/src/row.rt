@@ -1,0 +1,15 @@
+use explain::Decider;
+use oci_profile::Decision;
+
+/// How a profile treats the calls with a number.
+#[derive(Clone, Copy, Debug)]
+pub struct Row {
+    /// The number, one of the table that has a name.
+    pub nr: u32,
+    /// Whether an entry with conditions may decide before.
+    pub is_asked: bool,
+    /// What decides all other calls with the number: its first entry without conditions, or the default.
+    pub decider: Decider,
+    /// Its decision.
+    pub decision: Decision,
+}

@@ -1,0 +1,53 @@
+-- Differences as JSON objects (RFC 8259), one per line, this project's own: docs/SEMANTICS.md, "Programs". No
+-- text of these has a byte that JSON would escape.
+use Rattle.std.specs.Prelude.{ℕ, List, [], ◌∷◌, ◌++◌, codes, Option, Some, None}
+use Rattle.std.specs.Fmt.{decimal}
+use Rattle.action.specs.Verdict.{name_of, verdict_of}
+use Rattle.bpf_compare.specs.declared.scope.Calls.{Calls}
+use Rattle.check_answers.specs.Compared.{arg_text, reason_of}
+use Rattle.check_answers.specs.Objects.{same_object, value_object}
+use Rattle.explain.specs.declared.explanation.Decider.{Decider}
+use Rattle.explain.specs.Text.{decider_text}
+use Rattle.call_data.specs.declared.sys_call.SysCall.{SysCall}
+use Rattle.shown_differences.specs.declared.line.Line.{Line}
+use Rattle.shown_differences.specs.declared.line.Line.TheVariants.{Differs, Undecided}
+use Rattle.shown_differences.specs.declared.line.Told.{Told}
+use Rattle.shown_differences.specs.Texts.{part_text}
+
+-- a value, its action and data, and what of a profile decides
+abbrev pub decided_object : Option Decider → ℕ → List ℕ
+decided_object None value = value_object value
+decided_object (Some decider) value =
+    codes "{\"value\":" ++ (decimal value ++ (codes ",\"action\":\"" ++ (name_of (verdict_of value).action
+    ++ (codes "\",\"data\":" ++ (decimal (verdict_of value).ret_data ++ (codes ",\"by\":\""
+    ++ (decider_text decider ++ codes "\"}")))))))
+
+abbrev pub told_object : Told → List ℕ
+told_object told = decided_object told.decider told.value
+
+-- the call, as its members
+abbrev pub call_members : SysCall → List ℕ
+call_members call =
+    codes "\"call\":" ++ (decimal call.nr
+    ++ (codes ",\"args\":[" ++ (arg_text call.args 0 ++ (codes "," ++ (arg_text call.args 1
+    ++ (codes "," ++ (arg_text call.args 2 ++ (codes "," ++ (arg_text call.args 3
+    ++ (codes "," ++ (arg_text call.args 4 ++ (codes "," ++ (arg_text call.args 5
+    ++ (codes "],\"arch\":" ++ (decimal call.arch ++ (codes ",\"ip\":" ++ decimal call.ip))))))))))))))))
+
+abbrev pub line_object : Line → List ℕ
+line_object (Differs part call one other) =
+    codes "{\"answer\":\"differ\",\"calls\":\"" ++ (part_text part ++ (codes "\"," ++ (call_members call
+    ++ (codes ",\"first\":" ++ (told_object one ++ (codes ",\"second\":" ++ (told_object other
+    ++ codes "}")))))))
+line_object (Undecided part why) =
+    codes "{\"answer\":\"undecided\",\"calls\":\"" ++ (part_text part ++ (codes "\",\"reason\":\""
+    ++ (reason_of why ++ codes "\"}")))
+
+abbrev pub lines_objects : List Line → List ℕ
+lines_objects [] = []
+lines_objects (line ∷ lines) = line_object line ++ (codes "\n" ++ lines_objects lines)
+
+-- the answer: an object for each line, or that there is none
+abbrev pub answer_objects : Calls → List Line → List ℕ
+answer_objects calls [] = same_object calls
+answer_objects calls (line ∷ lines) = lines_objects (line ∷ lines)

@@ -1,0 +1,113 @@
+//! Lines as JSON objects (RFC 8259). No text of these has a byte that JSON would escape.
+ghost use Rattle.std.specs.Prelude.{◌≡◌, IfOk, string_bytes};
+ghost use Rattle.shown_differences.specs.Objects.{answer_objects, lines_objects};
+
+use crate::line::{Line, Told};
+use crate::texts::PartName;
+use action::Verdict;
+use bpf_compare::Calls;
+use call_data::SysCall;
+use check_answers::{ValueObject, reason, same_object};
+use std::alloc::{AllocError, Global};
+use std::fmt;
+
+/// What a filter returns: `{"value":327681,"action":"ERRNO","data":1}`, with `"by"` for a profile.
+#[derive(Clone, Copy)]
+struct ToldObject(Told);
+
+impl fmt::Display for ToldObject {
+    ghost use Rattle.std.specs.Prelude.{Some};
+    ghost use Rattle.shown_differences.specs.Objects.{told_object};
+
+    ghost output = { λ told. Some (told_object told.0) };
+
+    fn fmt<W: fmt::Write>(&self, f: &mut fmt::Formatter<W>) -> fmt::Result {
+        let value = self.0.value;
+        match self.0.decider {
+            None => write!(f, "{}", ValueObject(value)),
+            Some(decider) => {
+                let verdict = Verdict::of_value(value);
+                let (action, ret_data) = (verdict.action, verdict.ret_data);
+                write!(
+                    f,
+                    "{{\"value\":{value},\"action\":\"{action}\",\"data\":{ret_data},\"by\":\"{decider}\"}}"
+                )
+            }
+        }
+    }
+}
+
+/// A call, as the members of an object.
+#[derive(Clone, Copy)]
+struct CallMembers(SysCall);
+
+impl fmt::Display for CallMembers {
+    ghost use Rattle.std.specs.Prelude.{Some};
+    ghost use Rattle.shown_differences.specs.Objects.{call_members};
+
+    ghost output = { λ call. Some (call_members call.0) };
+
+    fn fmt<W: fmt::Write>(&self, f: &mut fmt::Formatter<W>) -> fmt::Result {
+        let (nr, args) = (self.0.nr, self.0.args);
+        let (arch, ip) = (self.0.arch, self.0.ip);
+        write!(
+            f,
+            "\"call\":{nr},\"args\":[{},{},{},{},{},{}],\"arch\":{arch},\"ip\":{ip}",
+            args[0], args[1], args[2], args[3], args[4], args[5]
+        )
+    }
+}
+
+/// A line as an object.
+#[derive(Clone, Copy)]
+pub struct LineObject(pub Line);
+
+impl fmt::Display for LineObject {
+    ghost use Rattle.std.specs.Prelude.{Some};
+    ghost use Rattle.shown_differences.specs.Objects.{line_object};
+
+    ghost output = { λ line. Some (line_object line.0) };
+
+    fn fmt<W: fmt::Write>(&self, f: &mut fmt::Formatter<W>) -> fmt::Result {
+        match self.0 {
+            Line::Differs(part, call, one, other) => {
+                let (name, members) = (PartName(part), CallMembers(call));
+                let (first, second) = (ToldObject(one), ToldObject(other));
+                write!(
+                    f,
+                    "{{\"answer\":\"differ\",\"calls\":\"{name}\",{members},\"first\":{first},\
+                     \"second\":{second}}}"
+                )
+            }
+            Line::Undecided(part, doubt) => {
+                let (name, why) = (PartName(part), reason(doubt));
+                write!(
+                    f,
+                    "{{\"answer\":\"undecided\",\"calls\":\"{name}\",\"reason\":\"{why}\"}}"
+                )
+            }
+        }
+    }
+}
+
+/// An object for each line, or that both filters are the same on these calls if there is no line.
+pub fn all_objects(alloc: Global, calls: Calls, lines: &[Line]) -> Result<String, AllocError>
+    ensures { IfOk result (λ text. string_bytes text ≡ answer_objects calls lines.now) }
+{
+    if lines.is_empty() {
+        return same_object(alloc, calls);
+    }
+    joined(alloc, lines)
+}
+
+/// The objects, each with the end of its line.
+fn joined(alloc: Global, lines: &[Line]) -> Result<String, AllocError>
+    ensures { IfOk result (λ text. string_bytes text ≡ lines_objects lines.now) }
+{
+    let mut text = String::new(alloc);
+    for line in lines {
+        let object = LineObject(*line);
+        writeln!(text, "{object}")?;
+    }
+    Ok(text)
+}
