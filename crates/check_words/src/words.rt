@@ -25,6 +25,7 @@ pub fn command<'a>(alloc: Global) -> Result<Command<'a>, AllocError> {
             "Print the RuntimeDefault profile as JSON",
         ))?
         .subcommand(lint(alloc)?)?
+        .subcommand(table(alloc)?)?
         .subcommand(resolve(alloc)?)?
         .subcommand(of_filter(alloc, "verify", "Check whether a filter is sound")?)?
         .subcommand(of_filter(
@@ -65,6 +66,18 @@ fn lint<'a>(alloc: Global) -> Result<Command<'a>, AllocError> {
         .about("Report entries of a profile that have no effect or are probably mistakes")
         .arg(given(alloc, "PROFILE", "Profile"))?
         .arg(json(alloc))
+}
+
+fn table<'a>(alloc: Global) -> Result<Command<'a>, AllocError> {
+    Command::new(alloc, "table")
+        .about("Print how a profile treats each call")
+        .arg(given(alloc, "PROFILE", "Profile"))?
+        .arg(option(
+            alloc,
+            "against",
+            "OLD",
+            "Print only the calls on which the profile differs from OLD",
+        ))
 }
 
 fn resolve<'a>(alloc: Global) -> Result<Command<'a>, AllocError> {

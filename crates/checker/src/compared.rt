@@ -105,8 +105,9 @@ fn side_at<'a, R: rt::Files + AllocGlobal>(rt: &R, path: &'a str) -> Result<Side
     let alloc = rt.alloc();
     let bytes = bytes_at(rt, path)?;
     if is_profile(&bytes) {
-        let profile = oci_profile::read_placed(alloc, &bytes)
-            .map_err(|found| profile_stop(path, found))?;
+        let profile = oci_profile::read_placed(alloc, &bytes).map_err(|found| profile_stop(
+            path, found,
+        ))?;
         let compiled = Compiled::new(alloc, profile).map_err(|fault| compile_stop(path, fault))?;
         Ok(Side::Profile(compiled))
     } else {

@@ -5,6 +5,7 @@ ghost use Rattle.checker.specs.ProfileLines.{IsDefaultLine};
 use call_data::SysCall;
 use check_stops::{Form, Stop, bytes_at, profile_stop};
 use explain::{explain, explanation_lines, explanation_objects};
+use profile_table::{rows, table_lines};
 use profile_text::default_text;
 use std::alloc::{AllocError, Global};
 use std::rt;
@@ -25,6 +26,20 @@ pub(crate) fn explain_text<'a, R: rt::Files + AllocGlobal>(
         Form::Text => explanation_lines(rt.alloc(), &explanation)?,
         Form::Json => explanation_objects(rt.alloc(), &explanation)?,
     })
+}
+
+/// How the profile treats each call of the table.
+pub(crate) fn table_text<'a, R: rt::Files + AllocGlobal>(
+    rt: &R,
+    path: &'a str,
+) -> Result<String, Stop<'a>> {
+    let alloc = rt.alloc();
+    let bytes = bytes_at(rt, path)?;
+    let profile = oci_profile::read_placed(alloc, &bytes).map_err(|found| profile_stop(
+        path, found,
+    ))?;
+    let rows = rows(alloc, &profile)?;
+    Ok(table_lines(alloc, &profile, rows.as_slice())?)
 }
 
 /// RuntimeDefault as a profile's text, in one line.

@@ -1,7 +1,7 @@
 use crate::compared::{compare_text, differences_output};
 use crate::file::is_same_file;
 use crate::linting::{beside, lint_output};
-use crate::profiles::{default_line, explain_text};
+use crate::profiles::{default_line, explain_text, table_text};
 use crate::resolving::{resolve_text, settings_of};
 use crate::written::{file_bytes, unit_output};
 use bpf_compare::Calls;
@@ -123,6 +123,11 @@ fn output_of<'a, R: rt::Files + AllocGlobal>(
             audit_output(rt, word_at(matches, "PROFILE"), log, form)
         }
         "lint" => lint_output(rt, word_at(matches, "PROFILE"), form),
+        "table" if matches.get_str("against").is_some() => {
+            let old = matches.get_str("against").unwrap_or("");
+            let profile = word_at(matches, "PROFILE");
+            differences_output(rt, old, profile, Calls::Native, form)
+        }
         "compare" if matches.get_flag("all") => {
             let (first, second) = (word_at(matches, "A"), word_at(matches, "B"));
             differences_output(rt, first, second, calls_at(matches), form)
@@ -206,6 +211,7 @@ fn text_of<'a, R: rt::Files + AllocGlobal>(
             explain_text(rt, word_at(matches, "PROFILE"), call, form)
         }
         "default" => Ok(default_line(rt.alloc())?),
+        "table" => table_text(rt, word_at(matches, "PROFILE")),
         "verify" => verify_text(rt, word_at(matches, "FILTER"), form),
         "budget" => budget_text(rt, word_at(matches, "FILTER"), form),
         "show" => show_text(rt, word_at(matches, "FILTER"), form),

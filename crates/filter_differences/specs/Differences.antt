@@ -1,7 +1,6 @@
 -- The parts of all calls on which two filters were not found to be the same, this project's own:
 -- docs/SEMANTICS.md, "Comparing filters".
 use Rattle.std.specs.Prelude.{◌<◌, ℕ, List, length, slice_index_or}
-use Rattle.std.specs.List.{All}
 use Rattle.bpf_code.specs.declared.insn.Insn.{Insn}
 use Rattle.call_data.specs.declared.sys_call.SysCall.{SysCall}
 use Rattle.bpf_compare.specs.Agree.{Disagree, IsOf}

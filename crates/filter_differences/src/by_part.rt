@@ -52,7 +52,14 @@ fn every_difference(
 {
     let mut found = native_differences(alloc, first, second, budget)?;
     add(alloc, &mut found, first, second, Part::X32, budget)?;
-    add(alloc, &mut found, first, second, Part::OtherArchitectures, budget)?;
+    add(
+        alloc,
+        &mut found,
+        first,
+        second,
+        Part::OtherArchitectures,
+        budget,
+    )?;
     Ok(found)
 }
 
@@ -76,7 +83,14 @@ fn native_differences(
             continue;
         }
         let last = last_from(nr);
-        add(alloc, &mut found, first, second, Part::Numbers(nr, last), budget)?;
+        add(
+            alloc,
+            &mut found,
+            first,
+            second,
+            Part::Numbers(nr, last),
+            budget,
+        )?;
         next = last + 1;
     }
     add(alloc, &mut found, first, second, Part::Later, budget)?;

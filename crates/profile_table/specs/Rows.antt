@@ -1,10 +1,12 @@
 -- How a profile treats the calls with a number: OCI runtime-spec 1.1, config-linux, seccomp, where the first
 -- entry that names the number and whose conditions all hold decides.
-use Rattle.std.specs.Prelude.{◌≡◌, ◌<◌, ℕ, zero, suc, Bool, true, false, List, [], ◌∷◌, ◌++◌, Option, Some, None}
-use Rattle.std.specs.Prelude.{slice_get}
+use Rattle.std.specs.Prelude.{◌≡◌, ◌<◌, ℕ, zero, suc, true, false, if◌then◌else◌, List, [], ◌∷◌, ◌++◌, Some, length, slice_get}
+use Rattle.std.specs.Option.{is_some}
 use Rattle.call_data.specs.declared.sys_call.SysCall.{SysCall}
+use Rattle.oci_profile.specs.declared.decision.Decision.{Decision}
 use Rattle.oci_profile.specs.declared.profile.Entry.{Entry}
 use Rattle.oci_profile.specs.declared.profile.Profile.{Profile}
+use Rattle.oci_profile.specs.Decision.{value_of}
 use Rattle.oci_profile.specs.Meaning.{names}
 use Rattle.explain.specs.declared.explanation.Decider.{Decider}
 use Rattle.explain.specs.declared.explanation.Decider.TheVariants as by
@@ -23,6 +25,19 @@ IsBefore place by.X32Bit = ⊥
 IsBefore place (by.Entry end) = place < end
 IsBefore place by.Default = Unit {0}
 
+-- an entry that decides is one of the list
+abbrev pub IsPlaced : List Entry → Decider → Type 0
+IsPlaced entries by.Architecture = ⊥
+IsPlaced entries by.X32Bit = ⊥
+IsPlaced entries (by.Entry place) = place < length entries
+IsPlaced entries by.Default = Unit {0}
+
+-- this decides the call, and with this value
+pub record IsDecidedBy (profile : Profile) (call : SysCall) (decider : Decider) (value : ℕ) : Type 0 where
+  pub decision : Decision
+  pub decides : Decides profile call decider decision
+  pub value_is : value_of decision ≡ value
+
 -- an entry before the one that decides names the number
 pub record IsAsked (profile : Profile) (row : Row) : Type 0 where
   pub place : ℕ
@@ -34,20 +49,20 @@ pub record IsAsked (profile : Profile) (row : Row) : Type 0 where
 -- the row's decision is made if no entry before applies, and so on all calls with the number if none names it
 pub record IsRowOf (profile : Profile) (row : Row) : Type 0 where
   pub inside : row.nr < 440
+  pub placed : IsPlaced profile.entries row.decider
   pub decides : (call : SysCall) → IsOn row.nr call
       → ((place : ℕ) (entry : Entry) → IsBefore place row.decider → slice_get profile.entries place ≡ Some entry
       → applies call entry ≡ false)
-      → Decides profile call row.decider row.decision
+      → IsDecidedBy profile call row.decider row.value
   pub alike : row.is_asked ≡ false → (call : SysCall) → IsOn row.nr call
-      → Decides profile call row.decider row.decision
+      → IsDecidedBy profile call row.decider row.value
   pub asked : row.is_asked ≡ true → IsAsked profile row
 
 -- the number, if it has a name
-abbrev pub one_if : Option (List ℕ) → ℕ → List ℕ
-one_if None nr = []
-one_if (Some name) nr = nr ∷ []
+unfoldable pub named_at : ℕ → List ℕ
+named_at nr = if is_some (name_of nr) then nr ∷ [] else []
 
 -- the numbers below this one that have names, in order
 unfoldable pub named_below : ℕ → List ℕ
 named_below zero = []
-named_below (suc nr) = named_below nr ++ one_if (name_of nr) nr
+named_below (suc nr) = named_below nr ++ named_at nr

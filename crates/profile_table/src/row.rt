@@ -1,5 +1,4 @@
 use explain::Decider;
-use oci_profile::Decision;
 
 /// How a profile treats the calls with a number.
 #[derive(Clone, Copy, Debug)]
@@ -10,6 +9,6 @@ pub struct Row {
     pub is_asked: bool,
     /// What decides all other calls with the number: its first entry without conditions, or the default.
     pub decider: Decider,
-    /// Its decision.
-    pub decision: Decision,
+    /// The value of its decision.
+    pub value: u32,
 }

@@ -1,7 +1,6 @@
 -- What is printed of the calls on which two filters differ: docs/SEMANTICS.md, "Programs".
 use Rattle.std.specs.Prelude.{◌≡◌, ◌<◌, ℕ, List, None, IsSomeAnd, length, slice_index_or}
 use Rattle.bpf_code.specs.declared.insn.Insn.{Insn}
-use Rattle.bpf_compare.specs.declared.comparison.Doubt.{Doubt}
 use Rattle.call_data.specs.declared.sys_call.SysCall.{SysCall}
 use Rattle.oci_profile.specs.declared.decision.Decision.{Decision}
 use Rattle.oci_profile.specs.declared.profile.Profile.{Profile}

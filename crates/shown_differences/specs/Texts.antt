@@ -5,7 +5,6 @@ use Rattle.action.specs.Verdict.{name_of, verdict_of}
 use Rattle.bpf_compare.specs.declared.scope.Calls.{Calls}
 use Rattle.call_data.specs.declared.sys_call.SysCall.{SysCall}
 use Rattle.call_data.specs.declared.sys_call.TheConstants.{NATIVE_ARCH}
-use Rattle.call_names.specs.declared.naming.Naming.{Naming}
 use Rattle.call_names.specs.declared.naming.Naming.TheVariants as naming
 use Rattle.call_names.specs.Text.{call_text}
 use Rattle.check_answers.specs.Compared.{arg_text, reason_of, same_text, value_text}

@@ -9,7 +9,7 @@ use Rattle.filter_differences.proofs.by_part.native_differences.Given as goal
 abbrev pub invariant-loop-nr : goal.invariant-loop-nr
 invariant-loop-nr l =
     ((call : SysCall) → IsOf NativeCalls call → call.nr < l.next → All (Misses call) l.found.items
-        → Agree l.first l.second call)
+    → Agree l.first l.second call)
     × All (IsTrue l.first l.second) l.found.items
     × Ascend l.found.items
     × All (IsBelow l.next) l.found.items

@@ -1,6 +1,8 @@
-ghost use Rattle.std.specs.Prelude.{◌≡◌, ◌<◌, IfOk, map};
+ghost use Rattle.std.specs.Prelude.{◌≡◌, ◌<◌, ◌++◌, IfOk, map};
 ghost use Rattle.std.specs.List.{All};
-ghost use Rattle.profile_table.specs.Rows.{IsRowOf, named_below};
+ghost use Rattle.std.specs.Option.{is_some};
+ghost use Rattle.sys_table.specs.SysTable.{name_of};
+ghost use Rattle.profile_table.specs.Rows.{IsRowOf, named_at, named_below};
 
 use crate::row::Row;
 use explain::Decider;
@@ -15,11 +17,31 @@ pub fn rows(alloc: Global, profile: &Profile) -> Result<Vec<Row>, AllocError>
 {
     let mut rows = Vec::new(alloc);
     for nr in 0..NUMBER_LIMIT as u32 {
-        if name(nr).is_some() {
-            rows.push(row(profile, nr))?;
-        }
+        add(&mut rows, profile, nr)?;
     }
     Ok(rows)
+}
+
+/// Adds the row of this number, if it has a name.
+#[tactic(auto, unfolding(crate::specs::Rows::named_at))]
+fn add(rows: &mut Vec<Row>, profile: &Profile, nr: u32) -> Result<(), AllocError>
+    requires { nr < 440 }
+    ensures numbers { IfOk result (λ _. map (λ row. row.nr) rows.new.items
+        ≡ map (λ row. row.nr) rows.old.items ++ named_at nr) }
+    ensures real { IfOk result (λ _. All (IsRowOf profile.now) rows.old.items
+        → All (IsRowOf profile.now) rows.new.items) }
+{
+    if is_named(nr) {
+        rows.push(row(profile, nr))?;
+    }
+    Ok(())
+}
+
+/// Whether a call of the table has this number.
+fn is_named(nr: u32) -> bool
+    ensures { result ≡ is_some (name_of nr) }
+{
+    name(nr).is_some()
 }
 
 /// How the profile treats the calls with this number.
@@ -38,7 +60,7 @@ fn row(profile: &Profile, nr: u32) -> Row
                 nr,
                 is_asked,
                 decider: Decider::Entry(place),
-                decision: entry.decision,
+                value: entry.decision.value(),
             };
         }
         is_asked = true;
@@ -47,6 +69,6 @@ fn row(profile: &Profile, nr: u32) -> Row
         nr,
         is_asked,
         decider: Decider::Default,
-        decision: profile.default,
+        value: profile.default.value(),
     }
 }
