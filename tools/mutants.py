@@ -1,17 +1,17 @@
 #!/usr/bin/env python3
-"""mutants.py [PROGRAM..]: plants the wrong bodies that tests/mutants lists, and runs the cases that should notice
-each. It takes those of the named programs, or all. Each program is built once, with all wrong bodies in it,
-compiled with checks in the place of proofs. A copy of the program for each wrong body has this one alone switched
-on. The other programs are built here too, or are those of the folder BIN, or those that make test built. The
-cases first run with all wrong bodies off: a case that fails then, fails the run. Prints which wrong bodies are
-caught, and by which case; one that no case notices fails the run.
+"""mutants.py [PROGRAM..]: plants the wrong bodies that tests/mutants lists, those of the named programs or all, and
+runs the cases that should notice each. Each program is built once with all wrong bodies in it, compiled with checks
+in the place of proofs. For each wrong body a copy of its program has this one switched on. The other programs are
+those that are built here, those of the folder BIN, or those that make test built. The cases first run with all wrong
+bodies off: a case that fails then fails the run. Prints which wrong bodies are caught, and by which case. One that no
+case notices fails the run.
 
 A line of tests/mutants has six columns, parted by tabs: the program, a file or a folder of cases, the file of the
-sources, the old text, which stands there once, the new text, and the promise that it breaks. In a text \\n is the
-end of a line. In the new text the word MUTANT is a condition, which is true where the wrong body is switched on;
-so the new text has the old one for the other way. A new text without this word gets a build of its own.
+sources, the old text, which that file has once, the new text, and the promise that the wrong body breaks. In a text
+\\n is the end of a line. In the new text MUTANT is a condition: it is true where the wrong body is switched on, and
+else the new text has to do what the old one does. A new text without this word gets a build of its own.
 
-KEEP=FOLDER keeps the programs in this folder; a later run builds those anew whose sources have changed.
+KEEP=FOLDER keeps the built programs in this folder. A later run builds those whose sources have changed.
 """
 import hashlib
 import os
@@ -50,6 +50,8 @@ def mutants():
     found = [dict(zip(COLUMNS, row)) for row in rows]
     for number, mutant in enumerate(found):
         mutant["number"], mutant["is_switched"] = number, "MUTANT" in mutant["new"]
+        if not os.path.exists(f"{ROOT}/tests/{mutant['cases']}"):
+            sys.exit(f"mutants: there is no tests/{mutant['cases']}")
     return found
 
 
@@ -63,7 +65,9 @@ def copy_sources(folder):
 
 
 def change(path, old, new):
-    """Replaces a text that the file has once, and tells whether it has it once."""
+    """Replaces a text that the file has once. Returns whether there is this file, and has it once."""
+    if not os.path.isfile(path):
+        return False
     with open(path, "r+", encoding="utf-8") as it:
         text = it.read()
         if text.count(old) != 1:
@@ -82,7 +86,7 @@ def plant(mutant, folder):
 
 
 def planted(wanted, count, folder):
-    """A copy of the sources with these wrong bodies, and with a switch for each of the list's."""
+    """Makes a copy of the sources with these wrong bodies, with room for the switches of the whole list."""
     copy_sources(folder)
     for mutant in wanted:
         plant(mutant, folder)
@@ -95,7 +99,7 @@ def planted(wanted, count, folder):
 
 
 def checksum(name, folder):
-    """A checksum of the sources in the folder from which this program is built."""
+    """Returns a checksum of the sources in the folder that this program is built from."""
     sums = hashlib.sha256()
     for crate in with_below(crates_of(folder), [name]):
         for at, folders, names in os.walk(f"{folder}/crates/{crate}/src"):
@@ -136,32 +140,31 @@ def switched_on(program, mutant, into):
     os.chmod(into, 0o755)
 
 
-def beside(name, kept):
-    given = f"{os.environ['BIN']}/{name}" if "BIN" in os.environ else f"{ROOT}/crates/{name}/out/{name}"
-    return f"{kept}/{name}" if os.path.exists(f"{kept}/{name}") else os.path.abspath(given)
-
-
-def programs_in(folder, kept, but=None):
+def programs_in(folder, kept, names, but=None):
+    """Makes a folder with links to the programs: those with these names are the kept ones."""
     os.makedirs(folder, exist_ok=True)
     for name in (*PROGRAMS, "memory_trials", "node_trials"):
-        if name != but and os.path.exists(beside(name, kept)):
-            os.symlink(beside(name, kept), f"{folder}/{name}")
+        given = f"{os.environ['BIN']}/{name}" if "BIN" in os.environ else f"{ROOT}/crates/{name}/out/{name}"
+        program = f"{kept}/{name}" if name in names else os.path.abspath(given)
+        if name != but and os.path.exists(program):
+            os.symlink(program, f"{folder}/{name}")
 
 
 def failures(folder, cases):
-    """The commands of these cases that failed with the programs of the folder, up to the first case's."""
+    """Returns the commands that failed in these cases, with the programs of the folder. After the first case that
+    fails no other begins."""
     env = {**os.environ, "BIN": folder, "QUICK": "1", "FIRST": "1"}
     words = [f"{ROOT}/tests/run", *(f"{ROOT}/tests/{it}" for it in cases)]
     ran = subprocess.run(words, capture_output=True, text=True, env=env)
     return re.findall(r"^failed: (.*)$", ran.stdout, re.M)
 
 
-def verdict(mutant, kept, count):
-    """What became of a wrong body: whether it was caught, and the first command that noticed."""
+def verdict(mutant, kept, names, count):
+    """Returns whether a wrong body was caught, and the first command that noticed."""
     program = mutant["program"]
     with tempfile.TemporaryDirectory(prefix="mutant-") as folder:
         bin_folder = f"{folder}/programs"
-        programs_in(bin_folder, kept, program)
+        programs_in(bin_folder, kept, names, program)
         if mutant["is_switched"]:
             switched_on(f"{kept}/{program}", mutant, f"{bin_folder}/{program}")
         else:
@@ -171,18 +174,17 @@ def verdict(mutant, kept, count):
     return (True, noticed[0][:100]) if noticed else (False, "no case")
 
 
-def run(wanted, count, kept):
+def run(wanted, kept, names, count):
     caught = dict.fromkeys(PROGRAMS, 0)
     with ThreadPoolExecutor(SIDE) as pool:
-        found = pool.map(lambda mutant: verdict(mutant, kept, count), wanted)
+        found = pool.map(lambda mutant: verdict(mutant, kept, names, count), wanted)
         for mutant, (is_caught, by) in zip(wanted, found):
             caught[mutant["program"]] += is_caught
             how = "caught" if is_caught else "SURVIVES"
             print(f"{how}: {mutant['program']}: {mutant['promise']}: {by}", flush=True)
-    for name in PROGRAMS:
+    for name in names:
         of = sum(it["program"] == name for it in wanted)
-        if of:
-            print(f"{name}: {of} wrong bodies, {caught[name]} caught, {of - caught[name]} survive")
+        print(f"{name}: {of} wrong bodies, {caught[name]} caught, {of - caught[name]} survive")
     survivors = len(wanted) - sum(caught.values())
     print(f"{len(wanted)} wrong bodies, {len(wanted) - survivors} caught, {survivors} survive")
     return survivors != 0
@@ -195,13 +197,14 @@ def main():
         kept = os.path.abspath(os.environ.get("KEEP", f"{folder}/kept"))
         os.makedirs(kept, exist_ok=True)
         planted([it for it in found if it["is_switched"]], len(found), f"{folder}/sources")
-        for name in sorted({it["program"] for it in wanted}, key=PROGRAMS.index):
+        names = [name for name in PROGRAMS if any(it["program"] == name for it in wanted)]
+        for name in names:
             build(name, f"{folder}/sources", kept)
-        programs_in(f"{folder}/off", kept)
+        programs_in(f"{folder}/off", kept, names)
         wrong = failures(f"{folder}/off", sorted({it["cases"] for it in wanted}))
         if wrong:
             sys.exit(f"mutants: a case fails without a wrong body: {wrong[0]}")
-        return run(wanted, len(found), kept)
+        return run(wanted, kept, names, len(found))
 
 
 sys.exit(main())
