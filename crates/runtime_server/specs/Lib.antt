@@ -1,5 +1,6 @@
 pub mod Accepting
 pub mod Places
+pub mod Queue
 pub mod Recording
 pub mod Telling
 pub mod Wrong

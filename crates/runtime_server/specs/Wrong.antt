@@ -1,7 +1,11 @@
 -- The report on a file for which a creation is refused, this project's own: docs/SEMANTICS.md, "Programs".
-use Rattle.std.specs.Prelude.{◌≡◌, ◌⊎◌, ℕ, List, ◌++◌, codes, string_bytes, Option, Some, None, ⊤}
+use Rattle.std.specs.Prelude.{◌≡◌, ◌⊎◌, ℕ, Bool, true, false, List, ◌++◌, codes, string_bytes, Option, Some, None, ⊤}
 use Rattle.cri_msgs.specs.declared.calls.Call.{Call}
 use Rattle.cri_msgs.specs.declared.calls.Call.TheVariants.{CreateContainer}
+use Rattle.cri_msgs.specs.declared.refusals.Refusal.{Refusal}
+use Rattle.cri_msgs.specs.declared.refusals.Refusal.TheVariants as refusal
+use Rattle.cri_msgs.specs.declared.replies.Answer.{Answer}
+use Rattle.cri_msgs.specs.declared.replies.Answer.TheVariants as answer
 use Rattle.std.specs.declared.string.String.{String}
 use Rattle.oci_profile.specs.Profile.{ReadsProfile}
 use Rattle.oci_profile.specs.Reading.{first_fault_at}
@@ -52,3 +56,22 @@ cause_in number (CreateContainer key image profile) wrong = Some (record {
   text = cause_text wrong;
 })
 cause_in number call wrong = None
+
+-- whether a refusal may be due to a bad file
+abbrev pub is_refusal_of_files : Refusal → Bool
+is_refusal_of_files refusal.InvalidArgument = true
+is_refusal_of_files refusal.Internal = true
+is_refusal_of_files refusal.NotFound = false
+is_refusal_of_files refusal.AlreadyExists = false
+is_refusal_of_files refusal.ResourceExhausted = false
+is_refusal_of_files refusal.FailedPrecondition = false
+is_refusal_of_files refusal.Memory = false
+
+-- whether an answer may be due to a bad file
+abbrev pub is_of_files : Answer → Bool
+is_of_files (answer.Refused refusal) = is_refusal_of_files refusal
+is_of_files answer.Done = false
+is_of_files (answer.Container id) = false
+is_of_files (answer.Status status) = false
+is_of_files (answer.List listing) = false
+is_of_files (answer.Statuses statuses) = false

@@ -2,7 +2,7 @@
 //! request refused for another reason is reported without them.
 ghost use Rattle.std.specs.Prelude.{◌≡◌, ◌++◌, IfOk, string_bytes};
 ghost use Rattle.fault_notes.specs.Paths.{shown_path};
-ghost use Rattle.runtime_server.specs.Wrong.{TellsProfile, TellsScript, cause_in, cause_text, kind_text};
+ghost use Rattle.runtime_server.specs.Wrong.{TellsProfile, TellsScript, cause_in, cause_text, is_of_files, kind_text};
 
 use compile::{CompileFault, compile};
 use cri_msgs::{Answer, Call, Refusal, Request};
@@ -76,7 +76,9 @@ pub(crate) fn cause_in(
 }
 
 /// Whether an answer may be due to a bad file.
-pub(crate) fn is_of_files(answer: &Answer) -> bool {
+pub(crate) fn is_of_files(answer: &Answer) -> bool
+    ensures { result ≡ is_of_files answer.now }
+{
     matches!(
         answer,
         Answer::Refused(Refusal::InvalidArgument | Refusal::Internal)

@@ -4,7 +4,8 @@ ghost use Rattle.runtime_server.specs.declared.site.TheConstants.{REST};
 ghost use Rattle.runtime_server.specs.declared.path_lock.TheConstants.{LOCKS};
 ghost use Rattle.runtime_server.specs.declared.sockets.TheConstants.{FOLDERS};
 ghost use Rattle.runtime_stops.specs.declared.socket_fault.TheConstants.{MAX_NAME};
-ghost use Rattle.runtime_server.specs.declared.teller.TheConstants.{MAX_WAITING, READER_PATIENCE};
+ghost use Rattle.runtime_server.specs.declared.line_queue.TheConstants.{MAX_WAITING};
+ghost use Rattle.runtime_server.specs.declared.teller.TheConstants.{READER_PATIENCE};
 
 /// The values of this crate's constants.
 pub fn constants_are_as_stated()

@@ -20,6 +20,7 @@
 //! - The first fault of a text that refuses a container is reported, with its place: `script_fault`,
 //!   `profile_fault`, which are private.
 //! - Which answers of a runtime are reported: `Tells::is_told`, which is private.
+//! - A line waits behind those before it, or is left out and counted: `LineQueue::add`, which is private.
 //! - A removed cell is recorded unless it had ended by itself: `has_ended_alone`, which is private.
 //! - The constants are as stated: `constants_are_as_stated`.
 //!
@@ -34,6 +35,7 @@ mod diagnosis;
 mod engine;
 mod inputs;
 mod laws;
+mod line_queue;
 mod path_lock;
 mod places;
 mod recording;
@@ -48,9 +50,10 @@ pub use connections::{Connections, MAX_CONNECTIONS, NoPlace};
 pub use engine::{Engine, EngineHost, start_runners};
 pub use inputs::{baseline_at, bytes_at, look_at_folders};
 pub use laws::constants_are_as_stated;
+pub use line_queue::MAX_WAITING;
 pub use recording::{Recorder, recorder_for};
 pub use scriptd::scriptd_run;
 pub use site::{Address, Reports, Site, Tells, accept_all};
 pub use sockets::look_at_path;
-pub use teller::{MAX_WAITING, Outlet, READER_PATIENCE, Stream, Teller};
+pub use teller::{Outlet, READER_PATIENCE, Stream, Teller};
 pub use telling::{answered, asked};

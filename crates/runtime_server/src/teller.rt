@@ -1,15 +1,13 @@
 //! A queue of lines from any thread, and the one thread that writes them to standard output, to standard
 //! error or to a file: adding a line never waits for the reader.
 
+use crate::line_queue::LineQueue;
 use node_io::Cause;
 use std::alloc::{AllocError, Global};
+use std::io;
 use std::sync::{Arc, Condvar, CondvarTimeouts, Mutex, Wait};
 use std::thread::{Threads, spawn};
 use std::time::{Clock, Duration};
-use std::{io, mem};
-
-/// The most lines that may wait for their reader. Further lines are left out, and counted.
-pub const MAX_WAITING: usize = 16_384;
 
 /// How many seconds a program waits, at its end, for a reader that reads nothing.
 pub const READER_PATIENCE: u64 = 10;
@@ -46,30 +44,11 @@ impl Outlet for Stream {
     }
 }
 
-#[derive(Drop)]
-struct Waiting {
-    lines: Vec<String>,
-    // How many were left out after these.
-    left_out: u64,
-    // How many were written so far.
-    written: u64,
-    // Whether the writer has written all that it took.
-    is_idle: bool,
-    // Why a line could not be written: the first such cause that is known.
-    failed: Option<Cause>,
-}
-
-impl Waiting {
-    fn is_empty(&self) -> bool {
-        self.lines.is_empty() && self.left_out == 0
-    }
-}
-
 /// Takes lines from any thread, and has them written whole and in order of arrival.
 #[derive(Drop)]
 pub struct Teller {
     alloc: Global,
-    waiting: Mutex<Waiting>,
+    waiting: Mutex<LineQueue>,
     changed: Condvar,
 }
 
@@ -85,13 +64,7 @@ impl Teller {
             alloc,
             Teller {
                 alloc,
-                waiting: Mutex::new(Waiting {
-                    lines: Vec::new(alloc),
-                    left_out: 0,
-                    written: 0,
-                    is_idle: false,
-                    failed: None,
-                }),
+                waiting: Mutex::new(LineQueue::new(alloc)),
                 changed: Condvar::new(),
             },
         )?;
@@ -103,52 +76,38 @@ impl Teller {
 
     /// Records that this many lines are missing here.
     pub fn miss<R: Wait>(&self, rt: &R, lines: u64) {
-        let mut waiting = self.waiting.lock(rt);
-        waiting.left_out = waiting.left_out.saturating_add(lines);
-        drop(waiting);
+        self.waiting.lock(rt).miss(lines);
         self.changed.notify_all();
     }
 
     /// Adds a line. If there is no memory for it, or no room in the queue, it is left out and counted.
     pub fn tell<R: Wait>(&self, rt: &R, line: Result<String, AllocError>) {
-        let mut waiting = self.waiting.lock(rt);
-        let has_place = waiting.lines.len() < MAX_WAITING;
-        let is_told = match line {
-            Ok(line) => has_place && waiting.lines.push(line).is_ok(),
-            Err(_) => false,
-        };
-        if !is_told {
-            waiting.left_out = waiting.left_out.saturating_add(1);
-        }
-        drop(waiting);
+        self.waiting.lock(rt).add(line);
         self.changed.notify_all();
     }
 
     // Waits for lines, and takes them with the number of lines left out after them.
     fn take<R: Wait>(&self, rt: &R) -> (Vec<String>, u64) {
         let mut waiting = self.waiting.lock(rt);
-        waiting.is_idle = true;
+        waiting.rest();
         self.changed.notify_all();
         let mut waiting = self
             .changed
             .wait_while(rt, waiting, |waiting| waiting.is_empty());
-        waiting.is_idle = false;
-        let lines = mem::replace(&mut waiting.lines, Vec::new(self.alloc));
-        let left_out = mem::replace(&mut waiting.left_out, 0);
-        (lines, left_out)
+        waiting.take(self.alloc)
     }
 
     fn count_written<R: Wait>(&self, rt: &R, wrote: io::Result<()>) {
-        let mut waiting = self.waiting.lock(rt);
-        waiting.written = waiting.written.wrapping_add(1);
-        if let (None, Err(error)) = (waiting.failed, wrote) {
-            waiting.failed = Some(Cause::of(&error));
-        }
+        let cause = match wrote {
+            Ok(()) => None,
+            Err(error) => Some(Cause::of(&error)),
+        };
+        self.waiting.lock(rt).count_written(cause);
     }
 
     /// Why lines can't be written, if one could not.
     pub fn failure<R: Wait>(&self, rt: &R) -> Option<Cause> {
-        self.waiting.lock(rt).failed
+        self.waiting.lock(rt).failure()
     }
 
     // The body of the writer's thread. A line that can't be written is lost.
@@ -167,14 +126,12 @@ impl Teller {
     pub fn finish<R: Wait + Clock>(&self, rt: &R) {
         let mut waiting = self.waiting.lock(rt);
         for _ in rt.forever() {
-            let written = waiting.written;
+            let written = waiting.written();
             let patience = Duration::from_secs(READER_PATIENCE);
             let (later, outcome) = self
                 .changed
-                .wait_timeout_while(rt, waiting, patience, |waiting| {
-                    !waiting.is_idle || !waiting.is_empty()
-                });
-            if !outcome.timed_out() || later.written == written {
+                .wait_timeout_while(rt, waiting, patience, |waiting| !waiting.is_done());
+            if !outcome.timed_out() || later.written() == written {
                 break;
             }
             waiting = later;
