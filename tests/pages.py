@@ -4,8 +4,9 @@ has to print what stands below it, each line that is quoted stands where it is s
 file that is named leads somewhere; each manual page names each command and option that --help prints, and
 each status, and its examples run; where --help tells a range or a default of an option, the page tells the
 same, a case of tests/ tries both ends of the range, and the program takes these and refuses what is next to
-them; the shells complete each option. tests/run calls it. With programs of another folder (BIN) there is no
-library, and the session in C is left out.
+them; each other number of a page is that of a constant; the shells complete each option. What make copy installs has
+the modes, names and links that it should have. tests/run calls it. With programs of another folder (BIN) there is no
+library, and the session in C and make copy are left out.
 """
 import json
 import os
@@ -47,6 +48,51 @@ def installed(folder, programs):
     check("make copy", ran.returncode, 0)
     if ran.returncode:
         print((ran.stdout + ran.stderr)[-2000:], flush=True)
+
+
+def modes_below(prefix):
+    """The mode of each file that was installed, and where each link leads."""
+    found = {}
+    for at, _, names in os.walk(prefix):
+        for path in (os.path.join(at, name) for name in names):
+            is_link = os.path.islink(path)
+            found[os.path.relpath(path, prefix)] = os.readlink(path) if is_link else os.stat(path).st_mode & 0o7777
+    return found
+
+
+def wanted_modes():
+    wanted = {"lib/libmotchidu.a": 0o644, "lib/libmotchidu.so.0": 0o755, "lib/libmotchidu.so": "libmotchidu.so.0",
+              "lib/pkgconfig/motchidu.pc": 0o644, "include/motchidu.h": 0o644, "share/man/man3/motchidu.3": 0o644}
+    for program in STATUSES:
+        wanted |= {f"bin/{program}": 0o755, f"share/man/man1/{program}.1": 0o644,
+                   f"share/bash-completion/completions/{program}": 0o644,
+                   f"share/zsh/site-functions/_{program}": 0o644,
+                   f"share/fish/vendor_completions.d/{program}.fish": 0o644}
+    return wanted
+
+
+def check_copy(prefix, room):
+    """Which files make copy installs, their modes, which page is which, and what the shared library is. With DESTDIR
+    the same files lie below it."""
+    if os.environ.get("BIN"):
+        return
+    check("what make copy installs", modes_below(prefix), wanted_modes())
+    for path in (f"{prefix}/share/man/{name}" for name in ("man3/motchidu.3", *(f"man1/{it}.1" for it in STATUSES))):
+        name, _, section = os.path.basename(path).partition(".")
+        with open(path, encoding="utf-8") as it:
+            title = re.search(r"^\.TH (\w+) (\d)", it.read(), re.M)
+        check(f"the title of {name}({section})", (title[1].lower(), title[2]), (name, section))
+    library = f"{prefix}/lib/libmotchidu.so.0"
+    said = subprocess.run(["readelf", "-hdlW", library], capture_output=True, text=True, env={"LC_ALL": "C"}).stdout
+    check("libmotchidu.so.0 is a shared object", bool(re.search(r"Type: +DYN", said)))
+    check("its name", re.findall(r"\(SONAME\).*\[(.*)\]", said), ["libmotchidu.so.0"])
+    check("the libraries that it needs", re.findall(r"\(NEEDED\).*\[(.*)\]", said), ["libc.so.6"])
+    check("its relocations are read-only", "GNU_RELRO" in said and bool(re.search(r"BIND_NOW|FLAGS.* NOW", said)))
+    check("its stack is not executable", bool(re.search(r"GNU_STACK.* RW +0", said)))
+    words = ["make", "--no-print-directory", "-C", ROOT, "copy", "PREFIX=/usr", f"DESTDIR={room}/stage"]
+    check("make copy with DESTDIR", subprocess.run(words, capture_output=True).returncode, 0)
+    check("what lies below DESTDIR", sorted(os.listdir(f"{room}/stage")), ["usr"])
+    check("what DESTDIR has", modes_below(f"{room}/stage/usr"), wanted_modes())
 
 
 def check_uninstall(prefix):
@@ -310,6 +356,57 @@ def check_page(prefix, program):
     check(f"{program}.1 has each status", told, stated_statuses(crates) | more)
 
 
+# What a manual page says with a number, and the constant that it says it of.
+NUMBERS = (
+    ("nodeagent.1", r"at most (\d+) bytes", "runtime_stops/src/socket_fault.rt", "MAX_NAME"),
+    ("nodeagent.1", r"in DIR, at most ([\d,]+) of them", "pod_folder/src/looking.rt", "MAX_FILES"),
+    ("nodeagent.1", r"holds at least ([\d,]+) lines", "runtime_server/src/line_queue.rt", "MAX_WAITING"),
+    ("nodeagent.1", r"up to (\d+) seconds for a reader", "runtime_server/src/teller.rt", "READER_PATIENCE"),
+    ("nodeagent.1", r"Each file has at most ([\d,]+) bytes", "node_io/src/files.rt", "MAX_FILE_BYTES"),
+    ("nodeagent.1", r"with 1 to (\d+) containers", "manifest/src/containers.rt", "MAX_CONTAINERS"),
+    ("nodeagent.1", r"a list of at most ([\d,]+)\. A step", "script/src/scripts.rt", "MAX_STEPS"),
+    ("nodeagent.1", r"of at most ([\d,]+) bytes:", "oci_profile/src/reader.rt", "MAX_PROFILE_BYTES"),
+    ("nodeagent.1", r"a list of 1 to ([\d,]+) items", "bpf_code/src/limits.rt", "MAX_INSNS"),
+    ("nodeagent.1", r"runs at most (\d+) pods", "worker_core/src/limits.rt", "MAX_PODS"),
+    ("nodeagent.1", r"more than (\d+) seconds from its connection", "agent_program/src/limits.rt", "PATIENCE"),
+    ("scriptd.1", r"which has 1 to (\d+) bytes", "runtime_stops/src/socket_fault.rt", "MAX_NAME"),
+    ("scriptd.1", r"At most (\d+) connections", "runtime_server/src/connections.rt", "MAX_CONNECTIONS"),
+    ("scriptd.1", r"^(\d+) connections are served", "runtime_server/src/connections.rt", "MAX_CONNECTIONS"),
+    ("scriptd.1", r"holds at least ([\d,]+) lines", "runtime_server/src/line_queue.rt", "MAX_WAITING"),
+    ("scriptd.1", r"Each file has at most ([\d,]+) bytes", "node_io/src/files.rt", "MAX_FILE_BYTES"),
+    ("scriptd.1", r"a list of at most ([\d,]+)\. A step", "script/src/scripts.rt", "MAX_STEPS"),
+    ("scriptd.1", r"of at most ([\d,]+) bytes:", "oci_profile/src/reader.rt", "MAX_PROFILE_BYTES"),
+    ("scriptd.1", r"a list of 1 to ([\d,]+) items", "bpf_code/src/limits.rt", "MAX_INSNS"),
+    ("scriptd.1", r"knows at most ([\d,]+) uids", "registry/src/limits.rt", "MAX_UIDS"),
+    ("scriptd.1", r"has at most ([\d,]+) containers", "registry/src/limits.rt", "MAX_CELLS"),
+    ("scriptd.1", r"and ([\d,]+) attempts over its life", "registry/src/limits.rt", "MAX_KEYS"),
+    ("seccheck.1", r"Each file has at most ([\d,]+) bytes", "node_io/src/files.rt", "MAX_FILE_BYTES"),
+    ("seccheck.1", r"A file of records has at most ([\d,]+) bytes", "container_answers/src/denying.rt",
+     "MAX_RECORDS_BYTES"),
+    ("seccheck.1", r"of at most ([\d,]+) bytes:", "oci_profile/src/reader.rt", "MAX_PROFILE_BYTES"),
+    ("seccheck.1", r"a list of 1 to ([\d,]+) items", "bpf_code/src/limits.rt", "MAX_INSNS"),
+    ("seccheck.1", r"with 1 to (\d+) containers", "manifest/src/containers.rt", "MAX_CONTAINERS"),
+    ("seccheck.1", r"A filter has at most ([\d,]+) instructions", "bpf_code/src/limits.rt", "MAX_INSNS"),
+    ("seccheck.1", r"A stack of filters has at most ([\d,]+) instr", "verdict/src/stack.rt", "MAX_STACK_INSNS"),
+    ("scriptctl.1", r"waits (\d+) seconds for the runtime", "runtime_client/src/asking.rt", "PATIENCE"),
+    ("motchidu.3", r"([\d,]+) bytes are room for any filter", "bpf_code/src/limits.rt", "MAX_BYTES"),
+    ("motchidu.3", r"A text of more than ([\d,]+) bytes", "oci_profile/src/reader.rt", "MAX_PROFILE_BYTES"),
+)
+
+
+def check_constants():
+    """The numbers of the manual pages are those of the constants that they describe."""
+    for page, words, path, name in NUMBERS:
+        told = {int(it.replace(",", "")) for it in re.findall(words, text_of(f"man/{page}"), re.M)}
+        stated = re.search(rf"^(?:pub(?:\(crate\))? )?const {name}: \w+ = ([\d_]+);", text_of(f"crates/{path}"), re.M)
+        check(f"{page}: {words}", told, {int(stated[1].replace("_", ""))})
+    last = re.search(r"numbers 0 to (\d+) have names", text_of("man/seccheck.1"))
+    limit = re.search(r"const NUMBER_LIMIT: usize = (\d+);", text_of("crates/sys_table/src/table.rt"))
+    check("seccheck.1: the last number of the table", int(last[1]) + 1, int(limit[1]))
+    mode = re.search(r"The socket has mode (\d+)", text_of("man/scriptd.1"))
+    check("scriptd.1: the socket's mode", mode[1], "0600")
+
+
 def check_library_page(prefix, room):
     """motchidu(3) has each function and each status of the header, and its example runs."""
     page, header = text_of("man/motchidu.3"), text_of("include/motchidu.h")
@@ -436,5 +533,7 @@ def checked(programs):
             check_page(prefix, program)
             check_examples(prefix, program, room)
         check_library_page(prefix, room)
+        check_constants()
+        check_copy(prefix, room)
         check_uninstall(prefix)
     return COUNTS["passed"], COUNTS["failed"]
