@@ -10,7 +10,7 @@ make times    prints the processor seconds that the last gate spent, crate by cr
 make planted  tries all wrong bodies, also those that the gate leaves out; CRATE=NAME.. those of some crates.
               Each costs up to 30 CPU seconds, plus two proofs per crate: about two hours on four cores for all
 make mutants  plants the wrong bodies of tests/mutants that no contract reaches, and runs the cases that should
-              notice; PROGRAM=NAME.. those of some programs. A minute and a half for each, two at a time
+              notice; PROGRAM=NAME.. those of some programs. Builds each program once. Half an hour on two cores
 make cases    runs the cases of tests/ with the programs that make test built, or those in BIN=FOLDER;
               CASES=FILE.. runs some of them. Seven minutes; QUICK=1 leaves out the long ones
 make demo     compiles a profile, judges calls with its filter, plays scripts, settles pods over a socket, and runs
