@@ -1,7 +1,9 @@
 //! Worker 0 advances the time: by a virtual clock that moves on when nothing else can happen, or by the
 //! machine's clock.
-ghost use Rattle.std.specs.Prelude.{◌≡◌};
+ghost use Rattle.std.specs.Prelude.{◌≡◌, ◌-◌, ◌*◌, ◌/◌, min};
+ghost use Rattle.std.specs.Duration.{as_nanos};
 ghost use Rattle.worker_crew.specs.Idle.{next_look, next_of};
+ghost use Rattle.worker_crew.specs.declared.pace.TheConstants.{LONGEST_WAIT};
 
 use crate::coordinator::Coordinator;
 use crate::errands::Errands;
@@ -111,14 +113,12 @@ impl TimeKeeper {
     }
 
     fn seconds<R: Clock>(&self, rt: &R) -> u64 {
-        self.elapsed(rt).as_secs()
+        moment_after(self.elapsed(rt))
     }
 
     // The time left until this moment, at most `LONGEST_WAIT`.
     fn left_until<R: Clock>(&self, rt: &R, moment: u64) -> Duration {
-        Duration::from_secs(moment)
-            .saturating_sub(self.elapsed(rt))
-            .min(Duration::from_secs(LONGEST_WAIT))
+        left_of(self.elapsed(rt), moment)
     }
 
     fn watch<L: Ledger, E: Errands, R: Wait + Clock>(
@@ -178,6 +178,22 @@ fn next_errand<E: Errands>(errands: &E, now: u64) -> u64 {
         Some(seconds) => now.saturating_add(seconds),
         None => u64::MAX,
     }
+}
+
+// The moment after this time: whole seconds.
+fn moment_after(passed: Duration) -> u64
+    ensures { result ≡ as_nanos passed / 1000000000 }
+{
+    passed.as_secs()
+}
+
+// The time left until this moment after this time, at most `LONGEST_WAIT`.
+fn left_of(passed: Duration, moment: u64) -> Duration
+    ensures { as_nanos result ≡ min (moment * 1000000000 - as_nanos passed) (LONGEST_WAIT * 1000000000) }
+{
+    Duration::from_secs(moment)
+        .saturating_sub(passed)
+        .min(Duration::from_secs(LONGEST_WAIT))
 }
 
 // Records the events due at this moment, and reports what changed. False if the book took no entry.
