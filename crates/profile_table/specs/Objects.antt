@@ -1,5 +1,5 @@
--- A table as JSON objects (RFC 8259), one per line, this project's own: docs/SEMANTICS.md, "Programs". No text of
--- these has a byte that JSON would escape.
+-- A table as JSON objects (RFC 8259), one per line, this project's own: docs/SEMANTICS.md, "Programs". No
+-- text of these has a byte that JSON would escape.
 use Rattle.std.specs.Prelude.{ℕ, ◌+◌, ◌==◌, ◌&&◌, if◌then◌else◌, List, [], ◌∷◌, ◌++◌, codes}
 use Rattle.std.specs.Fmt.{decimal}
 use Rattle.action.specs.Verdict.{name_of, verdict_of}

@@ -9,8 +9,8 @@
 //! - There is one row for each call of the table, in order: `rows` (each).
 //! - A row's entry, or the default, decides each call with its number if no entry with conditions applies
 //!   before, as `explain` returns it: `rows` (real).
-//! - The text and the objects of a table, byte by byte: `table_lines`, `table_objects`, `Display` of `Words`. A
-//!   row is in exactly one line: that of its decider, or its own if entries with conditions may decide.
+//! - The text and the objects of a table, byte by byte: `table_lines`, `table_objects`, `Display` of `Words`.
+//!   A row is in exactly one line: that of its decider, or its own if entries with conditions may decide.
 #![tactic(auto)]
 
 mod conditions;
