@@ -77,7 +77,8 @@ fn table<'a>(alloc: Global) -> Result<Command<'a>, AllocError> {
             "against",
             "OLD",
             "Print only the calls on which the profile differs from OLD",
-        ))
+        ))?
+        .arg(json(alloc))
 }
 
 fn resolve<'a>(alloc: Global) -> Result<Command<'a>, AllocError> {

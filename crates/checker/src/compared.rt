@@ -16,8 +16,9 @@ use std::rt;
 /// How many instructions are followed at most, which takes seconds.
 pub(crate) const BUDGET: u64 = 100_000_000;
 
-/// How many instructions are followed at most for each part of `--all`.
-const PART_BUDGET: u64 = 1_000_000;
+/// How many instructions are followed at most for each part of `--all`. There are about 350 parts, so that all
+/// of them together take about as many as [`BUDGET`].
+const PART_BUDGET: u64 = 300_000;
 
 /// Whether the bytes are a profile's text and no filter: their first one that is no white space of JSON
 /// (RFC 8259) begins an object.

@@ -5,7 +5,7 @@ ghost use Rattle.checker.specs.ProfileLines.{IsDefaultLine};
 use call_data::SysCall;
 use check_stops::{Form, Stop, bytes_at, profile_stop};
 use explain::{explain, explanation_lines, explanation_objects};
-use profile_table::{rows, table_lines};
+use profile_table::{rows, table_lines, table_objects};
 use profile_text::default_text;
 use std::alloc::{AllocError, Global};
 use std::rt;
@@ -32,6 +32,7 @@ pub(crate) fn explain_text<'a, R: rt::Files + AllocGlobal>(
 pub(crate) fn table_text<'a, R: rt::Files + AllocGlobal>(
     rt: &R,
     path: &'a str,
+    form: Form,
 ) -> Result<String, Stop<'a>> {
     let alloc = rt.alloc();
     let bytes = bytes_at(rt, path)?;
@@ -39,7 +40,10 @@ pub(crate) fn table_text<'a, R: rt::Files + AllocGlobal>(
         path, found,
     ))?;
     let rows = rows(alloc, &profile)?;
-    Ok(table_lines(alloc, &profile, rows.as_slice())?)
+    Ok(match form {
+        Form::Text => table_lines(alloc, &profile, rows.as_slice())?,
+        Form::Json => table_objects(alloc, &profile, rows.as_slice())?,
+    })
 }
 
 /// RuntimeDefault as a profile's text, in one line.

@@ -211,7 +211,7 @@ fn text_of<'a, R: rt::Files + AllocGlobal>(
             explain_text(rt, word_at(matches, "PROFILE"), call, form)
         }
         "default" => Ok(default_line(rt.alloc())?),
-        "table" => table_text(rt, word_at(matches, "PROFILE")),
+        "table" => table_text(rt, word_at(matches, "PROFILE"), form),
         "verify" => verify_text(rt, word_at(matches, "FILTER"), form),
         "budget" => budget_text(rt, word_at(matches, "FILTER"), form),
         "show" => show_text(rt, word_at(matches, "FILTER"), form),

@@ -1,10 +1,10 @@
 //! All the calls on which two seccomp filters differ, by number: classic BPF over a call's data, seccomp(2),
 //! and the numbers of asm/unistd_64.h.
 //!
-//! A part is the calls of x86-64 with one number that has a name, with numbers that have none, or with numbers
-//! above the table's, the calls of x32, or those of other architectures (`specs/Parts.antt`). `differences`
-//! compares the filters part by part, and returns a finding for each part on which they were not found to be
-//! the same.
+//! A part is the calls of x86-64 with one number that has a name, with numbers that have none, or with
+//! numbers above the table's, the calls of x32, or those of other architectures (`specs/Parts.antt`).
+//! `differences` compares the filters part by part. It returns a finding for each part on which they were not
+//! found to be the same.
 //!
 //! # What is proved
 //!

@@ -1,5 +1,6 @@
 -- Rows of entries, from what is known where they are made.
-use Rattle.std.proofs.Common.{◌≡◌, ℕ, ◌+◌, ◌<◌, Some, Bool, true, false, List, [], ◌∷◌, ◌++◌, suc, length, refl, sym, ap, subst, arith, ◌∙◌, ◌≤◌}
+use Rattle.std.proofs.Common.{◌≡◌, ℕ, suc, ◌+◌, ◌<◌, ◌≤◌, Some, Bool, true, false, List, [], ◌∷◌, ◌++◌}
+use Rattle.std.proofs.Common.{length, refl, sym, ap, subst, arith, ◌∙◌}
 use Rattle.std.specs.Prelude.{slice_get, slice_index_or}
 use Rattle.std.proofs.lemmas.Option.{slice_get-get_or, slice_get_within}
 use Rattle.call_data.specs.declared.sys_call.SysCall.{SysCall}
@@ -141,7 +142,7 @@ unfolding named_below
 named_more nr = let e : nr + 1 ≡ suc nr = omega arith in rw e refl
 
 -- an item of a list that is there
-pub item_at : (entries items : List Entry) (place : ℕ) (entry : Entry) → items ≡ entries → place < length items
-    → slice_index_or items place entry ≡ entry → slice_get entries place ≡ Some entry
+pub item_at : (entries items : List Entry) (place : ℕ) (entry : Entry) → items ≡ entries
+    → place < length items → slice_index_or items place entry ≡ entry → slice_get entries place ≡ Some entry
 item_at entries items place entry same inside is =
     rw (sym same) (slice_get-get_or items place entry inside ∙ ap Some is)

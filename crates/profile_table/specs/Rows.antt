@@ -1,6 +1,7 @@
 -- How a profile treats the calls with a number: OCI runtime-spec 1.1, config-linux, seccomp, where the first
 -- entry that names the number and whose conditions all hold decides.
-use Rattle.std.specs.Prelude.{◌≡◌, ◌<◌, ℕ, zero, suc, true, false, if◌then◌else◌, List, [], ◌∷◌, ◌++◌, Some, length, slice_get}
+use Rattle.std.specs.Prelude.{◌≡◌, ◌<◌, ℕ, zero, suc, true, false, if◌then◌else◌, List, [], ◌∷◌, ◌++◌, Some}
+use Rattle.std.specs.Prelude.{length, slice_get}
 use Rattle.std.specs.Option.{is_some}
 use Rattle.call_data.specs.declared.sys_call.SysCall.{SysCall}
 use Rattle.oci_profile.specs.declared.decision.Decision.{Decision}
@@ -51,8 +52,8 @@ pub record IsRowOf (profile : Profile) (row : Row) : Type 0 where
   pub inside : row.nr < 440
   pub placed : IsPlaced profile.entries row.decider
   pub decides : (call : SysCall) → IsOn row.nr call
-      → ((place : ℕ) (entry : Entry) → IsBefore place row.decider → slice_get profile.entries place ≡ Some entry
-      → applies call entry ≡ false)
+      → ((place : ℕ) (entry : Entry) → IsBefore place row.decider
+      → slice_get profile.entries place ≡ Some entry → applies call entry ≡ false)
       → IsDecidedBy profile call row.decider row.value
   pub alike : row.is_asked ≡ false → (call : SysCall) → IsOn row.nr call
       → IsDecidedBy profile call row.decider row.value

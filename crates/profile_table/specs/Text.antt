@@ -129,7 +129,7 @@ entry_lines rows place (entry ∷ entries) =
     group_text (value_of entry.decision) (by.Entry place) (numbers_in (by.Entry place) rows)
     ++ entry_lines rows (place + 1) entries
 
--- the calls that an entry decides, in the order of the entries, those of the default, and the others one by one
+-- the calls that each entry decides, those that the default decides, and each call that is asked about
 abbrev pub table_text : Profile → List Row → List ℕ
 table_text profile rows =
     entry_lines rows 0 profile.entries

@@ -63,7 +63,11 @@ fn group_line(
 }
 
 /// The numbers of the calls that are all decided by this.
-fn numbers_in(alloc: Global, decider: Decider, rows: &[Row]) -> Result<Vec<u32>, AllocError>
+pub(crate) fn numbers_in(
+    alloc: Global,
+    decider: Decider,
+    rows: &[Row],
+) -> Result<Vec<u32>, AllocError>
     ensures { IfOk result (λ numbers. numbers.items ≡ numbers_in decider rows.now) }
 {
     let mut numbers = Vec::new(alloc);
@@ -145,7 +149,7 @@ fn way_at(alloc: Global, row: &Row, place: usize, entry: &Entry) -> Result<Strin
 }
 
 /// Whether the entry at this place comes before the one that decides.
-fn is_before(place: usize, decider: Decider) -> bool
+pub(crate) fn is_before(place: usize, decider: Decider) -> bool
     ensures { result ≡ is_before place decider }
 {
     match decider {
@@ -189,7 +193,7 @@ fn names_text(alloc: Global, numbers: &[u32]) -> Result<String, AllocError>
 }
 
 /// The name of a call.
-fn named(nr: u32) -> CallWord
+pub(crate) fn named(nr: u32) -> CallWord
     ensures number { result.nr ≡ nr }
     ensures naming { result.naming ≡ Name }
 {

@@ -59,8 +59,8 @@ told_text told = decided_text told.decider told.value
 
 abbrev pub line_text : Line → List ℕ
 line_text (Differs part call one other) =
-    part_text part
-    ++ (codes ": " ++ (told_text one ++ (codes ", " ++ (told_text other ++ (codes " at " ++ words_text call)))))
+    part_text part ++ (codes ": " ++ (told_text one ++ (codes ", " ++ (told_text other ++ (codes " at "
+    ++ words_text call)))))
 line_text (Undecided part why) = part_text part ++ (codes ": undecided: " ++ reason_of why)
 
 abbrev pub lines_text : List Line → List ℕ

@@ -8,8 +8,8 @@
 //! # What is proved
 //!
 //! - A profile's filter returns on every call what the profile means: `Compiled::new`.
-//! - Each finding has its line, in order. The part of a profile in it is the one that decides the call, with the
-//!   printed value: `lines`.
+//! - Each finding has its line, in order. The part of a profile in it is the one that decides the call, with
+//!   the printed value: `lines`.
 //! - The text and the objects of lines, byte by byte: `all_lines`, `all_objects`, `Display` of `Line`,
 //!   `LineObject`, `PartName`, `CallWords`, `Told`.
 #![tactic(auto)]

@@ -22,7 +22,7 @@ add-requires-2-clause-below c = λ k d within.
 
 pub returns-clause-complete : goal.returns-clause-complete
 returns-clause-complete c = λ call is misses. elim (cases_lt call.nr 440) [
-  | inl below ↦ c.loop-nr.invariant.0 call is (omega (arith, below, c.loop-nr-test.false, c.loop-nr.invariant))
-      (c.in_ok-add-2.ensures.kept call misses)
+  | inl below ↦ c.loop-nr.invariant.0 call is
+      (omega (arith, below, c.loop-nr-test.false, c.loop-nr.invariant)) (c.in_ok-add-2.ensures.kept call misses)
   | inr later ↦ c.in_ok-add-2.ensures.complete call (is.0, is.1, later, omega (arith, is.2)) misses
 ]

@@ -25,6 +25,6 @@ loop-place-preserved c = (
 
 pub returns-clause-real : goal.returns-clause-real
 returns-clause-real c =
-    default_row c.args.profile.now c.args.nr c.loop-place.place c.loop-place.is_asked c.value-2.result c.requires
-    (omega (arith, c.loop-place-test.false, ap length c.as_slice-entry-items.ensures.value)) c.value-2.ensures
+    default_row c.args.profile.now c.args.nr c.loop-place.place c.loop-place.is_asked c.value-2.result
+    c.requires (omega (arith, c.loop-place-test.false, ap length c.as_slice-entry-items.ensures.value)) c.value-2.ensures
     c.loop-place.invariant.0 c.loop-place.invariant.1

@@ -1,0 +1,192 @@
+//! A table as JSON objects (RFC 8259). No text of these has a byte that JSON would escape.
+ghost use Rattle.std.specs.Prelude.{◌≡◌, IfOk, string_bytes};
+ghost use Rattle.profile_table.specs.Objects.{asked_object, asked_objects, conds_items, entry_objects};
+ghost use Rattle.profile_table.specs.Objects.{group_object, names_items, table_objects, way_object};
+ghost use Rattle.profile_table.specs.Objects.{way_object_at, ways_objects};
+ghost use Rattle.profile_table.specs.Text.{numbers_in};
+
+use crate::conditions::Words;
+use crate::row::Row;
+use crate::texts::{is_before, named, numbers_in};
+use action::Verdict;
+use explain::Decider;
+use oci_profile::{Cond, Entry, Profile};
+use std::alloc::{AllocError, Global};
+use std::fmt;
+
+/// The lines of a table as objects: `{"action":"ALLOW","data":0,"by":"syscalls[0]","calls":["read","write"]}`.
+/// A call that entries with conditions may decide has `{"call":"socket","ways":[..]}`.
+pub fn table_objects(alloc: Global, profile: &Profile, rows: &[Row]) -> Result<String, AllocError>
+    ensures { IfOk result (λ text. string_bytes text ≡ table_objects profile.now rows.now) }
+{
+    let groups = entry_objects(alloc, rows, profile.entries.as_slice())?;
+    let default = group(alloc, profile.default.value(), Decider::Default, rows)?;
+    let asked = asked_objects(alloc, profile, rows)?;
+    format!(in alloc; "{groups}{default}{asked}")
+}
+
+/// An object for each entry that decides all calls with some numbers.
+fn entry_objects(alloc: Global, rows: &[Row], entries: &[Entry]) -> Result<String, AllocError>
+    ensures { IfOk result (λ text. string_bytes text ≡ entry_objects rows.now 0 entries.now) }
+{
+    let mut text = String::new(alloc);
+    for (place, entry) in entries.iter().enumerate() {
+        let object = group(alloc, entry.decision.value(), Decider::Entry(place), rows)?;
+        text.push_str(object.as_str())?;
+    }
+    Ok(text)
+}
+
+/// The object of the calls that are all decided by this, if there are some.
+fn group(alloc: Global, value: u32, decider: Decider, rows: &[Row]) -> Result<String, AllocError>
+    ensures { IfOk result (λ text. string_bytes text
+        ≡ group_object value decider (numbers_in decider rows.now)) }
+{
+    let numbers = numbers_in(alloc, decider, rows)?;
+    group_object(alloc, value, decider, numbers.as_slice())
+}
+
+/// The object of these calls, if there are some.
+fn group_object(
+    alloc: Global,
+    value: u32,
+    decider: Decider,
+    numbers: &[u32],
+) -> Result<String, AllocError>
+    ensures { IfOk result (λ text. string_bytes text ≡ group_object value decider numbers.now) }
+{
+    if numbers.is_empty() {
+        return Ok(String::new(alloc));
+    }
+    let members = Members(value, decider);
+    let names = names_items(alloc, numbers)?;
+    format!(in alloc; "{{{members},\"calls\":[{names}]}}\n")
+}
+
+/// An object for each call that entries with conditions may decide.
+fn asked_objects(alloc: Global, profile: &Profile, rows: &[Row]) -> Result<String, AllocError>
+    ensures { IfOk result (λ text. string_bytes text ≡ asked_objects profile.now rows.now) }
+{
+    let mut text = String::new(alloc);
+    for row in rows {
+        let object = asked_object(alloc, profile, row)?;
+        text.push_str(object.as_str())?;
+    }
+    Ok(text)
+}
+
+/// The object of a row, if entries with conditions may decide.
+#[tactic(auto, unfolding(crate::specs::Objects::asked_object))]
+fn asked_object(alloc: Global, profile: &Profile, row: &Row) -> Result<String, AllocError>
+    ensures { IfOk result (λ text. string_bytes text ≡ asked_object profile.now row.now) }
+{
+    if !row.is_asked {
+        return Ok(String::new(alloc));
+    }
+    let (call, members) = (named(row.nr), Members(row.value, row.decider));
+    let ways = ways_objects(alloc, row, profile.entries.as_slice())?;
+    format!(in alloc; "{{\"call\":\"{call}\",\"ways\":[{ways}{{{members}}}]}}\n")
+}
+
+/// The entries before the one that decides that name the number, each with its conditions.
+fn ways_objects(alloc: Global, row: &Row, entries: &[Entry]) -> Result<String, AllocError>
+    ensures { IfOk result (λ text. string_bytes text ≡ ways_objects row.now 0 entries.now) }
+{
+    let mut text = String::new(alloc);
+    for (place, entry) in entries.iter().enumerate() {
+        let way = way_object_at(alloc, row, place, entry)?;
+        text.push_str(way.as_str())?;
+    }
+    Ok(text)
+}
+
+/// The object for the entry at this place, if it comes before the one that decides and names the number.
+#[tactic(auto, unfolding(crate::specs::Objects::way_object_at))]
+fn way_object_at(
+    alloc: Global,
+    row: &Row,
+    place: usize,
+    entry: &Entry,
+) -> Result<String, AllocError>
+    ensures { IfOk result (λ text. string_bytes text ≡ way_object_at row.now place entry.now) }
+{
+    if is_before(place, row.decider) && entry.names(row.nr) {
+        way_object(alloc, place, entry)
+    } else {
+        Ok(String::new(alloc))
+    }
+}
+
+/// An entry that decides if its conditions hold.
+fn way_object(alloc: Global, place: usize, entry: &Entry) -> Result<String, AllocError>
+    ensures { IfOk result (λ text. string_bytes text ≡ way_object place entry.now) }
+{
+    let members = Members(entry.decision.value(), Decider::Entry(place));
+    let conds = conds_items(alloc, entry.conds.as_slice())?;
+    format!(in alloc; "{{{members},\"if\":[{conds}]}},")
+}
+
+/// `"args[0] != 40","args[1] == 1"`.
+fn conds_items(alloc: Global, conds: &[Cond]) -> Result<String, AllocError>
+    ensures { IfOk result (λ text. string_bytes text ≡ conds_items 0 conds.now) }
+{
+    let mut text = String::new(alloc);
+    for (place, cond) in conds.iter().enumerate() {
+        let (comma, words) = (Comma(place), Words(*cond));
+        write!(text, "{comma}\"{words}\"")?;
+    }
+    Ok(text)
+}
+
+/// `"read","write"`.
+fn names_items(alloc: Global, numbers: &[u32]) -> Result<String, AllocError>
+    ensures { IfOk result (λ text. string_bytes text ≡ names_items 0 numbers.now) }
+{
+    let mut text = String::new(alloc);
+    for (place, nr) in numbers.iter().enumerate() {
+        let (comma, name) = (Comma(place), named(*nr));
+        write!(text, "{comma}\"{name}\"")?;
+    }
+    Ok(text)
+}
+
+/// A value's action and data, and what decides, as members.
+#[derive(Clone, Copy)]
+struct Members(u32, Decider);
+
+impl fmt::Display for Members {
+    ghost use Rattle.std.specs.Prelude.{Some};
+    ghost use Rattle.profile_table.specs.Objects.{decided_members};
+
+    ghost output = { λ members. Some (decided_members members.0 members.1) };
+
+    fn fmt<W: fmt::Write>(&self, f: &mut fmt::Formatter<W>) -> fmt::Result {
+        let verdict = Verdict::of_value(self.0);
+        let (action, ret_data) = (verdict.action, verdict.ret_data);
+        let decider = self.1;
+        write!(
+            f,
+            "\"action\":\"{action}\",\"data\":{ret_data},\"by\":\"{decider}\""
+        )
+    }
+}
+
+/// The comma before the item at this place.
+#[derive(Clone, Copy)]
+struct Comma(usize);
+
+impl fmt::Display for Comma {
+    ghost use Rattle.std.specs.Prelude.{Some};
+    ghost use Rattle.profile_table.specs.Objects.{comma};
+
+    ghost output = { λ item. Some (comma item.0) };
+
+    #[tactic(auto, unfolding(crate::specs::Objects::comma))]
+    fn fmt<W: fmt::Write>(&self, f: &mut fmt::Formatter<W>) -> fmt::Result {
+        if self.0 == 0 {
+            Ok(())
+        } else {
+            f.write_str(",")
+        }
+    }
+}
