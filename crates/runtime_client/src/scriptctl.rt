@@ -41,8 +41,11 @@ fn run<'a, O: Write, E: Write>(
     let line = scriptctl_line(system.alloc(), words)?;
     let uids = uids_of(system.alloc(), &line)?;
     let mut status = 0;
-    for (place, uid) in uids.iter().enumerate() {
-        if !is_answered(system, &line, place == 0, uid, out, err)? {
+    let mut is_first = true;
+    for uid in uids.iter() {
+        if is_answered(system, &line, is_first, uid, out, err)? {
+            is_first = false;
+        } else {
             status = 1;
         }
     }
@@ -66,8 +69,8 @@ fn uids_of<'a>(alloc: Global, line: &ScriptctlLine<'a>) -> Result<Vec<Uid>, Clie
     Ok(uids)
 }
 
-// Makes the call about a pod and prints the answer, for the first pod below the header. Returns whether the
-// request was not refused.
+// Makes the call about a pod and prints the answer, for the first pod that has one below the header. Returns
+// whether the request was not refused.
 fn is_answered<'a, O: Write, E: Write>(
     system: &HostRuntime,
     line: &ScriptctlLine<'a>,
