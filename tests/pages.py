@@ -44,7 +44,7 @@ def installed(folder, programs):
         os.symlink(f"{ROOT}/man", f"{folder}/share/man/man1")
         return
     words = ["make", "--no-print-directory", "-C", ROOT, "copy", f"PREFIX={folder}"]
-    ran = subprocess.run(words, capture_output=True, text=True, errors="replace")
+    ran = subprocess.run(words, capture_output=True, text=True, errors="replace", umask=0o022)
     check("make copy", ran.returncode, 0)
     if ran.returncode:
         print((ran.stdout + ran.stderr)[-2000:], flush=True)
@@ -90,7 +90,7 @@ def check_copy(prefix, room):
     check("its relocations are read-only", "GNU_RELRO" in said and bool(re.search(r"BIND_NOW|FLAGS.* NOW", said)))
     check("its stack is not executable", bool(re.search(r"GNU_STACK.* RW +0", said)))
     words = ["make", "--no-print-directory", "-C", ROOT, "copy", "PREFIX=/usr", f"DESTDIR={room}/stage"]
-    check("make copy with DESTDIR", subprocess.run(words, capture_output=True).returncode, 0)
+    check("make copy with DESTDIR", subprocess.run(words, capture_output=True, umask=0o022).returncode, 0)
     check("what lies below DESTDIR", sorted(os.listdir(f"{room}/stage")), ["usr"])
     check("what DESTDIR has", modes_below(f"{room}/stage/usr"), wanted_modes())
 
