@@ -5,7 +5,7 @@ ghost use Rattle.checker.specs.LintText.{count_text};
 use check_stops::{Form, Output, Stop, bytes_at, profile_stop};
 use fault_notes::ShownPath;
 use oci_profile::Profile;
-use profile_lint::{findings, lint_lines, lint_objects, passed_in};
+use profile_lint::{findings, lint_lines, lint_objects, once, passed_in};
 use std::alloc::{AllocError, Global};
 use std::rt;
 
@@ -23,7 +23,7 @@ pub(crate) fn lint_output<'a, R: rt::Files + AllocGlobal>(
     // It was read before, so that memory alone can be wanting.
     let tree = json_tree::read(alloc, &bytes).map_err(|_| AllocError)?;
     let passed = passed_in(alloc, &tree)?;
-    let found = findings(alloc, &profile)?;
+    let found = once(alloc, findings(alloc, &profile)?.as_slice())?;
     let (passed, found) = (passed.as_slice(), found.as_slice());
     let text = match form {
         Form::Text => lint_lines(alloc, passed, found)?,
@@ -42,7 +42,7 @@ pub(crate) fn beside(
     // It was read before, so that memory alone can be wanting.
     let tree = json_tree::read(alloc, bytes).map_err(|_| AllocError)?;
     let passed = passed_in(alloc, &tree)?.len();
-    let found = findings(alloc, profile)?.len();
+    let found = once(alloc, findings(alloc, profile)?.as_slice())?.len();
     count_line(alloc, path, passed.saturating_add(found))
 }
 

@@ -1,7 +1,7 @@
 -- Findings about a profile: OCI runtime-spec 1.1, config-linux, seccomp. That calls newer than the table want
 -- ENOSYS is this project's own: docs/SEMANTICS.md, "What is told of a profile".
 use Rattle.std.specs.Prelude.{◌≡◌, ℕ, ◌==◌, nat_le, ◌&&◌, if◌then◌else◌, Bool, true, false, Option, Some, None}
-use Rattle.std.specs.Prelude.{List, slice_get}
+use Rattle.std.specs.Prelude.{List, [], ◌∷◌, ◌||◌, slice_get}
 use Rattle.std.specs.List.{list_any}
 use Rattle.call_data.specs.declared.sys_call.SysCall.{SysCall}
 use Rattle.oci_profile.specs.declared.profile.Entry.{Entry}
@@ -103,3 +103,20 @@ pub record IsReported (profile : Profile) (finds : List Finding) (place : ℕ) :
 pub record AreAll (profile : Profile) (finds : List Finding) : Type 0 where
   pub entries : (place : ℕ) → IsReported profile finds place
   pub newer : (errno : ℕ) → newer_of profile.default ≡ Some errno → list_any (is_on_newer errno) finds ≡ true
+
+-- whether it says that an entry was not compared
+abbrev pub is_uncompared : Finding → Bool
+is_uncompared (found.NeverDecides at) = false
+is_uncompared (found.SameWithout at) = false
+is_uncompared (found.NotFoundOut at) = false
+is_uncompared (found.NotLookedAt from) = false
+is_uncompared (found.NotCompared at) = true
+is_uncompared (found.ReadOtherwise at call here there) = false
+is_uncompared (found.Overlap at other call) = false
+is_uncompared (found.NewerCalls errno) = false
+
+-- the findings without those that say this once more
+abbrev pub once_from : Bool → List Finding → List Finding
+once_from seen [] = []
+once_from seen (one ∷ finds) = if seen && is_uncompared one then once_from seen finds
+    else one ∷ once_from (seen || is_uncompared one) finds

@@ -86,7 +86,7 @@ found_text (found.NotFoundOut place) = codes "syscalls["
 found_text (found.NotLookedAt place) = codes "syscalls["
     ++ (decimal place ++ codes "]: NotLookedAt: from here on entries may decide no call, or be redundant")
 found_text (found.NotCompared place) = codes "syscalls["
-    ++ (decimal place ++ codes "]: NotCompared: engines may read it differently")
+    ++ (decimal place ++ codes "]: NotCompared: from here on engines may read entries differently")
 found_text (found.ReadOtherwise place call here there) = codes "syscalls["
     ++ (decimal place ++ (codes "]: EnginesDiffer: at " ++ (call_text call ++ (codes ": "
     ++ (value_text here ++ (codes " here, " ++ (value_text there ++ codes " by runc")))))))

@@ -1,8 +1,9 @@
-ghost use Rattle.std.specs.Prelude.{◌≡◌, ℕ, All, ◌++◌, IfOk, IfSome, option_map, option_to_list, slice_get, Some};
+ghost use Rattle.std.specs.Prelude.{◌≡◌, ℕ, All, ◌++◌, IfOk, IfSome, false, option_map, option_to_list, slice_get, Some};
 ghost use Rattle.oci_profile.specs.declared.profile.Profile.{Profile};
 ghost use Rattle.profile_lint.specs.Engines.{as_engines_read, kept_of};
 ghost use Rattle.profile_lint.specs.Entries.{Stands, with_entries};
-ghost use Rattle.profile_lint.specs.Findings.{AreAll, HasNeed, HasOverlap, HasReading, IsReported, IsSo, newer_of};
+ghost use Rattle.profile_lint.specs.Findings.{AreAll, HasNeed, HasOverlap, HasReading, IsReported, IsSo, is_uncompared};
+ghost use Rattle.profile_lint.specs.Findings.{newer_of, once_from};
 ghost use Rattle.profile_lint.specs.Readings.{OverlapsAs, Reads};
 ghost use Rattle.profile_lint.specs.declared.engines.Kind.TheVariants.{Bare};
 ghost use Rattle.profile_lint.specs.declared.engines.Overlapping.TheVariants as of_overlap;
@@ -243,4 +244,26 @@ fn overlap_at(place: usize, second: usize, overlapping: Overlapping) -> Option<F
         Overlapping::Never => None,
         Overlapping::Unknown => Some(Finding::NotCompared(place)),
     }
+}
+
+/// The findings as they are printed: that entries were not compared is said once, about the first of them.
+pub fn once(alloc: Global, found: &[Finding]) -> Result<Vec<Finding>, AllocError>
+    ensures { IfOk result (λ v. v.items ≡ once_from false found.now) }
+{
+    let mut kept = Vec::new(alloc);
+    let mut is_said = false;
+    for one in found {
+        let is_uncompared = is_uncompared(one);
+        if !(is_said && is_uncompared) {
+            kept.push(*one)?;
+        }
+        is_said = is_said || is_uncompared;
+    }
+    Ok(kept)
+}
+
+fn is_uncompared(one: &Finding) -> bool
+    ensures { result ≡ is_uncompared one.now }
+{
+    matches!(one, Finding::NotCompared(_))
 }

@@ -43,7 +43,7 @@ mod text;
 mod witness;
 
 pub use entries::standing;
-pub use finder::{findings, newer_calls};
+pub use finder::{findings, newer_calls, once};
 pub use finding::Finding;
 pub use lines::lint_lines;
 pub use objects::lint_objects;

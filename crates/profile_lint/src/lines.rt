@@ -193,7 +193,7 @@ impl fmt::Display for Finding {
             ),
             Finding::NotCompared(place) => write!(
                 f,
-                "syscalls[{place}]: NotCompared: engines may read it differently"
+                "syscalls[{place}]: NotCompared: from here on engines may read entries differently"
             ),
             Finding::ReadOtherwise(place, call, here, there) => {
                 let (call, here, there) = (Words(*call), Value(*here), Value(*there));
