@@ -40,6 +40,7 @@ try:
 	@tools/try.py $(DESTDIR)$(PREFIX)
 
 lib:
+	@echo 'lib: the library for C is proved and built; what rt prints of it:'
 	@cd crates/motchidu_c && rt lib
 	@tools/pack_library.sh crates/motchidu_c/out/libmotchidu_c.a out/c
 

@@ -5,7 +5,7 @@ use call_data::{NATIVE_ARCH, SysCall, fields_fit};
 /// Numbers from this one on are not native calls of x86-64: `__X32_SYSCALL_BIT` of asm/unistd.h.
 const X32_BIT: u32 = 0x4000_0000;
 
-/// The calls on which two filters are to be the same.
+/// The calls that a user compares two filters on.
 #[derive(Clone, Copy, Debug, PartialEq, Eq)]
 pub enum Calls {
     /// Every call.

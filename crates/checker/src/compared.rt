@@ -16,8 +16,8 @@ use std::rt;
 /// How many instructions are followed at most, which takes seconds.
 pub(crate) const BUDGET: u64 = 100_000_000;
 
-/// How many instructions are followed at most for each part of `--all`. There are about 350 parts, so that all
-/// of them together take about as many as [`BUDGET`].
+/// How many instructions are followed at most for each part of `--all`. The parts are about 350, so they take
+/// about as many as [`BUDGET`] together.
 const PART_BUDGET: u64 = 300_000;
 
 /// Whether the bytes are a profile's text and no filter: their first one that is no white space of JSON

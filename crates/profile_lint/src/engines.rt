@@ -256,7 +256,7 @@ pub(crate) fn overlap(
     }
 }
 
-/// Whether engines lack one of the entries, or it has no conditions, or they share no call, or have one value.
+/// Whether engines lack one of the entries, one has no conditions, or both share no call or have one value.
 #[tactic(auto, using(crate::proofs::Alike::unkept_apart, crate::proofs::Alike::unshared_apart, crate::proofs::Alike::equal_apart))]
 fn are_apart(profile: &Profile, place: usize, one: &Entry, second: usize, two: &Entry) -> bool
     requires one_at { slice_get profile.now.entries place ≡ Some one.now }

@@ -24,7 +24,8 @@
 //! - The printed lines and the JSON objects, byte by byte: `lint_lines`, `lint_objects`, `Display` of
 //!   `Passed`, `Finding`, `Holder`.
 //!
-//! Only tested: how seldom an entry is reported as not known, and that runc and libseccomp behave as modelled.
+//! Only tested: how seldom an entry is reported as not known, and that runc and libseccomp behave like the
+//! model.
 #![tactic(auto)]
 
 mod copies;

@@ -14,8 +14,8 @@ use oci_profile::{Cond, Entry, Profile};
 use std::alloc::{AllocError, Global};
 use std::fmt;
 
-/// The lines of a table as objects: `{"action":"ALLOW","data":0,"by":"syscalls[0]","calls":["read","write"]}`.
-/// A call that entries with conditions may decide has `{"call":"socket","ways":[..]}`.
+/// The lines of a table as objects: `{"action":"ALLOW","data":0,"by":"syscalls[0]","calls":["read"]}`. A call
+/// that entries with conditions may decide has `{"call":"socket","ways":[..]}`.
 pub fn table_objects(alloc: Global, profile: &Profile, rows: &[Row]) -> Result<String, AllocError>
     ensures { IfOk result (λ text. string_bytes text ≡ table_objects profile.now rows.now) }
 {
