@@ -7,7 +7,7 @@ ENGINES ?= /
 BENCH_FLAGS := -std=gnu11 -O2 -Wall -Wextra
 
 .PHONY: help test quick cases times planted mutants demo try lib install copy uninstall bench kernel table \
-  fleet real clean
+  fleet real look clean
 
 help:
 	@tools/help.sh
@@ -116,6 +116,10 @@ fleet:
 # Real programs under filters, by the seccheck that make test built, or that in the folder BIN.
 real:
 	@tools/real.py
+
+# Pages of seccheck report in a headless Chromium, by the seccheck that make test built, or that in the folder BIN.
+look:
+	@ENGINES=$(ENGINES) tools/look.py
 
 clean:
 	rm -rf out crates/*/out

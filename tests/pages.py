@@ -183,7 +183,7 @@ def check_completions(prefix):
             with open(f"{prefix}/share/{place.format(program)}", encoding="utf-8") as it:
                 words = set(re.findall(r"[a-z-]+", it.read().replace("-l ", "--")))
             check(f"{place.format(program)} has each option", sorted(options - words), [])
-    for typed, wanted in (("seccheck com", "compile compare"), ("seccheck lint --", "--json --help"),
+    for typed, wanted in (("seccheck com", "compile compare"), ("seccheck lint --", "--all --allow --json --help"),
                           ("nodeagent --w", "--with-runtime --workers --watch"), ("scriptd --scripts bi", "bin")):
         name, last = typed.split()[0], len(typed.split()) - 1
         script = (f". share/bash-completion/completions/{name}; COMP_WORDS=({typed}); COMP_CWORD={last}; _{name}; "

@@ -30,5 +30,8 @@ make fleet    runs 60 pods on three nodes behind Debian's etcd, and kills each k
               built, or BIN=FOLDER. Two minutes
 make real     holds real programs to filters, by bwrap, crun, runc, systemd and a program in C, and says which
               packages are missing; by what is built, or BIN=FOLDER. A few seconds
+make look     opens pages of seccheck report in a headless Chromium, wide and narrow, light and dark, and keeps
+              pictures in out/look; fails if a page scrolls sideways or logs an error; by what is built, or
+              BIN=FOLDER. ENGINES=FOLDER as for bench. A minute
 make clean    removes what is built and proved
 TEXT

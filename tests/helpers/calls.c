@@ -3,10 +3,10 @@
  *
  * FAIL_OPEN=FILE has each open of this path fail with the number OPEN_ERROR. FAIL_ACCEPT=N lets the first N
  * calls of accept4 fail for want of descriptors, FAIL_THREAD=N the N-th and each later call that starts a
- * thread. SLOW_UNLINK=N has each unlink wait for N seconds first, SLOW_COPY=N the third copy of a descriptor.
- * TAKEN=1 has a file come to stand where a link is to be made. LOCK_AFTER=FILE has the first lock wait until
- * FILE is gone, seven seconds at most, and a second more. SLOW_WAKE=N lets a thread that gave a lock back to
- * one that waits for it rest for N microseconds. */
+ * thread, or with FAIL_THREADS=M these M. SLOW_UNLINK=N has each unlink wait for N seconds first, SLOW_COPY=N
+ * the third copy of a descriptor. TAKEN=1 has a file come to stand where a link is to be made. LOCK_AFTER=FILE
+ * has the first lock wait until FILE is gone, seven seconds at most, and a second more. SLOW_WAKE=N lets a
+ * thread that gave a lock back to one that waits for it rest for N microseconds. */
 #define _GNU_SOURCE
 #include <dlfcn.h>
 #include <errno.h>
@@ -131,7 +131,8 @@ int pthread_create(pthread_t *thread, const pthread_attr_t *how, void *(*work)(v
 {
   static int begun;
   int failing = getenv("FAIL_THREAD") ? atoi(getenv("FAIL_THREAD")) : 0;
-  if (++begun >= failing && failing)
+  int most = getenv("FAIL_THREADS") ? atoi(getenv("FAIL_THREADS")) : 1 << 30;
+  if (++begun >= failing && failing && begun - failing < most)
     return EAGAIN;
   return NEXT(pthread_create)(thread, how, work, with);
 }

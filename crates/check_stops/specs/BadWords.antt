@@ -1,10 +1,13 @@
--- The names of the faults of words of a command line, this project's own: docs/SEMANTICS.md, "Programs".
+-- The names of the faults of words of a command line, with what would be right: this project's own,
+-- docs/SEMANTICS.md, "Programs".
 use Rattle.std.specs.Prelude.{ℕ, List, codes}
 use Rattle.check_stops.specs.declared.bad_words.WordFault.{WordFault}
 use Rattle.check_stops.specs.declared.bad_words.WordFault.TheVariants.{BadCap, BadArch, BadKernel, BadAction}
+use Rattle.check_stops.specs.declared.bad_words.WordFault.TheVariants.{BadKind}
 
 abbrev pub word_fault_text : WordFault → List ℕ
-word_fault_text BadCap = codes "BadCap"
-word_fault_text BadArch = codes "BadArch"
-word_fault_text BadKernel = codes "BadKernel"
-word_fault_text BadAction = codes "BadAction"
+word_fault_text BadCap = codes "BadCap (give CAP_ and a name, as CAP_SYS_ADMIN)"
+word_fault_text BadArch = codes "BadArch (give a name as templates have it, as amd64)"
+word_fault_text BadKernel = codes "BadKernel (give two numbers, as 6.12)"
+word_fault_text BadAction = codes "BadAction (give an action, as 'ERRNO 38')"
+word_fault_text BadKind = codes "BadKind (give a kind as lint prints it)"

@@ -1,6 +1,6 @@
 use std::fmt;
 
-/// Why a word of the command line of `resolve` or `learn` is refused.
+/// Why a word of the command line of `lint`, `resolve` or `learn` is refused.
 #[derive(Clone, Copy, Debug, PartialEq, Eq)]
 pub enum WordFault {
     /// No capability has such a name: they begin with `CAP_`.
@@ -11,9 +11,11 @@ pub enum WordFault {
     BadKernel,
     /// It is no action of a profile, with its number.
     BadAction,
+    /// No finding has such a kind.
+    BadKind,
 }
 
-/// The fault's name.
+/// The fault's name, and what would be right.
 impl fmt::Display for WordFault {
     ghost use Rattle.std.specs.Prelude.{Some};
     ghost use Rattle.check_stops.specs.BadWords.{word_fault_text};
@@ -22,10 +24,11 @@ impl fmt::Display for WordFault {
 
     fn fmt<W: fmt::Write>(&self, f: &mut fmt::Formatter<W>) -> fmt::Result {
         f.write_str(match self {
-            WordFault::BadCap => "BadCap",
-            WordFault::BadArch => "BadArch",
-            WordFault::BadKernel => "BadKernel",
-            WordFault::BadAction => "BadAction",
+            WordFault::BadCap => "BadCap (give CAP_ and a name, as CAP_SYS_ADMIN)",
+            WordFault::BadArch => "BadArch (give a name as templates have it, as amd64)",
+            WordFault::BadKernel => "BadKernel (give two numbers, as 6.12)",
+            WordFault::BadAction => "BadAction (give an action, as 'ERRNO 38')",
+            WordFault::BadKind => "BadKind (give a kind as lint prints it)",
         })
     }
 }

@@ -26,6 +26,7 @@ pub fn command<'a>(alloc: Global) -> Result<Command<'a>, AllocError> {
         ))?
         .subcommand(lint(alloc)?)?
         .subcommand(table(alloc)?)?
+        .subcommand(report(alloc)?)?
         .subcommand(resolve(alloc)?)?
         .subcommand(of_filter(alloc, "verify", "Check whether a filter is sound")?)?
         .subcommand(of_filter(
@@ -65,6 +66,18 @@ fn lint<'a>(alloc: Global) -> Result<Command<'a>, AllocError> {
     Command::new(alloc, "lint")
         .about("Report entries of a profile that have no effect or are probably mistakes")
         .arg(given(alloc, "PROFILE", "Profile"))?
+        .arg(flag(
+            alloc,
+            "all",
+            "Print each name that is not a call of x86-64, or is newer than the table",
+        ))?
+        .arg(option(
+            alloc,
+            "allow",
+            "KIND",
+            "Kind of findings to leave out, such as Redundant; may be repeated",
+        )
+        .action(ArgAction::Append))?
         .arg(json(alloc))
 }
 
@@ -79,6 +92,24 @@ fn table<'a>(alloc: Global) -> Result<Command<'a>, AllocError> {
             "Print only the calls on which the profile differs from OLD",
         ))?
         .arg(json(alloc))
+}
+
+fn report<'a>(alloc: Global) -> Result<Command<'a>, AllocError> {
+    Command::new(alloc, "report")
+        .about("Print a page of HTML about a profile: each call, what decides it, and the filter")
+        .arg(given(alloc, "PROFILE", "Profile"))?
+        .arg(option(
+            alloc,
+            "against",
+            "OLD",
+            "Frame the calls on which the profile differs from OLD",
+        ))?
+        .arg(option(
+            alloc,
+            "records",
+            "FILE",
+            "Add the calls that the records of containers in FILE show as denied",
+        ))
 }
 
 fn resolve<'a>(alloc: Global) -> Result<Command<'a>, AllocError> {
@@ -107,6 +138,11 @@ fn resolve<'a>(alloc: Global) -> Result<Command<'a>, AllocError> {
             "kernel",
             "V",
             "Version of the kernel; the newest if absent",
+        ))?
+        .arg(flag(
+            alloc,
+            "drop-newer",
+            "Leave calls newer than the table out of entries stricter than the default",
         ))
 }
 

@@ -18,7 +18,7 @@ pub(crate) const BUDGET: u64 = 100_000_000;
 
 /// How many instructions are followed at most for each part of `--all`. The parts are about 350, so they take
 /// about as many as [`BUDGET`] together.
-const PART_BUDGET: u64 = 300_000;
+pub(crate) const PART_BUDGET: u64 = 300_000;
 
 /// Whether the bytes are a profile's text and no filter: their first one that is no white space of JSON
 /// (RFC 8259) begins an object.
@@ -102,17 +102,24 @@ fn output_of(alloc: Global, text: String, lines: &[Line]) -> Output
 }
 
 /// The filter in a file, or the profile in it with its filter.
-fn side_at<'a, R: rt::Files + AllocGlobal>(rt: &R, path: &'a str) -> Result<Side, Stop<'a>> {
-    let alloc = rt.alloc();
+pub(crate) fn side_at<'a, R: rt::Files + AllocGlobal>(
+    rt: &R,
+    path: &'a str,
+) -> Result<Side, Stop<'a>> {
     let bytes = bytes_at(rt, path)?;
-    if is_profile(&bytes) {
-        let profile = oci_profile::read_placed(alloc, &bytes).map_err(|found| profile_stop(
+    side_of(rt.alloc(), path, &bytes)
+}
+
+/// The filter that these bytes of a file are, or the profile with its filter.
+pub(crate) fn side_of<'a>(alloc: Global, path: &'a str, bytes: &[u8]) -> Result<Side, Stop<'a>> {
+    if is_profile(bytes) {
+        let profile = oci_profile::read_placed(alloc, bytes).map_err(|found| profile_stop(
             path, found,
         ))?;
         let compiled = Compiled::new(alloc, profile).map_err(|fault| compile_stop(path, fault))?;
         Ok(Side::Profile(compiled))
     } else {
-        let filter = filter_of(alloc, &bytes).map_err(|refusal| filter_stop(path, refusal))?;
+        let filter = filter_of(alloc, bytes).map_err(|refusal| filter_stop(path, refusal))?;
         Ok(Side::Filter(filter))
     }
 }

@@ -1,6 +1,6 @@
 //! The work of `seccheck`: compiles, lints, resolves, explains, learns and writes profiles, judges calls by
-//! filters, shows and compares filters, plays scripts under them, picks the profiles of pods, and adds up what
-//! was denied.
+//! filters, shows and compares filters, plays scripts under them, picks the profiles of pods, adds up what was
+//! denied, and writes pages about profiles.
 //!
 //! The functions are generic over the runtime and over the writers for standard output and standard
 //! error. The command line is `check_words`'s. Answers come from `check_answers`, `container_answers`, `explain`
@@ -21,6 +21,7 @@ mod compared;
 mod file;
 mod linting;
 mod profiles;
+mod reporting;
 mod resolving;
 mod seccheck;
 mod written;

@@ -2,20 +2,39 @@
 ghost use Rattle.std.specs.Prelude.{◌≡◌, IfOk, string_bytes};
 ghost use Rattle.checker.specs.LintText.{count_text};
 
-use check_stops::{Form, Output, Stop, bytes_at, profile_stop};
+use check_stops::{Form, Output, Stop, WordFault, bytes_at, profile_stop};
 use fault_notes::ShownPath;
 use oci_profile::Profile;
-use profile_lint::{findings, lint_lines, lint_objects, once, passed_in};
+use profile_lint::{
+    Choice, Finding, FindingKind, Passed, findings, grave_count, has_newer_names, is_bad,
+    kind_named, lint_lines, lint_objects, newer_calls, once, passed_in,
+};
 use std::alloc::{AllocError, Global};
 use std::rt;
 
-/// What is told of the profile in a file, with status 1 where there is something.
+/// The kinds of findings that these words name.
+fn kinds_of<'a>(alloc: Global, words: &[&'a str]) -> Result<Vec<FindingKind>, Stop<'a>> {
+    let mut kinds = Vec::new(alloc);
+    for word in words {
+        match kind_named(word) {
+            Some(kind) => kinds.push(kind)?,
+            None => return Err(Stop::BadWord(*word, WordFault::BadKind)),
+        }
+    }
+    Ok(kinds)
+}
+
+/// The findings about the profile in a file but those of the allowed kinds, with status 1 if a warning or an
+/// error is among them.
 pub(crate) fn lint_output<'a, R: rt::Files + AllocGlobal>(
     rt: &R,
     path: &'a str,
+    is_all: bool,
+    allowed: &[&'a str],
     form: Form,
 ) -> Result<Output, Stop<'a>> {
     let alloc = rt.alloc();
+    let kinds = kinds_of(alloc, allowed)?;
     let bytes = bytes_at(rt, path)?;
     let profile = oci_profile::read_placed(alloc, &bytes).map_err(|found| profile_stop(
         path, found,
@@ -24,15 +43,47 @@ pub(crate) fn lint_output<'a, R: rt::Files + AllocGlobal>(
     let tree = json_tree::read(alloc, &bytes).map_err(|_| AllocError)?;
     let passed = passed_in(alloc, &tree)?;
     let found = once(alloc, findings(alloc, &profile)?.as_slice())?;
-    let (passed, found) = (passed.as_slice(), found.as_slice());
-    let text = match form {
-        Form::Text => lint_lines(alloc, passed, found)?,
-        Form::Json => lint_objects(alloc, passed, found)?,
+    let choice = Choice {
+        is_all,
+        allowed: kinds.as_slice(),
     };
-    Ok(Output::found(alloc, text))
+    printed(
+        alloc,
+        passed.as_slice(),
+        found.as_slice(),
+        choice,
+        profile.default.value(),
+        form,
+    )
 }
 
-/// What is told beside the filter of this profile, which the bytes of a file are: how much `lint` tells.
+/// The chosen findings, and the status.
+fn printed<'a>(
+    alloc: Global,
+    passed: &[Passed<'_>],
+    found: &[Finding],
+    choice: Choice<'_>,
+    default: u32,
+    form: Form,
+) -> Result<Output, Stop<'a>> {
+    let text = match form {
+        Form::Text => lint_lines(alloc, passed, found, choice, default)?,
+        Form::Json => lint_objects(alloc, passed, found, choice, default)?,
+    };
+    let status = if is_bad(passed, found, choice.allowed) {
+        1
+    } else {
+        0
+    };
+    Ok(Output {
+        text,
+        aside: String::new(alloc),
+        status,
+    })
+}
+
+/// What is printed beside the filter of this profile, of which these are the bytes: how many warnings and errors
+/// its text has, and its default.
 pub(crate) fn beside(
     alloc: Global,
     path: &str,
@@ -41,9 +92,27 @@ pub(crate) fn beside(
 ) -> Result<String, AllocError> {
     // It was read before, so that memory alone can be wanting.
     let tree = json_tree::read(alloc, bytes).map_err(|_| AllocError)?;
-    let passed = passed_in(alloc, &tree)?.len();
-    let found = once(alloc, findings(alloc, profile)?.as_slice())?.len();
-    count_line(alloc, path, passed.saturating_add(found))
+    let passed = passed_in(alloc, &tree)?;
+    let others = [
+        has_newer_names(passed.as_slice()),
+        newer_calls(profile).is_some(),
+    ];
+    count_line(
+        alloc,
+        path,
+        count_of(grave_count(passed.as_slice()), others),
+    )
+}
+
+/// So many findings, and one more for each of these that is.
+fn count_of(count: usize, others: [bool; 2]) -> usize {
+    let mut sum = count;
+    for is in others {
+        if is {
+            sum = sum.saturating_add(1);
+        }
+    }
+    sum
 }
 
 /// The line that is printed of so many findings, if there are some.

@@ -1,11 +1,14 @@
 //! Resolves templates of profiles.
 ghost use Rattle.std.specs.Prelude.{◌≡◌, IfOk, codes, option_map, unwrap_or};
 ghost use Rattle.std.specs.Prelude.{option_and_then};
+ghost use Rattle.checker.specs.LeavingOut.{may_be_left_out};
 ghost use Rattle.profile_template.specs.Version.{version_of};
 
+use absent_names::{AbsentName, kind_of};
 use check_stops::{FileLine, Output, Stop, WordFault, bytes_at, template_stop};
 use fault_notes::left_out_note;
 use json_place::{Place, Step, stands_at};
+use json_tree::text;
 use oci_profile::ProfileFault;
 use profile_template::{
     LeftOut, Settings, Template, TemplateFault, TemplateFaultAt, Version, seccomp_arch,
@@ -20,13 +23,14 @@ pub(crate) fn resolve_text<'a, R: rt::Files + AllocGlobal>(
     rt: &R,
     path: &'a str,
     settings: &Settings<'_>,
+    drops_newer: bool,
 ) -> Result<Output, Stop<'a>> {
     let alloc = rt.alloc();
     let bytes = bytes_at(rt, path)?;
     let template = profile_template::read(alloc, &bytes, settings).map_err(|found| template_stop(
         path, found,
     ))?;
-    let aside = aside(alloc, path, &bytes, &template)?;
+    let aside = aside(alloc, path, &bytes, &template, drops_newer)?;
     let text = template
         .write(alloc)
         .map_err(|fault| write_stop(path, fault))?;
@@ -53,13 +57,14 @@ fn write_stop(path: &str, fault: WriteFault) -> Stop<'_> {
     }
 }
 
-/// A line for each name that is left out.
-fn aside(
+/// A line for each name that is left out. A name that may not be left out is refused.
+fn aside<'a>(
     alloc: Global,
-    path: &str,
+    path: &'a str,
     bytes: &[u8],
     template: &Template,
-) -> Result<String, AllocError> {
+    drops_newer: bool,
+) -> Result<String, Stop<'a>> {
     let mut lines = String::new(alloc);
     let left_out = template.left_out(alloc)?;
     if left_out.is_empty() {
@@ -69,11 +74,42 @@ fn aside(
     let tree = json_tree::read(alloc, bytes).map_err(|_| AllocError)?;
     for name in &left_out {
         let place = place_of(&tree, *name);
+        if !may_be_left_out(kind_at(&tree, &place), drops_newer) {
+            return Err(name_stop(path, place));
+        }
         let text = left_out_note(alloc, &tree, &place)?;
         let note = text.as_str();
         write!(lines, "{}", FileLine { path, note })?;
     }
     Ok(lines)
+}
+
+/// What the name at this place is.
+fn kind_at(tree: &Value, place: &Place) -> AbsentName {
+    let Some(found) = stands_at(tree, place) else {
+        return AbsentName::Unknown;
+    };
+    match text(found) {
+        Some(name) => kind_of(name),
+        None => AbsentName::Unknown,
+    }
+}
+
+/// Whether an entry that is stricter than the default means the same without such a name: no program makes the
+/// call on x86-64, or calls newer than the table are dropped.
+fn may_be_left_out(kind: AbsentName, drops_newer: bool) -> bool
+    ensures { result ≡ may_be_left_out drops_newer kind }
+{
+    match kind {
+        AbsentName::NotImplemented | AbsentName::OtherArchitecture => true,
+        AbsentName::Newer(_) => drops_newer,
+        AbsentName::Unknown => false,
+    }
+}
+
+fn name_stop(path: &str, place: Place) -> Stop<'_> {
+    let fault = TemplateFault::Profile(ProfileFault::UnknownCall);
+    Stop::Template(path, TemplateFaultAt { fault, place })
 }
 
 // A name of `names`, or the one of `name`.

@@ -2,6 +2,7 @@ use crate::compared::{compare_text, differences_output};
 use crate::file::is_same_file;
 use crate::linting::{beside, lint_output};
 use crate::profiles::{default_line, explain_text, table_text};
+use crate::reporting::{ReportAsked, report_output};
 use crate::resolving::{resolve_text, settings_of};
 use crate::written::{file_bytes, unit_output};
 use bpf_compare::Calls;
@@ -111,7 +112,8 @@ fn output_of<'a, R: rt::Files + AllocGlobal>(
             let settings = settings_of(caps, arch, kernel).map_err(|(word, fault)| Stop::BadWord(
                 word, fault,
             ))?;
-            resolve_text(rt, word_at(matches, "TEMPLATE"), &settings)
+            let drops_newer = matches.get_flag("drop-newer");
+            resolve_text(rt, word_at(matches, "TEMPLATE"), &settings, drops_newer)
         }
         "compile" => {
             let (path, out) = (word_at(matches, "PROFILE"), word_at(matches, "OUT"));
@@ -122,11 +124,23 @@ fn output_of<'a, R: rt::Files + AllocGlobal>(
             let log = matches.get_str("audit").unwrap_or("");
             audit_output(rt, word_at(matches, "PROFILE"), log, form)
         }
-        "lint" => lint_output(rt, word_at(matches, "PROFILE"), form),
+        "lint" => {
+            let allowed = matches.get_strs("allow").unwrap_or(&[]);
+            let path = word_at(matches, "PROFILE");
+            lint_output(rt, path, matches.get_flag("all"), allowed, form)
+        }
         "table" if matches.get_str("against").is_some() => {
             let old = matches.get_str("against").unwrap_or("");
             let profile = word_at(matches, "PROFILE");
             differences_output(rt, old, profile, Calls::Native, form)
+        }
+        "report" => {
+            let asked = ReportAsked {
+                profile: word_at(matches, "PROFILE"),
+                old: matches.get_str("against"),
+                records: matches.get_str("records"),
+            };
+            report_output(rt, asked)
         }
         "compare" if matches.get_flag("all") => {
             let (first, second) = (word_at(matches, "A"), word_at(matches, "B"));

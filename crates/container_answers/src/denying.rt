@@ -56,6 +56,36 @@ pub fn denied_output<'a, R: rt::Files + AllocGlobal>(
     Ok(Output::with_faults(text, aside))
 }
 
+/// The denied calls of the records in a file as lines of six cells, the most denied first, and the reports on
+/// lines other than records.
+pub fn denied_lines<'a, R: rt::Files + AllocGlobal>(
+    rt: &R,
+    path: &'a str,
+) -> Result<(Vec<Vec<String>>, String), Stop<'a>> {
+    let alloc = rt.alloc();
+    let mut found = Found {
+        sightings: Vec::new(alloc),
+        aside: String::new(alloc),
+    };
+    let bytes = read_file(rt, path, MAX_RECORDS_BYTES).map_err(|fault| stop_at(path, fault))?;
+    add_file(alloc, &mut found, path, &bytes)?;
+    let Found { sightings, aside } = found;
+    let sightings = in_order(sightings)?;
+    Ok((lines_of(alloc, sightings.as_slice())?, aside))
+}
+
+/// A line for each container and denied call.
+fn lines_of(alloc: Global, sightings: &[Sighting]) -> Result<Vec<Vec<String>>, AllocError> {
+    let mut lines = Vec::new(alloc);
+    for row in rows(alloc, sightings)?.as_slice() {
+        // Each place is one of the sightings.
+        if let Some(sighting) = sightings.get(row.place) {
+            lines.push(row_line(alloc, sighting, row.count.0)?)?;
+        }
+    }
+    Ok(lines)
+}
+
 /// The denied calls in the files, and the reports on lines other than records.
 #[derive(Drop)]
 struct Found {

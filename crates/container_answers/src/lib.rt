@@ -9,5 +9,5 @@ mod denying;
 mod pod_playing;
 mod used_profiles;
 
-pub use denying::{DeniedAsked, denied_output};
+pub use denying::{DeniedAsked, denied_lines, denied_output};
 pub use pod_playing::{PodAsked, pod_output};

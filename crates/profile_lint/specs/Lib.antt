@@ -1,6 +1,8 @@
+pub mod Choice
 pub mod Engines
 pub mod Entries
 pub mod Findings
+pub mod Kinds
 pub mod Objects
 pub mod Passed
 pub mod Readings

@@ -1,35 +1,61 @@
 -- Findings about a profile as JSON objects (RFC 8259), one per line, this project's own: docs/SEMANTICS.md,
--- "Programs". Keys and names may have any character; no other text has one that JSON would escape.
-use Rattle.std.specs.Prelude.{ℕ, List, ◌++◌, codes, flat_map}
+-- "Programs". Places, keys, names and words may have any character; no other text has one that JSON would
+-- escape.
+use Rattle.std.specs.Prelude.{ℕ, nat_lt, ◌-◌, Bool, if◌then◌else◌, List, [], ◌++◌, codes, flat_map, Option}
+use Rattle.std.specs.Prelude.{Some, None}
 use Rattle.std.specs.Fmt.{decimal}
 use Rattle.serde_json.specs.Data.{string}
 use Rattle.serde_json.specs.Written.{compact_text}
+use Rattle.absent_names.specs.Kinds.{kind_of}
+use Rattle.absent_names.specs.Near.{suggestion}
+use Rattle.absent_names.specs.declared.kind.AbsentName.{AbsentName}
+use Rattle.absent_names.specs.declared.kind.AbsentName.TheVariants as absent
 use Rattle.action.specs.Verdict.{name_of, verdict_of}
 use Rattle.call_data.specs.declared.sys_call.SysCall.{SysCall}
+use Rattle.sys_table.specs.declared.table.TheConstants.{NUMBER_LIMIT}
+use Rattle.profile_lint.specs.declared.choice.Tally.TheVariants as which
 use Rattle.profile_lint.specs.declared.finding.Finding.{Finding}
 use Rattle.profile_lint.specs.declared.finding.Finding.TheVariants as found
+use Rattle.profile_lint.specs.declared.kinds.FindingKind.{FindingKind}
+use Rattle.profile_lint.specs.Choice.{counted, is_shown}
+use Rattle.profile_lint.specs.Kinds.{kind_of_found, kind_of_told, kind_text, severity_of, severity_text}
 use Rattle.profile_lint.specs.Passed.{Told}
 use Rattle.profile_lint.specs.Passed.Told.{Ignored, OtherArchitectures, UnknownName, RepeatedName}
-use Rattle.profile_lint.specs.Text.{arg_text, holder_text, key_text, line_of, words_of}
+use Rattle.profile_lint.specs.Text.{arg_text, found_place, found_words, line_of, newer_words, others_words}
+use Rattle.profile_lint.specs.Text.{told_place, told_words}
 
--- a name of an entry, with the place of the finding
-abbrev pub name_object : List ℕ → ℕ → ℕ → List ℕ → List ℕ
-name_object kind entry index name = codes "{\"place\":\"syscalls[" ++ (decimal entry ++ (codes "].names["
-    ++ (decimal index ++ (codes "]\",\"kind\":\"" ++ (kind ++ (codes "\",\"name\":"
-    ++ (compact_text (string name) ++ codes "}")))))))
+-- a finding of a kind, with members of its own
+abbrev pub object_text : List ℕ → FindingKind → List ℕ → List ℕ → List ℕ
+object_text place kind members words = codes "{\"place\":" ++ (compact_text (string place)
+    ++ (codes ",\"kind\":\"" ++ (kind_text kind ++ (codes "\",\"severity\":\""
+    ++ (severity_text (severity_of kind) ++ (codes "\"" ++ (members ++ (codes ",\"text\":"
+    ++ (compact_text (string words) ++ codes "}")))))))))
 
--- a member that decides nothing, at a place as in the line: its whole key, and what it would have meant
-abbrev pub ignored_object : List ℕ → List ℕ → List ℕ → List ℕ
-ignored_object place field reason = codes "{\"place\":" ++ (compact_text (string place)
-    ++ (codes ",\"kind\":\"Ignored\",\"field\":" ++ (compact_text (string field)
-    ++ (codes ",\"reason\":\"" ++ (reason ++ codes "\"}")))))
+abbrev pub near_members : Option (List ℕ) → List ℕ
+near_members None = []
+near_members (Some call) = codes ",\"near\":\"" ++ (call ++ codes "\"")
+
+abbrev pub kind_members : List ℕ → AbsentName → List ℕ
+kind_members name (absent.Newer number) = codes ",\"call\":" ++ decimal number
+kind_members name absent.NotImplemented = []
+kind_members name absent.OtherArchitecture = []
+kind_members name absent.Unknown = near_members (suggestion name)
+
+-- the number of a newer call, or the call that a name was probably meant to be
+abbrev pub absent_members : List ℕ → List ℕ
+absent_members name = kind_members name (kind_of name)
+
+abbrev pub name_members : List ℕ → List ℕ
+name_members name = codes ",\"value\":" ++ compact_text (string name)
+
+abbrev pub told_members : Told → List ℕ
+told_members (Ignored holder key) = codes ",\"field\":" ++ compact_text (string key)
+told_members OtherArchitectures = codes ",\"field\":\"architectures\""
+told_members (UnknownName entry index name) = name_members name ++ absent_members name
+told_members (RepeatedName entry index name) = name_members name
 
 abbrev pub told_object : Told → List ℕ
-told_object (Ignored holder key) = ignored_object (holder_text holder ++ key_text key) key (words_of key)
-told_object OtherArchitectures = ignored_object (codes "architectures") (codes "architectures")
-    (codes "x86-64 is not among them, and only its calls are decided")
-told_object (UnknownName entry index name) = name_object (codes "UnknownName") entry index name
-told_object (RepeatedName entry index name) = name_object (codes "RepeatedName") entry index name
+told_object told = object_text (told_place told) (kind_of_told told) (told_members told) (told_words told)
 
 -- the call, as members
 abbrev pub call_members : SysCall → List ℕ
@@ -45,28 +71,45 @@ value_object value =
     codes "{\"value\":" ++ (decimal value ++ (codes ",\"action\":\"" ++ (name_of (verdict_of value).action
     ++ (codes "\",\"data\":" ++ (decimal (verdict_of value).ret_data ++ codes "}")))))
 
--- an entry, with only the kind of the finding
-abbrev pub entry_object : List ℕ → ℕ → List ℕ
-entry_object kind place = codes "{\"place\":\"syscalls[" ++ (decimal place ++ (codes "]\",\"kind\":\""
-    ++ (kind ++ codes "\"}")))
+abbrev pub found_members : Finding → List ℕ
+found_members (found.NeverDecides place) = []
+found_members (found.SameWithout place) = []
+found_members (found.NotFoundOut place) = []
+found_members (found.NotLookedAt place) = []
+found_members (found.NotCompared place) = []
+found_members (found.ReadOtherwise place call here there) = codes "," ++ (call_members call
+    ++ (codes ",\"here\":" ++ (value_object here ++ (codes ",\"runc\":" ++ value_object there))))
+found_members (found.Overlap place other call) = codes "," ++ (call_members call
+    ++ (codes ",\"other\":\"syscalls[" ++ (decimal other ++ codes "]\"")))
+found_members (found.NewerCalls errno) = codes ",\"above\":" ++ (decimal (NUMBER_LIMIT - 1)
+    ++ (codes ",\"errno\":" ++ (decimal errno ++ codes ",\"wanted\":38")))
 
 abbrev pub found_object : Finding → List ℕ
-found_object (found.NeverDecides place) = entry_object (codes "NeverDecides") place
-found_object (found.SameWithout place) = entry_object (codes "Redundant") place
-found_object (found.NotFoundOut place) = entry_object (codes "NotFoundOut") place
-found_object (found.NotLookedAt place) = entry_object (codes "NotLookedAt") place
-found_object (found.NotCompared place) = entry_object (codes "NotCompared") place
-found_object (found.ReadOtherwise place call here there) = codes "{\"place\":\"syscalls["
-    ++ (decimal place ++ (codes "]\",\"kind\":\"EnginesDiffer\"," ++ (call_members call ++ (codes ",\"here\":"
-    ++ (value_object here ++ (codes ",\"runc\":" ++ (value_object there ++ codes "}")))))))
-found_object (found.Overlap place other call) = codes "{\"place\":\"syscalls["
-    ++ (decimal place ++ (codes "]\",\"kind\":\"Overlap\"," ++ (call_members call
-    ++ (codes ",\"other\":\"syscalls[" ++ (decimal other ++ codes "]\"}")))))
-found_object (found.NewerCalls errno) =
-    codes "{\"place\":\"defaultAction\",\"kind\":\"NewerCalls\",\"above\":439,\"errno\":"
-    ++ (decimal errno ++ codes ",\"wanted\":38}")
+found_object found =
+    object_text (found_place found) (kind_of_found found) (found_members found) (found_words found)
 
--- an object for each finding about the text, and then for each about the profile
-abbrev pub lint_objects : List Told → List Finding → List ℕ
-lint_objects tolds finds = flat_map (λ t. line_of (told_object t)) tolds
-    ++ flat_map (λ f. line_of (found_object f)) finds
+abbrev pub told_line : Bool → List FindingKind → Told → List ℕ
+told_line all allowed told =
+    if is_shown all allowed (kind_of_told told) then line_of (told_object told) else []
+
+abbrev pub found_line : Bool → List FindingKind → Finding → List ℕ
+found_line all allowed found =
+    if is_shown all allowed (kind_of_found found) then line_of (found_object found) else []
+
+abbrev pub others_object : ℕ → List ℕ
+others_object count = if nat_lt 0 count
+    then codes "{\"place\":\"syscalls\",\"kind\":\"OtherNames\",\"severity\":\"note\",\"count\":"
+    ++ (decimal count ++ (codes ",\"text\":\"" ++ (others_words count ++ codes "\"}\n")))
+    else []
+
+abbrev pub newer_object : ℕ → ℕ → List ℕ
+newer_object count value = if nat_lt 0 count
+    then codes "{\"place\":\"syscalls\",\"kind\":\"NewerNames\",\"severity\":\"warning\",\"count\":"
+    ++ (decimal count ++ (codes ",\"text\":\"" ++ (newer_words count value ++ codes "\"}\n")))
+    else []
+
+-- an object for each line
+abbrev pub lint_objects : Bool → List FindingKind → ℕ → List Told → List Finding → List ℕ
+lint_objects all allowed value tolds finds = flat_map (told_line all allowed) tolds
+    ++ (others_object (counted which.Others all allowed tolds)
+    ++ (newer_object (counted which.Newer all allowed tolds) value ++ flat_map (found_line all allowed) finds))

@@ -1,10 +1,14 @@
 -- The printed findings about a profile, this project's own: docs/SEMANTICS.md, "What is told of a profile".
 use Rattle.std.specs.Prelude.{ℕ, ◌==◌, nat_le, not, Bool, ◌&&◌, ◌||◌, if◌then◌else◌, List, [], ◌++◌, codes}
-use Rattle.std.specs.Prelude.{length}
-use Rattle.std.specs.Prelude.{flat_map}
-use Rattle.std.specs.Prelude.{slice_index}
+use Rattle.std.specs.Prelude.{length, flat_map, slice_index, nat_lt, ◌-◌, Option, Some, None}
 use Rattle.std.specs.List.{list_all}
 use Rattle.action.specs.Verdict.{name_of, verdict_of}
+use Rattle.action.specs.declared.action.Action.{Action}
+use Rattle.action.specs.declared.action.Action.TheVariants as act
+use Rattle.absent_names.specs.Kinds.{kind_of}
+use Rattle.absent_names.specs.Near.{suggestion}
+use Rattle.absent_names.specs.declared.kind.AbsentName.{AbsentName}
+use Rattle.absent_names.specs.declared.kind.AbsentName.TheVariants as absent
 use Rattle.call_data.specs.declared.sys_call.SysCall.{SysCall}
 use Rattle.std.specs.Str.{bytes_eq}
 use Rattle.std.specs.Fmt.{decimal}
@@ -14,6 +18,11 @@ use Rattle.profile_lint.specs.declared.passed.Holder.{Holder}
 use Rattle.profile_lint.specs.declared.passed.Holder.TheVariants as of
 use Rattle.profile_lint.specs.declared.finding.Finding.{Finding}
 use Rattle.profile_lint.specs.declared.finding.Finding.TheVariants as found
+use Rattle.profile_lint.specs.declared.kinds.FindingKind.{FindingKind}
+use Rattle.profile_lint.specs.declared.choice.Tally.TheVariants as which
+use Rattle.profile_lint.specs.Choice.{counted, is_shown}
+use Rattle.profile_lint.specs.Kinds.{kind_of_found, kind_of_told, kind_text, severity_of, severity_text}
+use Rattle.sys_table.specs.declared.table.TheConstants.{NUMBER_LIMIT}
 use Rattle.profile_lint.specs.Passed.{Told}
 use Rattle.profile_lint.specs.Passed.Told.{Ignored, OtherArchitectures, UnknownName, RepeatedName}
 
@@ -53,14 +62,42 @@ words_of key =
     else if bytes_eq key (codes "listenerMetadata") then codes "engines send this with calls"
     else codes "linux.seccomp has no such field"
 
+abbrev pub near_text : Option (List ℕ) → List ℕ
+near_text None = codes " is no call"
+near_text (Some call) = codes " is no call (did you mean " ++ (call ++ codes "?)")
+
+-- what a name is that the call table lacks
+abbrev pub absent_text : List ℕ → AbsentName → List ℕ
+absent_text name (absent.Newer number) = codes " is call " ++ (decimal number ++ codes ", newer than the table")
+absent_text name absent.NotImplemented = codes " is not implemented on x86-64"
+absent_text name absent.OtherArchitecture = codes " is a call of other architectures"
+absent_text name absent.Unknown = near_text (suggestion name)
+
+abbrev pub name_words : List ℕ → List ℕ
+name_words name = quoted_text name ++ absent_text name (kind_of name)
+
+abbrev pub name_place : ℕ → ℕ → List ℕ
+name_place entry index = codes "syscalls[" ++ (decimal entry ++ (codes "].names["
+    ++ (decimal index ++ codes "]")))
+
+abbrev pub told_place : Told → List ℕ
+told_place (Ignored holder key) = holder_text holder ++ key_text key
+told_place OtherArchitectures = codes "architectures"
+told_place (UnknownName entry index name) = name_place entry index
+told_place (RepeatedName entry index name) = name_place entry index
+
+abbrev pub told_words : Told → List ℕ
+told_words (Ignored holder key) = words_of key
+told_words OtherArchitectures = codes "x86-64 is not among them, and only its calls are decided"
+told_words (UnknownName entry index name) = name_words name
+told_words (RepeatedName entry index name) = quoted_text name ++ codes " is repeated"
+
+-- a place, a kind and words
+abbrev pub text_of : List ℕ → List ℕ → List ℕ → List ℕ
+text_of place kind words = place ++ (codes ": " ++ (kind ++ (codes ": " ++ words)))
+
 abbrev pub told_text : Told → List ℕ
-told_text (Ignored holder key) = holder_text holder ++ (key_text key ++ (codes ": Ignored: " ++ words_of key))
-told_text OtherArchitectures =
-    codes "architectures: Ignored: x86-64 is not among them, and only its calls are decided"
-told_text (UnknownName entry index name) = codes "syscalls[" ++ (decimal entry ++ (codes "].names["
-    ++ (decimal index ++ (codes "]: UnknownName: " ++ quoted_text name))))
-told_text (RepeatedName entry index name) = codes "syscalls[" ++ (decimal entry ++ (codes "].names["
-    ++ (decimal index ++ (codes "]: RepeatedName: " ++ quoted_text name))))
+told_text told = text_of (told_place told) (kind_text (kind_of_told told)) (told_words told)
 
 abbrev pub arg_text : List ℕ → ℕ → List ℕ
 arg_text args index = decimal (slice_index args index)
@@ -76,30 +113,89 @@ call_text call = decimal call.nr ++ (codes " " ++ (arg_text call.args 0 ++ (code
 abbrev pub value_text : ℕ → List ℕ
 value_text value = name_of (verdict_of value).action ++ (codes " " ++ decimal (verdict_of value).ret_data)
 
+abbrev pub entry_place : ℕ → List ℕ
+entry_place place = codes "syscalls[" ++ (decimal place ++ codes "]")
+
+abbrev pub found_place : Finding → List ℕ
+found_place (found.NeverDecides place) = entry_place place
+found_place (found.SameWithout place) = entry_place place
+found_place (found.NotFoundOut place) = entry_place place
+found_place (found.NotLookedAt place) = entry_place place
+found_place (found.NotCompared place) = entry_place place
+found_place (found.ReadOtherwise place call here there) = entry_place place
+found_place (found.Overlap place other call) = entry_place place
+found_place (found.NewerCalls errno) = codes "defaultAction"
+
+abbrev pub found_words : Finding → List ℕ
+found_words (found.NeverDecides place) = codes "it decides no call"
+found_words (found.SameWithout place) = codes "what follows decides its calls the same way"
+found_words (found.NotFoundOut place) = codes "it may decide no call, or be redundant"
+found_words (found.NotLookedAt place) = codes "from here on entries may decide no call, or be redundant"
+found_words (found.NotCompared place) = codes "from here on engines may read entries differently"
+found_words (found.ReadOtherwise place call here there) = codes "at " ++ (call_text call ++ (codes ": "
+    ++ (value_text here ++ (codes " here, " ++ (value_text there ++ codes " by runc")))))
+found_words (found.Overlap place other call) = codes "at " ++ (call_text call ++ (codes " syscalls["
+    ++ (decimal other ++ codes "] decides otherwise, and libseccomp does not keep their order")))
+found_words (found.NewerCalls errno) = codes "calls newer than " ++ (decimal (NUMBER_LIMIT - 1)
+    ++ (codes " return errno "
+    ++ (decimal errno ++ codes ", and programs fall back to older calls only on ENOSYS (38)")))
+
 abbrev pub found_text : Finding → List ℕ
-found_text (found.NeverDecides place) = codes "syscalls["
-    ++ (decimal place ++ codes "]: NeverDecides: it decides no call")
-found_text (found.SameWithout place) = codes "syscalls["
-    ++ (decimal place ++ codes "]: Redundant: what follows decides its calls the same way")
-found_text (found.NotFoundOut place) = codes "syscalls["
-    ++ (decimal place ++ codes "]: NotFoundOut: it may decide no call, or be redundant")
-found_text (found.NotLookedAt place) = codes "syscalls["
-    ++ (decimal place ++ codes "]: NotLookedAt: from here on entries may decide no call, or be redundant")
-found_text (found.NotCompared place) = codes "syscalls["
-    ++ (decimal place ++ codes "]: NotCompared: from here on engines may read entries differently")
-found_text (found.ReadOtherwise place call here there) = codes "syscalls["
-    ++ (decimal place ++ (codes "]: EnginesDiffer: at " ++ (call_text call ++ (codes ": "
-    ++ (value_text here ++ (codes " here, " ++ (value_text there ++ codes " by runc")))))))
-found_text (found.Overlap place other call) = codes "syscalls["
-    ++ (decimal place ++ (codes "]: Overlap: at " ++ (call_text call ++ (codes " syscalls["
-    ++ (decimal other ++ codes "] decides otherwise, and libseccomp does not keep their order")))))
-found_text (found.NewerCalls errno) = codes "defaultAction: NewerCalls: calls newer than 439 return errno "
-    ++ (decimal errno ++ codes ", and programs fall back to older calls only on ENOSYS (38)")
+found_text found = text_of (found_place found) (kind_text (kind_of_found found)) (found_words found)
 
 abbrev pub line_of : List ℕ → List ℕ
 line_of text = text ++ codes "\n"
 
--- a line for each finding about the text, and then for each about the profile
-abbrev pub lint_text : List Told → List Finding → List ℕ
-lint_text tolds finds = flat_map (λ t. line_of (told_text t)) tolds
-    ++ flat_map (λ f. line_of (found_text f)) finds
+-- a finding with the severity of its kind
+abbrev pub graded : FindingKind → List ℕ → List ℕ
+graded kind text = line_of (severity_text (severity_of kind) ++ (codes ": " ++ text))
+
+abbrev pub told_line : Bool → List FindingKind → Told → List ℕ
+told_line all allowed told = if is_shown all allowed (kind_of_told told)
+    then graded (kind_of_told told) (told_text told) else []
+
+abbrev pub found_line : Bool → List FindingKind → Finding → List ℕ
+found_line all allowed found = if is_shown all allowed (kind_of_found found)
+    then graded (kind_of_found found) (found_text found) else []
+
+-- names that are no calls of x86-64, as many as there are
+abbrev pub others_words : ℕ → List ℕ
+others_words count = if count == 1 then codes "1 name is not a call of x86-64 (--all prints it)"
+    else decimal count ++ codes " names are not calls of x86-64 (--all prints each)"
+
+abbrev pub end_of : Action → List ℕ
+end_of act.KillProcess = codes ", which ends the program"
+end_of act.KillThread = codes ", which ends the program"
+end_of act.Trap = codes ", which ends the program"
+end_of _ = []
+
+abbrev pub end_text : ℕ → List ℕ
+end_text value = end_of (verdict_of value).action
+
+-- names of newer calls, as many as there are, and the value that these calls get
+abbrev pub newer_words : ℕ → ℕ → List ℕ
+newer_words count value = if count == 1
+    then codes "1 call newer than the table gets " ++ (value_text value ++ (end_text value
+    ++ codes " (--all prints it)"))
+    else decimal count ++ (codes " calls newer than the table get " ++ (value_text value ++ (end_text value
+    ++ codes " (--all prints each)")))
+
+abbrev pub others_line : ℕ → List ℕ
+others_line count = if nat_lt 0 count
+    then line_of (codes "note: syscalls: OtherNames: " ++ others_words count) else []
+
+abbrev pub newer_line : ℕ → ℕ → List ℕ
+newer_line count value = if nat_lt 0 count
+    then line_of (codes "warning: syscalls: NewerNames: " ++ newer_words count value) else []
+
+abbrev pub told_lines : Bool → List FindingKind → List Told → List ℕ
+told_lines all allowed tolds = flat_map (told_line all allowed) tolds
+
+abbrev pub found_lines : Bool → List FindingKind → List Finding → List ℕ
+found_lines all allowed finds = flat_map (found_line all allowed) finds
+
+-- the findings about the text, the counts of names, and the findings about the profile
+abbrev pub lint_text : Bool → List FindingKind → ℕ → List Told → List Finding → List ℕ
+lint_text all allowed value tolds finds = told_lines all allowed tolds
+    ++ (others_line (counted which.Others all allowed tolds)
+    ++ (newer_line (counted which.Newer all allowed tolds) value ++ found_lines all allowed finds))

@@ -3,8 +3,8 @@
 //! config-linux, seccomp.
 //!
 //! `specs/Passed.antt` defines the findings about a text; `specs/Findings.antt`, `specs/Entries.antt` and
-//! `specs/Engines.antt` those about a profile; `specs/Text.antt` the lines, and `specs/Objects.antt` the
-//! objects of JSON. An entry is judged by comparing filters, made of only the entries that share a call with
+//! `specs/Engines.antt` those about a profile; `specs/Kinds.antt` kinds and severities, `specs/Choice.antt`
+//! which findings are printed, `specs/Text.antt` the lines, and `specs/Objects.antt` the objects of JSON. An entry is judged by comparing filters, made of only the entries that share a call with
 //! it (`entries.rt`).
 //!
 //! # What is proved
@@ -21,6 +21,8 @@
 //! - No finding is left out: `findings`. An entry that is not reported is needed, engines read it alike, and
 //!   it overlaps with no later entry, or it is reported as not found out, not looked at or not compared.
 //! - The errno of calls newer than the table, exactly: `newer_calls`.
+//! - The kind of each finding, and how severe each kind is: `kind_of_passed`, `kind_of_found`, `severity_of`.
+//!   Whether a warning or an error is among the findings: `is_bad`.
 //! - The printed lines and the JSON objects, byte by byte: `lint_lines`, `lint_objects`, `Display` of
 //!   `Passed`, `Finding`, `Holder`.
 //!
@@ -28,11 +30,13 @@
 //! model.
 #![tactic(auto)]
 
+mod choice;
 mod copies;
 mod engines;
 mod entries;
 mod finder;
 mod finding;
+mod kinds;
 mod lines;
 mod members;
 mod names;
@@ -42,10 +46,13 @@ mod sameness;
 mod stands;
 mod text;
 mod witness;
+mod words;
 
+pub use choice::{Choice, grave_count, has_newer_names, is_bad};
 pub use entries::standing;
 pub use finder::{findings, newer_calls, once};
 pub use finding::Finding;
+pub use kinds::{FindingKind, Severity, kind_named, kind_of_found, kind_of_passed, severity_of};
 pub use lines::lint_lines;
 pub use objects::lint_objects;
 pub use passed::{Holder, Passed};

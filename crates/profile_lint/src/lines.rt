@@ -1,238 +1,160 @@
-ghost use Rattle.std.specs.Prelude.{◌≡◌, ◌++◌, IfOk, flat_map, map, string_bytes};
-ghost use Rattle.std.specs.List.{list_all};
+//! The lines of `lint`.
+ghost use Rattle.std.specs.Prelude.{◌≡◌, ◌++◌, IfOk, OnOk, flat_map, map, string_bytes};
 ghost use Rattle.profile_lint.specs.Passed.{told};
-ghost use Rattle.profile_lint.specs.Text.{found_text, is_plain, is_plain_byte, line_of, lint_text, told_text};
-ghost use Rattle.profile_lint.specs.Text.{words_of};
+ghost use Rattle.profile_lint.specs.Text.{end_text, found_line, found_lines, lint_text, newer_line, others_line};
+ghost use Rattle.profile_lint.specs.Text.{told_line, told_lines};
 
+use crate::choice::{Choice, Tally, counted, is_shown};
 use crate::finding::Finding;
-use crate::passed::{Holder, Passed};
-use action::Verdict;
-use call_data::SysCall;
-use json_place::{MAX_SHOWN, Quoted};
+use crate::kinds::{FindingKind, kind_of_found, kind_of_passed, severity_of};
+use crate::passed::Passed;
+use crate::words::{FoundPlace, FoundWords, PassedPlace, PassedWords, Value};
+use action::{Action, Verdict};
 use std::alloc::{AllocError, Global};
 use std::fmt;
 
-/// The prefix of a member's key: nothing, `syscalls[3].`, `syscalls[3].args[1].`
-impl fmt::Display for Holder {
-    ghost use Rattle.std.specs.Prelude.{Some};
-    ghost use Rattle.profile_lint.specs.Text.{holder_text};
-
-    ghost output = { λ holder. Some (holder_text holder) };
-
-    fn fmt<W: fmt::Write>(&self, f: &mut fmt::Formatter<W>) -> fmt::Result {
-        match self {
-            Holder::Profile => Ok(()),
-            Holder::Entry(entry) => write!(f, "syscalls[{entry}]."),
-            Holder::Arg(entry, arg) => write!(f, "syscalls[{entry}].args[{arg}]."),
-        }
-    }
-}
-
-/// A member's key: as it is, or in quotes.
+/// How many names are no calls of x86-64, if there are some.
 #[derive(Clone, Copy)]
-pub(crate) struct Key<'v>(pub(crate) &'v str);
+pub(crate) struct OtherWords(pub(crate) usize);
 
-impl fmt::Display for Key<'_> {
+impl fmt::Display for OtherWords {
     ghost use Rattle.std.specs.Prelude.{Some};
-    ghost use Rattle.profile_lint.specs.Text.{key_text};
+    ghost use Rattle.profile_lint.specs.Text.{others_words};
 
-    ghost output = { λ key. Some (key_text key.0.now) };
+    ghost output = { λ words. Some (others_words words.0) };
 
     fn fmt<W: fmt::Write>(&self, f: &mut fmt::Formatter<W>) -> fmt::Result {
-        if is_plain(self.0) {
-            f.write_str(self.0)
-        } else {
-            write!(f, "{}", Quoted(self.0))
-        }
-    }
-}
-
-/// Whether it has only ASCII letters, digits and `_`, and not too many.
-#[tactic(auto, unfolding(crate::specs::Text::is_plain))]
-fn is_plain(key: &str) -> bool
-    ensures { result ≡ is_plain key.now }
-{
-    !key.is_empty() && key.len() <= MAX_SHOWN && are_plain(key.as_bytes())
-}
-
-fn are_plain(bytes: &[u8]) -> bool
-    ensures { result ≡ list_all is_plain_byte bytes.now }
-{
-    bytes.iter().all(|byte| is_plain_byte(*byte))
-}
-
-fn is_plain_byte(byte: u8) -> bool
-    ensures { result ≡ is_plain_byte byte }
-{
-    (97 <= byte && byte <= 122)
-        || (65 <= byte && byte <= 90)
-        || (48 <= byte && byte <= 57)
-        || byte == 95
-}
-
-/// What a member that decides nothing would have meant.
-#[tactic(auto, unfolding(crate::specs::Text::words_of))]
-pub(crate) fn words_of(key: &str) -> &'static str
-    ensures { result.now ≡ words_of key.now }
-{
-    match key {
-        "includes" => "a template takes the entry under these conditions alone",
-        "excludes" => "a template leaves the entry out under these conditions",
-        "minKernel" => "a template takes the entry from this kernel on",
-        "archMap" => "a template has its architectures from here",
-        "name" => "a template has the entry's one call here",
-        "errno" => "a template has the errno by name here",
-        "defaultErrno" => "a template has the errno by name here",
-        "syscall" => "calls stand in names",
-        "flags" => "engines hand them to seccomp(2)",
-        "listenerPath" => "engines send calls to this socket",
-        "listenerMetadata" => "engines send this with calls",
-        _ => "linux.seccomp has no such field",
-    }
-}
-
-/// `PLACE: KIND: WORDS`, where the words may be the name that is there.
-impl fmt::Display for Passed<'_> {
-    ghost use Rattle.std.specs.Prelude.{Some};
-    ghost use Rattle.profile_lint.specs.Passed.{told};
-    ghost use Rattle.profile_lint.specs.Text.{told_text};
-
-    ghost output = { λ passed. Some (told_text (told passed)) };
-
-    fn fmt<W: fmt::Write>(&self, f: &mut fmt::Formatter<W>) -> fmt::Result {
-        match self {
-            Passed::Ignored(holder, key) => {
-                let words = words_of(key);
-                write!(f, "{holder}{}: Ignored: {words}", Key(key))
-            }
-            Passed::OtherArchitectures => f.write_str(
-                "architectures: Ignored: x86-64 is not among them, and only its calls are decided",
+        match self.0 {
+            1 => f.write_str("1 name is not a call of x86-64 (--all prints it)"),
+            count => write!(
+                f,
+                "{count} names are not calls of x86-64 (--all prints each)"
             ),
-            Passed::UnknownName(entry, index, name) => {
-                write!(
-                    f,
-                    "syscalls[{entry}].names[{index}]: UnknownName: {}",
-                    Quoted(name)
-                )
-            }
-            Passed::RepeatedName(entry, index, name) => {
-                write!(
-                    f,
-                    "syscalls[{entry}].names[{index}]: RepeatedName: {}",
-                    Quoted(name)
-                )
-            }
         }
     }
 }
 
-/// A call, as arguments of `seccheck run`.
+/// How many names are those of newer calls, and the value that these get.
 #[derive(Clone, Copy)]
-struct Words(SysCall);
+pub(crate) struct NewerWords(pub(crate) usize, pub(crate) u32);
 
-impl fmt::Display for Words {
+impl fmt::Display for NewerWords {
     ghost use Rattle.std.specs.Prelude.{Some};
-    ghost use Rattle.profile_lint.specs.Text.{call_text};
+    ghost use Rattle.profile_lint.specs.Text.{newer_words};
 
-    ghost output = { λ words. Some (call_text words.0) };
+    ghost output = { λ words. Some (newer_words words.0 words.1) };
 
     fn fmt<W: fmt::Write>(&self, f: &mut fmt::Formatter<W>) -> fmt::Result {
-        let (nr, args) = (self.0.nr, self.0.args);
-        write!(
-            f,
-            "{nr} {} {} {} {} {} {}",
-            args[0], args[1], args[2], args[3], args[4], args[5]
-        )
-    }
-}
-
-/// A value, as its action and its data.
-#[derive(Clone, Copy)]
-struct Value(u32);
-
-impl fmt::Display for Value {
-    ghost use Rattle.std.specs.Prelude.{Some};
-    ghost use Rattle.profile_lint.specs.Text.{value_text};
-
-    ghost output = { λ value. Some (value_text value.0) };
-
-    fn fmt<W: fmt::Write>(&self, f: &mut fmt::Formatter<W>) -> fmt::Result {
-        let verdict = Verdict::of_value(self.0);
-        let (action, ret_data) = (verdict.action, verdict.ret_data);
-        write!(f, "{action} {ret_data}")
-    }
-}
-
-/// `PLACE: KIND: WORDS`.
-impl fmt::Display for Finding {
-    ghost use Rattle.std.specs.Prelude.{Some};
-    ghost use Rattle.profile_lint.specs.Text.{found_text};
-
-    ghost output = { λ found. Some (found_text found) };
-
-    fn fmt<W: fmt::Write>(&self, f: &mut fmt::Formatter<W>) -> fmt::Result {
-        match self {
-            Finding::NeverDecides(place) => {
-                write!(f, "syscalls[{place}]: NeverDecides: it decides no call")
-            }
-            Finding::SameWithout(place) => {
-                write!(
-                    f,
-                    "syscalls[{place}]: Redundant: what follows decides its calls the same way"
-                )
-            }
-            Finding::NotFoundOut(place) => {
-                write!(
-                    f,
-                    "syscalls[{place}]: NotFoundOut: it may decide no call, or be redundant"
-                )
-            }
-            Finding::NotLookedAt(place) => write!(
+        let (value, end) = (Value(self.1), end_of(self.1));
+        match self.0 {
+            1 => write!(
                 f,
-                "syscalls[{place}]: NotLookedAt: from here on entries may decide no call, or be redundant"
+                "1 call newer than the table gets {value}{end} (--all prints it)"
             ),
-            Finding::NotCompared(place) => write!(
+            count => write!(
                 f,
-                "syscalls[{place}]: NotCompared: from here on engines may read entries differently"
-            ),
-            Finding::ReadOtherwise(place, call, here, there) => {
-                let (call, here, there) = (Words(*call), Value(*here), Value(*there));
-                write!(
-                    f,
-                    "syscalls[{place}]: EnginesDiffer: at {call}: {here} here, {there} by runc"
-                )
-            }
-            Finding::Overlap(place, other, call) => {
-                let call = Words(*call);
-                write!(
-                    f,
-                    "syscalls[{place}]: Overlap: at {call} syscalls[{other}] decides otherwise, \
-                     and libseccomp does not keep their order"
-                )
-            }
-            Finding::NewerCalls(errno) => write!(
-                f,
-                "defaultAction: NewerCalls: calls newer than 439 return errno {errno}, \
-                 and programs fall back to older calls only on ENOSYS (38)"
+                "{count} calls newer than the table get {value}{end} (--all prints each)"
             ),
         }
     }
 }
 
-/// A line for each finding about a profile's text, and then for each about the profile.
+/// That a program ends which gets the value, if it does.
+fn end_of(value: u32) -> &'static str
+    ensures { result.now ≡ end_text value }
+{
+    match Verdict::of_value(value).action {
+        Action::KillProcess | Action::KillThread | Action::Trap => ", which ends the program",
+        _ => "",
+    }
+}
+
+/// Adds the line of a finding about the text, if it has one.
+fn add_passed(text: &mut String, item: &Passed<'_>, choice: Choice<'_>) -> Result<(), AllocError>
+    ensures { OnOk result (string_bytes text.new
+        ≡ string_bytes text.old ++ told_line choice.entry.is_all choice.entry.allowed.now (told item.now)) }
+{
+    let kind = kind_of_passed(item);
+    if is_shown(kind, choice) {
+        writeln!(text, "{}: {item}", severity_of(kind))?;
+    }
+    Ok(())
+}
+
+/// Adds the line of a finding about the profile, if it has one.
+fn add_found(text: &mut String, item: &Finding, choice: Choice<'_>) -> Result<(), AllocError>
+    ensures { OnOk result (string_bytes text.new
+        ≡ string_bytes text.old ++ found_line choice.entry.is_all choice.entry.allowed.now item.now) }
+{
+    let kind = kind_of_found(item);
+    if is_shown(kind, choice) {
+        writeln!(text, "{}: {item}", severity_of(kind))?;
+    }
+    Ok(())
+}
+
+/// Adds the line of the names that are no calls of x86-64, if there are some.
+fn add_others(text: &mut String, count: usize) -> Result<(), AllocError>
+    ensures { OnOk result (string_bytes text.new ≡ string_bytes text.old ++ others_line count) }
+{
+    if count > 0 {
+        writeln!(text, "note: syscalls: OtherNames: {}", OtherWords(count))?;
+    }
+    Ok(())
+}
+
+/// Adds the line of the names of newer calls, if there are some.
+fn add_newer(text: &mut String, count: usize, default: u32) -> Result<(), AllocError>
+    ensures { OnOk result (string_bytes text.new ≡ string_bytes text.old ++ newer_line count default) }
+{
+    if count > 0 {
+        writeln!(
+            text,
+            "warning: syscalls: NewerNames: {}",
+            NewerWords(count, default)
+        )?;
+    }
+    Ok(())
+}
+
+/// Adds the lines of the findings about the text.
+fn add_text(text: &mut String, passed: &[Passed<'_>], choice: Choice<'_>) -> Result<(), AllocError>
+    ensures { OnOk result (string_bytes text.new ≡ string_bytes text.old
+        ++ told_lines choice.entry.is_all choice.entry.allowed.now (map told passed.now)) }
+{
+    for item in passed {
+        add_passed(text, item, choice)?;
+    }
+    Ok(())
+}
+
+/// Adds the lines of the findings about the profile.
+fn add_profile(text: &mut String, found: &[Finding], choice: Choice<'_>) -> Result<(), AllocError>
+    ensures { OnOk result (string_bytes text.new ≡ string_bytes text.old
+        ++ found_lines choice.entry.is_all choice.entry.allowed.now found.now) }
+{
+    for finding in found {
+        add_found(text, finding, choice)?;
+    }
+    Ok(())
+}
+
+/// A line for each finding that is chosen: those about a profile's text, then those about the profile. Names
+/// that are only counted have a line together, with the value that all other calls get.
 pub fn lint_lines(
     alloc: Global,
     passed: &[Passed<'_>],
     found: &[Finding],
+    choice: Choice<'_>,
+    default: u32,
 ) -> Result<String, AllocError>
-    ensures { IfOk result (λ text. string_bytes text ≡ lint_text (map told passed.now) found.now) }
+    ensures { IfOk result (λ text. string_bytes text
+        ≡ lint_text choice.entry.is_all choice.entry.allowed.now default (map told passed.now) found.now) }
 {
     let mut text = String::new(alloc);
-    for item in passed {
-        writeln!(text, "{item}")?;
-    }
-    for finding in found {
-        writeln!(text, "{finding}")?;
-    }
+    add_text(&mut text, passed, choice)?;
+    add_others(&mut text, counted(passed, Tally::Others, choice))?;
+    add_newer(&mut text, counted(passed, Tally::Newer, choice), default)?;
+    add_profile(&mut text, found, choice)?;
     Ok(text)
 }

@@ -1,20 +1,25 @@
-//! Findings about a profile, as JSON objects (RFC 8259).
-ghost use Rattle.std.specs.Prelude.{◌≡◌, ◌++◌, IfOk, flat_map, map, string_bytes};
+//! Findings as JSON objects (RFC 8259).
+ghost use Rattle.std.specs.Prelude.{◌≡◌, ◌++◌, IfOk, OnOk, flat_map, map, string_bytes};
 ghost use Rattle.serde_json.specs.Data.{string};
 ghost use Rattle.serde_json.specs.Written.{compact_text};
-ghost use Rattle.profile_lint.specs.Objects.{found_object, ignored_object, lint_objects, name_object};
-ghost use Rattle.profile_lint.specs.Objects.{told_object};
+ghost use Rattle.profile_lint.specs.Objects.{absent_members, found_line, found_object};
+ghost use Rattle.profile_lint.specs.Objects.{lint_objects, name_members, newer_object, object_text, others_object};
+ghost use Rattle.profile_lint.specs.Objects.{told_line, told_members, told_object};
 ghost use Rattle.profile_lint.specs.Passed.{told};
-ghost use Rattle.profile_lint.specs.Text.{line_of};
 
+use crate::choice::{Choice, Tally, counted, is_shown};
 use crate::finding::Finding;
-use crate::lines::{Key, words_of};
-use crate::passed::{Holder, Passed};
+use crate::kinds::{FindingKind, kind_of_found, kind_of_passed, severity_of};
+use crate::lines::{NewerWords, OtherWords};
+use crate::passed::Passed;
+use crate::words::{FoundPlace, FoundWords, PassedPlace, PassedWords};
+use absent_names::{AbsentName, kind_of, suggestion};
 use action::Verdict;
 use call_data::SysCall;
 use serde_json::Value;
 use std::alloc::{AllocError, Global};
 use std::fmt;
+use sys_table::NUMBER_LIMIT;
 
 /// A text of any characters, in quotes.
 fn quoted(alloc: Global, text: String) -> Result<String, AllocError>
@@ -23,60 +28,79 @@ fn quoted(alloc: Global, text: String) -> Result<String, AllocError>
     Value::String(text).to_string(alloc)
 }
 
-/// A member that decides nothing.
-fn ignored_object(
+/// A finding of a kind, with members of its own.
+fn object(
     alloc: Global,
     place: String,
-    field: &str,
-    reason: &str,
+    kind: FindingKind,
+    members: &str,
+    words: String,
 ) -> Result<String, AllocError>
     ensures { IfOk result (λ text. string_bytes text
-        ≡ ignored_object (string_bytes place) field.now reason.now) }
+        ≡ object_text (string_bytes place) kind members.now (string_bytes words)) }
 {
+    let severity = severity_of(kind);
     let place = quoted(alloc, place)?;
-    let field = quoted(alloc, String::from_str(alloc, field)?)?;
+    let words = quoted(alloc, words)?;
     format!(in alloc;
-        "{{\"place\":{place},\"kind\":\"Ignored\",\"field\":{field},\"reason\":\"{reason}\"}}"
+        "{{\"place\":{place},\"kind\":\"{kind}\",\"severity\":\"{severity}\"{members},\"text\":{words}}}"
     )
 }
 
-/// A name of an entry.
-fn name_object(
-    alloc: Global,
-    kind: &str,
-    entry: usize,
-    index: usize,
-    name: &str,
-) -> Result<String, AllocError>
-    ensures { IfOk result (λ text. string_bytes text ≡ name_object kind.now entry index name.now) }
+/// What a name is that the call table lacks.
+fn absent_members(alloc: Global, name: &str) -> Result<String, AllocError>
+    ensures { IfOk result (λ text. string_bytes text ≡ absent_members name.now) }
+{
+    match kind_of(name) {
+        AbsentName::Newer(number) => format!(in alloc; ",\"call\":{number}"),
+        AbsentName::Unknown => match suggestion(name) {
+            Some(call) => format!(in alloc; ",\"near\":\"{call}\""),
+            None => Ok(String::new(alloc)),
+        },
+        _ => Ok(String::new(alloc)),
+    }
+}
+
+/// A name as it stands in the profile.
+fn name_members(alloc: Global, name: &str) -> Result<String, AllocError>
+    ensures { IfOk result (λ text. string_bytes text ≡ name_members name.now) }
 {
     let name = quoted(alloc, String::from_str(alloc, name)?)?;
-    format!(in alloc;
-        "{{\"place\":\"syscalls[{entry}].names[{index}]\",\"kind\":\"{kind}\",\"name\":{name}}}"
-    )
+    format!(in alloc; ",\"value\":{name}")
 }
 
-/// A part of the text that decides nothing.
+/// The members of a finding about the text.
+fn passed_members(alloc: Global, passed: &Passed<'_>) -> Result<String, AllocError>
+    ensures { IfOk result (λ text. string_bytes text ≡ told_members (told passed.now)) }
+{
+    match passed {
+        Passed::Ignored(_, key) => {
+            let field = quoted(alloc, String::from_str(alloc, key)?)?;
+            format!(in alloc; ",\"field\":{field}")
+        }
+        Passed::OtherArchitectures => String::from_str(alloc, ",\"field\":\"architectures\""),
+        Passed::UnknownName(_, _, name) => {
+            let (value, absent) = (name_members(alloc, name)?, absent_members(alloc, name)?);
+            format!(in alloc; "{value}{absent}")
+        }
+        Passed::RepeatedName(_, _, name) => name_members(alloc, name),
+    }
+}
+
+/// A finding about the text.
 fn passed_object(alloc: Global, passed: &Passed<'_>) -> Result<String, AllocError>
     ensures { IfOk result (λ text. string_bytes text ≡ told_object (told passed.now)) }
 {
-    match passed {
-        Passed::Ignored(holder, key) => {
-            let place = format!(in alloc; "{holder}{}", Key(key))?;
-            ignored_object(alloc, place, key, words_of(key))
-        }
-        Passed::OtherArchitectures => {
-            let place = String::from_str(alloc, "architectures")?;
-            let reason = "x86-64 is not among them, and only its calls are decided";
-            ignored_object(alloc, place, "architectures", reason)
-        }
-        Passed::UnknownName(entry, index, name) => {
-            name_object(alloc, "UnknownName", *entry, *index, name)
-        }
-        Passed::RepeatedName(entry, index, name) => {
-            name_object(alloc, "RepeatedName", *entry, *index, name)
-        }
-    }
+    let place = format!(in alloc; "{}", PassedPlace(passed))?;
+    let words = format!(in alloc; "{}", PassedWords(passed))?;
+    let members = passed_members(alloc, passed)?;
+    object(
+        alloc,
+        place,
+        kind_of_passed(passed),
+        members.as_str(),
+        words,
+    )
 }
 
 /// A call, as members.
@@ -121,91 +145,157 @@ impl fmt::Display for ValueObject {
     }
 }
 
-/// A finding, as an object.
+/// The members of a finding about the profile.
 #[derive(Clone, Copy)]
-struct Object(Finding);
+struct FoundMembers(Finding);
 
-impl fmt::Display for Object {
+impl fmt::Display for FoundMembers {
     ghost use Rattle.std.specs.Prelude.{Some};
-    ghost use Rattle.profile_lint.specs.Objects.{found_object};
+    ghost use Rattle.profile_lint.specs.Objects.{found_members};
 
-    ghost output = { λ object. Some (found_object object.0) };
+    ghost output = { λ members. Some (found_members members.0) };
 
     fn fmt<W: fmt::Write>(&self, f: &mut fmt::Formatter<W>) -> fmt::Result {
         match self.0 {
-            Finding::NeverDecides(place) => {
-                write!(
-                    f,
-                    "{{\"place\":\"syscalls[{place}]\",\"kind\":\"NeverDecides\"}}"
-                )
-            }
-            Finding::SameWithout(place) => {
-                write!(
-                    f,
-                    "{{\"place\":\"syscalls[{place}]\",\"kind\":\"Redundant\"}}"
-                )
-            }
-            Finding::NotFoundOut(place) => {
-                write!(
-                    f,
-                    "{{\"place\":\"syscalls[{place}]\",\"kind\":\"NotFoundOut\"}}"
-                )
-            }
-            Finding::NotLookedAt(place) => {
-                write!(
-                    f,
-                    "{{\"place\":\"syscalls[{place}]\",\"kind\":\"NotLookedAt\"}}"
-                )
-            }
-            Finding::NotCompared(place) => {
-                write!(
-                    f,
-                    "{{\"place\":\"syscalls[{place}]\",\"kind\":\"NotCompared\"}}"
-                )
-            }
-            Finding::ReadOtherwise(place, call, here, there) => {
+            Finding::ReadOtherwise(_, call, here, there) => {
                 let call = CallMembers(call);
                 let (here, there) = (ValueObject(here), ValueObject(there));
-                write!(
-                    f,
-                    "{{\"place\":\"syscalls[{place}]\",\"kind\":\"EnginesDiffer\",{call},\
-                     \"here\":{here},\"runc\":{there}}}"
-                )
+                write!(f, ",{call},\"here\":{here},\"runc\":{there}")
             }
-            Finding::Overlap(place, other, call) => {
-                let call = CallMembers(call);
-                write!(
-                    f,
-                    "{{\"place\":\"syscalls[{place}]\",\"kind\":\"Overlap\",{call},\
-                     \"other\":\"syscalls[{other}]\"}}"
-                )
+            Finding::Overlap(_, other, call) => {
+                write!(f, ",{},\"other\":\"syscalls[{other}]\"", CallMembers(call))
             }
-            Finding::NewerCalls(errno) => write!(
-                f,
-                "{{\"place\":\"defaultAction\",\"kind\":\"NewerCalls\",\"above\":439,\
-                 \"errno\":{errno},\"wanted\":38}}"
-            ),
+            Finding::NewerCalls(errno) => {
+                let last = NUMBER_LIMIT - 1;
+                write!(f, ",\"above\":{last},\"errno\":{errno},\"wanted\":38")
+            }
+            _ => Ok(()),
         }
     }
 }
 
+/// A finding about the profile.
+fn found_object(alloc: Global, found: Finding) -> Result<String, AllocError>
+    ensures { IfOk result (λ text. string_bytes text ≡ found_object found) }
+{
+    let place = format!(in alloc; "{}", FoundPlace(found))?;
+    let words = format!(in alloc; "{}", FoundWords(found))?;
+    let members = format!(in alloc; "{}", FoundMembers(found))?;
+    object(alloc, place, kind_of_found(&found), members.as_str(), words)
+}
+
+/// Adds the object of a finding about the text, if it has one.
+fn add_passed(
+    alloc: Global,
+    text: &mut String,
+    item: &Passed<'_>,
+    choice: Choice<'_>,
+) -> Result<(), AllocError>
+    ensures { OnOk result (string_bytes text.new
+        ≡ string_bytes text.old ++ told_line choice.entry.is_all choice.entry.allowed.now (told item.now)) }
+{
+    if is_shown(kind_of_passed(item), choice) {
+        let object = passed_object(alloc, item)?;
+        writeln!(text, "{object}")?;
+    }
+    Ok(())
+}
+
+/// Adds the object of a finding about the profile, if it has one.
+fn add_found(
+    alloc: Global,
+    text: &mut String,
+    item: &Finding,
+    choice: Choice<'_>,
+) -> Result<(), AllocError>
+    ensures { OnOk result (string_bytes text.new
+        ≡ string_bytes text.old ++ found_line choice.entry.is_all choice.entry.allowed.now item.now) }
+{
+    if is_shown(kind_of_found(item), choice) {
+        let object = found_object(alloc, *item)?;
+        writeln!(text, "{object}")?;
+    }
+    Ok(())
+}
+
+/// Adds the object of the names that are no calls of x86-64, if there are some.
+fn add_others(text: &mut String, count: usize) -> Result<(), AllocError>
+    ensures { OnOk result (string_bytes text.new ≡ string_bytes text.old ++ others_object count) }
+{
+    if count > 0 {
+        writeln!(
+            text,
+            "{{\"place\":\"syscalls\",\"kind\":\"OtherNames\",\"severity\":\"note\",\"count\":{count},\
+             \"text\":\"{}\"}}",
+            OtherWords(count)
+        )?;
+    }
+    Ok(())
+}
+
+/// Adds the object of the names of newer calls, if there are some.
+fn add_newer(text: &mut String, count: usize, default: u32) -> Result<(), AllocError>
+    ensures { OnOk result (string_bytes text.new ≡ string_bytes text.old ++ newer_object count default) }
+{
+    if count > 0 {
+        writeln!(
+            text,
+            "{{\"place\":\"syscalls\",\"kind\":\"NewerNames\",\"severity\":\"warning\",\"count\":{count},\
+             \"text\":\"{}\"}}",
+            NewerWords(count, default)
+        )?;
+    }
+    Ok(())
+}
+
+/// Adds the objects of the findings about the text.
+fn add_text(
+    alloc: Global,
+    text: &mut String,
+    passed: &[Passed<'_>],
+    choice: Choice<'_>,
+) -> Result<(), AllocError>
+    ensures { OnOk result (string_bytes text.new ≡ string_bytes text.old
+        ++ flat_map (told_line choice.entry.is_all choice.entry.allowed.now) (map told passed.now)) }
+{
+    for item in passed {
+        add_passed(alloc, text, item, choice)?;
+    }
+    Ok(())
+}
+
+/// Adds the objects of the findings about the profile.
+fn add_profile(
+    alloc: Global,
+    text: &mut String,
+    found: &[Finding],
+    choice: Choice<'_>,
+) -> Result<(), AllocError>
+    ensures { OnOk result (string_bytes text.new ≡ string_bytes text.old
+        ++ flat_map (found_line choice.entry.is_all choice.entry.allowed.now) found.now) }
+{
+    for finding in found {
+        add_found(alloc, text, finding, choice)?;
+    }
+    Ok(())
+}
+
 /// The content of [`lint_lines`](crate::lint_lines), as one JSON object per line:
-/// `{"place":"syscalls[0].names[1]","kind":"UnknownName","name":"chown32"}`.
+/// `{"place":"syscalls[0].names[1]","kind":"UnknownName","severity":"error","value":"ptrce","near":"ptrace",..}`.
 pub fn lint_objects(
     alloc: Global,
     passed: &[Passed<'_>],
     found: &[Finding],
+    choice: Choice<'_>,
+    default: u32,
 ) -> Result<String, AllocError>
-    ensures { IfOk result (λ text. string_bytes text ≡ lint_objects (map told passed.now) found.now) }
+    ensures { IfOk result (λ text. string_bytes text
+        ≡ lint_objects choice.entry.is_all choice.entry.allowed.now default (map told passed.now) found.now) }
 {
     let mut text = String::new(alloc);
-    for item in passed {
-        let object = passed_object(alloc, item)?;
-        writeln!(text, "{object}")?;
-    }
-    for finding in found {
-        let object = Object(*finding);
-        writeln!(text, "{object}")?;
-    }
+    add_text(alloc, &mut text, passed, choice)?;
+    add_others(&mut text, counted(passed, Tally::Others, choice))?;
+    add_newer(&mut text, counted(passed, Tally::Newer, choice), default)?;
+    add_profile(alloc, &mut text, found, choice)?;
     Ok(text)
 }

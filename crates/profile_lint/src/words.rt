@@ -1,0 +1,294 @@
+//! Findings in words.
+ghost use Rattle.std.specs.Prelude.{◌≡◌};
+ghost use Rattle.std.specs.List.{list_all};
+ghost use Rattle.profile_lint.specs.Text.{is_plain, is_plain_byte, words_of};
+
+use crate::finding::Finding;
+use crate::kinds::{kind_of_found, kind_of_passed};
+use crate::passed::{Holder, Passed};
+use absent_names::{AbsentName, kind_of, suggestion};
+use action::Verdict;
+use call_data::SysCall;
+use json_place::{MAX_SHOWN, Quoted};
+use std::fmt;
+use sys_table::NUMBER_LIMIT;
+
+/// The prefix of a member's key: nothing, `syscalls[3].`, `syscalls[3].args[1].`
+impl fmt::Display for Holder {
+    ghost use Rattle.std.specs.Prelude.{Some};
+    ghost use Rattle.profile_lint.specs.Text.{holder_text};
+
+    ghost output = { λ holder. Some (holder_text holder) };
+
+    fn fmt<W: fmt::Write>(&self, f: &mut fmt::Formatter<W>) -> fmt::Result {
+        match self {
+            Holder::Profile => Ok(()),
+            Holder::Entry(entry) => write!(f, "syscalls[{entry}]."),
+            Holder::Arg(entry, arg) => write!(f, "syscalls[{entry}].args[{arg}]."),
+        }
+    }
+}
+
+/// A member's key: as it is, or in quotes.
+#[derive(Clone, Copy)]
+pub(crate) struct Key<'v>(pub(crate) &'v str);
+
+impl fmt::Display for Key<'_> {
+    ghost use Rattle.std.specs.Prelude.{Some};
+    ghost use Rattle.profile_lint.specs.Text.{key_text};
+
+    ghost output = { λ key. Some (key_text key.0.now) };
+
+    fn fmt<W: fmt::Write>(&self, f: &mut fmt::Formatter<W>) -> fmt::Result {
+        if is_plain(self.0) {
+            f.write_str(self.0)
+        } else {
+            write!(f, "{}", Quoted(self.0))
+        }
+    }
+}
+
+/// Whether it has only ASCII letters, digits and `_`, and not too many.
+#[tactic(auto, unfolding(crate::specs::Text::is_plain))]
+fn is_plain(key: &str) -> bool
+    ensures { result ≡ is_plain key.now }
+{
+    !key.is_empty() && key.len() <= MAX_SHOWN && are_plain(key.as_bytes())
+}
+
+fn are_plain(bytes: &[u8]) -> bool
+    ensures { result ≡ list_all is_plain_byte bytes.now }
+{
+    bytes.iter().all(|byte| is_plain_byte(*byte))
+}
+
+fn is_plain_byte(byte: u8) -> bool
+    ensures { result ≡ is_plain_byte byte }
+{
+    (97 <= byte && byte <= 122)
+        || (65 <= byte && byte <= 90)
+        || (48 <= byte && byte <= 57)
+        || byte == 95
+}
+
+/// What a member that decides nothing would have meant.
+#[tactic(auto, unfolding(crate::specs::Text::words_of))]
+pub(crate) fn words_of(key: &str) -> &'static str
+    ensures { result.now ≡ words_of key.now }
+{
+    match key {
+        "includes" => "a template takes the entry under these conditions alone",
+        "excludes" => "a template leaves the entry out under these conditions",
+        "minKernel" => "a template takes the entry from this kernel on",
+        "archMap" => "a template has its architectures from here",
+        "name" => "a template has the entry's one call here",
+        "errno" => "a template has the errno by name here",
+        "defaultErrno" => "a template has the errno by name here",
+        "syscall" => "calls stand in names",
+        "flags" => "engines hand them to seccomp(2)",
+        "listenerPath" => "engines send calls to this socket",
+        "listenerMetadata" => "engines send this with calls",
+        _ => "linux.seccomp has no such field",
+    }
+}
+
+/// A name that is no call of the table, and what it is.
+#[derive(Clone, Copy)]
+struct NameWords<'v>(&'v str);
+
+impl fmt::Display for NameWords<'_> {
+    ghost use Rattle.std.specs.Prelude.{Some};
+    ghost use Rattle.profile_lint.specs.Text.{name_words};
+
+    ghost output = { λ words. Some (name_words words.0.now) };
+
+    fn fmt<W: fmt::Write>(&self, f: &mut fmt::Formatter<W>) -> fmt::Result {
+        let name = Quoted(self.0);
+        match kind_of(self.0) {
+            AbsentName::Newer(number) => write!(f, "{name} is call {number}, newer than the table"),
+            AbsentName::NotImplemented => write!(f, "{name} is not implemented on x86-64"),
+            AbsentName::OtherArchitecture => write!(f, "{name} is a call of other architectures"),
+            AbsentName::Unknown => match suggestion(self.0) {
+                Some(call) => write!(f, "{name} is no call (did you mean {call}?)"),
+                None => write!(f, "{name} is no call"),
+            },
+        }
+    }
+}
+
+/// The place of a finding about the text.
+#[derive(Clone, Copy)]
+pub(crate) struct PassedPlace<'p>(pub(crate) &'p Passed<'p>);
+
+impl fmt::Display for PassedPlace<'_> {
+    ghost use Rattle.std.specs.Prelude.{Some};
+    ghost use Rattle.profile_lint.specs.Passed.{told};
+    ghost use Rattle.profile_lint.specs.Text.{told_place};
+
+    ghost output = { λ place. Some (told_place (told place.0.now)) };
+
+    fn fmt<W: fmt::Write>(&self, f: &mut fmt::Formatter<W>) -> fmt::Result {
+        match self.0 {
+            Passed::Ignored(holder, key) => write!(f, "{holder}{}", Key(key)),
+            Passed::OtherArchitectures => f.write_str("architectures"),
+            Passed::UnknownName(entry, index, _) => write!(f, "syscalls[{entry}].names[{index}]"),
+            Passed::RepeatedName(entry, index, _) => write!(f, "syscalls[{entry}].names[{index}]"),
+        }
+    }
+}
+
+/// What is found in the text.
+#[derive(Clone, Copy)]
+pub(crate) struct PassedWords<'p>(pub(crate) &'p Passed<'p>);
+
+impl fmt::Display for PassedWords<'_> {
+    ghost use Rattle.std.specs.Prelude.{Some};
+    ghost use Rattle.profile_lint.specs.Passed.{told};
+    ghost use Rattle.profile_lint.specs.Text.{told_words};
+
+    ghost output = { λ words. Some (told_words (told words.0.now)) };
+
+    fn fmt<W: fmt::Write>(&self, f: &mut fmt::Formatter<W>) -> fmt::Result {
+        match self.0 {
+            Passed::Ignored(_, key) => f.write_str(words_of(key)),
+            Passed::OtherArchitectures => f.write_str(
+                "x86-64 is not among them, and only its calls are decided",
+            ),
+            Passed::UnknownName(_, _, name) => write!(f, "{}", NameWords(name)),
+            Passed::RepeatedName(_, _, name) => write!(f, "{} is repeated", Quoted(name)),
+        }
+    }
+}
+
+/// `PLACE: KIND: WORDS`.
+impl fmt::Display for Passed<'_> {
+    ghost use Rattle.std.specs.Prelude.{Some};
+    ghost use Rattle.profile_lint.specs.Passed.{told};
+    ghost use Rattle.profile_lint.specs.Text.{told_text};
+
+    ghost output = { λ passed. Some (told_text (told passed)) };
+
+    fn fmt<W: fmt::Write>(&self, f: &mut fmt::Formatter<W>) -> fmt::Result {
+        let kind = kind_of_passed(self);
+        write!(f, "{}: {kind}: {}", PassedPlace(self), PassedWords(self))
+    }
+}
+
+/// A call, as arguments of `seccheck run`.
+#[derive(Clone, Copy)]
+struct Words(SysCall);
+
+impl fmt::Display for Words {
+    ghost use Rattle.std.specs.Prelude.{Some};
+    ghost use Rattle.profile_lint.specs.Text.{call_text};
+
+    ghost output = { λ words. Some (call_text words.0) };
+
+    fn fmt<W: fmt::Write>(&self, f: &mut fmt::Formatter<W>) -> fmt::Result {
+        let (nr, args) = (self.0.nr, self.0.args);
+        write!(
+            f,
+            "{nr} {} {} {} {} {} {}",
+            args[0], args[1], args[2], args[3], args[4], args[5]
+        )
+    }
+}
+
+/// A value, as its action and its data.
+#[derive(Clone, Copy)]
+pub(crate) struct Value(pub(crate) u32);
+
+impl fmt::Display for Value {
+    ghost use Rattle.std.specs.Prelude.{Some};
+    ghost use Rattle.profile_lint.specs.Text.{value_text};
+
+    ghost output = { λ value. Some (value_text value.0) };
+
+    fn fmt<W: fmt::Write>(&self, f: &mut fmt::Formatter<W>) -> fmt::Result {
+        let verdict = Verdict::of_value(self.0);
+        let (action, ret_data) = (verdict.action, verdict.ret_data);
+        write!(f, "{action} {ret_data}")
+    }
+}
+
+/// The place of a finding about the profile.
+#[derive(Clone, Copy)]
+pub(crate) struct FoundPlace(pub(crate) Finding);
+
+impl fmt::Display for FoundPlace {
+    ghost use Rattle.std.specs.Prelude.{Some};
+    ghost use Rattle.profile_lint.specs.Text.{found_place};
+
+    ghost output = { λ place. Some (found_place place.0) };
+
+    fn fmt<W: fmt::Write>(&self, f: &mut fmt::Formatter<W>) -> fmt::Result {
+        match self.0 {
+            Finding::NeverDecides(place)
+            | Finding::SameWithout(place)
+            | Finding::NotFoundOut(place)
+            | Finding::NotLookedAt(place)
+            | Finding::NotCompared(place)
+            | Finding::ReadOtherwise(place, _, _, _)
+            | Finding::Overlap(place, _, _) => write!(f, "syscalls[{place}]"),
+            Finding::NewerCalls(_) => f.write_str("defaultAction"),
+        }
+    }
+}
+
+/// What is found in the profile.
+#[derive(Clone, Copy)]
+pub(crate) struct FoundWords(pub(crate) Finding);
+
+impl fmt::Display for FoundWords {
+    ghost use Rattle.std.specs.Prelude.{Some};
+    ghost use Rattle.profile_lint.specs.Text.{found_words};
+
+    ghost output = { λ words. Some (found_words words.0) };
+
+    fn fmt<W: fmt::Write>(&self, f: &mut fmt::Formatter<W>) -> fmt::Result {
+        match self.0 {
+            Finding::NeverDecides(_) => f.write_str("it decides no call"),
+            Finding::SameWithout(_) => f.write_str("what follows decides its calls the same way"),
+            Finding::NotFoundOut(_) => f.write_str("it may decide no call, or be redundant"),
+            Finding::NotLookedAt(_) => f.write_str(
+                "from here on entries may decide no call, or be redundant",
+            ),
+            Finding::NotCompared(_) => f.write_str(
+                "from here on engines may read entries differently",
+            ),
+            Finding::ReadOtherwise(_, call, here, there) => {
+                let (call, here, there) = (Words(call), Value(here), Value(there));
+                write!(f, "at {call}: {here} here, {there} by runc")
+            }
+            Finding::Overlap(_, other, call) => {
+                let call = Words(call);
+                write!(
+                    f,
+                    "at {call} syscalls[{other}] decides otherwise, \
+                     and libseccomp does not keep their order"
+                )
+            }
+            Finding::NewerCalls(errno) => {
+                let last = NUMBER_LIMIT - 1;
+                write!(
+                    f,
+                    "calls newer than {last} return errno {errno}, \
+                     and programs fall back to older calls only on ENOSYS (38)"
+                )
+            }
+        }
+    }
+}
+
+/// `PLACE: KIND: WORDS`.
+impl fmt::Display for Finding {
+    ghost use Rattle.std.specs.Prelude.{Some};
+    ghost use Rattle.profile_lint.specs.Text.{found_text};
+
+    ghost output = { λ found. Some (found_text found) };
+
+    fn fmt<W: fmt::Write>(&self, f: &mut fmt::Formatter<W>) -> fmt::Result {
+        let kind = kind_of_found(self);
+        write!(f, "{}: {kind}: {}", FoundPlace(*self), FoundWords(*self))
+    }
+}

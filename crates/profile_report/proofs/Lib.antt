@@ -1,0 +1,4 @@
+mod Fitting
+mod Pages
+mod Plain
+mod Views

@@ -1,0 +1,63 @@
+-- How a report shows the calls on which two profiles differ, this project's own: docs/SEMANTICS.md, "A report".
+use Rattle.std.specs.Prelude.{ℕ, ◌-◌, ◌==◌, ◌&&◌, Bool, false, if◌then◌else◌, List, [], ◌∷◌, ◌++◌, codes, length}
+use Rattle.std.specs.Fmt.{decimal}
+use Rattle.std.specs.List.{list_any}
+use Rattle.filter_differences.specs.declared.part.Part.{Part}
+use Rattle.filter_differences.specs.declared.part.Part.TheVariants.{Numbers, Later, X32, OtherArchitectures}
+use Rattle.shown_differences.specs.declared.line.Line.{Line}
+use Rattle.shown_differences.specs.declared.line.Line.TheVariants.{Differs, Undecided}
+use Rattle.shown_differences.specs.Texts.{line_text, told_text}
+use Rattle.profile_report.specs.Escaped.{html_text}
+use Rattle.profile_report.specs.Ways.{first}
+use Rattle.profile_report.specs.declared.changes.TheConstants.{SHOWN_CHANGES}
+
+-- the calls with this number alone
+abbrev pub is_part_of : ℕ → Part → Bool
+is_part_of nr (Numbers low high) = (low == nr) && (high == nr)
+is_part_of nr Later = false
+is_part_of nr X32 = false
+is_part_of nr OtherArchitectures = false
+
+-- whether a line is about the calls with this number alone
+abbrev pub is_on : ℕ → Line → Bool
+is_on nr (Differs part call one other) = is_part_of nr part
+is_on nr (Undecided part why) = is_part_of nr part
+
+abbrev pub is_changed : ℕ → List Line → Bool
+is_changed nr lines = list_any (is_on nr) lines
+
+-- both decisions, that of the old profile first
+unfoldable pub change_html : Line → List ℕ
+change_html (Differs part call one other) =
+    codes "<p>was " ++ (told_text one ++ (codes ", is " ++ (told_text other ++ codes "</p>")))
+change_html (Undecided part why) = codes "<p>it was not found out whether this differs</p>"
+
+unfoldable pub change_at : ℕ → Line → List ℕ
+change_at nr line = if is_on nr line then change_html line else []
+
+-- what differs at the calls with this number
+abbrev pub changes_at : ℕ → List Line → List ℕ
+changes_at nr [] = []
+changes_at nr (line ∷ lines) = change_at nr line ++ changes_at nr lines
+
+-- a line as `table --against` prints it
+abbrev pub change_items : List Line → List ℕ
+change_items [] = []
+change_items (line ∷ lines) = codes "<li>" ++ (line_text line ++ (codes "</li>\n" ++ change_items lines))
+
+unfoldable pub more_changes : ℕ → List ℕ
+more_changes count = if count == 0 then [] else codes "<li>" ++ (decimal count
+    ++ codes " more, which <code>seccheck table --against</code> prints</li>\n")
+
+-- the old profile, and how many calls differ
+unfoldable pub changes_head : List ℕ → ℕ → List ℕ
+changes_head old count =
+    codes "<section id=\"differences\"><h2>Differences from " ++ (html_text 200 old
+    ++ (codes "</h2>\n<p>Calls that differ: " ++ (decimal count
+    ++ codes ". The first decision is the old one.</p>\n<ul>\n")))
+
+-- the differences from an old profile
+abbrev pub changes_html : List ℕ → List Line → List ℕ
+changes_html old lines =
+    changes_head old (length lines) ++ (change_items (first SHOWN_CHANGES lines)
+    ++ (more_changes (length lines - SHOWN_CHANGES) ++ codes "</ul></section>\n"))

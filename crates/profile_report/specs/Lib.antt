@@ -1,0 +1,10 @@
+pub mod Changes
+pub mod Denials
+pub mod Entries
+pub mod Escaped
+pub mod Grid
+pub mod Notes
+pub mod Page
+pub mod Tallies
+pub mod Ways
+pub mod Words

@@ -1,0 +1,85 @@
+-- The findings of `lint` beside the entries that they are about, this project's own: docs/SEMANTICS.md, "A
+-- report".
+use Rattle.std.specs.Prelude.{ℕ, ◌-◌, ◌==◌, Bool, true, false, if◌then◌else◌, List, [], ◌∷◌, ◌++◌, codes}
+use Rattle.std.specs.Prelude.{length, Option, Some, None}
+use Rattle.std.specs.Fmt.{decimal}
+use Rattle.profile_lint.specs.declared.finding.Finding.{Finding}
+use Rattle.profile_lint.specs.declared.finding.Finding.TheVariants as found
+use Rattle.profile_lint.specs.declared.passed.Holder.{Holder}
+use Rattle.profile_lint.specs.declared.passed.Holder.TheVariants as of
+use Rattle.profile_lint.specs.declared.passed.Passed.{Passed}
+use Rattle.profile_lint.specs.Passed.{Told, told}
+use Rattle.profile_lint.specs.Passed.Told.{Ignored, OtherArchitectures, UnknownName, RepeatedName}
+use Rattle.profile_lint.specs.Text.{found_text, told_text}
+use Rattle.profile_report.specs.Escaped.{html_text}
+use Rattle.profile_report.specs.Ways.{first}
+
+-- the entry that a member belongs to
+abbrev pub entry_of : Holder → Option ℕ
+entry_of of.Profile = None
+entry_of (of.Entry entry) = Some entry
+entry_of (of.Arg entry arg) = Some entry
+
+-- the entry that a finding about the text is about
+abbrev pub told_about : Told → Option ℕ
+told_about (Ignored holder key) = entry_of holder
+told_about OtherArchitectures = None
+told_about (UnknownName entry index name) = Some entry
+told_about (RepeatedName entry index name) = Some entry
+
+-- the entry that a finding about the profile is about: the first one of two that overlap
+abbrev pub found_about : Finding → Option ℕ
+found_about (found.NeverDecides place) = Some place
+found_about (found.SameWithout place) = Some place
+found_about (found.NotFoundOut place) = Some place
+found_about (found.NotLookedAt place) = Some place
+found_about (found.NotCompared place) = Some place
+found_about (found.ReadOtherwise place call here there) = Some place
+found_about (found.Overlap place other call) = Some place
+found_about (found.NewerCalls errno) = None
+
+abbrev pub is_about : Option ℕ → Option ℕ → Bool
+is_about None None = true
+is_about (Some place) (Some other) = place == other
+is_about None (Some other) = false
+is_about (Some place) None = false
+
+-- the line of a finding, if it is about this entry, or about none if none is meant
+unfoldable pub told_line : Option ℕ → Told → List (List ℕ)
+told_line about t = if is_about (told_about t) about then told_text t ∷ [] else []
+
+unfoldable pub found_line : Option ℕ → Finding → List (List ℕ)
+found_line about f = if is_about (found_about f) about then found_text f ∷ [] else []
+
+-- the lines about the text, in order
+abbrev pub told_lines : Option ℕ → List Passed → List (List ℕ)
+told_lines about [] = []
+told_lines about (item ∷ passed) = told_line about (told item) ++ told_lines about passed
+
+-- the lines about the profile, in order
+abbrev pub found_lines : Option ℕ → List Finding → List (List ℕ)
+found_lines about [] = []
+found_lines about (finding ∷ finds) = found_line about finding ++ found_lines about finds
+
+-- a finding: 160 bytes of each are shown
+abbrev pub items_html : List (List ℕ) → List ℕ
+items_html [] = []
+items_html (line ∷ lines) = codes "<li>" ++ (html_text 160 line ++ (codes "</li>\n" ++ items_html lines))
+
+unfoldable pub more_notes : ℕ → List ℕ
+more_notes count = if count == 0 then [] else codes "<li>" ++ (decimal count
+    ++ codes " more, which <code>seccheck lint</code> prints</li>\n")
+
+-- the first findings, and how many more there are
+unfoldable pub list_html : ℕ → List (List ℕ) → List ℕ
+list_html count lines =
+    codes "<ul class=\"n\">\n" ++ (items_html (first count lines) ++ (more_notes (length lines - count)
+    ++ codes "</ul>\n"))
+
+-- nothing if there is no finding
+unfoldable pub notes_html : ℕ → List (List ℕ) → List ℕ
+notes_html count lines = if length lines == 0 then [] else list_html count lines
+
+-- the findings about this entry, or about none
+abbrev pub notes_about : ℕ → Option ℕ → List Passed → List Finding → List ℕ
+notes_about count about passed finds = notes_html count (told_lines about passed ++ found_lines about finds)

@@ -1,0 +1,184 @@
+//! The findings of `lint` beside the entries that they are about.
+ghost use Rattle.std.specs.Prelude.{◌≡◌, ◌++◌, IfOk, map, string_bytes};
+ghost use Rattle.profile_lint.specs.Passed.{told};
+ghost use Rattle.profile_report.specs.Notes.{entry_of, found_about, found_line, found_lines, is_about};
+ghost use Rattle.profile_report.specs.Notes.{items_html, list_html, notes_about, notes_html, told_about, told_line};
+ghost use Rattle.profile_report.specs.Notes.{told_lines};
+
+use crate::escaping::Html;
+use crate::ways::first;
+use profile_lint::{Finding, Holder, Passed};
+use std::alloc::{AllocError, Global};
+use std::fmt;
+
+/// The first findings about an entry, or about none, and how many more there are.
+pub(crate) fn notes_about(
+    alloc: Global,
+    count: usize,
+    about: Option<usize>,
+    passed: &[Passed<'_>],
+    found: &[Finding],
+) -> Result<String, AllocError>
+    ensures { IfOk result (λ text. string_bytes text ≡ notes_about count about passed.now found.now) }
+{
+    let lines = lines_about(alloc, about, passed, found)?;
+    notes_html(alloc, count, lines.as_slice())
+}
+
+/// The lines of the findings about an entry, or about none.
+fn lines_about(
+    alloc: Global,
+    about: Option<usize>,
+    passed: &[Passed<'_>],
+    found: &[Finding],
+) -> Result<Vec<String>, AllocError>
+    ensures { IfOk result (λ lines. map string_bytes lines.items
+        ≡ told_lines about passed.now ++ found_lines about found.now) }
+{
+    let mut lines = Vec::new(alloc);
+    for item in passed {
+        add_told(alloc, &mut lines, about, item)?;
+    }
+    for finding in found {
+        add_found(alloc, &mut lines, about, finding)?;
+    }
+    Ok(lines)
+}
+
+/// Adds the line of a finding about the text, if it is about this.
+#[tactic(auto, unfolding(crate::specs::Notes::told_line))]
+fn add_told(
+    alloc: Global,
+    lines: &mut Vec<String>,
+    about: Option<usize>,
+    item: &Passed<'_>,
+) -> Result<(), AllocError>
+    ensures { IfOk result (λ _. map string_bytes lines.new.items
+        ≡ map string_bytes lines.old.items ++ told_line about (told item.now)) }
+{
+    if is_about(told_about(item), about) {
+        lines.push(format!(in alloc; "{item}")?)?;
+    }
+    Ok(())
+}
+
+/// Adds the line of a finding about the profile, if it is about this.
+#[tactic(auto, unfolding(crate::specs::Notes::found_line))]
+fn add_found(
+    alloc: Global,
+    lines: &mut Vec<String>,
+    about: Option<usize>,
+    finding: &Finding,
+) -> Result<(), AllocError>
+    ensures { IfOk result (λ _. map string_bytes lines.new.items
+        ≡ map string_bytes lines.old.items ++ found_line about finding.now) }
+{
+    if is_about(found_about(finding), about) {
+        lines.push(format!(in alloc; "{finding}")?)?;
+    }
+    Ok(())
+}
+
+/// The entry that a finding about the text is about.
+fn told_about(item: &Passed<'_>) -> Option<usize>
+    ensures { result ≡ told_about (told item.now) }
+{
+    match item {
+        Passed::Ignored(holder, _) => entry_of(*holder),
+        Passed::OtherArchitectures => None,
+        Passed::UnknownName(entry, _, _) | Passed::RepeatedName(entry, _, _) => Some(*entry),
+    }
+}
+
+fn entry_of(holder: Holder) -> Option<usize>
+    ensures { result ≡ entry_of holder }
+{
+    match holder {
+        Holder::Profile => None,
+        Holder::Entry(entry) | Holder::Arg(entry, _) => Some(entry),
+    }
+}
+
+/// The entry that a finding about the profile is about, the first one of two that overlap.
+fn found_about(finding: &Finding) -> Option<usize>
+    ensures { result ≡ found_about finding.now }
+{
+    match finding {
+        Finding::NeverDecides(place)
+        | Finding::SameWithout(place)
+        | Finding::NotFoundOut(place)
+        | Finding::NotLookedAt(place)
+        | Finding::NotCompared(place)
+        | Finding::ReadOtherwise(place, _, _, _)
+        | Finding::Overlap(place, _, _) => Some(*place),
+        Finding::NewerCalls(_) => None,
+    }
+}
+
+fn is_about(one: Option<usize>, other: Option<usize>) -> bool
+    ensures { result ≡ is_about one other }
+{
+    match (one, other) {
+        (None, None) => true,
+        (Some(place), Some(other)) => place == other,
+        _ => false,
+    }
+}
+
+/// The first findings, and how many more there are; nothing if there is none.
+#[tactic(auto, using(crate::proofs::Views::as_many), unfolding(crate::specs::Notes::notes_html))]
+fn notes_html(alloc: Global, count: usize, lines: &[String]) -> Result<String, AllocError>
+    ensures { IfOk result (λ text. string_bytes text ≡ notes_html count (map string_bytes lines.now)) }
+{
+    if lines.is_empty() {
+        return Ok(String::new(alloc));
+    }
+    list_html(alloc, count, lines)
+}
+
+#[tactic(auto, using(crate::proofs::Views::as_many, crate::proofs::Views::first_seen), unfolding(crate::specs::Notes::list_html))]
+fn list_html(alloc: Global, count: usize, lines: &[String]) -> Result<String, AllocError>
+    ensures { IfOk result (λ text. string_bytes text ≡ list_html count (map string_bytes lines.now)) }
+{
+    let items = items_html(alloc, first(lines, count))?;
+    let more = MoreNotes(lines.len().saturating_sub(count));
+    format!(in alloc; "<ul class=\"n\">\n{items}{more}</ul>\n")
+}
+
+fn items_html(alloc: Global, lines: &[String]) -> Result<String, AllocError>
+    ensures { IfOk result (λ text. string_bytes text ≡ items_html (map string_bytes lines.now)) }
+{
+    let mut text = String::new(alloc);
+    for line in lines {
+        let html = Html {
+            text: line.as_str(),
+            room: 160,
+        };
+        write!(text, "<li>{html}</li>\n")?;
+    }
+    Ok(text)
+}
+
+/// How many findings are not shown.
+#[derive(Clone, Copy)]
+struct MoreNotes(usize);
+
+impl fmt::Display for MoreNotes {
+    ghost use Rattle.std.specs.Prelude.{Some};
+    ghost use Rattle.profile_report.specs.Notes.{more_notes};
+
+    ghost output = { λ more. Some (more_notes more.0) };
+
+    #[tactic(auto, unfolding(crate::specs::Notes::more_notes))]
+    fn fmt<W: fmt::Write>(&self, f: &mut fmt::Formatter<W>) -> fmt::Result {
+        let count = self.0;
+        if count == 0 {
+            Ok(())
+        } else {
+            write!(
+                f,
+                "<li>{count} more, which <code>seccheck lint</code> prints</li>\n"
+            )
+        }
+    }
+}
