@@ -108,6 +108,7 @@ kernel: lib
 # The call table beside the kernel's header on this machine.
 table:
 	@tools/compare_call_table.sh
+	@tools/compare_call_types.py
 
 # Three nodes behind an etcd of this machine, by the programs that make test built, or those in the folder BIN.
 fleet:

@@ -387,6 +387,8 @@ NUMBERS = (
     ("seccheck.1", r"a list of 1 to ([\d,]+) items", "bpf_code/src/limits.rt", "MAX_INSNS"),
     ("seccheck.1", r"with 1 to (\d+) containers", "manifest/src/containers.rt", "MAX_CONTAINERS"),
     ("seccheck.1", r"A filter has at most ([\d,]+) instructions", "bpf_code/src/limits.rt", "MAX_INSNS"),
+    ("seccheck.1", r"The default is ([\d,]+), and with", "checker/src/compared.rt", "BUDGET"),
+    ("seccheck.1", r"and with\n\.B .*all\n([\d,]+)\. If more", "checker/src/compared.rt", "PART_BUDGET"),
     ("seccheck.1", r"A stack of filters has at most ([\d,]+) instr", "verdict/src/stack.rt", "MAX_STACK_INSNS"),
     ("scriptctl.1", r"waits (\d+) seconds for the runtime", "runtime_client/src/asking.rt", "PATIENCE"),
     ("motchidu.3", r"([\d,]+) bytes are room for any filter", "bpf_code/src/limits.rt", "MAX_BYTES"),

@@ -25,7 +25,7 @@ make bench    measures the machine and the compiler beside others, the runtime w
               a socket, creations, a full sandbox, and a long-running agent; uses what is already built.
               ENGINES=FOLDER: profiles of engines whose packages lie there. A quarter of an hour
 make kernel   compares the running kernel with the library on COUNT drawn calls. A minute
-make table    compares the table of calls with the kernel's header on this machine. At once
+make table    compares the tables of calls with the kernel of this machine, and its header. At once
 make fleet    runs 60 pods on three nodes behind Debian's etcd, and kills each kind of part once, by what is
               built, or BIN=FOLDER. Two minutes
 make real     holds real programs to filters, by bwrap, crun, runc, systemd and a program in C, and says which

@@ -15,6 +15,8 @@ use Rattle.profile_template.specs.Faults.{fault_text as template_fault_text}
 use Rattle.script.specs.FaultText.{fault_text as script_fault_text}
 use Rattle.verdict.specs.FaultText.{fault_text as stack_fault_text}
 use Rattle.fault_notes.specs.Paths.{shown_path}
+use Rattle.wrong_files.specs.HintText.{hint_text}
+use Rattle.wrong_files.specs.declared.hint.Hint.{Hint}
 use Rattle.check_stops.specs.declared.notes.Named.{Named}
 use Rattle.check_stops.specs.declared.notes.Named.TheVariants as named
 use Rattle.check_stops.specs.declared.notes.Note.{Note}
@@ -61,17 +63,27 @@ abbrev pub spot_text : Spot → List ℕ
 spot_text Whole = []
 spot_text (At place) = codes ": " ++ decimal place
 
--- what stands there, if it is an instruction
-abbrev pub shown_text : Option Insn → List ℕ
-shown_text None = codes "\n"
-shown_text (Some insn) = codes ": " ++ (text_of insn ++ codes "\n")
+-- the hint on what the file seems to be, if there is one
+abbrev pub hint_after : Option Hint → List ℕ
+hint_after None = []
+hint_after (Some hint) = codes " " ++ hint_text hint
+
+-- what stands there, if it is an instruction, and the hint
+abbrev pub shown_text : Option Insn → Option Hint → List ℕ
+shown_text None hint = hint_after hint ++ codes "\n"
+shown_text (Some insn) hint = codes ": " ++ (text_of insn ++ (hint_after hint ++ codes "\n"))
 
 -- the file, and the note on its text
 abbrev pub file_line : List ℕ → List ℕ → List ℕ
 file_line path note = codes "seccheck: " ++ (shown_path path ++ (note ++ codes "\n"))
 
--- the file, the place in it, the fault's name, and what stands there
+-- the file, the note on its text, and the hint
+abbrev pub hinted_line : List ℕ → List ℕ → Option Hint → List ℕ
+hinted_line path note hint =
+    codes "seccheck: " ++ (shown_path path ++ (note ++ (hint_after hint ++ codes "\n")))
+
+-- the file, the place in it, the fault's name, what stands there, and the hint
 abbrev pub note_text : Note → List ℕ
 note_text note =
     codes "seccheck: " ++ (shown_path note.path.now ++
-    (spot_text note.spot ++ (codes ": " ++ (named_text note.fault ++ shown_text note.insn))))
+    (spot_text note.spot ++ (codes ": " ++ (named_text note.fault ++ shown_text note.insn note.hint))))

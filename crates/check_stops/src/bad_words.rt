@@ -3,9 +3,9 @@ use std::fmt;
 /// Why a word of the command line of `lint`, `resolve` or `learn` is refused.
 #[derive(Clone, Copy, Debug, PartialEq, Eq)]
 pub enum WordFault {
-    /// No capability has such a name: they begin with `CAP_`.
+    /// No capability of Linux has such a name.
     BadCap,
-    /// No architecture has this name.
+    /// No architecture has this name, or this number.
     BadArch,
     /// It is no version of a kernel.
     BadKernel,
@@ -24,8 +24,8 @@ impl fmt::Display for WordFault {
 
     fn fmt<W: fmt::Write>(&self, f: &mut fmt::Formatter<W>) -> fmt::Result {
         f.write_str(match self {
-            WordFault::BadCap => "BadCap (give CAP_ and a name, as CAP_SYS_ADMIN)",
-            WordFault::BadArch => "BadArch (give a name as templates have it, as amd64)",
+            WordFault::BadCap => "BadCap (give a capability of Linux, as CAP_SYS_ADMIN)",
+            WordFault::BadArch => "BadArch (give a name, as amd64, or an AUDIT_ARCH number)",
             WordFault::BadKernel => "BadKernel (give two numbers, as 6.12)",
             WordFault::BadAction => "BadAction (give an action, as 'ERRNO 38')",
             WordFault::BadKind => "BadKind (give a kind as lint prints it)",

@@ -6,7 +6,9 @@
 //! # What is proved
 //!
 //! - The text of each stop, and its object of JSON, byte by byte: `Display` of `Stop`, `AnswerObject`.
-//! - The note on a refused filter, from its parts: `Display` of `Note`.
+//! - The note on a refused filter, and the line with the note on a refused text, each with its hint, from
+//!   their parts: `Display` of `Note`, `HintedLine` (private).
+//! - A hint is the one on the bytes that were read again: `text_hint`, `filter_hint` (private).
 //! - The stop of each fault. Running out of memory is reported as that, wherever it happens: `stop_at`,
 //!   `filter_stop`, `stack_filter_stop`, `stack_stop`, `profile_stop`, `template_stop`, `compile_stop`,
 //!   `manifest_stop`, `script_stop`.
@@ -14,7 +16,7 @@
 //! - The status of an output: `Output::plain`, `found`, `with_aside`, `with_faults`.
 //! - A file of more than `MAX_FILE_BYTES` is not read: `bytes_at` (within).
 //!
-//! Only tested: that the value in a note is the file's.
+//! Only tested: that the value in a note is the file's, and that there is a hint where one suits.
 #![tactic(auto)]
 
 mod answer_object;

@@ -1,5 +1,6 @@
 //! Notes on refused files for a person: the file, the place of the fault and the value there.
-ghost use Rattle.std.specs.Prelude.{◌≡◌};
+ghost use Rattle.std.specs.Prelude.{◌≡◌, IfSome, Some};
+ghost use Rattle.wrong_files.specs.Hints.{IsHint, filter_hints, hints_for};
 ghost use Rattle.check_stops.specs.NoteText.{refusal_name, refusal_spot};
 
 use crate::stop::Stop;
@@ -11,8 +12,10 @@ use node_io::{MAX_FILE_BYTES, read_file};
 use oci_profile::ProfileFault;
 use profile_template::TemplateFault;
 use script::ScriptFault;
+use std::alloc::{AllocError, Global};
 use std::io::Write;
 use std::{fmt, rt};
+use wrong_files::{Hint, Wanted, hint_of_filter, hint_of_text};
 
 /// A place in a file.
 #[derive(Clone, Copy)]
@@ -30,6 +33,27 @@ pub(crate) struct Note<'a> {
     spot: Spot,
     fault: Named,
     insn: Option<Insn>,
+    hint: Option<Hint>,
+}
+
+/// The line on a refused text, and a hint: `seccheck: s.json: line 1, column 1: NotJson (a filter? ..)`.
+#[derive(Clone, Copy)]
+pub(crate) struct HintedLine<'a> {
+    path: &'a str,
+    note: &'a str,
+    hint: Option<Hint>,
+}
+
+/// A hint after a line's text, if there is one.
+#[derive(Clone, Copy)]
+pub(crate) struct HintAfter(Option<Hint>);
+
+/// The note on a refused text, and a hint.
+#[derive(Drop)]
+struct TextNote<'a> {
+    path: &'a str,
+    note: String,
+    hint: Option<Hint>,
 }
 
 /// The line on a file whose text is refused, or is partly left out: `seccheck: s.json: steps: Missing`.
@@ -60,6 +84,32 @@ impl fmt::Display for FileLine<'_> {
 
     fn fmt<W: fmt::Write>(&self, f: &mut fmt::Formatter<W>) -> fmt::Result {
         writeln!(f, "seccheck: {}{}", ShownPath(self.path), self.note)
+    }
+}
+
+impl fmt::Display for HintAfter {
+    ghost use Rattle.std.specs.Prelude.{Some};
+    ghost use Rattle.check_stops.specs.NoteText.{hint_after};
+
+    ghost output = { λ after. Some (hint_after after.0) };
+
+    fn fmt<W: fmt::Write>(&self, f: &mut fmt::Formatter<W>) -> fmt::Result {
+        match self.0 {
+            Some(hint) => write!(f, " {hint}"),
+            None => Ok(()),
+        }
+    }
+}
+
+impl fmt::Display for HintedLine<'_> {
+    ghost use Rattle.std.specs.Prelude.{Some};
+    ghost use Rattle.check_stops.specs.NoteText.{hinted_line};
+
+    ghost output = { λ line. Some (hinted_line line.path.now line.note.now line.hint) };
+
+    fn fmt<W: fmt::Write>(&self, f: &mut fmt::Formatter<W>) -> fmt::Result {
+        let (path, note, hint) = (ShownPath(self.path), self.note, HintAfter(self.hint));
+        writeln!(f, "seccheck: {path}{note}{hint}")
     }
 }
 
@@ -103,10 +153,11 @@ impl fmt::Display for Note<'_> {
     ghost output = { λ note. Some (note_text note) };
 
     fn fmt<W: fmt::Write>(&self, f: &mut fmt::Formatter<W>) -> fmt::Result {
-        let (path, spot, fault) = (ShownPath(self.path), self.spot, self.fault);
+        let (path, hint) = (ShownPath(self.path), HintAfter(self.hint));
+        let (spot, fault) = (self.spot, self.fault);
         match self.insn {
-            Some(insn) => writeln!(f, "seccheck: {path}{spot}: {fault}: {insn}"),
-            None => writeln!(f, "seccheck: {path}{spot}: {fault}"),
+            Some(insn) => writeln!(f, "seccheck: {path}{spot}: {fault}: {insn}{hint}"),
+            None => writeln!(f, "seccheck: {path}{spot}: {fault}{hint}"),
         }
     }
 }
@@ -148,39 +199,71 @@ fn refusal_spot(refusal: Refusal) -> Spot
     }
 }
 
-/// Prints the note on the file that a stop refuses. The value at the fault is read from the file once more. If
-/// that fails it is left out.
+/// Prints the note on the file that a stop refuses, and a hint if the file seems to be another one than the
+/// wanted one. The value at the fault and the hint are read from the file once more. What that does not show,
+/// or no memory is left for, is left out.
 pub fn print_note<R: rt::Files + AllocGlobal, E: Write>(rt: &R, stop: &Stop<'_>, err: &mut E) {
-    if let Some((path, text)) = text_note(rt, stop) {
-        let note = text.as_str();
-        let _ = write!(err, "{}", FileLine { path, note });
+    if let Some(TextNote { path, note, hint }) = text_note(rt, stop) {
+        let note = note.as_str();
+        let _ = write!(err, "{}", HintedLine { path, note, hint });
     } else if let Some(note) = note_of(rt, stop) {
         let _ = write!(err, "{note}");
     }
 }
 
-// The file of a refused text, and its note.
-fn text_note<'a, R: rt::Files + AllocGlobal>(rt: &R, stop: &Stop<'a>) -> Option<(&'a str, String)> {
+// The file of a refused text, its note and a hint.
+fn text_note<'a, R: rt::Files + AllocGlobal>(rt: &R, stop: &Stop<'a>) -> Option<TextNote<'a>> {
     let alloc = rt.alloc();
     match stop {
         Stop::Profile(path, found) => {
-            let note = profile_note(alloc, &bytes_again(rt, path)?, found).ok()?;
-            Some((path, note))
+            let bytes = bytes_again(rt, path)?;
+            let note = profile_note(alloc, &bytes, found);
+            hinted(alloc, path, &bytes, note, Wanted::Profile)
         }
         Stop::Template(path, found) => {
-            let note = template_note(alloc, &bytes_again(rt, path)?, found).ok()?;
-            Some((path, note))
+            let bytes = bytes_again(rt, path)?;
+            let note = template_note(alloc, &bytes, found);
+            hinted(alloc, path, &bytes, note, Wanted::Template)
         }
         Stop::Manifest(path, found) => {
-            let note = manifest_note(alloc, &bytes_again(rt, path)?, found).ok()?;
-            Some((path, note))
+            let bytes = bytes_again(rt, path)?;
+            let note = manifest_note(alloc, &bytes, found);
+            hinted(alloc, path, &bytes, note, Wanted::Manifest)
         }
         Stop::Script(path, found) => {
-            let note = script_note(alloc, &bytes_again(rt, path)?, found).ok()?;
-            Some((path, note))
+            let bytes = bytes_again(rt, path)?;
+            let note = script_note(alloc, &bytes, found);
+            hinted(alloc, path, &bytes, note, Wanted::Script)
         }
         _ => None,
     }
+}
+
+// The note on these bytes, if there was memory for it, and a hint on them.
+fn hinted<'a>(
+    alloc: Global,
+    path: &'a str,
+    bytes: &[u8],
+    note: Result<String, AllocError>,
+    wanted: Wanted,
+) -> Option<TextNote<'a>> {
+    let note = note.ok()?;
+    let hint = text_hint(alloc, bytes, wanted);
+    Some(TextNote { path, note, hint })
+}
+
+/// The hint on these bytes, which are refused where this text was wanted. None also if memory ran out.
+fn text_hint(alloc: Global, bytes: &[u8], wanted: Wanted) -> Option<Hint>
+    ensures { IfSome result (λ hint. IsHint bytes.now (hints_for wanted) (Some hint)) }
+{
+    hint_of_text(alloc, bytes, wanted).ok()?
+}
+
+/// The hint on these bytes, which are refused where a filter was wanted. None also if memory ran out.
+fn filter_hint(alloc: Global, bytes: &[u8]) -> Option<Hint>
+    ensures { IfSome result (λ hint. IsHint bytes.now filter_hints (Some hint)) }
+{
+    hint_of_filter(alloc, bytes).ok()?
 }
 
 fn bytes_again<R: rt::Files + AllocGlobal>(rt: &R, path: &str) -> Option<Vec<u8>> {
@@ -209,6 +292,7 @@ fn file_note(path: &str, fault: Named) -> Note<'_> {
         spot: Spot::Whole,
         fault,
         insn: None,
+        hint: None,
     }
 }
 
@@ -227,7 +311,12 @@ fn filter_note<'a, R: rt::Files + AllocGlobal>(
         spot,
         fault: Named::Filter(refusal),
         insn,
+        hint: filter_hint_at(rt, path),
     }
+}
+
+fn filter_hint_at<R: rt::Files + AllocGlobal>(rt: &R, path: &str) -> Option<Hint> {
+    filter_hint(rt.alloc(), &bytes_again(rt, path)?)
 }
 
 // The instruction at a place of a filter file, if it is one.

@@ -5,6 +5,7 @@ use Rattle.json_tree.specs.Reading.{◌>>=◌}
 use Rattle.call_data.specs.declared.sys_call.SysCall.{SysCall}
 use Rattle.command_line.specs.Numbers.{number_in}
 use Rattle.command_line.specs.Words.{number_or_word, written_or}
+use Rattle.check_words.specs.Architectures.{arch_or}
 use Rattle.sys_table.specs.SysTable.{number_of}
 
 -- the number that a word writes, else that of the call which it names
@@ -29,11 +30,10 @@ arguments_of words = do
   sixth ← argument_of words 5
   Ok (first ∷ second ∷ third ∷ fourth ∷ fifth ∷ sixth ∷ [])
 
--- 0xc000003e is AUDIT_ARCH_X86_64 of linux/audit.h
 unfoldable pub call_of : List ℕ → List (List ℕ) → Option (List ℕ) → Option (List ℕ) → Result SysCall (List ℕ)
 call_of nr args arch ip = do
   number ← call_number_of nr
   arguments ← arguments_of args
-  architecture ← written_or (2 ^ 32) 0xc000003e arch
+  architecture ← arch_or arch
   pointer ← written_or (2 ^ 64) 0 ip
   Ok (record { nr = number; arch = architecture; ip = pointer; args = arguments })

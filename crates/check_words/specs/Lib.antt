@@ -1,2 +1,4 @@
+pub mod Architectures
 pub mod CallWords
+pub mod Capabilities
 pub mod Words

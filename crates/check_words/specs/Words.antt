@@ -23,3 +23,7 @@ call_in found = call_of (word_in (codes "CALL") found) (words_in (codes "ARG") f
 -- the attempt of `play`, from 0
 abbrev pub attempt_in : Found → Result ℕ (List ℕ)
 attempt_in found = written_or (2 ^ 32) 0 (first_value found (codes "attempt"))
+
+-- how many instructions `compare` follows at most
+abbrev pub budget_in : ℕ → Found → Result ℕ (List ℕ)
+budget_in default found = written_or (2 ^ 64) default (first_value found (codes "budget"))

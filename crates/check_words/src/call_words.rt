@@ -2,10 +2,12 @@ ghost use Rattle.std.specs.Prelude.{◌≡◌, map, option_map};
 ghost use Rattle.check_words.specs.CallWords.{argument_of, arguments_of, call_number_of, call_of};
 ghost use Rattle.command_line.specs.Words.{told};
 
-use call_data::{NATIVE_ARCH, SysCall};
-use command_line::{number_or, word_of, word_or};
+use crate::architectures::arch_or;
+use call_data::SysCall;
+use command_line::{number_or, word_of};
 
-// Each returns the word as the error if it is no number of its range and, for a call, no name of one.
+// Each returns the word as the error if it is no number of its range and, for a call or an architecture, no name
+// of one.
 
 /// The call that these words write: its number or name, up to six arguments, and its architecture and address.
 /// All but the first may be absent.
@@ -22,7 +24,7 @@ pub(crate) fn call<'w>(
 {
     let nr = call_number(nr)?;
     let args = arguments(args)?;
-    let arch = word_or(NATIVE_ARCH, arch)?;
+    let arch = arch_or(arch)?;
     let ip = number_or(0, ip)?;
     Ok(SysCall { nr, arch, ip, args })
 }

@@ -1,12 +1,12 @@
 ghost use Rattle.std.specs.Prelude.{◌≡◌};
 ghost use Rattle.clap.specs.Matches.{found_of};
-ghost use Rattle.check_words.specs.Words.{attempt_in, call_in, word_in};
+ghost use Rattle.check_words.specs.Words.{attempt_in, budget_in, call_in, word_in};
 ghost use Rattle.command_line.specs.Words.{told};
 
 use crate::call_words::call;
 use call_data::SysCall;
 use clap::{Arg, ArgAction, ArgMatches, Command};
-use command_line::{VERSION, word_or};
+use command_line::{VERSION, number_or, word_or};
 use std::alloc::{AllocError, Global};
 
 /// The program's name.
@@ -124,20 +124,20 @@ fn resolve<'a>(alloc: Global) -> Result<Command<'a>, AllocError> {
             alloc,
             "cap",
             "CAP",
-            "Capability of the container; may be repeated",
+            "Capability of the container, such as SYS_ADMIN; may be repeated",
         )
         .action(ArgAction::Append))?
         .arg(option(
             alloc,
             "arch",
             "ARCH",
-            "Architecture of the container; amd64 if absent",
+            "Architecture of the container, by name or number; amd64 if absent",
         ))?
         .arg(option(
             alloc,
             "kernel",
             "V",
-            "Version of the kernel; the newest if absent",
+            "Version of the kernel, as `uname -r` prints it; the newest if absent",
         ))?
         .arg(flag(
             alloc,
@@ -199,7 +199,12 @@ fn of_call<'a>(alloc: Global, command: Command<'a>) -> Result<Command<'a>, Alloc
                 .num_args(0..=6)
                 .help("Arguments of the call; missing ones are 0"),
         )?
-        .arg(option(alloc, "arch", "A", "Architecture of the call"))?
+        .arg(option(
+            alloc,
+            "arch",
+            "A",
+            "Architecture of the call, by name or number; x86_64 if absent",
+        ))?
         .arg(option(alloc, "ip", "I", "Instruction pointer of the call"))?
         .arg(json(alloc))
 }
@@ -219,6 +224,12 @@ fn compare<'a>(alloc: Global) -> Result<Command<'a>, AllocError> {
             alloc,
             "all",
             "Print each call on which they differ, by name",
+        ))?
+        .arg(option(
+            alloc,
+            "budget",
+            "N",
+            "Instructions to follow at most, with --all for each part",
         ))?
         .arg(json(alloc))
 }
@@ -427,6 +438,13 @@ pub fn attempt_at<'a>(matches: &ArgMatches<'a>) -> Result<u32, &'a str>
     ensures { told result ≡ attempt_in (found_of matches.now) }
 {
     word_or(0, matches.get_str("attempt"))
+}
+
+/// How many instructions the command line of `compare` has followed at most.
+pub fn budget_at<'a>(default: u64, matches: &ArgMatches<'a>) -> Result<u64, &'a str>
+    ensures { told result ≡ budget_in default (found_of matches.now) }
+{
+    number_or(default, matches.get_str("budget"))
 }
 
 /// The word of a required argument.

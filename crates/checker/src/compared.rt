@@ -1,24 +1,95 @@
 //! What `seccheck compare` reads and prints, and where it ends.
-ghost use Rattle.std.specs.Prelude.{◌≡◌, ◌==◌, if◌then◌else◌, length};
+ghost use Rattle.std.specs.Prelude.{◌≡◌, ◌==◌, if◌then◌else◌, IfOk, Ok, length};
+ghost use Rattle.std.specs.List.{list_any};
+ghost use Rattle.clap.specs.Matches.{found_of};
 ghost use Rattle.fault_notes.specs.Starts.{begins_object};
-ghost use Rattle.checker.specs.Compared.{told_of};
+ghost use Rattle.check_words.specs.Words.{budget_in};
+ghost use Rattle.checker.specs.Compared.{budget_note, default_budget, is_beyond, lines_note, told_of};
 
-use bpf_compare::{Calls, Comparison, compare};
+use bpf_compare::{Calls, Comparison, Doubt, compare};
 use bpf_verify::filter_of;
 use check_answers::{Difference, same_line, same_object};
 use check_stops::{Form, Output, Stop, bytes_at, compile_stop, filter_stop, profile_stop};
+use check_words::{budget_at, word_at};
+use clap::ArgMatches;
 use fault_notes::begins_object;
 use filter_differences::differences;
 use shown_differences::{Compiled, Line, Side, all_lines, all_objects, lines};
 use std::alloc::Global;
 use std::rt;
 
-/// How many instructions are followed at most, which takes seconds.
-pub(crate) const BUDGET: u64 = 100_000_000;
+/// How many instructions are followed at most if nothing is said of it, which takes seconds.
+const BUDGET: u64 = 100_000_000;
 
-/// How many instructions are followed at most for each part of `--all`. The parts are about 350, so they take
-/// about as many as [`BUDGET`] together.
+/// How many instructions are followed at most for each part of `--all` if nothing is said of it. The parts
+/// are about 350, so they take about as many as [`BUDGET`] together.
 pub(crate) const PART_BUDGET: u64 = 300_000;
+
+/// What is said on standard error if more instructions would have to be followed.
+const BUDGET_NOTE: &str = "seccheck: the budget is used up; --budget N follows more instructions\n";
+
+/// The words of `compare`, or of `table --against`.
+#[derive(Clone, Copy)]
+pub(crate) struct CompareAsked<'a> {
+    /// The file of the first filter or profile.
+    pub(crate) first: &'a str,
+    /// The file of the second one.
+    pub(crate) second: &'a str,
+    /// The calls on which they are compared.
+    pub(crate) calls: Calls,
+    /// How many instructions are followed at most, in all or for each part.
+    pub(crate) budget: u64,
+    /// Whether the command has `--budget`.
+    pub(crate) takes_budget: bool,
+    pub(crate) form: Form,
+}
+
+/// The words of `compare`, with `--all` or without it.
+pub(crate) fn compare_asked<'a>(
+    matches: &ArgMatches<'a>,
+    is_all: bool,
+    form: Form,
+) -> Result<CompareAsked<'a>, Stop<'a>>
+    ensures budget { IfOk result (λ asked.
+        budget_in (default_budget is_all) (found_of matches.now) ≡ Ok asked.budget) }
+{
+    let budget = budget_at(default_budget(is_all), matches).map_err(Stop::BadNumber)?;
+    Ok(CompareAsked {
+        first: word_at(matches, "A"),
+        second: word_at(matches, "B"),
+        calls: calls_at(matches),
+        budget,
+        takes_budget: true,
+        form,
+    })
+}
+
+/// The words of `table --against`. OLD comes first.
+pub(crate) fn against_asked<'a>(matches: &ArgMatches<'a>, form: Form) -> CompareAsked<'a> {
+    CompareAsked {
+        first: matches.get_str("against").unwrap_or(""),
+        second: word_at(matches, "PROFILE"),
+        calls: Calls::Native,
+        budget: PART_BUDGET,
+        takes_budget: false,
+        form,
+    }
+}
+
+fn default_budget(is_all: bool) -> u64
+    ensures { result ≡ default_budget is_all }
+{
+    if is_all { PART_BUDGET } else { BUDGET }
+}
+
+/// The calls on which two filters are compared.
+fn calls_at(matches: &ArgMatches<'_>) -> Calls {
+    if matches.get_flag("native") {
+        Calls::Native
+    } else {
+        Calls::Every
+    }
+}
 
 /// Whether the bytes are a profile's text and no filter: their first one that is no white space of JSON
 /// (RFC 8259) begins an object.
@@ -46,57 +117,91 @@ pub(crate) fn same_or_stop<'a>(found: Comparison) -> Result<(), Stop<'a>>
 /// That the filters of two files are the same on these calls.
 pub(crate) fn compare_text<'a, R: rt::Files + AllocGlobal>(
     rt: &R,
-    first: &'a str,
-    second: &'a str,
-    calls: Calls,
-    form: Form,
+    asked: CompareAsked<'a>,
 ) -> Result<String, Stop<'a>> {
     let alloc = rt.alloc();
-    let first = side_at(rt, first)?;
-    let second = side_at(rt, second)?;
+    let first = side_at(rt, asked.first)?;
+    let second = side_at(rt, asked.second)?;
     let found = compare(
         alloc,
         first.filter(),
         second.filter(),
-        calls.scope(),
-        BUDGET,
+        asked.calls.scope(),
+        asked.budget,
     )?;
     same_or_stop(found)?;
-    Ok(match form {
-        Form::Text => same_line(alloc, calls)?,
-        Form::Json => same_object(alloc, calls)?,
+    Ok(match asked.form {
+        Form::Text => same_line(alloc, asked.calls)?,
+        Form::Json => same_object(alloc, asked.calls)?,
     })
+}
+
+/// What is said on standard error beside this answer.
+pub(crate) fn budget_note(stop: &Stop<'_>) -> &'static str
+    ensures { result.now ≡ budget_note stop.now }
+{
+    match stop {
+        Stop::Undecided(Doubt::Budget) => BUDGET_NOTE,
+        _ => "",
+    }
 }
 
 /// Every call on which the filters of two files differ, with status 1 if there is one.
 pub(crate) fn differences_output<'a, R: rt::Files + AllocGlobal>(
     rt: &R,
-    first: &'a str,
-    second: &'a str,
-    calls: Calls,
-    form: Form,
+    asked: CompareAsked<'a>,
 ) -> Result<Output, Stop<'a>> {
     let alloc = rt.alloc();
-    let first = side_at(rt, first)?;
-    let second = side_at(rt, second)?;
-    let found = differences(alloc, first.filter(), second.filter(), calls, PART_BUDGET)?;
+    let first = side_at(rt, asked.first)?;
+    let second = side_at(rt, asked.second)?;
+    let found = differences(
+        alloc,
+        first.filter(),
+        second.filter(),
+        asked.calls,
+        asked.budget,
+    )?;
     let lines = lines(alloc, &first, &second, found.as_slice())?;
-    let text = match form {
-        Form::Text => all_lines(alloc, calls, lines.as_slice())?,
-        Form::Json => all_objects(alloc, calls, lines.as_slice())?,
+    let text = match asked.form {
+        Form::Text => all_lines(alloc, asked.calls, lines.as_slice())?,
+        Form::Json => all_objects(alloc, asked.calls, lines.as_slice())?,
     };
-    Ok(output_of(alloc, text, lines.as_slice()))
+    let aside = String::from_str(alloc, lines_note(asked.takes_budget, lines.as_slice()))?;
+    Ok(output_of(text, aside, lines.as_slice()))
+}
+
+/// What is said on standard error beside these lines.
+fn lines_note(takes_budget: bool, lines: &[Line]) -> &'static str
+    ensures { result.now ≡ lines_note takes_budget lines.now }
+{
+    if !takes_budget {
+        return "";
+    }
+    if any_beyond(lines) { BUDGET_NOTE } else { "" }
+}
+
+fn any_beyond(lines: &[Line]) -> bool
+    ensures { result ≡ list_any is_beyond lines.now }
+{
+    lines.iter().any(|line| is_beyond(line))
+}
+
+fn is_beyond(line: &Line) -> bool
+    ensures { result ≡ is_beyond line.now }
+{
+    matches!(line, Line::Undecided(_, Doubt::Budget))
 }
 
 /// The text for these lines, with status 1 if there are some.
-fn output_of(alloc: Global, text: String, lines: &[Line]) -> Output
+fn output_of(text: String, aside: String, lines: &[Line]) -> Output
     ensures text { result.text ≡ text }
+    ensures aside { result.aside ≡ aside }
     ensures status { result.status ≡ (if length lines.now == 0 then 0 else 1) }
 {
     let status = if lines.is_empty() { 0 } else { 1 };
     Output {
         text,
-        aside: String::new(alloc),
+        aside,
         status,
     }
 }

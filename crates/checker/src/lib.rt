@@ -10,11 +10,15 @@
 //!
 //! - RuntimeDefault as it is printed reads as RuntimeDefault.
 //! - The file that is read as a profile when two are compared: `is_profile`, `same_or_stop`.
-//! - The settings of a template that words spell: `settings_of` (caps, arch, kernel).
+//! - The capabilities that words name, by their whole names, or the first word that names none: `caps_of`.
+//! - The settings of a template that words write, or the word that is refused: `settings_of` (caps, told).
+//! - The budget of `compare` that a word writes, or the default: `compare_asked` (budget), `default_budget`.
+//! - What is said of a budget that is used up: `budget_note`, `lines_note`.
+//! - Where the program ends without a word: `is_silent`.
 //! - The bytes of a filter's file, also as Base64: `file_bytes`.
 //!
-//! Only tested: files; that what is printed reaches the writers; which words are no settings; that a template's
-//! profile and the names left out are those of `profile_template`.
+//! Only tested: files; that what is printed reaches the writers; that a template's profile and the names left
+//! out are those of `profile_template`.
 #![tactic(auto)]
 
 mod compared;
@@ -24,6 +28,7 @@ mod profiles;
 mod reporting;
 mod resolving;
 mod seccheck;
+mod settings;
 mod written;
 
 pub use check_answers::{Judged, Outcome, judge, play};

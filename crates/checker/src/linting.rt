@@ -6,7 +6,7 @@ use check_stops::{Form, Output, Stop, WordFault, bytes_at, profile_stop};
 use fault_notes::ShownPath;
 use oci_profile::Profile;
 use profile_lint::{
-    Choice, Finding, FindingKind, Passed, findings, grave_count, has_newer_names, is_bad,
+    Choice, Finding, FindingKind, Passed, all_findings, grave_count, has_newer_names, is_bad,
     kind_named, lint_lines, lint_objects, newer_calls, once, passed_in,
 };
 use std::alloc::{AllocError, Global};
@@ -42,7 +42,7 @@ pub(crate) fn lint_output<'a, R: rt::Files + AllocGlobal>(
     // It was read before, so that memory alone can be wanting.
     let tree = json_tree::read(alloc, &bytes).map_err(|_| AllocError)?;
     let passed = passed_in(alloc, &tree)?;
-    let found = once(alloc, findings(alloc, &profile)?.as_slice())?;
+    let found = once(alloc, all_findings(alloc, &profile)?.as_slice())?;
     let choice = Choice {
         is_all,
         allowed: kinds.as_slice(),

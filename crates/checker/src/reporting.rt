@@ -6,7 +6,7 @@ use compile::{CompileFault, compile};
 use container_answers::denied_lines;
 use filter_differences::differences;
 use oci_profile::Profile;
-use profile_lint::{findings, once, passed_in};
+use profile_lint::{all_findings, once, passed_in};
 use profile_report::{Parts, STYLE, changes_html, denials_html, no_tree_html, page, tree_html};
 use shown_differences::{Line, lines};
 use std::alloc::{AllocError, Global};
@@ -66,7 +66,7 @@ fn page_text(
     // It was read before, so that memory alone can be wanting.
     let tree = json_tree::read(alloc, bytes).map_err(|_| AllocError)?;
     let passed = passed_in(alloc, &tree)?;
-    let found = once(alloc, findings(alloc, profile)?.as_slice())?;
+    let found = once(alloc, all_findings(alloc, profile)?.as_slice())?;
     page(
         alloc,
         STYLE,

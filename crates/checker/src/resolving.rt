@@ -1,18 +1,14 @@
 //! Resolves templates of profiles.
-ghost use Rattle.std.specs.Prelude.{◌≡◌, IfOk, codes, option_map, unwrap_or};
-ghost use Rattle.std.specs.Prelude.{option_and_then};
+ghost use Rattle.std.specs.Prelude.{◌≡◌};
 ghost use Rattle.checker.specs.LeavingOut.{may_be_left_out};
-ghost use Rattle.profile_template.specs.Version.{version_of};
 
 use absent_names::{AbsentName, kind_of};
-use check_stops::{FileLine, Output, Stop, WordFault, bytes_at, template_stop};
+use check_stops::{FileLine, Output, Stop, bytes_at, template_stop};
 use fault_notes::left_out_note;
 use json_place::{Place, Step, stands_at};
 use json_tree::text;
 use oci_profile::ProfileFault;
-use profile_template::{
-    LeftOut, Settings, Template, TemplateFault, TemplateFaultAt, Version, seccomp_arch,
-};
+use profile_template::{LeftOut, Settings, Template, TemplateFault, TemplateFaultAt};
 use profile_text::WriteFault;
 use serde_json::Value;
 use std::alloc::{AllocError, Global};
@@ -130,39 +126,4 @@ fn in_entry(entry: usize, place: Place) -> Place {
     place
         .within(Step::Item(entry))
         .within(Step::Member("syscalls"))
-}
-
-/// The settings that words of a command line write: amd64 and the newest kernel where none is named.
-pub(crate) fn settings_of<'s, 'a: 's>(
-    caps: &'s [&'a str],
-    arch: Option<&'a str>,
-    kernel: Option<&'a str>,
-) -> Result<Settings<'s>, (&'a str, WordFault)>
-    ensures caps { IfOk result (λ s. s.caps.now ≡ caps.now) }
-    ensures arch { IfOk result (λ s. s.arch.now ≡ unwrap_or (option_map (λ w. w.now) arch.entry)
-        (codes "amd64")) }
-    ensures kernel { IfOk result (λ s. s.kernel ≡ option_and_then (λ w. version_of w.now) kernel.entry) }
-{
-    if let Some(word) = bad_cap(caps) {
-        return Err((word, WordFault::BadCap));
-    }
-    let arch = arch.unwrap_or("amd64");
-    if seccomp_arch(arch).is_none() {
-        return Err((arch, WordFault::BadArch));
-    }
-    let kernel = match kernel {
-        Some(word) => Some(Version::of(word).ok_or((word, WordFault::BadKernel))?),
-        None => None,
-    };
-    Ok(Settings { caps, arch, kernel })
-}
-
-// The first that is no name of a capability.
-fn bad_cap<'a>(caps: &[&'a str]) -> Option<&'a str> {
-    for cap in caps {
-        if !cap.starts_with("CAP_") {
-            return Some(*cap);
-        }
-    }
-    None
 }

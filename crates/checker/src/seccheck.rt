@@ -1,11 +1,16 @@
-use crate::compared::{compare_text, differences_output};
+ghost use Rattle.std.specs.Prelude.{◌≡◌};
+ghost use Rattle.checker.specs.Ends.{is_silent};
+
+use crate::compared::{
+    against_asked, budget_note, compare_asked, compare_text, differences_output,
+};
 use crate::file::is_same_file;
 use crate::linting::{beside, lint_output};
 use crate::profiles::{default_line, explain_text, table_text};
 use crate::reporting::{ReportAsked, report_output};
-use crate::resolving::{resolve_text, settings_of};
+use crate::resolving::resolve_text;
+use crate::settings::{caps_of, settings_of};
 use crate::written::{file_bytes, unit_output};
-use bpf_compare::Calls;
 use bpf_verify::{Refusal, filter_of};
 use call_data::SysCall;
 use call_names::{Naming, number_tests};
@@ -72,13 +77,23 @@ pub fn seccheck_run<R: rt::Files + AllocGlobal, O: Write, E: Write>(
         return report(&Stop::Unwritten(Cause::of(&error)), err);
     }
     print_note(rt, &stop, err);
+    let _ = err.write_all(budget_note(&stop).as_bytes());
     stop.status()
 }
 
 /// Prints the reason to standard error (best effort), and returns the exit status.
 fn report<E: Write>(stop: &Stop, err: &mut E) -> u8 {
-    let _ = write!(err, "{stop}");
+    if !is_silent(stop) {
+        let _ = write!(err, "{stop}");
+    }
     stop.status()
+}
+
+/// Whether the program ends without a word: nobody reads standard output any more, as after `| head`.
+fn is_silent(stop: &Stop) -> bool
+    ensures { result ≡ is_silent stop.now }
+{
+    matches!(stop, Stop::Unwritten(Cause::Gone))
 }
 
 /// The command that the words name, and its own words.
@@ -107,11 +122,12 @@ fn output_of<'a, R: rt::Files + AllocGlobal>(
 ) -> Result<Output, Stop<'a>> {
     match name {
         "resolve" => {
-            let caps = matches.get_strs("cap").unwrap_or(&[]);
+            let caps = caps_of(rt.alloc(), matches.get_strs("cap").unwrap_or(&[]))?;
             let (arch, kernel) = (matches.get_str("arch"), matches.get_str("kernel"));
-            let settings = settings_of(caps, arch, kernel).map_err(|(word, fault)| Stop::BadWord(
-                word, fault,
-            ))?;
+            let settings = settings_of(caps.as_slice(), arch, kernel).map_err(|(
+                word,
+                fault,
+            )| Stop::BadWord(word, fault))?;
             let drops_newer = matches.get_flag("drop-newer");
             resolve_text(rt, word_at(matches, "TEMPLATE"), &settings, drops_newer)
         }
@@ -130,9 +146,7 @@ fn output_of<'a, R: rt::Files + AllocGlobal>(
             lint_output(rt, path, matches.get_flag("all"), allowed, form)
         }
         "table" if matches.get_str("against").is_some() => {
-            let old = matches.get_str("against").unwrap_or("");
-            let profile = word_at(matches, "PROFILE");
-            differences_output(rt, old, profile, Calls::Native, form)
+            differences_output(rt, against_asked(matches, form))
         }
         "report" => {
             let asked = ReportAsked {
@@ -143,8 +157,7 @@ fn output_of<'a, R: rt::Files + AllocGlobal>(
             report_output(rt, asked)
         }
         "compare" if matches.get_flag("all") => {
-            let (first, second) = (word_at(matches, "A"), word_at(matches, "B"));
-            differences_output(rt, first, second, calls_at(matches), form)
+            differences_output(rt, compare_asked(matches, true, form)?)
         }
         "play" if matches.get_str("pod").is_some() => pod_output(rt, pod_asked(matches, form)?),
         "denied" => {
@@ -199,15 +212,6 @@ fn naming_at(matches: &ArgMatches<'_>) -> Naming {
     }
 }
 
-/// The calls on which two filters are compared.
-fn calls_at(matches: &ArgMatches<'_>) -> Calls {
-    if matches.get_flag("native") {
-        Calls::Native
-    } else {
-        Calls::Every
-    }
-}
-
 /// What a command prints that tells nothing beside it.
 fn text_of<'a, R: rt::Files + AllocGlobal>(
     rt: &R,
@@ -229,10 +233,7 @@ fn text_of<'a, R: rt::Files + AllocGlobal>(
         "verify" => verify_text(rt, word_at(matches, "FILTER"), form),
         "budget" => budget_text(rt, word_at(matches, "FILTER"), form),
         "show" => show_text(rt, word_at(matches, "FILTER"), form),
-        "compare" => {
-            let (first, second) = (word_at(matches, "A"), word_at(matches, "B"));
-            compare_text(rt, first, second, calls_at(matches), form)
-        }
+        "compare" => compare_text(rt, compare_asked(matches, false, form)?),
         "play" => {
             let attempt = attempt_at(matches).map_err(Stop::BadNumber)?;
             let filters = matches.get_strs("FILTER").unwrap_or(&[]);

@@ -44,7 +44,7 @@ kind_of _ = kind.Placed
 
 -- the hint after the fault of a text that is not JSON
 abbrev pub yaml_text : Bool → List ℕ
-yaml_text true = codes " (this looks like YAML; only JSON is read)"
+yaml_text true = codes " (YAML? yq -o=json makes JSON of it)"
 yaml_text false = []
 
 -- where a text stops being JSON

@@ -14,6 +14,14 @@ brace_at bytes (Some first) = slice_index bytes first == 123
 abbrev pub begins_object : List ℕ → Bool
 begins_object bytes = brace_at bytes (position (λ byte. not (is_space byte)) bytes)
 
+abbrev pub bracket_at : List ℕ → Option ℕ → Bool
+bracket_at bytes None = false
+bracket_at bytes (Some first) = slice_index bytes first == 91
+
+-- the first byte that is no white space begins a list
+abbrev pub begins_list : List ℕ → Bool
+begins_list bytes = bracket_at bytes (position (λ byte. not (is_space byte)) bytes)
+
 abbrev pub is_letter : ℕ → Bool
 is_letter byte = (nat_le 65 byte && nat_le byte 90) || (nat_le 97 byte && nat_le byte 122)
 

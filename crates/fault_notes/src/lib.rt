@@ -8,7 +8,8 @@
 //!
 //! - The note on a refused text has the fault's name, its place, and the value there as it is in the text's
 //!   own tree: `profile_note`, `template_note`, `manifest_note`, `script_note`.
-//! - For a text that is not JSON, the note shows whether it begins as YAML: `begins_object`.
+//! - For a text that is not JSON, the note shows whether it begins as YAML: `profile_note` and its like.
+//! - What a text begins with, and what is white space of JSON: `begins_object`, `begins_list`, `is_space`.
 //! - The name of a file, each character escaped: `ShownPath`.
 //! - The name of each refusal: `refusal_name`.
 //!
@@ -29,4 +30,4 @@ pub use named::Named;
 pub use notes::{left_out_note, manifest_note, profile_note, script_note, template_note};
 pub use paths::ShownPath;
 pub use refusals::refusal_name;
-pub use starts::begins_object;
+pub use starts::{begins_list, begins_object, is_space};

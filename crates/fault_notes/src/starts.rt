@@ -1,6 +1,7 @@
 //! What a text begins with.
 ghost use Rattle.std.specs.Prelude.{◌≡◌, ◌<◌, IfSome, length, not, position};
-ghost use Rattle.fault_notes.specs.Starts.{begins_object, begins_yaml, is_letter, is_space, is_yaml_start};
+ghost use Rattle.fault_notes.specs.Starts.{begins_list, begins_object, begins_yaml, is_letter, is_space};
+ghost use Rattle.fault_notes.specs.Starts.{is_yaml_start};
 
 /// Whether the first byte that is not JSON white space (RFC 8259) begins an object.
 pub fn begins_object(bytes: &[u8]) -> bool
@@ -8,6 +9,16 @@ pub fn begins_object(bytes: &[u8]) -> bool
 {
     match begin(bytes) {
         Some(first) => bytes[first] == b'{',
+        None => false,
+    }
+}
+
+/// Whether the first byte that is not JSON white space (RFC 8259) begins a list.
+pub fn begins_list(bytes: &[u8]) -> bool
+    ensures { result ≡ begins_list bytes.now }
+{
+    match begin(bytes) {
+        Some(first) => bytes[first] == b'[',
         None => false,
     }
 }
@@ -42,7 +53,8 @@ fn begin(bytes: &[u8]) -> Option<usize>
     bytes.iter().position(|byte| !is_space(*byte))
 }
 
-fn is_space(byte: u8) -> bool
+/// Whether the byte is white space of JSON (RFC 8259).
+pub fn is_space(byte: u8) -> bool
     ensures { result ≡ is_space byte }
 {
     byte == b' ' || byte == b'\t' || byte == b'\n' || byte == b'\r'

@@ -44,7 +44,7 @@ impl fmt::Display for Hint {
 
     fn fmt<W: fmt::Write>(&self, f: &mut fmt::Formatter<W>) -> fmt::Result {
         if self.is_yaml {
-            f.write_str(" (this looks like YAML; only JSON is read)")
+            f.write_str(" (YAML? yq -o=json makes JSON of it)")
         } else {
             Ok(())
         }

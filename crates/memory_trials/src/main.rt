@@ -5,6 +5,7 @@
 
 mod filters;
 mod frames;
+mod hints;
 mod judging;
 mod manifests;
 mod places;
@@ -66,6 +67,9 @@ fn of_filters(rt: &HostRuntime, name: &str) -> Option<Told> {
 /// Tries a call for what is read and written between a user, an agent and a runtime.
 fn of_messages(rt: &HostRuntime, name: &str) -> Option<Told> {
     if let Some(told) = manifests::told(rt, name) {
+        return Some(told);
+    }
+    if let Some(told) = hints::told(rt, name) {
         return Some(told);
     }
     if let Some(told) = requests::told(rt, name) {

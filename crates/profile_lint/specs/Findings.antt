@@ -1,7 +1,7 @@
 -- Findings about a profile: OCI runtime-spec 1.1, config-linux, seccomp. That calls newer than the table want
 -- ENOSYS is this project's own: docs/SEMANTICS.md, "What is told of a profile".
 use Rattle.std.specs.Prelude.{◌≡◌, ℕ, ◌==◌, nat_le, ◌&&◌, if◌then◌else◌, Bool, true, false, Option, Some, None}
-use Rattle.std.specs.Prelude.{List, [], ◌∷◌, ◌||◌, slice_get}
+use Rattle.std.specs.Prelude.{List, [], ◌∷◌, ◌++◌, ◌||◌, slice_get, map, All, Contains}
 use Rattle.std.specs.List.{list_any}
 use Rattle.call_data.specs.declared.sys_call.SysCall.{SysCall}
 use Rattle.oci_profile.specs.declared.profile.Entry.{Entry}
@@ -9,6 +9,7 @@ use Rattle.oci_profile.specs.declared.decision.Decision.{Decision}
 use Rattle.oci_profile.specs.declared.decision.Decision.TheVariants.{KillProcess, KillThread, Trap, Errno}
 use Rattle.oci_profile.specs.declared.decision.Decision.TheVariants.{Trace, Allow, Log}
 use Rattle.oci_profile.specs.declared.profile.Profile.{Profile}
+use Rattle.profile_advice.specs.Advice.{advice_of}
 use Rattle.profile_lint.specs.declared.finding.Finding.{Finding}
 use Rattle.profile_lint.specs.declared.finding.Finding.TheVariants as found
 use Rattle.profile_lint.specs.Engines.{IsApart, IsReadOtherwise, Overlap, ReadsAlike}
@@ -34,6 +35,7 @@ IsSo profile (found.NotCompared place) = Unit {0}
 IsSo profile (found.ReadOtherwise place call here there) = IsReadOtherwise profile place call here there
 IsSo profile (found.Overlap place other call) = Overlap profile place other call
 IsSo profile (found.NewerCalls errno) = newer_of profile.default ≡ Some errno
+IsSo profile (found.Advised one) = Contains (advice_of profile) one
 
 -- whether it is about the need for the entry at a place
 abbrev pub is_on_need : ℕ → Finding → Bool
@@ -45,6 +47,7 @@ is_on_need place (found.NotCompared at) = false
 is_on_need place (found.ReadOtherwise at call here there) = false
 is_on_need place (found.Overlap at other call) = false
 is_on_need place (found.NewerCalls errno) = false
+is_on_need place (found.Advised one) = false
 
 -- whether it is about how engines read the entry at a place
 abbrev pub is_on_reading : ℕ → Finding → Bool
@@ -56,6 +59,7 @@ is_on_reading place (found.NotCompared at) = at == place
 is_on_reading place (found.ReadOtherwise at call here there) = at == place
 is_on_reading place (found.Overlap at other call) = false
 is_on_reading place (found.NewerCalls errno) = false
+is_on_reading place (found.Advised one) = false
 
 -- whether it is about the overlap of the entries at two places
 abbrev pub is_on_overlap : ℕ → ℕ → Finding → Bool
@@ -67,6 +71,7 @@ is_on_overlap place second (found.NotCompared at) = at == place
 is_on_overlap place second (found.ReadOtherwise at call here there) = false
 is_on_overlap place second (found.Overlap at other call) = (at == place) && (other == second)
 is_on_overlap place second (found.NewerCalls errno) = false
+is_on_overlap place second (found.Advised one) = false
 
 abbrev pub is_on_newer : ℕ → Finding → Bool
 is_on_newer errno (found.NeverDecides at) = false
@@ -77,6 +82,7 @@ is_on_newer errno (found.NotCompared at) = false
 is_on_newer errno (found.ReadOtherwise at call here there) = false
 is_on_newer errno (found.Overlap at other call) = false
 is_on_newer errno (found.NewerCalls other) = other == errno
+is_on_newer errno (found.Advised one) = false
 
 -- an entry about whose need nothing is reported is needed
 abbrev pub HasNeed : Profile → List Finding → ℕ → Type 0
@@ -104,6 +110,13 @@ pub record AreAll (profile : Profile) (finds : List Finding) : Type 0 where
   pub entries : (place : ℕ) → IsReported profile finds place
   pub newer : (errno : ℕ) → newer_of profile.default ≡ Some errno → list_any (is_on_newer errno) finds ≡ true
 
+-- findings that are true and all, and then all advice
+pub record AreWhole (profile : Profile) (finds : List Finding) : Type 0 where
+  pub first : List Finding
+  pub so : All (IsSo profile) first
+  pub all : AreAll profile first
+  pub is : finds ≡ first ++ map (λ one. found.Advised one) (advice_of profile)
+
 -- whether it says that an entry was not compared
 abbrev pub is_uncompared : Finding → Bool
 is_uncompared (found.NeverDecides at) = false
@@ -114,6 +127,7 @@ is_uncompared (found.NotCompared at) = true
 is_uncompared (found.ReadOtherwise at call here there) = false
 is_uncompared (found.Overlap at other call) = false
 is_uncompared (found.NewerCalls errno) = false
+is_uncompared (found.Advised one) = false
 
 -- the findings without those that say this once more
 abbrev pub once_from : Bool → List Finding → List Finding

@@ -5,8 +5,12 @@ use Rattle.std.specs.Str.{bytes_eq}
 use Rattle.absent_names.specs.Kinds.{kind_of}
 use Rattle.absent_names.specs.declared.kind.AbsentName.{AbsentName}
 use Rattle.absent_names.specs.declared.kind.AbsentName.TheVariants as name
-use Rattle.profile_lint.specs.Passed.{Told}
-use Rattle.profile_lint.specs.Passed.Told.{Ignored, OtherArchitectures, UnknownName, RepeatedName}
+use Rattle.profile_advice.specs.declared.kind.Advice.{Advice}
+use Rattle.profile_advice.specs.declared.kind.Advice.TheVariants as about
+use Rattle.profile_lint.specs.declared.passed.Holder.{Holder}
+use Rattle.profile_lint.specs.Passed.{Told, is_for_engines, is_recased}
+use Rattle.profile_lint.specs.Passed.Told.{Ignored, OtherArchitectures, RepeatedName, UnknownArchitecture}
+use Rattle.profile_lint.specs.Passed.Told.{UnknownName}
 use Rattle.profile_lint.specs.declared.finding.Finding.{Finding}
 use Rattle.profile_lint.specs.declared.finding.Finding.TheVariants as found
 use Rattle.profile_lint.specs.declared.kinds.FindingKind.{FindingKind}
@@ -34,6 +38,17 @@ kind_text kind.NotCompared = codes "NotCompared"
 kind_text kind.EnginesDiffer = codes "EnginesDiffer"
 kind_text kind.Overlap = codes "Overlap"
 kind_text kind.NewerCalls = codes "NewerCalls"
+kind_text kind.ForEngines = codes "ForEngines"
+kind_text kind.OtherCase = codes "OtherCase"
+kind_text kind.UnknownArchitecture = codes "UnknownArchitecture"
+kind_text kind.AlwaysHolds = codes "AlwaysHolds"
+kind_text kind.UnusedValue = codes "UnusedValue"
+kind_text kind.NoArgument = codes "NoArgument"
+kind_text kind.WideArgument = codes "WideArgument"
+kind_text kind.UnknownErrno = codes "UnknownErrno"
+kind_text kind.ShadowedName = codes "ShadowedName"
+kind_text kind.Bypass = codes "Bypass"
+kind_text kind.Powerful = codes "Powerful"
 
 -- the place of a kind in their order: no two kinds have the same
 abbrev pub rank_of : FindingKind → ℕ
@@ -51,6 +66,17 @@ rank_of kind.NotCompared = 10
 rank_of kind.EnginesDiffer = 11
 rank_of kind.Overlap = 12
 rank_of kind.NewerCalls = 13
+rank_of kind.ForEngines = 14
+rank_of kind.OtherCase = 15
+rank_of kind.UnknownArchitecture = 16
+rank_of kind.AlwaysHolds = 17
+rank_of kind.UnusedValue = 18
+rank_of kind.NoArgument = 19
+rank_of kind.WideArgument = 20
+rank_of kind.UnknownErrno = 21
+rank_of kind.ShadowedName = 22
+rank_of kind.Bypass = 23
+rank_of kind.Powerful = 24
 
 abbrev pub one_named : FindingKind → List ℕ → Option FindingKind → Option FindingKind
 one_named kind name others = if bytes_eq name (kind_text kind) then Some kind else others
@@ -61,8 +87,11 @@ kind_named name = one_named kind.Ignored name (one_named kind.OtherArchitecture 
     (one_named kind.NotImplemented name (one_named kind.NewerName name (one_named kind.UnknownName name
     (one_named kind.RepeatedName name (one_named kind.NeverDecides name (one_named kind.Redundant name
     (one_named kind.NotFoundOut name (one_named kind.NotLookedAt name (one_named kind.NotCompared name
-    (one_named kind.EnginesDiffer name (one_named kind.Overlap name
-    (one_named kind.NewerCalls name None)))))))))))))
+    (one_named kind.EnginesDiffer name (one_named kind.Overlap name (one_named kind.NewerCalls name
+    (one_named kind.ForEngines name (one_named kind.OtherCase name (one_named kind.UnknownArchitecture name
+    (one_named kind.AlwaysHolds name (one_named kind.UnusedValue name (one_named kind.NoArgument name
+    (one_named kind.WideArgument name (one_named kind.UnknownErrno name (one_named kind.ShadowedName name
+    (one_named kind.Bypass name (one_named kind.Powerful name None))))))))))))))))))))))))
 
 -- a misspelt name is an error; what may not be meant is a warning; what changes nothing, or is not known, a note
 abbrev pub severity_of : FindingKind → Severity
@@ -80,6 +109,17 @@ severity_of kind.Redundant = severity.Note
 severity_of kind.NotFoundOut = severity.Note
 severity_of kind.NotLookedAt = severity.Note
 severity_of kind.NotCompared = severity.Note
+severity_of kind.ForEngines = severity.Note
+severity_of kind.OtherCase = severity.Warning
+severity_of kind.UnknownArchitecture = severity.Error
+severity_of kind.AlwaysHolds = severity.Warning
+severity_of kind.UnusedValue = severity.Warning
+severity_of kind.NoArgument = severity.Warning
+severity_of kind.WideArgument = severity.Warning
+severity_of kind.UnknownErrno = severity.Warning
+severity_of kind.ShadowedName = severity.Warning
+severity_of kind.Bypass = severity.Warning
+severity_of kind.Powerful = severity.Note
 
 abbrev pub kind_of_name : AbsentName → FindingKind
 kind_of_name (name.Newer number) = kind.NewerName
@@ -87,11 +127,28 @@ kind_of_name name.NotImplemented = kind.NotImplemented
 kind_of_name name.OtherArchitecture = kind.OtherArchitecture
 kind_of_name name.Unknown = kind.UnknownName
 
+abbrev pub kind_of_member : Holder → List ℕ → FindingKind
+kind_of_member holder key = if is_recased holder key then kind.OtherCase
+    else if is_for_engines holder key then kind.ForEngines else kind.Ignored
+
 abbrev pub kind_of_told : Told → FindingKind
-kind_of_told (Ignored holder key) = kind.Ignored
+kind_of_told (Ignored holder key) = kind_of_member holder key
 kind_of_told OtherArchitectures = kind.Ignored
+kind_of_told (UnknownArchitecture index text) = kind.UnknownArchitecture
 kind_of_told (UnknownName entry index text) = kind_of_name (kind_of text)
 kind_of_told (RepeatedName entry index text) = kind.RepeatedName
+
+unfoldable pub kind_of_advice : Advice → FindingKind
+kind_of_advice (about.AlwaysHolds place at) = kind.AlwaysHolds
+kind_of_advice (about.UnusedValue place at) = kind.UnusedValue
+kind_of_advice (about.NoArgument place at number) = kind.NoArgument
+kind_of_advice (about.WideArgument place at call here cut) = kind.WideArgument
+kind_of_advice (about.UnknownErrno place code) = kind.UnknownErrno
+kind_of_advice (about.UnknownDefaultErrno code) = kind.UnknownErrno
+kind_of_advice (about.ShadowedName place number earlier) = kind.ShadowedName
+kind_of_advice (about.RepeatedName place number earlier) = kind.RepeatedName
+kind_of_advice (about.Bypass number call) = kind.Bypass
+kind_of_advice (about.Powerful number) = kind.Powerful
 
 abbrev pub kind_of_found : Finding → FindingKind
 kind_of_found (found.NeverDecides place) = kind.NeverDecides
@@ -102,3 +159,4 @@ kind_of_found (found.NotCompared place) = kind.NotCompared
 kind_of_found (found.ReadOtherwise place call here there) = kind.EnginesDiffer
 kind_of_found (found.Overlap place other call) = kind.Overlap
 kind_of_found (found.NewerCalls errno) = kind.NewerCalls
+kind_of_found (found.Advised advice) = kind_of_advice advice

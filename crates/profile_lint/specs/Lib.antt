@@ -1,3 +1,5 @@
+pub mod Advised
+pub mod Calls
 pub mod Choice
 pub mod Engines
 pub mod Entries

@@ -10,8 +10,6 @@ use Rattle.absent_names.specs.Kinds.{kind_of}
 use Rattle.absent_names.specs.Near.{suggestion}
 use Rattle.absent_names.specs.declared.kind.AbsentName.{AbsentName}
 use Rattle.absent_names.specs.declared.kind.AbsentName.TheVariants as absent
-use Rattle.action.specs.Verdict.{name_of, verdict_of}
-use Rattle.call_data.specs.declared.sys_call.SysCall.{SysCall}
 use Rattle.sys_table.specs.declared.table.TheConstants.{NUMBER_LIMIT}
 use Rattle.profile_lint.specs.declared.choice.Tally.TheVariants as which
 use Rattle.profile_lint.specs.declared.finding.Finding.{Finding}
@@ -19,9 +17,12 @@ use Rattle.profile_lint.specs.declared.finding.Finding.TheVariants as found
 use Rattle.profile_lint.specs.declared.kinds.FindingKind.{FindingKind}
 use Rattle.profile_lint.specs.Choice.{counted, is_shown}
 use Rattle.profile_lint.specs.Kinds.{kind_of_found, kind_of_told, kind_text, severity_of, severity_text}
+use Rattle.profile_lint.specs.Advised.{advice_members}
+use Rattle.profile_lint.specs.Calls.{call_members, value_object}
 use Rattle.profile_lint.specs.Passed.{Told}
-use Rattle.profile_lint.specs.Passed.Told.{Ignored, OtherArchitectures, UnknownName, RepeatedName}
-use Rattle.profile_lint.specs.Text.{arg_text, found_place, found_words, line_of, newer_words, others_words}
+use Rattle.profile_lint.specs.Passed.Told.{Ignored, OtherArchitectures, RepeatedName, UnknownArchitecture}
+use Rattle.profile_lint.specs.Passed.Told.{UnknownName}
+use Rattle.profile_lint.specs.Text.{found_place, found_words, line_of, newer_words, others_words}
 use Rattle.profile_lint.specs.Text.{told_place, told_words}
 
 -- a finding of a kind, with members of its own
@@ -51,25 +52,12 @@ name_members name = codes ",\"value\":" ++ compact_text (string name)
 abbrev pub told_members : Told → List ℕ
 told_members (Ignored holder key) = codes ",\"field\":" ++ compact_text (string key)
 told_members OtherArchitectures = codes ",\"field\":\"architectures\""
+told_members (UnknownArchitecture index name) = name_members name
 told_members (UnknownName entry index name) = name_members name ++ absent_members name
 told_members (RepeatedName entry index name) = name_members name
 
 abbrev pub told_object : Told → List ℕ
 told_object told = object_text (told_place told) (kind_of_told told) (told_members told) (told_words told)
-
--- the call, as members
-abbrev pub call_members : SysCall → List ℕ
-call_members call = codes "\"call\":" ++ (decimal call.nr ++ (codes ",\"args\":[" ++ (arg_text call.args 0
-    ++ (codes "," ++ (arg_text call.args 1 ++ (codes "," ++ (arg_text call.args 2
-    ++ (codes "," ++ (arg_text call.args 3 ++ (codes "," ++ (arg_text call.args 4
-    ++ (codes "," ++ (arg_text call.args 5 ++ (codes "],\"arch\":" ++ (decimal call.arch
-    ++ (codes ",\"ip\":" ++ decimal call.ip))))))))))))))))
-
--- a value, its action and data
-abbrev pub value_object : ℕ → List ℕ
-value_object value =
-    codes "{\"value\":" ++ (decimal value ++ (codes ",\"action\":\"" ++ (name_of (verdict_of value).action
-    ++ (codes "\",\"data\":" ++ (decimal (verdict_of value).ret_data ++ codes "}")))))
 
 abbrev pub found_members : Finding → List ℕ
 found_members (found.NeverDecides place) = []
@@ -83,6 +71,7 @@ found_members (found.Overlap place other call) = codes "," ++ (call_members call
     ++ (codes ",\"other\":\"syscalls[" ++ (decimal other ++ codes "]\"")))
 found_members (found.NewerCalls errno) = codes ",\"above\":" ++ (decimal (NUMBER_LIMIT - 1)
     ++ (codes ",\"errno\":" ++ (decimal errno ++ codes ",\"wanted\":38")))
+found_members (found.Advised advice) = advice_members advice
 
 abbrev pub found_object : Finding → List ℕ
 found_object found =

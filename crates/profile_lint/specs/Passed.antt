@@ -3,9 +3,10 @@
 -- profile".
 use Rattle.std.specs.Prelude.{◌≡◌, ℕ, ◌==◌, Bool, false, not, ◌&&◌, ◌||◌, if◌then◌else◌, List, [], ◌∷◌, ◌++◌}
 use Rattle.std.specs.Prelude.{length, codes, take, filter_map, flat_map, Option, Some, None, option_and_then}
-use Rattle.std.specs.Prelude.{is_some, option_map, unwrap_or}
+use Rattle.std.specs.Prelude.{is_some, map, option_map, unwrap_or}
 use Rattle.std.specs.List.{enumerate_from, list_any}
 use Rattle.std.specs.Str.{bytes_eq}
+use Rattle.std.specs.Char.{to_ascii_lowercase}
 use Rattle.serde_json.specs.Data as json
 use Rattle.serde_json.specs.Data.{Data, Members}
 use Rattle.serde_json.specs.Find.{as_object}
@@ -21,12 +22,14 @@ use Rattle.profile_lint.specs.declared.passed.Passed.TheVariants as kind
 pub data Told : Type 0 where
   Ignored : Holder → List ℕ → Told
   OtherArchitectures : Told
+  UnknownArchitecture : ℕ → List ℕ → Told
   UnknownName : ℕ → ℕ → List ℕ → Told
   RepeatedName : ℕ → ℕ → List ℕ → Told
 
 abbrev pub told : passed.Passed → Told
 told (kind.Ignored holder key) = Ignored holder key.now
 told kind.OtherArchitectures = OtherArchitectures
+told (kind.UnknownArchitecture index name) = UnknownArchitecture index name.now
 told (kind.UnknownName entry index name) = UnknownName entry index name.now
 told (kind.RepeatedName entry index name) = RepeatedName entry index name.now
 
@@ -57,6 +60,20 @@ deciding of.Profile = codes "defaultAction" ∷ codes "defaultErrnoRet" ∷ code
 deciding (of.Entry entry) = codes "names" ∷ codes "action" ∷ codes "errnoRet" ∷ codes "args" ∷ []
 deciding (of.Arg entry arg) = codes "index" ∷ codes "value" ∷ codes "valueTwo" ∷ codes "op" ∷ []
 
+abbrev pub is_recased_as : List ℕ → List ℕ → Bool
+is_recased_as key name = bytes_eq (map to_ascii_lowercase key) (map to_ascii_lowercase name)
+
+-- whether the key is one of those in another case: Go's encoding/json reads it all the same, and so does runc
+abbrev pub is_recased : Holder → List ℕ → Bool
+is_recased holder key = list_any (is_recased_as key) (deciding holder)
+
+-- members of a profile that engines read: OCI runtime-spec 1.1, config-linux, seccomp
+abbrev pub is_for_engines : Holder → List ℕ → Bool
+is_for_engines of.Profile key =
+    is_one_of (codes "flags" ∷ codes "listenerPath" ∷ codes "listenerMetadata" ∷ []) key
+is_for_engines (of.Entry entry) key = false
+is_for_engines (of.Arg entry arg) key = false
+
 unfoldable pub is_ignored : Holder → List ℕ → Data → Bool
 is_ignored holder key value = not (says_nothing value)
     && not (bytes_eq key (codes "comment") || is_one_of (deciding holder) key)
@@ -85,6 +102,27 @@ are_others names = not (length names == 0) && not (list_any is_native names)
 
 abbrev pub others_in : Data → List Told
 others_in tree = if are_others (items_in (codes "architectures") tree) then OtherArchitectures ∷ [] else []
+
+-- the names of architectures: seccomp.h of libseccomp 2.6
+unfoldable pub architectures : List (List ℕ)
+architectures = codes "SCMP_ARCH_X86" ∷ codes "SCMP_ARCH_X86_64" ∷ codes "SCMP_ARCH_X32" ∷
+    codes "SCMP_ARCH_ARM" ∷ codes "SCMP_ARCH_AARCH64" ∷ codes "SCMP_ARCH_LOONGARCH64" ∷
+    codes "SCMP_ARCH_M68K" ∷ codes "SCMP_ARCH_MIPS" ∷ codes "SCMP_ARCH_MIPS64" ∷
+    codes "SCMP_ARCH_MIPS64N32" ∷ codes "SCMP_ARCH_MIPSEL" ∷ codes "SCMP_ARCH_MIPSEL64" ∷
+    codes "SCMP_ARCH_MIPSEL64N32" ∷ codes "SCMP_ARCH_PPC" ∷ codes "SCMP_ARCH_PPC64" ∷
+    codes "SCMP_ARCH_PPC64LE" ∷ codes "SCMP_ARCH_S390" ∷ codes "SCMP_ARCH_S390X" ∷
+    codes "SCMP_ARCH_PARISC" ∷ codes "SCMP_ARCH_PARISC64" ∷ codes "SCMP_ARCH_RISCV64" ∷
+    codes "SCMP_ARCH_SH" ∷ codes "SCMP_ARCH_SHEB" ∷ []
+
+abbrev pub arch_named : ℕ → Option (List ℕ) → Option Told
+arch_named index None = None
+arch_named index (Some name) = if is_one_of architectures name then None else Some (UnknownArchitecture index name)
+
+abbrev pub arch_at : ℕ × Data → Option Told
+arch_at (index, item) = arch_named index (text item)
+
+abbrev pub archs_in : List Data → List Told
+archs_in items = filter_map arch_at (enumerate_from 0 items)
 
 abbrev pub is_number : ℕ → Option ℕ → Bool
 is_number number None = false
@@ -130,4 +168,5 @@ entries_in items = flat_map entry_at (enumerate_from 0 items)
 -- all findings about a profile's tree
 abbrev pub passed_in : Data → List Told
 passed_in tree = ignored_in of.Profile tree
-    ++ (others_in tree ++ entries_in (items_in (codes "syscalls") tree))
+    ++ (others_in tree ++ (archs_in (items_in (codes "architectures") tree)
+    ++ entries_in (items_in (codes "syscalls") tree)))

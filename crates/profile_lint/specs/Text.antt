@@ -1,15 +1,14 @@
 -- The printed findings about a profile, this project's own: docs/SEMANTICS.md, "What is told of a profile".
 use Rattle.std.specs.Prelude.{ℕ, ◌==◌, nat_le, not, Bool, ◌&&◌, ◌||◌, if◌then◌else◌, List, [], ◌++◌, codes}
-use Rattle.std.specs.Prelude.{length, flat_map, slice_index, nat_lt, ◌-◌, Option, Some, None}
+use Rattle.std.specs.Prelude.{length, flat_map, nat_lt, ◌-◌, Option, Some, None}
 use Rattle.std.specs.List.{list_all}
-use Rattle.action.specs.Verdict.{name_of, verdict_of}
+use Rattle.action.specs.Verdict.{verdict_of}
 use Rattle.action.specs.declared.action.Action.{Action}
 use Rattle.action.specs.declared.action.Action.TheVariants as act
 use Rattle.absent_names.specs.Kinds.{kind_of}
 use Rattle.absent_names.specs.Near.{suggestion}
 use Rattle.absent_names.specs.declared.kind.AbsentName.{AbsentName}
 use Rattle.absent_names.specs.declared.kind.AbsentName.TheVariants as absent
-use Rattle.call_data.specs.declared.sys_call.SysCall.{SysCall}
 use Rattle.std.specs.Str.{bytes_eq}
 use Rattle.std.specs.Fmt.{decimal}
 use Rattle.json_place.specs.Quoted.{quoted_text}
@@ -23,8 +22,11 @@ use Rattle.profile_lint.specs.declared.choice.Tally.TheVariants as which
 use Rattle.profile_lint.specs.Choice.{counted, is_shown}
 use Rattle.profile_lint.specs.Kinds.{kind_of_found, kind_of_told, kind_text, severity_of, severity_text}
 use Rattle.sys_table.specs.declared.table.TheConstants.{NUMBER_LIMIT}
-use Rattle.profile_lint.specs.Passed.{Told}
-use Rattle.profile_lint.specs.Passed.Told.{Ignored, OtherArchitectures, UnknownName, RepeatedName}
+use Rattle.profile_lint.specs.Advised.{advice_place, advice_words, entry_place}
+use Rattle.profile_lint.specs.Calls.{call_text, value_text}
+use Rattle.profile_lint.specs.Passed.{Told, is_recased}
+use Rattle.profile_lint.specs.Passed.Told.{Ignored, OtherArchitectures, RepeatedName, UnknownArchitecture}
+use Rattle.profile_lint.specs.Passed.Told.{UnknownName}
 
 -- the prefix of a member's key
 abbrev pub holder_text : Holder → List ℕ
@@ -83,12 +85,15 @@ name_place entry index = codes "syscalls[" ++ (decimal entry ++ (codes "].names[
 abbrev pub told_place : Told → List ℕ
 told_place (Ignored holder key) = holder_text holder ++ key_text key
 told_place OtherArchitectures = codes "architectures"
+told_place (UnknownArchitecture index name) = codes "architectures[" ++ (decimal index ++ codes "]")
 told_place (UnknownName entry index name) = name_place entry index
 told_place (RepeatedName entry index name) = name_place entry index
 
 abbrev pub told_words : Told → List ℕ
-told_words (Ignored holder key) = words_of key
+told_words (Ignored holder key) = if is_recased holder key
+    then codes "runc reads it in any case, and crun does not" else words_of key
 told_words OtherArchitectures = codes "x86-64 is not among them, and only its calls are decided"
+told_words (UnknownArchitecture index name) = quoted_text name ++ codes " is no architecture"
 told_words (UnknownName entry index name) = name_words name
 told_words (RepeatedName entry index name) = quoted_text name ++ codes " is repeated"
 
@@ -99,23 +104,6 @@ text_of place kind words = place ++ (codes ": " ++ (kind ++ (codes ": " ++ words
 abbrev pub told_text : Told → List ℕ
 told_text told = text_of (told_place told) (kind_text (kind_of_told told)) (told_words told)
 
-abbrev pub arg_text : List ℕ → ℕ → List ℕ
-arg_text args index = decimal (slice_index args index)
-
--- the call, as arguments of `run`
-abbrev pub call_text : SysCall → List ℕ
-call_text call = decimal call.nr ++ (codes " " ++ (arg_text call.args 0 ++ (codes " "
-    ++ (arg_text call.args 1 ++ (codes " " ++ (arg_text call.args 2 ++ (codes " "
-    ++ (arg_text call.args 3 ++ (codes " " ++ (arg_text call.args 4 ++ (codes " "
-    ++ arg_text call.args 5)))))))))))
-
--- the action of a value, and its data
-abbrev pub value_text : ℕ → List ℕ
-value_text value = name_of (verdict_of value).action ++ (codes " " ++ decimal (verdict_of value).ret_data)
-
-abbrev pub entry_place : ℕ → List ℕ
-entry_place place = codes "syscalls[" ++ (decimal place ++ codes "]")
-
 abbrev pub found_place : Finding → List ℕ
 found_place (found.NeverDecides place) = entry_place place
 found_place (found.SameWithout place) = entry_place place
@@ -125,6 +113,7 @@ found_place (found.NotCompared place) = entry_place place
 found_place (found.ReadOtherwise place call here there) = entry_place place
 found_place (found.Overlap place other call) = entry_place place
 found_place (found.NewerCalls errno) = codes "defaultAction"
+found_place (found.Advised advice) = advice_place advice
 
 abbrev pub found_words : Finding → List ℕ
 found_words (found.NeverDecides place) = codes "it decides no call"
@@ -139,6 +128,7 @@ found_words (found.Overlap place other call) = codes "at " ++ (call_text call ++
 found_words (found.NewerCalls errno) = codes "calls newer than " ++ (decimal (NUMBER_LIMIT - 1)
     ++ (codes " return errno "
     ++ (decimal errno ++ codes ", and programs fall back to older calls only on ENOSYS (38)")))
+found_words (found.Advised advice) = advice_words advice
 
 abbrev pub found_text : Finding → List ℕ
 found_text found = text_of (found_place found) (kind_text (kind_of_found found)) (found_words found)

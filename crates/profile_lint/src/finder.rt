@@ -1,14 +1,14 @@
-ghost use Rattle.std.specs.Prelude.{◌≡◌, ℕ, All, ◌++◌, IfOk, IfSome, false, option_map, option_to_list, slice_get, Some};
+ghost use Rattle.std.specs.Prelude.{◌≡◌, ℕ, All, ◌++◌, IfOk, IfSome, false, map, option_map, option_to_list, slice_get, Some};
 ghost use Rattle.oci_profile.specs.declared.profile.Profile.{Profile};
 ghost use Rattle.profile_lint.specs.Engines.{as_engines_read, kept_of};
 ghost use Rattle.profile_lint.specs.Entries.{Stands, with_entries};
-ghost use Rattle.profile_lint.specs.Findings.{AreAll, HasNeed, HasOverlap, HasReading, IsReported, IsSo, is_uncompared};
+ghost use Rattle.profile_lint.specs.Findings.{AreAll, AreWhole, HasNeed, HasOverlap, HasReading, IsReported, IsSo, is_uncompared};
 ghost use Rattle.profile_lint.specs.Findings.{newer_of, once_from};
 ghost use Rattle.profile_lint.specs.Readings.{OverlapsAs, Reads};
 ghost use Rattle.profile_lint.specs.declared.engines.Kind.TheVariants.{Bare};
 ghost use Rattle.profile_lint.specs.declared.engines.Overlapping.TheVariants as of_overlap;
 ghost use Rattle.profile_lint.specs.declared.engines.Reading.TheVariants as of_reading;
-ghost use Rattle.profile_lint.specs.declared.finding.Finding.TheVariants.{NewerCalls, NotCompared};
+ghost use Rattle.profile_lint.specs.declared.finding.Finding.TheVariants.{Advised, NewerCalls, NotCompared};
 
 use crate::engines::{Overlapping, Reading, as_engines_read, bare_of, compare_reading, overlap};
 use crate::entries::standing;
@@ -16,6 +16,7 @@ use crate::finding::Finding;
 use crate::stands::Standing;
 use action::ENOSYS;
 use oci_profile::{Decision, Entry, Profile};
+use profile_advice::{Advice, advice};
 use std::alloc::{AllocError, Global};
 
 /// The greatest number of names in all entries together for which entries are compared: a profile with more
@@ -34,6 +35,26 @@ pub fn findings(alloc: Global, profile: &Profile) -> Result<Vec<Finding>, AllocE
     let mut found = about_entries_or_none(alloc, profile)?;
     add(&mut found, newer_at(newer_calls(profile)))?;
     Ok(found)
+}
+
+/// The findings about a profile, and then the advice about it.
+pub fn all_findings(alloc: Global, profile: &Profile) -> Result<Vec<Finding>, AllocError>
+    ensures { IfOk result (λ v. AreWhole profile.now v.items) }
+{
+    let mut found = findings(alloc, profile)?;
+    let advice = advice(alloc, profile)?;
+    add_advice(&mut found, advice.as_slice())?;
+    Ok(found)
+}
+
+fn add_advice(found: &mut Vec<Finding>, advice: &[Advice]) -> Result<(), AllocError>
+    ensures { IfOk result (λ _. found.new.items
+        ≡ found.old.items ++ map (λ one. Advised one) advice.now) }
+{
+    for one in advice {
+        found.push(Finding::Advised(*one))?;
+    }
+    Ok(())
 }
 
 /// The finding about calls above the table's last number, if there is one.

@@ -1,4 +1,5 @@
 use call_data::SysCall;
+use profile_advice::Advice;
 
 /// Something in a profile's entries or its default that its author may not have meant.
 #[derive(Clone, Copy, Debug, PartialEq, Eq)]
@@ -21,4 +22,6 @@ pub enum Finding {
     Overlap(usize, usize, SysCall),
     /// Calls above the table's last number return this errno, and not ENOSYS.
     NewerCalls(u16),
+    /// What the profile probably gets wrong by itself.
+    Advised(Advice),
 }

@@ -1,11 +1,13 @@
 ghost use Rattle.std.specs.Prelude.{◌≡◌};
 ghost use Rattle.profile_lint.specs.Passed.{told};
-ghost use Rattle.profile_lint.specs.Kinds.{kind_named, kind_of_found, kind_of_name, kind_of_told, rank_of};
-ghost use Rattle.profile_lint.specs.Kinds.{severity_of};
+ghost use Rattle.profile_lint.specs.Kinds.{kind_named, kind_of_advice, kind_of_found, kind_of_member};
+ghost use Rattle.profile_lint.specs.Kinds.{kind_of_name, kind_of_told, rank_of, severity_of};
 
 use crate::finding::Finding;
-use crate::passed::Passed;
+use crate::members::{is_for_engines, is_recased};
+use crate::passed::{Holder, Passed};
 use absent_names::{AbsentName, kind_of};
+use profile_advice::Advice;
 use std::fmt;
 
 /// How much a finding matters.
@@ -65,6 +67,28 @@ pub enum FindingKind {
     Overlap,
     /// Newer calls don't fail with ENOSYS.
     NewerCalls,
+    /// A member is for engines, and a filter does not depend on it.
+    ForEngines,
+    /// A member is known in another case.
+    OtherCase,
+    /// No architecture has a name.
+    UnknownArchitecture,
+    /// A condition holds for every argument.
+    AlwaysHolds,
+    /// A second value is not read.
+    UnusedValue,
+    /// A condition is about an argument that the call does not have.
+    NoArgument,
+    /// A condition compares more bits of an argument than the kernel reads.
+    WideArgument,
+    /// Linux does not have an errno.
+    UnknownErrno,
+    /// An earlier entry decides a name differently.
+    ShadowedName,
+    /// A call is denied, and another one that can do the same is allowed.
+    Bypass,
+    /// A call is allowed that can undo what confines a program.
+    Powerful,
 }
 
 impl fmt::Display for FindingKind {
@@ -89,6 +113,17 @@ impl fmt::Display for FindingKind {
             FindingKind::EnginesDiffer => "EnginesDiffer",
             FindingKind::Overlap => "Overlap",
             FindingKind::NewerCalls => "NewerCalls",
+            FindingKind::ForEngines => "ForEngines",
+            FindingKind::OtherCase => "OtherCase",
+            FindingKind::UnknownArchitecture => "UnknownArchitecture",
+            FindingKind::AlwaysHolds => "AlwaysHolds",
+            FindingKind::UnusedValue => "UnusedValue",
+            FindingKind::NoArgument => "NoArgument",
+            FindingKind::WideArgument => "WideArgument",
+            FindingKind::UnknownErrno => "UnknownErrno",
+            FindingKind::ShadowedName => "ShadowedName",
+            FindingKind::Bypass => "Bypass",
+            FindingKind::Powerful => "Powerful",
         })
     }
 }
@@ -112,6 +147,17 @@ pub fn kind_named(name: &str) -> Option<FindingKind>
         "EnginesDiffer" => Some(FindingKind::EnginesDiffer),
         "Overlap" => Some(FindingKind::Overlap),
         "NewerCalls" => Some(FindingKind::NewerCalls),
+        "ForEngines" => Some(FindingKind::ForEngines),
+        "OtherCase" => Some(FindingKind::OtherCase),
+        "UnknownArchitecture" => Some(FindingKind::UnknownArchitecture),
+        "AlwaysHolds" => Some(FindingKind::AlwaysHolds),
+        "UnusedValue" => Some(FindingKind::UnusedValue),
+        "NoArgument" => Some(FindingKind::NoArgument),
+        "WideArgument" => Some(FindingKind::WideArgument),
+        "UnknownErrno" => Some(FindingKind::UnknownErrno),
+        "ShadowedName" => Some(FindingKind::ShadowedName),
+        "Bypass" => Some(FindingKind::Bypass),
+        "Powerful" => Some(FindingKind::Powerful),
         _ => None,
     }
 }
@@ -135,6 +181,17 @@ pub(crate) fn rank_of(kind: FindingKind) -> u8
         FindingKind::EnginesDiffer => 11,
         FindingKind::Overlap => 12,
         FindingKind::NewerCalls => 13,
+        FindingKind::ForEngines => 14,
+        FindingKind::OtherCase => 15,
+        FindingKind::UnknownArchitecture => 16,
+        FindingKind::AlwaysHolds => 17,
+        FindingKind::UnusedValue => 18,
+        FindingKind::NoArgument => 19,
+        FindingKind::WideArgument => 20,
+        FindingKind::UnknownErrno => 21,
+        FindingKind::ShadowedName => 22,
+        FindingKind::Bypass => 23,
+        FindingKind::Powerful => 24,
     }
 }
 
@@ -143,20 +200,30 @@ pub fn severity_of(kind: FindingKind) -> Severity
     ensures { result ≡ severity_of kind }
 {
     match kind {
-        FindingKind::UnknownName => Severity::Error,
+        FindingKind::UnknownName | FindingKind::UnknownArchitecture => Severity::Error,
         FindingKind::Ignored
         | FindingKind::NewerName
         | FindingKind::NeverDecides
         | FindingKind::EnginesDiffer
         | FindingKind::Overlap
-        | FindingKind::NewerCalls => Severity::Warning,
+        | FindingKind::NewerCalls
+        | FindingKind::OtherCase
+        | FindingKind::AlwaysHolds
+        | FindingKind::UnusedValue
+        | FindingKind::NoArgument
+        | FindingKind::WideArgument
+        | FindingKind::UnknownErrno
+        | FindingKind::ShadowedName
+        | FindingKind::Bypass => Severity::Warning,
         FindingKind::OtherArchitecture
         | FindingKind::NotImplemented
         | FindingKind::RepeatedName
         | FindingKind::Redundant
         | FindingKind::NotFoundOut
         | FindingKind::NotLookedAt
-        | FindingKind::NotCompared => Severity::Note,
+        | FindingKind::NotCompared
+        | FindingKind::ForEngines
+        | FindingKind::Powerful => Severity::Note,
     }
 }
 
@@ -171,15 +238,48 @@ fn kind_of_name(name: AbsentName) -> FindingKind
     }
 }
 
+/// The kind of a member that decides nothing.
+fn kind_of_member(holder: Holder, key: &str) -> FindingKind
+    ensures { result ≡ kind_of_member holder key.now }
+{
+    if is_recased(holder, key) {
+        FindingKind::OtherCase
+    } else if is_for_engines(holder, key) {
+        FindingKind::ForEngines
+    } else {
+        FindingKind::Ignored
+    }
+}
+
 /// The kind of a finding about the text.
 pub fn kind_of_passed(passed: &Passed<'_>) -> FindingKind
     ensures { result ≡ kind_of_told (told passed.now) }
 {
     match passed {
-        Passed::Ignored(_, _) => FindingKind::Ignored,
+        Passed::Ignored(holder, key) => kind_of_member(*holder, key),
         Passed::OtherArchitectures => FindingKind::Ignored,
+        Passed::UnknownArchitecture(_, _) => FindingKind::UnknownArchitecture,
         Passed::UnknownName(_, _, name) => kind_of_name(kind_of(name)),
         Passed::RepeatedName(_, _, _) => FindingKind::RepeatedName,
+    }
+}
+
+/// The kind of a piece of advice.
+#[tactic(auto, unfolding(crate::specs::Kinds::kind_of_advice))]
+fn kind_of_advice(advice: Advice) -> FindingKind
+    ensures { result ≡ kind_of_advice advice }
+{
+    match advice {
+        Advice::AlwaysHolds(_, _) => FindingKind::AlwaysHolds,
+        Advice::UnusedValue(_, _) => FindingKind::UnusedValue,
+        Advice::NoArgument(_, _, _) => FindingKind::NoArgument,
+        Advice::WideArgument(_, _, _, _, _) => FindingKind::WideArgument,
+        Advice::UnknownErrno(_, _) => FindingKind::UnknownErrno,
+        Advice::UnknownDefaultErrno(_) => FindingKind::UnknownErrno,
+        Advice::ShadowedName(_, _, _) => FindingKind::ShadowedName,
+        Advice::RepeatedName(_, _, _) => FindingKind::RepeatedName,
+        Advice::Bypass(_, _) => FindingKind::Bypass,
+        Advice::Powerful(_) => FindingKind::Powerful,
     }
 }
 
@@ -196,5 +296,6 @@ pub fn kind_of_found(finding: &Finding) -> FindingKind
         Finding::ReadOtherwise(_, _, _, _) => FindingKind::EnginesDiffer,
         Finding::Overlap(_, _, _) => FindingKind::Overlap,
         Finding::NewerCalls(_) => FindingKind::NewerCalls,
+        Finding::Advised(advice) => kind_of_advice(*advice),
     }
 }

@@ -30,6 +30,7 @@
 //! model.
 #![tactic(auto)]
 
+mod advised;
 mod choice;
 mod copies;
 mod engines;
@@ -50,7 +51,7 @@ mod words;
 
 pub use choice::{Choice, grave_count, has_newer_names, is_bad};
 pub use entries::standing;
-pub use finder::{findings, newer_calls, once};
+pub use finder::{all_findings, findings, newer_calls, once};
 pub use finding::Finding;
 pub use kinds::{FindingKind, Severity, kind_named, kind_of_found, kind_of_passed, severity_of};
 pub use lines::lint_lines;

@@ -2,7 +2,8 @@ ghost use Rattle.std.specs.Prelude.{◌≡◌, ◌==◌, IfOk, filter_map, lengt
 ghost use Rattle.serde_json.specs.View.{members_view, view};
 ghost use Rattle.json_tree.specs.Tree.{list, text};
 ghost use Rattle.profile_lint.specs.Passed.{deciding, ignored_at, ignored_in, is_empty, is_ignored};
-ghost use Rattle.profile_lint.specs.Passed.{is_one_of, members_list, members_of, says_nothing, told};
+ghost use Rattle.profile_lint.specs.Passed.{is_for_engines, is_one_of, is_recased, is_recased_as, members_list};
+ghost use Rattle.profile_lint.specs.Passed.{members_of, says_nothing, told};
 
 use crate::passed::{Holder, Passed};
 use json_tree::{list, text, value};
@@ -59,6 +60,49 @@ fn is_deciding(holder: Holder, key: &str) -> bool
         }
         Holder::Entry(_) => matches!(key, "names" | "action" | "errnoRet" | "args"),
         Holder::Arg(_, _) => matches!(key, "index" | "value" | "valueTwo" | "op"),
+    }
+}
+
+/// Whether the key is the name, in upper or lower case.
+fn is_recased_as(key: &str, name: &str) -> bool
+    ensures { result ≡ is_recased_as key.now name.now }
+{
+    key.eq_ignore_ascii_case(name)
+}
+
+/// Whether the key is one of the members that decide something, in another case.
+pub(crate) fn is_recased(holder: Holder, key: &str) -> bool
+    ensures { result ≡ is_recased holder key.now }
+{
+    match holder {
+        Holder::Profile => {
+            is_recased_as(key, "defaultAction")
+                || is_recased_as(key, "defaultErrnoRet")
+                || is_recased_as(key, "architectures")
+                || is_recased_as(key, "syscalls")
+        }
+        Holder::Entry(_) => {
+            is_recased_as(key, "names")
+                || is_recased_as(key, "action")
+                || is_recased_as(key, "errnoRet")
+                || is_recased_as(key, "args")
+        }
+        Holder::Arg(_, _) => {
+            is_recased_as(key, "index")
+                || is_recased_as(key, "value")
+                || is_recased_as(key, "valueTwo")
+                || is_recased_as(key, "op")
+        }
+    }
+}
+
+/// Whether engines read the member.
+pub(crate) fn is_for_engines(holder: Holder, key: &str) -> bool
+    ensures { result ≡ is_for_engines holder key.now }
+{
+    match holder {
+        Holder::Profile => matches!(key, "flags" | "listenerPath" | "listenerMetadata"),
+        Holder::Entry(_) | Holder::Arg(_, _) => false,
     }
 }
 

@@ -28,7 +28,11 @@ pub(crate) fn names_in<'v>(
     Ok(found)
 }
 
-fn tell<'v>(found: &mut Vec<Passed<'v>>, one: Option<Passed<'v>>) -> Result<(), AllocError>
+/// Adds the finding, if there is one.
+pub(crate) fn tell<'v>(
+    found: &mut Vec<Passed<'v>>,
+    one: Option<Passed<'v>>,
+) -> Result<(), AllocError>
     ensures { IfOk result (λ _. found.new.items ≡ found.old.items ++ option_to_list one.entry) }
 {
     if let Some(one) = one {

@@ -7,6 +7,7 @@ ghost use Rattle.profile_lint.specs.Objects.{lint_objects, name_members, newer_o
 ghost use Rattle.profile_lint.specs.Objects.{told_line, told_members, told_object};
 ghost use Rattle.profile_lint.specs.Passed.{told};
 
+use crate::advised::AdviceMembers;
 use crate::choice::{Choice, Tally, counted, is_shown};
 use crate::finding::Finding;
 use crate::kinds::{FindingKind, kind_of_found, kind_of_passed, severity_of};
@@ -79,6 +80,7 @@ fn passed_members(alloc: Global, passed: &Passed<'_>) -> Result<String, AllocErr
             format!(in alloc; ",\"field\":{field}")
         }
         Passed::OtherArchitectures => String::from_str(alloc, ",\"field\":\"architectures\""),
+        Passed::UnknownArchitecture(_, name) => name_members(alloc, name),
         Passed::UnknownName(_, _, name) => {
             let (value, absent) = (name_members(alloc, name)?, absent_members(alloc, name)?);
             format!(in alloc; "{value}{absent}")
@@ -105,11 +107,11 @@ fn passed_object(alloc: Global, passed: &Passed<'_>) -> Result<String, AllocErro
 
 /// A call, as members.
 #[derive(Clone, Copy)]
-struct CallMembers(SysCall);
+pub(crate) struct CallMembers(pub(crate) SysCall);
 
 impl fmt::Display for CallMembers {
     ghost use Rattle.std.specs.Prelude.{Some};
-    ghost use Rattle.profile_lint.specs.Objects.{call_members};
+    ghost use Rattle.profile_lint.specs.Calls.{call_members};
 
     ghost output = { λ call. Some (call_members call.0) };
 
@@ -126,11 +128,11 @@ impl fmt::Display for CallMembers {
 
 /// A value: `{"value":2147418112,"action":"ALLOW","data":0}`.
 #[derive(Clone, Copy)]
-struct ValueObject(u32);
+pub(crate) struct ValueObject(pub(crate) u32);
 
 impl fmt::Display for ValueObject {
     ghost use Rattle.std.specs.Prelude.{Some};
-    ghost use Rattle.profile_lint.specs.Objects.{value_object};
+    ghost use Rattle.profile_lint.specs.Calls.{value_object};
 
     ghost output = { λ value. Some (value_object value.0) };
 
@@ -169,6 +171,7 @@ impl fmt::Display for FoundMembers {
                 let last = NUMBER_LIMIT - 1;
                 write!(f, ",\"above\":{last},\"errno\":{errno},\"wanted\":38")
             }
+            Finding::Advised(advice) => write!(f, "{}", AdviceMembers(advice)),
             _ => Ok(()),
         }
     }

@@ -15,6 +15,8 @@ pub enum Passed<'v> {
     Ignored(Holder, &'v str),
     /// `architectures` without x86-64.
     OtherArchitectures,
+    /// The name at this place of `architectures`, which no architecture has.
+    UnknownArchitecture(usize, &'v str),
     /// Of the entry at the first place, the name at the second one, which the call table lacks.
     UnknownName(usize, usize, &'v str),
     /// Of the entry at the first place, the name at the second one, which repeats an earlier name.

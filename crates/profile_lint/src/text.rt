@@ -1,11 +1,12 @@
-ghost use Rattle.std.specs.Prelude.{◌≡◌, IfOk, flat_map, map};
+ghost use Rattle.std.specs.Prelude.{◌≡◌, IfOk, flat_map, map, option_map};
 ghost use Rattle.std.specs.List.{enumerate_from, list_any};
 ghost use Rattle.serde_json.specs.View.{view};
-ghost use Rattle.profile_lint.specs.Passed.{are_others, arg_at, args_in, entries_in, entry_at, is_native};
-ghost use Rattle.profile_lint.specs.Passed.{items_in, others_in, passed_in, told};
+ghost use Rattle.profile_lint.specs.Passed.{arch_at, architectures, archs_in, are_others, arg_at, args_in};
+ghost use Rattle.profile_lint.specs.Passed.{entries_in, entry_at, is_native, is_one_of, items_in, others_in};
+ghost use Rattle.profile_lint.specs.Passed.{passed_in, told};
 
 use crate::members::ignored_in;
-use crate::names::names_in;
+use crate::names::{names_in, tell};
 use crate::passed::{Holder, Passed};
 use json_tree::{list, member, text};
 use serde_json::Value;
@@ -19,6 +20,8 @@ pub fn passed_in<'v>(alloc: Global, tree: &'v Value) -> Result<Vec<Passed<'v>>, 
     if are_others(items_in(tree, "architectures")) {
         found.push(Passed::OtherArchitectures)?;
     }
+    let archs = archs_in(alloc, items_in(tree, "architectures"))?;
+    found.extend_from_slice(archs.as_slice())?;
     let entries = entries_in(alloc, items_in(tree, "syscalls"))?;
     found.extend_from_slice(entries.as_slice())?;
     Ok(found)
@@ -60,6 +63,45 @@ fn is_native(name: &Value) -> bool
         Some(name) => name == "SCMP_ARCH_X86_64",
         None => false,
     }
+}
+
+/// Whether an architecture has the name.
+#[tactic(auto, unfolding(crate::specs::Passed::architectures))]
+#[rattlefmt::skip]
+fn is_architecture(name: &str) -> bool
+    ensures { result ≡ is_one_of architectures name.now }
+{
+    matches!(
+        name,
+        "SCMP_ARCH_X86" | "SCMP_ARCH_X86_64" | "SCMP_ARCH_X32" | "SCMP_ARCH_ARM"
+        | "SCMP_ARCH_AARCH64" | "SCMP_ARCH_LOONGARCH64" | "SCMP_ARCH_M68K" | "SCMP_ARCH_MIPS"
+        | "SCMP_ARCH_MIPS64" | "SCMP_ARCH_MIPS64N32" | "SCMP_ARCH_MIPSEL" | "SCMP_ARCH_MIPSEL64"
+        | "SCMP_ARCH_MIPSEL64N32" | "SCMP_ARCH_PPC" | "SCMP_ARCH_PPC64" | "SCMP_ARCH_PPC64LE"
+        | "SCMP_ARCH_S390" | "SCMP_ARCH_S390X" | "SCMP_ARCH_PARISC" | "SCMP_ARCH_PARISC64"
+        | "SCMP_ARCH_RISCV64" | "SCMP_ARCH_SH" | "SCMP_ARCH_SHEB"
+    )
+}
+
+/// The finding about a name of `architectures`, if no architecture has it.
+fn arch_at<'v>(index: usize, item: &'v Value) -> Option<Passed<'v>>
+    ensures { option_map told result ≡ arch_at (index, view item.now) }
+{
+    let name = text(item)?;
+    if is_architecture(name) {
+        None
+    } else {
+        Some(Passed::UnknownArchitecture(index, name))
+    }
+}
+
+fn archs_in<'v>(alloc: Global, items: &'v [Value]) -> Result<Vec<Passed<'v>>, AllocError>
+    ensures { IfOk result (λ v. map told v.items ≡ archs_in (map view items.now)) }
+{
+    let mut found = Vec::new(alloc);
+    for (index, item) in items.iter().enumerate() {
+        tell(&mut found, arch_at(index, item))?;
+    }
+    Ok(found)
 }
 
 fn entries_in<'v>(alloc: Global, items: &'v [Value]) -> Result<Vec<Passed<'v>>, AllocError>

@@ -3,8 +3,10 @@ ghost use Rattle.std.specs.Prelude.{◌≡◌};
 ghost use Rattle.std.specs.List.{list_all};
 ghost use Rattle.profile_lint.specs.Text.{is_plain, is_plain_byte, words_of};
 
+use crate::advised::{AdvicePlace, AdviceWords};
 use crate::finding::Finding;
 use crate::kinds::{kind_of_found, kind_of_passed};
+use crate::members::is_recased;
 use crate::passed::{Holder, Passed};
 use absent_names::{AbsentName, kind_of, suggestion};
 use action::Verdict;
@@ -131,6 +133,7 @@ impl fmt::Display for PassedPlace<'_> {
         match self.0 {
             Passed::Ignored(holder, key) => write!(f, "{holder}{}", Key(key)),
             Passed::OtherArchitectures => f.write_str("architectures"),
+            Passed::UnknownArchitecture(index, _) => write!(f, "architectures[{index}]"),
             Passed::UnknownName(entry, index, _) => write!(f, "syscalls[{entry}].names[{index}]"),
             Passed::RepeatedName(entry, index, _) => write!(f, "syscalls[{entry}].names[{index}]"),
         }
@@ -150,9 +153,17 @@ impl fmt::Display for PassedWords<'_> {
 
     fn fmt<W: fmt::Write>(&self, f: &mut fmt::Formatter<W>) -> fmt::Result {
         match self.0 {
+            Passed::Ignored(holder, key) if is_recased(*holder, key) => {
+                f.write_str("runc reads it in any case, and crun does not")
+            }
             Passed::Ignored(_, key) => f.write_str(words_of(key)),
             Passed::OtherArchitectures => f.write_str(
                 "x86-64 is not among them, and only its calls are decided",
+            ),
+            Passed::UnknownArchitecture(_, name) => write!(
+                f,
+                "{} is no architecture",
+                Quoted(name)
             ),
             Passed::UnknownName(_, _, name) => write!(f, "{}", NameWords(name)),
             Passed::RepeatedName(_, _, name) => write!(f, "{} is repeated", Quoted(name)),
@@ -176,14 +187,15 @@ impl fmt::Display for Passed<'_> {
 
 /// A call, as arguments of `seccheck run`.
 #[derive(Clone, Copy)]
-struct Words(SysCall);
+pub(crate) struct Words(pub(crate) SysCall);
 
 impl fmt::Display for Words {
     ghost use Rattle.std.specs.Prelude.{Some};
-    ghost use Rattle.profile_lint.specs.Text.{call_text};
+    ghost use Rattle.profile_lint.specs.Calls.{call_text};
 
     ghost output = { λ words. Some (call_text words.0) };
 
+    #[tactic(auto, unfolding(crate::specs::Calls::call_text))]
     fn fmt<W: fmt::Write>(&self, f: &mut fmt::Formatter<W>) -> fmt::Result {
         let (nr, args) = (self.0.nr, self.0.args);
         write!(
@@ -200,7 +212,7 @@ pub(crate) struct Value(pub(crate) u32);
 
 impl fmt::Display for Value {
     ghost use Rattle.std.specs.Prelude.{Some};
-    ghost use Rattle.profile_lint.specs.Text.{value_text};
+    ghost use Rattle.profile_lint.specs.Calls.{value_text};
 
     ghost output = { λ value. Some (value_text value.0) };
 
@@ -231,6 +243,7 @@ impl fmt::Display for FoundPlace {
             | Finding::ReadOtherwise(place, _, _, _)
             | Finding::Overlap(place, _, _) => write!(f, "syscalls[{place}]"),
             Finding::NewerCalls(_) => f.write_str("defaultAction"),
+            Finding::Advised(advice) => write!(f, "{}", AdvicePlace(advice)),
         }
     }
 }
@@ -276,6 +289,7 @@ impl fmt::Display for FoundWords {
                      and programs fall back to older calls only on ENOSYS (38)"
                 )
             }
+            Finding::Advised(advice) => write!(f, "{}", AdviceWords(advice)),
         }
     }
 }

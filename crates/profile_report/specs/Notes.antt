@@ -3,13 +3,15 @@
 use Rattle.std.specs.Prelude.{ℕ, ◌-◌, ◌==◌, Bool, true, false, if◌then◌else◌, List, [], ◌∷◌, ◌++◌, codes}
 use Rattle.std.specs.Prelude.{length, Option, Some, None}
 use Rattle.std.specs.Fmt.{decimal}
+use Rattle.profile_advice.specs.Entries as advised
 use Rattle.profile_lint.specs.declared.finding.Finding.{Finding}
 use Rattle.profile_lint.specs.declared.finding.Finding.TheVariants as found
 use Rattle.profile_lint.specs.declared.passed.Holder.{Holder}
 use Rattle.profile_lint.specs.declared.passed.Holder.TheVariants as of
 use Rattle.profile_lint.specs.declared.passed.Passed.{Passed}
 use Rattle.profile_lint.specs.Passed.{Told, told}
-use Rattle.profile_lint.specs.Passed.Told.{Ignored, OtherArchitectures, UnknownName, RepeatedName}
+use Rattle.profile_lint.specs.Passed.Told.{Ignored, OtherArchitectures, RepeatedName, UnknownArchitecture}
+use Rattle.profile_lint.specs.Passed.Told.{UnknownName}
 use Rattle.profile_lint.specs.Text.{found_text, told_text}
 use Rattle.profile_report.specs.Escaped.{html_text}
 use Rattle.profile_report.specs.Ways.{first}
@@ -24,6 +26,7 @@ entry_of (of.Arg entry arg) = Some entry
 abbrev pub told_about : Told → Option ℕ
 told_about (Ignored holder key) = entry_of holder
 told_about OtherArchitectures = None
+told_about (UnknownArchitecture index name) = None
 told_about (UnknownName entry index name) = Some entry
 told_about (RepeatedName entry index name) = Some entry
 
@@ -37,6 +40,7 @@ found_about (found.NotCompared place) = Some place
 found_about (found.ReadOtherwise place call here there) = Some place
 found_about (found.Overlap place other call) = Some place
 found_about (found.NewerCalls errno) = None
+found_about (found.Advised advice) = advised.entry_of advice
 
 abbrev pub is_about : Option ℕ → Option ℕ → Bool
 is_about None None = true

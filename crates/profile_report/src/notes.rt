@@ -85,7 +85,7 @@ fn told_about(item: &Passed<'_>) -> Option<usize>
 {
     match item {
         Passed::Ignored(holder, _) => entry_of(*holder),
-        Passed::OtherArchitectures => None,
+        Passed::OtherArchitectures | Passed::UnknownArchitecture(_, _) => None,
         Passed::UnknownName(entry, _, _) | Passed::RepeatedName(entry, _, _) => Some(*entry),
     }
 }
@@ -112,6 +112,7 @@ fn found_about(finding: &Finding) -> Option<usize>
         | Finding::ReadOtherwise(place, _, _, _)
         | Finding::Overlap(place, _, _) => Some(*place),
         Finding::NewerCalls(_) => None,
+        Finding::Advised(advice) => advice.entry(),
     }
 }
 

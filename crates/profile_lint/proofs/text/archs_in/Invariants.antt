@@ -1,0 +1,12 @@
+-- The findings so far, followed by those about the names from here on, are all of them.
+use Rattle.std.proofs.Common.{◌≡◌, ◌++◌, drop, map}
+use Rattle.std.specs.Prelude.{filter_map}
+use Rattle.std.specs.List.{enumerate_from}
+use Rattle.serde_json.specs.View.{view}
+use Rattle.profile_lint.specs.Passed.{arch_at, told}
+use Rattle.profile_lint.proofs.text.archs_in.Given as goal
+
+abbrev pub invariant-loop-index : goal.invariant-loop-index
+invariant-loop-index l = map told l.found.items
+    ++ filter_map arch_at (enumerate_from l.index (map view (drop l.index l.items)))
+    ≡ filter_map arch_at (enumerate_from 0 (map view l.items))
