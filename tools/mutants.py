@@ -156,7 +156,10 @@ def failures(folder, cases):
     env = {**os.environ, "BIN": folder, "QUICK": "1", "FIRST": "1"}
     words = [f"{ROOT}/tests/run", *(f"{ROOT}/tests/{it}" for it in cases)]
     ran = subprocess.run(words, capture_output=True, text=True, env=env)
-    return re.findall(r"^failed: (.*)$", ran.stdout, re.M)
+    found = re.findall(r"^failed: (.*)$", ran.stdout, re.M)
+    if ran.returncode and not found:
+        sys.exit(f"mutants: {' '.join(cases)} did not end as cases do: {(ran.stdout + ran.stderr)[-500:]}")
+    return found
 
 
 def verdict(mutant, kept, names, count):
