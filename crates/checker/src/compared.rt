@@ -18,11 +18,11 @@ use shown_differences::{Compiled, Line, Side, all_lines, all_objects, lines};
 use std::alloc::Global;
 use std::rt;
 
-/// How many instructions are followed at most if nothing is said of it, which takes seconds.
+/// The budget of `compare` in instructions, if the command line has none. It takes seconds.
 const BUDGET: u64 = 100_000_000;
 
-/// How many instructions are followed at most for each part of `--all` if nothing is said of it. The parts
-/// are about 350, so they take about as many as [`BUDGET`] together.
+/// The budget of each part of `--all` in instructions, if the command line has none. The parts are about 350,
+/// so they take about as many as [`BUDGET`] together.
 pub(crate) const PART_BUDGET: u64 = 300_000;
 
 /// What is said on standard error if more instructions would have to be followed.

@@ -13,7 +13,7 @@
 //! - The capabilities that words name, by their whole names, or the first word that names none: `caps_of`.
 //! - The settings of a template that words write, or the word that is refused: `settings_of` (caps, told).
 //! - The budget of `compare` that a word writes, or the default: `compare_asked` (budget), `default_budget`.
-//! - What is said of a budget that is used up: `budget_note`, `lines_note`.
+//! - The line on a budget that is used up: `budget_note`, `lines_note`.
 //! - Where the program ends without a word: `is_silent`.
 //! - The bytes of a filter's file, also as Base64: `file_bytes`.
 //!

@@ -165,7 +165,7 @@ fn wide_on(tested: Tested<'_>, number: u32, argument: u64) -> Option<Advice>
     }
 }
 
-/// The advice about a call of which the kernel reads fewer bits than the condition compares.
+/// The advice about a condition that compares more bits than the kernel reads for this call.
 fn wide_at(tested: Tested<'_>, number: u32) -> Option<Advice>
     ensures { result ≡ wide_at tested.entry.profile.now tested.entry.place tested.entry.entry.now.conds
         tested.entry.at tested.entry.cond number }

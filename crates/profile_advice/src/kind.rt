@@ -10,8 +10,8 @@ pub enum Advice {
     UnusedValue(usize, usize),
     /// The condition is about an argument that the call with this number does not have.
     NoArgument(usize, usize, u32),
-    /// The condition compares 64 bits of an argument of which the kernel reads 32. The profile has the second
-    /// value for this call, and the first one, which is stricter, for the call whose upper 32 bits are 0.
+    /// The condition compares 64 bits of an argument, and the kernel reads 32 bits of it. The profile has the
+    /// first value for this call. For the call whose upper 32 bits are 0 it has the second one, which is stricter.
     WideArgument(usize, usize, SysCall, u32, u32),
     /// The entry at this place returns an errno that Linux does not have.
     UnknownErrno(usize, u16),
