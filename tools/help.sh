@@ -14,9 +14,9 @@ make mutants  plants the wrong bodies of tests/mutants that no contract reaches,
 make cases    runs the cases of tests/ with the programs that make test built, or those in BIN=FOLDER;
               CASES=FILE.. runs some of them. Seven minutes; QUICK=1 leaves out the long ones
 make demo     compiles a profile, judges calls with its filter, plays scripts, settles pods over a socket, and runs
-              the pods of a folder, before any proof. A first verdict after 20 seconds, two minutes in all
+              the pods of a folder, before any proof. A first verdict within a minute, two to four minutes in all
 make try      installs the programs, their manual pages and completions to PREFIX (/usr/local), compiled with
-              checks at run time in place of proofs; their --version says unproved. Two minutes on four cores
+              checks at run time in place of proofs; their --version says unproved. Two or three minutes on four cores
 make install  proves the programs and the library for C, and installs them with pages and completions to PREFIX
               (/usr/local). Two to three hours of one core; make copy installs what is already built, and
               make uninstall removes it. At once

@@ -3,7 +3,7 @@
 use Rattle.std.specs.Prelude.{ℕ, List, codes}
 use Rattle.check_stops.specs.declared.bad_words.WordFault.{WordFault}
 use Rattle.check_stops.specs.declared.bad_words.WordFault.TheVariants.{BadCap, BadArch, BadKernel, BadAction}
-use Rattle.check_stops.specs.declared.bad_words.WordFault.TheVariants.{BadKind}
+use Rattle.check_stops.specs.declared.bad_words.WordFault.TheVariants.{BadKind, ReadTwice}
 
 abbrev pub word_fault_text : WordFault → List ℕ
 word_fault_text BadCap = codes "BadCap (give a capability of Linux, as CAP_SYS_ADMIN)"
@@ -11,3 +11,4 @@ word_fault_text BadArch = codes "BadArch (give a name, as amd64, or an AUDIT_ARC
 word_fault_text BadKernel = codes "BadKernel (give two numbers, as 6.12)"
 word_fault_text BadAction = codes "BadAction (give an action, as 'ERRNO 38')"
 word_fault_text BadKind = codes "BadKind (give a kind as lint prints it)"
+word_fault_text ReadTwice = codes "ReadTwice (standard input can be read once)"

@@ -1,7 +1,7 @@
--- What is told on standard error of a file that is refused, this project's own: docs/SEMANTICS.md,
--- "Programs".
-use Rattle.std.specs.Prelude.{ℕ, List, [], ◌++◌, codes, Option, Some, None}
+-- The line on standard error about a file that is refused, this project's own: docs/SEMANTICS.md, "Programs".
+use Rattle.std.specs.Prelude.{◌≡◌, ◌*◌, ℕ, List, [], ◌∷◌, ◌++◌, codes, take, drop, Option, Some, None, IfSome}
 use Rattle.std.specs.Fmt.{decimal}
+use Rattle.bpf_code.specs.Code.{bytes_of_code}
 use Rattle.bpf_code.specs.Text.{text_of}
 use Rattle.bpf_code.specs.declared.fault.CodeFault.TheVariants as code
 use Rattle.bpf_code.specs.declared.insn.Insn.{Insn}
@@ -9,19 +9,20 @@ use Rattle.bpf_verify.specs.declared.fault.Fault.TheVariants as fault
 use Rattle.bpf_verify.specs.declared.refusal.Refusal.{Refusal}
 use Rattle.bpf_verify.specs.declared.refusal.Refusal.TheVariants.{Code, Filter}
 use Rattle.compile.specs.FaultText.{fault_text as compile_fault_text}
-use Rattle.manifest.specs.Faults.{fault_text as pod_fault_text}
-use Rattle.oci_profile.specs.Faults.{fault_text as profile_fault_text}
-use Rattle.profile_template.specs.Faults.{fault_text as template_fault_text}
-use Rattle.script.specs.FaultText.{fault_text as script_fault_text}
 use Rattle.verdict.specs.FaultText.{fault_text as stack_fault_text}
+use Rattle.fault_notes.specs.Notes.{IsNote}
 use Rattle.fault_notes.specs.Paths.{shown_path}
+use Rattle.fault_notes.specs.declared.named.Named.TheVariants as named
 use Rattle.wrong_files.specs.HintText.{hint_text}
+use Rattle.wrong_files.specs.Hints.{IsHint, filter_hints, hints_for}
 use Rattle.wrong_files.specs.declared.hint.Hint.{Hint}
-use Rattle.check_stops.specs.declared.notes.Named.{Named}
-use Rattle.check_stops.specs.declared.notes.Named.TheVariants as named
-use Rattle.check_stops.specs.declared.notes.Note.{Note}
+use Rattle.wrong_files.specs.declared.hint.Wanted.TheVariants as wanted
+use Rattle.check_stops.specs.Refused.{fault_of}
 use Rattle.check_stops.specs.declared.notes.Spot.{Spot}
 use Rattle.check_stops.specs.declared.notes.Spot.TheVariants.{Whole, At}
+use Rattle.check_stops.specs.declared.refused.Refused.{Refused}
+use Rattle.check_stops.specs.declared.refused.Refused.TheVariants as refused
+use Rattle.check_stops.specs.declared.refused.RefusedFile.{RefusedFile}
 
 -- a filter's fault without its place
 abbrev pub refusal_name : Refusal → List ℕ
@@ -50,15 +51,6 @@ refusal_spot (Filter (fault.ZeroDivisor at)) = At at
 refusal_spot (Filter (fault.Unstored at)) = At at
 refusal_spot _ = Whole
 
-abbrev pub named_text : Named → List ℕ
-named_text (named.Filter refusal) = refusal_name refusal
-named_text (named.Profile found) = profile_fault_text found
-named_text (named.Template found) = template_fault_text found
-named_text (named.Compile found) = compile_fault_text found
-named_text (named.Manifest found) = pod_fault_text found
-named_text (named.Script found) = script_fault_text found
-named_text (named.Stack found) = stack_fault_text found
-
 abbrev pub spot_text : Spot → List ℕ
 spot_text Whole = []
 spot_text (At place) = codes ": " ++ decimal place
@@ -68,22 +60,65 @@ abbrev pub hint_after : Option Hint → List ℕ
 hint_after None = []
 hint_after (Some hint) = codes " " ++ hint_text hint
 
--- what stands there, if it is an instruction, and the hint
-abbrev pub shown_text : Option Insn → Option Hint → List ℕ
-shown_text None hint = hint_after hint ++ codes "\n"
-shown_text (Some insn) hint = codes ": " ++ (text_of insn ++ (hint_after hint ++ codes "\n"))
+-- the instruction there, if there is one
+abbrev pub insn_after : Option Insn → List ℕ
+insn_after None = []
+insn_after (Some insn) = codes ": " ++ text_of insn
+
+-- the bytes begin with those of the instruction
+abbrev pub Begins : List ℕ → Insn → Type 0
+Begins bytes insn = (rest : List Insn) × (bytes ≡ bytes_of_code (insn ∷ rest))
+
+-- the instruction is the one at this place of the bytes
+abbrev pub IsAt : List ℕ → Spot → Insn → Type 0
+IsAt bytes Whole insn = ⊥
+IsAt bytes (At place) insn = Begins (take 8 (drop (8 * place) bytes)) insn
+
+-- the place in a filter, the fault's name, and the instruction there
+abbrev pub IsFilterNote : List ℕ → Refusal → List ℕ → Type 0
+IsFilterNote bytes refusal note = (insn : Option Insn) × IfSome insn (IsAt bytes (refusal_spot refusal))
+    × (note ≡ spot_text (refusal_spot refusal) ++ (codes ": " ++ (refusal_name refusal ++ insn_after insn)))
+
+-- the note on these bytes without a hint
+abbrev pub IsBareNote : List ℕ → Refused → List ℕ → Type 0
+IsBareNote bytes (refused.Filter refusal) note = IsFilterNote bytes refusal note
+IsBareNote bytes (refused.StackFilter refusal) note = IsFilterNote bytes refusal note
+IsBareNote bytes (refused.Stack told) note = note ≡ codes ": " ++ stack_fault_text told
+IsBareNote bytes (refused.Profile found) note = IsNote bytes (named.Profile found.fault) found.place note
+IsBareNote bytes (refused.Compile told) note = note ≡ codes ": " ++ compile_fault_text told
+IsBareNote bytes (refused.Template found) note = IsNote bytes (named.Template found.fault) found.place note
+IsBareNote bytes (refused.Manifest found) note = IsNote bytes (named.Manifest found.fault) found.place note
+IsBareNote bytes (refused.Script found) note = IsNote bytes (named.Script found.fault) found.place note
+
+-- the hints that are tried, in their order
+abbrev pub hints_on : Refused → List Hint
+hints_on (refused.Filter refusal) = filter_hints
+hints_on (refused.StackFilter refusal) = filter_hints
+hints_on (refused.Stack told) = []
+hints_on (refused.Profile found) = hints_for wanted.Profile
+hints_on (refused.Compile told) = []
+hints_on (refused.Template found) = hints_for wanted.Template
+hints_on (refused.Manifest found) = hints_for wanted.Manifest
+hints_on (refused.Script found) = hints_for wanted.Script
+
+-- the note on these bytes, with its hint
+pub record IsNoteOf (bytes : List ℕ) (told : Refused) (text : List ℕ) : Type 0 where
+  pub note : List ℕ
+  pub hint : Option Hint
+  pub is_note : IsBareNote bytes told note
+  pub is_hint : IsHint bytes (hints_on told) hint
+  pub is : text ≡ note ++ hint_after hint
 
 -- the file, and the note on its text
 abbrev pub file_line : List ℕ → List ℕ → List ℕ
 file_line path note = codes "seccheck: " ++ (shown_path path ++ (note ++ codes "\n"))
 
--- the file, the note on its text, and the hint
-abbrev pub hinted_line : List ℕ → List ℕ → Option Hint → List ℕ
-hinted_line path note hint =
-    codes "seccheck: " ++ (shown_path path ++ (note ++ (hint_after hint ++ codes "\n")))
+-- the line on a refused file
+abbrev pub IsNoteLine : RefusedFile → List ℕ → Type 0
+IsNoteLine file line = (note : List ℕ) × IsNoteOf file.bytes.items file.refused note
+    × (line ≡ file_line file.path.now note)
 
--- the file, the place in it, the fault's name, what stands there, and the hint
-abbrev pub note_text : Note → List ℕ
-note_text note =
-    codes "seccheck: " ++ (shown_path note.path.now ++
-    (spot_text note.spot ++ (codes ": " ++ (named_text note.fault ++ shown_text note.insn note.hint))))
+-- the file, and the fault alone
+abbrev pub short_line : RefusedFile → List ℕ
+short_line file = codes "seccheck: " ++ (shown_path file.path.now ++ (codes ": " ++ (fault_of file.refused
+    ++ codes "\n")))

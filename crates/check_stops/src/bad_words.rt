@@ -1,6 +1,6 @@
 use std::fmt;
 
-/// Why a word of the command line of `lint`, `resolve` or `learn` is refused.
+/// Why a word of the command line is refused.
 #[derive(Clone, Copy, Debug, PartialEq, Eq)]
 pub enum WordFault {
     /// No capability of Linux has such a name.
@@ -13,6 +13,8 @@ pub enum WordFault {
     BadAction,
     /// No finding has such a kind.
     BadKind,
+    /// Standard input is named more than once.
+    ReadTwice,
 }
 
 /// The fault's name, and what would be right.
@@ -29,6 +31,7 @@ impl fmt::Display for WordFault {
             WordFault::BadKernel => "BadKernel (give two numbers, as 6.12)",
             WordFault::BadAction => "BadAction (give an action, as 'ERRNO 38')",
             WordFault::BadKind => "BadKind (give a kind as lint prints it)",
+            WordFault::ReadTwice => "ReadTwice (standard input can be read once)",
         })
     }
 }

@@ -5,18 +5,20 @@
 //!
 //! # What is proved
 //!
-//! - The text of each stop, and its object of JSON, byte by byte: `Display` of `Stop`, `AnswerObject`.
-//! - The note on a refused filter, and the line with the note on a refused text, each with its hint, from
-//!   their parts: `Display` of `Note`, `HintedLine` (private).
-//! - A hint is the one on the bytes that were read again: `text_hint`, `filter_hint` (private).
-//! - The stop of each fault. Running out of memory is reported as that, wherever it happens: `stop_at`,
-//!   `filter_stop`, `stack_filter_stop`, `stack_stop`, `profile_stop`, `template_stop`, `compile_stop`,
-//!   `manifest_stop`, `script_stop`.
+//! - The text of each stop: `Display` of `Stop`, `Refused`. Its object of JSON, with the place of a fault and the
+//!   value there: `object_line`.
+//! - The line on a refused file, byte by byte, with the note on the bytes that were read and their hint:
+//!   `note_line`.
+//! - The stop of a refused file has its path, its bytes and the fault. Running out of memory is reported as that,
+//!   wherever it happens: `refused_stop`, `stop_at`.
 //! - The status of each stop, and whether it is an answer: `Stop::status`, `is_answer`.
-//! - The status of an output: `Output::plain`, `found`, `with_aside`, `with_faults`.
-//! - A file of more than `MAX_FILE_BYTES` is not read: `bytes_at` (within).
+//! - The status of an output: `Output::plain`, `found`, `with_aside`, `with_faults`. The answer of a stop:
+//!   `Output::of_stop`, `after`.
+//! - A file of more than `MAX_FILE_BYTES` is not read: `bytes_at` (within). `-` opens standard input: `opened`.
+//! - The profile in a file is the one of the bytes, and a template is reported beside it: `profile_at`,
+//!   `profile_of`, `template_line`. The lines on a manifest: `manifest_lines`.
 //!
-//! Only tested: that the value in a note is the file's, and that there is a hint where one suits.
+//! Only tested: that a note has the instruction at the fault, and that a filter is the file's.
 #![tactic(auto)]
 
 mod answer_object;
@@ -25,15 +27,16 @@ mod form;
 mod inputs;
 mod notes;
 mod output;
+mod refused;
 mod stop;
 
-pub use answer_object::AnswerObject;
+pub use answer_object::{object_line, write_object};
 pub use bad_words::WordFault;
 pub use form::Form;
-pub use inputs::{bytes_at, filter_at};
-pub use notes::{FileLine, print_note};
-pub use output::Output;
-pub use stop::{
-    Stop, compile_stop, filter_stop, manifest_stop, profile_stop, script_stop, stack_filter_stop,
-    stack_stop, stop_at, template_stop,
+pub use inputs::{
+    ProfileFile, bytes_at, filter_at, manifest_lines, opened, profile_at, profile_of, template_line,
 };
+pub use notes::{FileLine, note_line, print_note};
+pub use output::Output;
+pub use refused::{Refused, RefusedFile, refused_stop};
+pub use stop::{Stop, stop_at};

@@ -1,42 +1,19 @@
-ghost use Rattle.check_stops.specs.Stops.{IsOfCompileFault, IsOfFile, IsOfPodFault, IsOfProfileFault};
-ghost use Rattle.check_stops.specs.Stops.{IsOfRefusal, IsOfScriptFault, IsOfStackFault, IsOfStackRefusal};
-ghost use Rattle.check_stops.specs.Stops.{IsOfTemplateFault};
+ghost use Rattle.check_stops.specs.Stops.{IsOfFile};
 
 use crate::bad_words::WordFault;
-use bpf_code::CodeFault;
+use crate::refused::RefusedFile;
 use bpf_compare::Doubt;
-use bpf_verify::Refusal;
 use check_answers::{Difference, reason};
-use compile::CompileFault;
 use fault_notes::ShownPath;
-use manifest::{PodFault, PodFaultAt};
 use node_io::{Cause, CausedFault, FileFault};
-use oci_profile::{ProfileFault, ProfileFaultAt};
-use profile_template::{TemplateFault, TemplateFaultAt};
-use script::{ScriptFault, ScriptFaultAt};
 use std::alloc::{AllocError, AllocFailed};
 use std::fmt;
-use verdict::StackFault;
 
 /// Why a program ends before its work is done.
 #[derive(Debug, Drop)]
 pub enum Stop<'a> {
-    /// The one filter of a command, in this file, is refused.
-    Refused(&'a str, Refusal),
-    /// The profile in this file is refused.
-    Profile(&'a str, ProfileFaultAt),
-    /// The template in this file is refused.
-    Template(&'a str, TemplateFaultAt),
-    /// The profile in this file is not compiled.
-    Compile(&'a str, CompileFault),
-    /// The manifest in this file is refused.
-    Manifest(&'a str, PodFaultAt),
-    /// The script in this file is refused.
-    Script(&'a str, ScriptFaultAt),
-    /// A filter of a stack, in this file, is refused.
-    StackFilter(&'a str, Refusal),
-    /// A stack does not take the filter in this file.
-    Stack(&'a str, StackFault),
+    /// A file is refused.
+    Refused(RefusedFile<'a>),
     /// The two filters differ.
     Differ(Difference),
     /// Whether the two filters differ was not found out.
@@ -66,11 +43,7 @@ impl Stop<'_> {
         ensures { result ≡ status_of self.now }
     {
         match self {
-            Stop::Refused(_, _) | Stop::Profile(_, _) | Stop::Compile(_, _) => 1,
-            Stop::Template(_, _) => 1,
-            Stop::Manifest(_, _) | Stop::Script(_, _) => 1,
-            Stop::StackFilter(_, _) | Stop::Stack(_, _) => 1,
-            Stop::Differ(_) | Stop::Undecided(_) => 1,
+            Stop::Refused(_) | Stop::Differ(_) | Stop::Undecided(_) => 1,
             Stop::CommandLine(_) | Stop::BadNumber(_) | Stop::BadWord(_, _) => 2,
             Stop::File(_, _) | Stop::SameFile(_) | Stop::Unwritten(_) => 3,
             Stop::Memory => 4,
@@ -84,16 +57,7 @@ impl Stop<'_> {
     {
         matches!(
             self,
-            Stop::Refused(_, _)
-                | Stop::Profile(_, _)
-                | Stop::Template(_, _)
-                | Stop::Compile(_, _)
-                | Stop::Manifest(_, _)
-                | Stop::Script(_, _)
-                | Stop::StackFilter(_, _)
-                | Stop::Stack(_, _)
-                | Stop::Differ(_)
-                | Stop::Undecided(_)
+            Stop::Refused(_) | Stop::Differ(_) | Stop::Undecided(_)
         )
     }
 }
@@ -106,14 +70,7 @@ impl fmt::Display for Stop<'_> {
 
     fn fmt<W: fmt::Write>(&self, f: &mut fmt::Formatter<W>) -> fmt::Result {
         match self {
-            Stop::Refused(_, refusal) => writeln!(f, "refused {refusal}"),
-            Stop::Profile(_, found) => writeln!(f, "refused {}", found.fault),
-            Stop::Template(_, found) => writeln!(f, "refused {}", found.fault),
-            Stop::Compile(_, fault) => writeln!(f, "refused {fault}"),
-            Stop::Manifest(_, found) => writeln!(f, "refused {}", found.fault),
-            Stop::Script(_, found) => writeln!(f, "refused script {}", found.fault),
-            Stop::StackFilter(_, refusal) => writeln!(f, "refused filter {refusal}"),
-            Stop::Stack(_, fault) => writeln!(f, "refused filter {fault}"),
+            Stop::Refused(file) => writeln!(f, "refused {}", file.refused),
             Stop::Differ(difference) => writeln!(f, "{difference}"),
             Stop::Undecided(doubt) => writeln!(f, "undecided: {}", reason(*doubt)),
             Stop::CommandLine(error) => write!(f, "{error}"),
@@ -175,85 +132,5 @@ pub fn stop_at(path: &str, caused: CausedFault) -> Stop<'_>
     match caused.fault {
         FileFault::Memory => Stop::Memory,
         _ => Stop::File(path, caused),
-    }
-}
-
-/// Why the one filter of a command stops the program.
-pub fn filter_stop(path: &str, refusal: Refusal) -> Stop<'_>
-    ensures { IsOfRefusal path.now refusal result }
-{
-    match refusal {
-        Refusal::Code(CodeFault::Memory) => Stop::Memory,
-        _ => Stop::Refused(path, refusal),
-    }
-}
-
-/// Why a filter of a stack stops the program.
-pub fn stack_filter_stop(path: &str, refusal: Refusal) -> Stop<'_>
-    ensures { IsOfStackRefusal path.now refusal result }
-{
-    match refusal {
-        Refusal::Code(CodeFault::Memory) => Stop::Memory,
-        _ => Stop::StackFilter(path, refusal),
-    }
-}
-
-/// Why a stack stops the program.
-pub fn stack_stop(path: &str, fault: StackFault) -> Stop<'_>
-    ensures { IsOfStackFault path.now fault result }
-{
-    match fault {
-        StackFault::Memory => Stop::Memory,
-        _ => Stop::Stack(path, fault),
-    }
-}
-
-/// Why a profile stops the program.
-pub fn profile_stop(path: &str, found: ProfileFaultAt) -> Stop<'_>
-    ensures { IsOfProfileFault path.now found result }
-{
-    match found.fault {
-        ProfileFault::Memory => Stop::Memory,
-        _ => Stop::Profile(path, found),
-    }
-}
-
-/// Why a template stops the program.
-pub fn template_stop(path: &str, found: TemplateFaultAt) -> Stop<'_>
-    ensures { IsOfTemplateFault path.now found result }
-{
-    match found.fault {
-        TemplateFault::Profile(ProfileFault::Memory) => Stop::Memory,
-        _ => Stop::Template(path, found),
-    }
-}
-
-/// Why the compiler stops the program.
-pub fn compile_stop(path: &str, fault: CompileFault) -> Stop<'_>
-    ensures { IsOfCompileFault path.now fault result }
-{
-    match fault {
-        CompileFault::Memory => Stop::Memory,
-        _ => Stop::Compile(path, fault),
-    }
-}
-
-/// Why a manifest stops the program.
-pub fn manifest_stop(path: &str, found: PodFaultAt) -> Stop<'_>
-    ensures { IsOfPodFault path.now found result }
-{
-    match found.fault {
-        PodFault::Memory => Stop::Memory,
-        _ => Stop::Manifest(path, found),
-    }
-}
-
-/// Why a script stops the program.
-pub fn script_stop(path: &str, found: ScriptFaultAt) -> Stop<'_>
-    ensures { IsOfScriptFault path.now found result }
-{
-    match found.fault {
-        ScriptFault::Memory => Stop::Memory,
-        _ => Stop::Script(path, found),
     }
 }

@@ -1,5 +1,7 @@
--- Where the program ends without a word, this project's own: docs/SEMANTICS.md, "Programs".
-use Rattle.std.specs.Prelude.{Bool, true, false}
+-- Where the program ends without a word, and which words name standard input, this project's own:
+-- docs/SEMANTICS.md, "Programs".
+use Rattle.std.specs.Prelude.{ℕ, Bool, true, false, List, codes, count_by, if◌then◌else◌, nat_lt}
+use Rattle.std.specs.Str.{bytes_eq}
 use Rattle.node_io.specs.declared.causes.Cause.TheVariants.{Gone}
 use Rattle.check_stops.specs.declared.stop.Stop.{Stop}
 use Rattle.check_stops.specs.declared.stop.Stop.TheVariants.{Unwritten}
@@ -8,3 +10,10 @@ use Rattle.check_stops.specs.declared.stop.Stop.TheVariants.{Unwritten}
 abbrev pub is_silent : Stop → Bool
 is_silent (Unwritten Gone) = true
 is_silent stop = false
+
+abbrev pub is_dash : List ℕ → Bool
+is_dash word = bytes_eq word (codes "-")
+
+-- whether more than one file is standard input: one of the words may be standard output
+abbrev pub reads_twice : Bool → List (List ℕ) → Bool
+reads_twice is_written words = nat_lt (if is_written then 2 else 1) (count_by is_dash words)

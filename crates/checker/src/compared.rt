@@ -1,5 +1,5 @@
 //! What `seccheck compare` reads and prints, and where it ends.
-ghost use Rattle.std.specs.Prelude.{◌≡◌, ◌==◌, if◌then◌else◌, IfOk, Ok, length};
+ghost use Rattle.std.specs.Prelude.{◌≡◌, ◌==◌, ◌++◌, if◌then◌else◌, IfOk, None, Ok, length, string_bytes};
 ghost use Rattle.std.specs.List.{list_any};
 ghost use Rattle.clap.specs.Matches.{found_of};
 ghost use Rattle.fault_notes.specs.Starts.{begins_object};
@@ -9,13 +9,13 @@ ghost use Rattle.checker.specs.Compared.{budget_note, default_budget, is_beyond,
 use bpf_compare::{Calls, Comparison, Doubt, compare};
 use bpf_verify::filter_of;
 use check_answers::{Difference, same_line, same_object};
-use check_stops::{Form, Output, Stop, bytes_at, compile_stop, filter_stop, profile_stop};
+use check_stops::{Form, Output, ProfileFile, Refused, Stop, bytes_at, profile_of, refused_stop};
 use check_words::{budget_at, word_at};
 use clap::ArgMatches;
 use fault_notes::begins_object;
 use filter_differences::differences;
 use shown_differences::{Compiled, Line, Side, all_lines, all_objects, lines};
-use std::alloc::Global;
+use std::alloc::{AllocError, Global};
 use std::rt;
 
 /// The budget of `compare` in instructions, if the command line has none. It takes seconds.
@@ -114,26 +114,43 @@ pub(crate) fn same_or_stop<'a>(found: Comparison) -> Result<(), Stop<'a>>
     }
 }
 
-/// That the filters of two files are the same on these calls.
-pub(crate) fn compare_text<'a, R: rt::Files + AllocGlobal>(
+/// Whether the filters of two files are the same on these calls.
+pub(crate) fn compare_output<'a, R: rt::Files + AllocGlobal>(
     rt: &R,
     asked: CompareAsked<'a>,
-) -> Result<String, Stop<'a>> {
+) -> Result<Output, Stop<'a>> {
     let alloc = rt.alloc();
     let first = side_at(rt, asked.first)?;
     let second = side_at(rt, asked.second)?;
     let found = compare(
         alloc,
-        first.filter(),
-        second.filter(),
+        first.side.filter(),
+        second.side.filter(),
         asked.calls.scope(),
         asked.budget,
     )?;
-    same_or_stop(found)?;
-    Ok(match asked.form {
-        Form::Text => same_line(alloc, asked.calls)?,
-        Form::Json => same_object(alloc, asked.calls)?,
-    })
+    let aside = joined(first.aside, second.aside.as_str())?;
+    let Err(stop) = same_or_stop(found) else {
+        return Ok(Output::with_aside(same_text(alloc, asked)?, aside));
+    };
+    let aside = joined(aside, budget_note(&stop))?;
+    Ok(Output::of_stop(alloc, &stop, asked.form, aside)?)
+}
+
+fn same_text(alloc: Global, asked: CompareAsked<'_>) -> Result<String, AllocError> {
+    match asked.form {
+        Form::Text => same_line(alloc, asked.calls),
+        Form::Json => same_object(alloc, asked.calls),
+    }
+}
+
+/// One text after the other.
+fn joined(first: String, second: &str) -> Result<String, AllocError>
+    ensures { IfOk result (λ text. string_bytes text ≡ string_bytes first ++ second.now) }
+{
+    let mut text = first;
+    text.push_str(second)?;
+    Ok(text)
 }
 
 /// What is said on standard error beside this answer.
@@ -156,17 +173,18 @@ pub(crate) fn differences_output<'a, R: rt::Files + AllocGlobal>(
     let second = side_at(rt, asked.second)?;
     let found = differences(
         alloc,
-        first.filter(),
-        second.filter(),
+        first.side.filter(),
+        second.side.filter(),
         asked.calls,
         asked.budget,
     )?;
-    let lines = lines(alloc, &first, &second, found.as_slice())?;
+    let lines = lines(alloc, &first.side, &second.side, found.as_slice())?;
     let text = match asked.form {
         Form::Text => all_lines(alloc, asked.calls, lines.as_slice())?,
         Form::Json => all_objects(alloc, asked.calls, lines.as_slice())?,
     };
-    let aside = String::from_str(alloc, lines_note(asked.takes_budget, lines.as_slice()))?;
+    let aside = joined(first.aside, second.aside.as_str())?;
+    let aside = joined(aside, lines_note(asked.takes_budget, lines.as_slice()))?;
     Ok(output_of(text, aside, lines.as_slice()))
 }
 
@@ -196,35 +214,60 @@ fn is_beyond(line: &Line) -> bool
 fn output_of(text: String, aside: String, lines: &[Line]) -> Output
     ensures text { result.text ≡ text }
     ensures aside { result.aside ≡ aside }
+    ensures code { result.code ≡ None }
     ensures status { result.status ≡ (if length lines.now == 0 then 0 else 1) }
 {
     let status = if lines.is_empty() { 0 } else { 1 };
     Output {
         text,
+        code: None,
         aside,
         status,
     }
+}
+
+/// A filter or a profile that is compared, and a line on standard error if its file is a template.
+#[derive(Drop)]
+pub(crate) struct SideFile {
+    pub(crate) side: Side,
+    pub(crate) aside: String,
 }
 
 /// The filter in a file, or the profile in it with its filter.
 pub(crate) fn side_at<'a, R: rt::Files + AllocGlobal>(
     rt: &R,
     path: &'a str,
-) -> Result<Side, Stop<'a>> {
+) -> Result<SideFile, Stop<'a>> {
     let bytes = bytes_at(rt, path)?;
-    side_of(rt.alloc(), path, &bytes)
+    side_of(rt.alloc(), path, bytes)
 }
 
 /// The filter that these bytes of a file are, or the profile with its filter.
-pub(crate) fn side_of<'a>(alloc: Global, path: &'a str, bytes: &[u8]) -> Result<Side, Stop<'a>> {
-    if is_profile(bytes) {
-        let profile = oci_profile::read_placed(alloc, bytes).map_err(|found| profile_stop(
-            path, found,
-        ))?;
-        let compiled = Compiled::new(alloc, profile).map_err(|fault| compile_stop(path, fault))?;
-        Ok(Side::Profile(compiled))
+pub(crate) fn side_of<'a>(
+    alloc: Global,
+    path: &'a str,
+    bytes: Vec<u8>,
+) -> Result<SideFile, Stop<'a>> {
+    if is_profile(&bytes) {
+        let ProfileFile {
+            bytes,
+            profile,
+            aside,
+        } = profile_of(alloc, path, bytes)?;
+        match Compiled::new(alloc, profile) {
+            Ok(compiled) => Ok(SideFile {
+                side: Side::Profile(compiled),
+                aside,
+            }),
+            Err(fault) => Err(refused_stop(path, bytes, Refused::Compile(fault))),
+        }
     } else {
-        let filter = filter_of(alloc, bytes).map_err(|refusal| filter_stop(path, refusal))?;
-        Ok(Side::Filter(filter))
+        match filter_of(alloc, &bytes) {
+            Ok(filter) => Ok(SideFile {
+                side: Side::Filter(filter),
+                aside: String::new(alloc),
+            }),
+            Err(refusal) => Err(refused_stop(path, bytes, Refused::Filter(refusal))),
+        }
     }
 }

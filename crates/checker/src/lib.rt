@@ -14,7 +14,8 @@
 //! - The settings of a template that words write, or the word that is refused: `settings_of` (caps, told).
 //! - The budget of `compare` that a word writes, or the default: `compare_asked` (budget), `default_budget`.
 //! - The line on a budget that is used up: `budget_note`, `lines_note`.
-//! - Where the program ends without a word: `is_silent`.
+//! - Where the program ends without a word: `is_silent`. Whether standard input is named more than once:
+//!   `reads_twice`.
 //! - The bytes of a filter's file, also as Base64: `file_bytes`.
 //!
 //! Only tested: files; that what is printed reaches the writers; that a template's profile and the names left

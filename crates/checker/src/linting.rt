@@ -2,9 +2,8 @@
 ghost use Rattle.std.specs.Prelude.{◌≡◌, IfOk, string_bytes};
 ghost use Rattle.checker.specs.LintText.{count_text};
 
-use check_stops::{Form, Output, Stop, WordFault, bytes_at, profile_stop};
+use check_stops::{Form, Output, ProfileFile, Stop, WordFault, profile_at};
 use fault_notes::ShownPath;
-use oci_profile::Profile;
 use profile_lint::{
     Choice, Finding, FindingKind, Passed, all_findings, grave_count, has_newer_names, is_bad,
     kind_named, lint_lines, lint_objects, newer_calls, once, passed_in,
@@ -35,10 +34,11 @@ pub(crate) fn lint_output<'a, R: rt::Files + AllocGlobal>(
 ) -> Result<Output, Stop<'a>> {
     let alloc = rt.alloc();
     let kinds = kinds_of(alloc, allowed)?;
-    let bytes = bytes_at(rt, path)?;
-    let profile = oci_profile::read_placed(alloc, &bytes).map_err(|found| profile_stop(
-        path, found,
-    ))?;
+    let ProfileFile {
+        bytes,
+        profile,
+        aside,
+    } = profile_at(rt, path)?;
     // It was read before, so that memory alone can be wanting.
     let tree = json_tree::read(alloc, &bytes).map_err(|_| AllocError)?;
     let passed = passed_in(alloc, &tree)?;
@@ -47,14 +47,15 @@ pub(crate) fn lint_output<'a, R: rt::Files + AllocGlobal>(
         is_all,
         allowed: kinds.as_slice(),
     };
-    printed(
+    let output = printed(
         alloc,
         passed.as_slice(),
         found.as_slice(),
         choice,
         profile.default.value(),
         form,
-    )
+    )?;
+    Ok(output.after(aside)?)
 }
 
 /// The chosen findings, and the status.
@@ -77,31 +78,30 @@ fn printed<'a>(
     };
     Ok(Output {
         text,
+        code: None,
         aside: String::new(alloc),
         status,
     })
 }
 
-/// What is printed beside the filter of this profile, of which these are the bytes: how many warnings and errors
-/// its text has, and its default.
-pub(crate) fn beside(
-    alloc: Global,
-    path: &str,
-    bytes: &[u8],
-    profile: &Profile,
-) -> Result<String, AllocError> {
+/// What is printed beside the filter of the profile in this file: that it is a template, if it is one, and how
+/// many warnings and errors its text has, and its default.
+pub(crate) fn beside(alloc: Global, path: &str, file: ProfileFile) -> Result<String, AllocError> {
+    let ProfileFile {
+        bytes,
+        profile,
+        mut aside,
+    } = file;
     // It was read before, so that memory alone can be wanting.
-    let tree = json_tree::read(alloc, bytes).map_err(|_| AllocError)?;
+    let tree = json_tree::read(alloc, &bytes).map_err(|_| AllocError)?;
     let passed = passed_in(alloc, &tree)?;
     let others = [
         has_newer_names(passed.as_slice()),
-        newer_calls(profile).is_some(),
+        newer_calls(&profile).is_some(),
     ];
-    count_line(
-        alloc,
-        path,
-        count_of(grave_count(passed.as_slice()), others),
-    )
+    let count = count_of(grave_count(passed.as_slice()), others);
+    aside.push_str(count_line(alloc, path, count)?.as_str())?;
+    Ok(aside)
 }
 
 /// So many findings, and one more for each of these that is.

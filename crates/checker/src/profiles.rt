@@ -3,7 +3,7 @@ ghost use Rattle.std.specs.Prelude.{IfOk, string_bytes};
 ghost use Rattle.checker.specs.ProfileLines.{IsDefaultLine};
 
 use call_data::SysCall;
-use check_stops::{Form, Stop, bytes_at, profile_stop};
+use check_stops::{Form, Output, ProfileFile, Stop, profile_at};
 use explain::{explain, explanation_lines, explanation_objects};
 use profile_table::{rows, table_lines, table_objects};
 use profile_text::default_text;
@@ -11,39 +11,35 @@ use std::alloc::{AllocError, Global};
 use std::rt;
 
 /// Which entry of the profile decides the call, and what is passed over before.
-pub(crate) fn explain_text<'a, R: rt::Files + AllocGlobal>(
+pub(crate) fn explain_output<'a, R: rt::Files + AllocGlobal>(
     rt: &R,
     path: &'a str,
     call: SysCall,
     form: Form,
-) -> Result<String, Stop<'a>> {
-    let bytes = bytes_at(rt, path)?;
-    let profile = oci_profile::read_placed(rt.alloc(), &bytes).map_err(|found| profile_stop(
-        path, found,
-    ))?;
+) -> Result<Output, Stop<'a>> {
+    let ProfileFile { profile, aside, .. } = profile_at(rt, path)?;
     let explanation = explain(rt.alloc(), &profile, &call)?;
-    Ok(match form {
+    let text = match form {
         Form::Text => explanation_lines(rt.alloc(), &explanation)?,
         Form::Json => explanation_objects(rt.alloc(), &explanation)?,
-    })
+    };
+    Ok(Output::with_aside(text, aside))
 }
 
 /// How the profile treats each call of the table.
-pub(crate) fn table_text<'a, R: rt::Files + AllocGlobal>(
+pub(crate) fn table_output<'a, R: rt::Files + AllocGlobal>(
     rt: &R,
     path: &'a str,
     form: Form,
-) -> Result<String, Stop<'a>> {
+) -> Result<Output, Stop<'a>> {
     let alloc = rt.alloc();
-    let bytes = bytes_at(rt, path)?;
-    let profile = oci_profile::read_placed(alloc, &bytes).map_err(|found| profile_stop(
-        path, found,
-    ))?;
+    let ProfileFile { profile, aside, .. } = profile_at(rt, path)?;
     let rows = rows(alloc, &profile)?;
-    Ok(match form {
+    let text = match form {
         Form::Text => table_lines(alloc, &profile, rows.as_slice())?,
         Form::Json => table_objects(alloc, &profile, rows.as_slice())?,
-    })
+    };
+    Ok(Output::with_aside(text, aside))
 }
 
 /// RuntimeDefault as a profile's text, in one line.

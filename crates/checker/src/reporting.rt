@@ -1,7 +1,7 @@
 //! The page of `seccheck report`.
 use crate::compared::{PART_BUDGET, side_at, side_of};
 use bpf_compare::Calls;
-use check_stops::{Output, Stop, bytes_at, profile_stop};
+use check_stops::{Output, ProfileFile, Stop, profile_at};
 use compile::{CompileFault, compile};
 use container_answers::denied_lines;
 use filter_differences::differences;
@@ -29,20 +29,23 @@ pub(crate) fn report_output<'a, R: rt::Files + AllocGlobal>(
 ) -> Result<Output, Stop<'a>> {
     let alloc = rt.alloc();
     let path = asked.profile;
-    let bytes = bytes_at(rt, path)?;
-    let profile = oci_profile::read_placed(alloc, &bytes).map_err(|found| profile_stop(
-        path, found,
-    ))?;
-    let (lines, changes) = compared(rt, asked, &bytes)?;
-    let (denied, aside) = denied(rt, asked.records)?;
+    let ProfileFile {
+        bytes,
+        profile,
+        aside: sign,
+    } = profile_at(rt, path)?;
+    let compared = compared_with_old(rt, asked, &bytes)?;
+    let (denied, faults) = denied(rt, asked.records)?;
     let tree = filter_part(alloc, &profile)?;
     let parts = Parts {
-        changes: changes.as_str(),
+        changes: compared.html.as_str(),
         tree: tree.as_str(),
         denied: denied.as_str(),
     };
-    let text = page_text(alloc, path, &bytes, &profile, lines.as_slice(), &parts)?;
-    Ok(Output::with_faults(text, aside))
+    let lines = compared.lines.as_slice();
+    let text = page_text(alloc, path, &bytes, &profile, lines, &parts)?;
+    let output = Output::with_faults(text, faults).after(compared.aside)?;
+    Ok(output.after(sign)?)
 }
 
 /// The part of the page for the profile's filter. A profile that is too long for a filter has a page all the same.
@@ -79,28 +82,44 @@ fn page_text(
     )
 }
 
-/// The calls on which the profile differs from an old one, and their part of the page.
-fn compared<'a, R: rt::Files + AllocGlobal>(
+/// The calls on which the profile differs from an old one, their part of the page, and a line on standard error
+/// if the old one's file is a template.
+#[derive(Drop)]
+struct Compared {
+    lines: Vec<Line>,
+    html: String,
+    aside: String,
+}
+
+fn compared_with_old<'a, R: rt::Files + AllocGlobal>(
     rt: &R,
     asked: ReportAsked<'a>,
     bytes: &[u8],
-) -> Result<(Vec<Line>, String), Stop<'a>> {
+) -> Result<Compared, Stop<'a>> {
     let alloc = rt.alloc();
     let Some(path) = asked.old else {
-        return Ok((Vec::new(alloc), String::new(alloc)));
+        return Ok(Compared {
+            lines: Vec::new(alloc),
+            html: String::new(alloc),
+            aside: String::new(alloc),
+        });
     };
     let old = side_at(rt, path)?;
-    let new = side_of(alloc, asked.profile, bytes)?;
+    let new = side_of(alloc, asked.profile, Vec::from_slice(alloc, bytes)?)?;
     let found = differences(
         alloc,
-        old.filter(),
-        new.filter(),
+        old.side.filter(),
+        new.side.filter(),
         Calls::Native,
         PART_BUDGET,
     )?;
-    let lines = lines(alloc, &old, &new, found.as_slice())?;
+    let lines = lines(alloc, &old.side, &new.side, found.as_slice())?;
     let html = changes_html(alloc, path, lines.as_slice())?;
-    Ok((lines, html))
+    Ok(Compared {
+        lines,
+        html,
+        aside: old.aside,
+    })
 }
 
 /// The part of the page for the denied calls of a file of records, and the reports on its lines.

@@ -3,7 +3,7 @@ ghost use Rattle.std.specs.Prelude.{◌≡◌};
 ghost use Rattle.checker.specs.LeavingOut.{may_be_left_out};
 
 use absent_names::{AbsentName, kind_of};
-use check_stops::{FileLine, Output, Stop, bytes_at, template_stop};
+use check_stops::{FileLine, Output, Refused, Stop, bytes_at, refused_stop};
 use fault_notes::left_out_note;
 use json_place::{Place, Step, stands_at};
 use json_tree::text;
@@ -15,22 +15,36 @@ use std::alloc::{AllocError, Global};
 use std::rt;
 
 /// The plain profile of the template in a file, and beside it the names that it is written without.
-pub(crate) fn resolve_text<'a, R: rt::Files + AllocGlobal>(
+pub(crate) fn resolve_output<'a, R: rt::Files + AllocGlobal>(
     rt: &R,
     path: &'a str,
     settings: &Settings<'_>,
     drops_newer: bool,
 ) -> Result<Output, Stop<'a>> {
-    let alloc = rt.alloc();
     let bytes = bytes_at(rt, path)?;
-    let template = profile_template::read(alloc, &bytes, settings).map_err(|found| template_stop(
-        path, found,
-    ))?;
-    let aside = aside(alloc, path, &bytes, &template, drops_newer)?;
-    let text = template
-        .write(alloc)
-        .map_err(|fault| write_stop(path, fault))?;
-    Ok(Output::with_aside(ended(text)?, aside))
+    match resolved(rt.alloc(), path, &bytes, settings, drops_newer) {
+        Ok(output) => Ok(output),
+        Err(found) => Err(refused_stop(path, bytes, Refused::Template(found))),
+    }
+}
+
+fn resolved(
+    alloc: Global,
+    path: &str,
+    bytes: &[u8],
+    settings: &Settings<'_>,
+    drops_newer: bool,
+) -> Result<Output, TemplateFaultAt> {
+    let template = profile_template::read(alloc, bytes, settings)?;
+    let aside = aside(alloc, path, bytes, &template, drops_newer)?;
+    match template.write(alloc) {
+        Ok(text) => Ok(Output::with_aside(ended(text)?, aside)),
+        Err(WriteFault::Memory) => Err(AllocError.into()),
+        Err(WriteFault::TooLarge | WriteFault::NoName) => Err(TemplateFaultAt {
+            fault: TemplateFault::Profile(ProfileFault::TooLarge),
+            place: Place::root(),
+        }),
+    }
 }
 
 /// The text as a line.
@@ -40,27 +54,14 @@ fn ended(text: String) -> Result<String, AllocError> {
     Ok(line)
 }
 
-fn write_stop(path: &str, fault: WriteFault) -> Stop<'_> {
-    match fault {
-        WriteFault::Memory => Stop::Memory,
-        WriteFault::TooLarge | WriteFault::NoName => Stop::Template(
-            path,
-            TemplateFaultAt {
-                fault: TemplateFault::Profile(ProfileFault::TooLarge),
-                place: Place::root(),
-            },
-        ),
-    }
-}
-
 /// A line for each name that is left out. A name that may not be left out is refused.
-fn aside<'a>(
+fn aside(
     alloc: Global,
-    path: &'a str,
+    path: &str,
     bytes: &[u8],
     template: &Template,
     drops_newer: bool,
-) -> Result<String, Stop<'a>> {
+) -> Result<String, TemplateFaultAt> {
     let mut lines = String::new(alloc);
     let left_out = template.left_out(alloc)?;
     if left_out.is_empty() {
@@ -71,7 +72,7 @@ fn aside<'a>(
     for name in &left_out {
         let place = place_of(&tree, *name);
         if !may_be_left_out(kind_at(&tree, &place), drops_newer) {
-            return Err(name_stop(path, place));
+            return Err(unknown_at(place));
         }
         let text = left_out_note(alloc, &tree, &place)?;
         let note = text.as_str();
@@ -103,9 +104,9 @@ fn may_be_left_out(kind: AbsentName, drops_newer: bool) -> bool
     }
 }
 
-fn name_stop(path: &str, place: Place) -> Stop<'_> {
+fn unknown_at(place: Place) -> TemplateFaultAt {
     let fault = TemplateFault::Profile(ProfileFault::UnknownCall);
-    Stop::Template(path, TemplateFaultAt { fault, place })
+    TemplateFaultAt { fault, place }
 }
 
 // A name of `names`, or the one of `name`.

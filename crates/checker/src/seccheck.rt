@@ -1,14 +1,13 @@
-ghost use Rattle.std.specs.Prelude.{◌≡◌};
-ghost use Rattle.checker.specs.Ends.{is_silent};
+ghost use Rattle.std.specs.Prelude.{◌≡◌, ◌==◌, count_by, map, string_bytes};
+ghost use Rattle.std.specs.Str.{bytes_eq};
+ghost use Rattle.checker.specs.Ends.{is_dash, is_silent, reads_twice};
 
-use crate::compared::{
-    against_asked, budget_note, compare_asked, compare_text, differences_output,
-};
+use crate::compared::{against_asked, compare_asked, compare_output, differences_output};
 use crate::file::is_same_file;
 use crate::linting::{beside, lint_output};
-use crate::profiles::{default_line, explain_text, table_text};
+use crate::profiles::{default_line, explain_output, table_output};
 use crate::reporting::{ReportAsked, report_output};
-use crate::resolving::resolve_text;
+use crate::resolving::resolve_output;
 use crate::settings::{caps_of, settings_of};
 use crate::written::{file_bytes, unit_output};
 use bpf_verify::{Refusal, filter_of};
@@ -20,8 +19,8 @@ use check_answers::{
     outcome_lines, picked_lines, picked_objects, play, record_objects,
 };
 use check_stops::{
-    AnswerObject, Form, Output, Stop, bytes_at, compile_stop, filter_at, filter_stop,
-    manifest_stop, print_note, profile_stop, script_stop, stack_filter_stop, stack_stop, stop_at,
+    Form, Output, Refused, Stop, WordFault, bytes_at, filter_at, manifest_lines, opened,
+    print_note, profile_at, refused_stop, stop_at, write_object,
 };
 use check_words::{attempt_at, call_at, command, word_at};
 use clap::ArgMatches;
@@ -30,11 +29,10 @@ use compile::compile;
 use container_answers::{DeniedAsked, PodAsked, denied_output, pod_output};
 use host_io::replace;
 use log_answers::{LearnAsked, audit_output, learn_output};
-use node_io::{Cause, MAX_FILE_BYTES, read_file};
-use oci_profile::Profile;
+use node_io::Cause;
 use profile_learn::Wanted;
 use std::alloc::{AllocError, Global};
-use std::io::Write;
+use std::io::{self, Write};
 use std::rt;
 use verdict::Stack;
 
@@ -57,7 +55,7 @@ pub fn seccheck_run<R: rt::Files + AllocGlobal, O: Write, E: Write>(
         Form::Text
     };
     let stop = match output_of(rt, name, &matches, form) {
-        Ok(output) => match out.write_all(output.text.as_bytes()) {
+        Ok(output) => match print(&output, out) {
             Ok(()) => {
                 let _ = err.write_all(output.aside.as_bytes());
                 return output.status;
@@ -71,14 +69,22 @@ pub fn seccheck_run<R: rt::Files + AllocGlobal, O: Write, E: Write>(
     }
     let written = match form {
         Form::Text => write!(out, "{stop}"),
-        Form::Json => write!(out, "{}", AnswerObject(&stop)),
+        Form::Json => write_object(rt.alloc(), &stop, out),
     };
     if let Err(error) = written {
         return report(&Stop::Unwritten(Cause::of(&error)), err);
     }
-    print_note(rt, &stop, err);
-    let _ = err.write_all(budget_note(&stop).as_bytes());
+    print_note(rt.alloc(), &stop, err);
     stop.status()
+}
+
+/// Writes what standard output gets.
+fn print<O: Write>(output: &Output, out: &mut O) -> io::Result<()> {
+    out.write_all(output.text.as_bytes())?;
+    match &output.code {
+        Some(code) => out.write_all(code.as_slice()),
+        None => Ok(()),
+    }
 }
 
 /// Prints the reason to standard error (best effort), and returns the exit status.
@@ -104,13 +110,33 @@ fn asked<'a, R: rt::Files + AllocGlobal>(
     let mut command = command(rt.alloc())?;
     let mut matches = command.try_get_matches_from_mut(words)?;
     match matches.remove_subcommand() {
-        Some(asked) => Ok(asked),
+        Some((name, matches)) => {
+            if reads_twice(words, matches.get_str("OUT") == Some("-")) {
+                return Err(Stop::BadWord("-", WordFault::ReadTwice));
+            }
+            Ok((name, matches))
+        }
         None => Err(
             command
                 .error(ErrorKind::MissingSubcommand, "a subcommand is required")?
                 .into(),
         ),
     }
+}
+
+/// Whether more than one file is standard input, which has to be read at once.
+fn reads_twice(words: &[String], is_written: bool) -> bool
+    ensures { result ≡ reads_twice is_written (map string_bytes words.now) }
+{
+    let most = if is_written { 2 } else { 1 };
+    dashes(words) > most
+}
+
+/// How many words are `-`.
+fn dashes(words: &[String]) -> usize
+    ensures { result ≡ count_by (λ word. is_dash (string_bytes word)) words.now }
+{
+    words.iter().filter(|word| word.as_str() == "-").count()
 }
 
 /// What the program prints if nothing stops it.
@@ -129,7 +155,7 @@ fn output_of<'a, R: rt::Files + AllocGlobal>(
                 fault,
             )| Stop::BadWord(word, fault))?;
             let drops_newer = matches.get_flag("drop-newer");
-            resolve_text(rt, word_at(matches, "TEMPLATE"), &settings, drops_newer)
+            resolve_output(rt, word_at(matches, "TEMPLATE"), &settings, drops_newer)
         }
         "compile" => {
             let (path, out) = (word_at(matches, "PROFILE"), word_at(matches, "OUT"));
@@ -140,6 +166,10 @@ fn output_of<'a, R: rt::Files + AllocGlobal>(
             let log = matches.get_str("audit").unwrap_or("");
             audit_output(rt, word_at(matches, "PROFILE"), log, form)
         }
+        "explain" => {
+            let call = call_at(matches).map_err(Stop::BadNumber)?;
+            explain_output(rt, word_at(matches, "PROFILE"), call, form)
+        }
         "lint" => {
             let allowed = matches.get_strs("allow").unwrap_or(&[]);
             let path = word_at(matches, "PROFILE");
@@ -148,6 +178,7 @@ fn output_of<'a, R: rt::Files + AllocGlobal>(
         "table" if matches.get_str("against").is_some() => {
             differences_output(rt, against_asked(matches, form))
         }
+        "table" => table_output(rt, word_at(matches, "PROFILE"), form),
         "report" => {
             let asked = ReportAsked {
                 profile: word_at(matches, "PROFILE"),
@@ -158,6 +189,11 @@ fn output_of<'a, R: rt::Files + AllocGlobal>(
         }
         "compare" if matches.get_flag("all") => {
             differences_output(rt, compare_asked(matches, true, form)?)
+        }
+        "compare" => compare_output(rt, compare_asked(matches, false, form)?),
+        "pick" => {
+            let seccomp_default = matches.get_flag("seccomp-default");
+            pick_output(rt, word_at(matches, "MANIFEST"), seccomp_default, form)
         }
         "play" if matches.get_str("pod").is_some() => pod_output(rt, pod_asked(matches, form)?),
         "denied" => {
@@ -224,32 +260,22 @@ fn text_of<'a, R: rt::Files + AllocGlobal>(
             let call = call_at(matches).map_err(Stop::BadNumber)?;
             run_text(rt, word_at(matches, "FILTER"), call, form)
         }
-        "explain" => {
-            let call = call_at(matches).map_err(Stop::BadNumber)?;
-            explain_text(rt, word_at(matches, "PROFILE"), call, form)
-        }
         "default" => Ok(default_line(rt.alloc())?),
-        "table" => table_text(rt, word_at(matches, "PROFILE"), form),
         "verify" => verify_text(rt, word_at(matches, "FILTER"), form),
         "budget" => budget_text(rt, word_at(matches, "FILTER"), form),
         "show" => show_text(rt, word_at(matches, "FILTER"), form),
-        "compare" => compare_text(rt, compare_asked(matches, false, form)?),
-        "play" => {
+        _ => {
             let attempt = attempt_at(matches).map_err(Stop::BadNumber)?;
             let filters = matches.get_strs("FILTER").unwrap_or(&[]);
             let naming = naming_at(matches);
             let played = played_at(rt, word_at(matches, "SCRIPT"), filters, attempt)?;
             Ok(record_text(rt.alloc(), &played, naming, form)?)
         }
-        _ => {
-            let seccomp_default = matches.get_flag("seccomp-default");
-            pick_text(rt, word_at(matches, "MANIFEST"), seccomp_default, form)
-        }
     }
 }
 
 /// Compiles a profile, and replaces the old file of the filter as a whole. Beside the answer is the number of
-/// `lint`'s findings.
+/// `lint`'s findings. If the file is `-`, standard output gets the filter, and standard error the answer.
 fn compile_output<'a, R: rt::Files + AllocGlobal>(
     rt: &R,
     path: &'a str,
@@ -258,21 +284,43 @@ fn compile_output<'a, R: rt::Files + AllocGlobal>(
     form: Form,
 ) -> Result<Output, Stop<'a>> {
     let alloc = rt.alloc();
-    let bytes = bytes_at(rt, path)?;
-    let profile = profile_of(alloc, path, &bytes)?;
-    let filter = compile(alloc, &profile).map_err(|fault| compile_stop(path, fault))?;
-    let aside = beside(alloc, path, &bytes, &profile)?;
+    let file = profile_at(rt, path)?;
+    let filter = match compile(alloc, &file.profile) {
+        Ok(filter) => filter,
+        Err(fault) => return Err(refused_stop(path, file.bytes, Refused::Compile(fault))),
+    };
+    let aside = beside(alloc, path, file)?;
     let code = bpf_code::write(alloc, filter.insns())?;
     let code = file_bytes(alloc, code, is_base64)?;
-    if is_same_file(rt, path, out) {
-        return Err(Stop::SameFile(out));
-    }
-    replace(rt, out, &code).map_err(|fault| stop_at(out, fault))?;
     let text = match form {
         Form::Text => compiled_line(alloc, filter.len())?,
         Form::Json => compiled_object(alloc, filter.len())?,
     };
+    if out == "-" {
+        return Ok(streamed(alloc, code, text, aside.as_str())?);
+    }
+    if is_same_file(rt, opened(path), out) {
+        return Err(Stop::SameFile(out));
+    }
+    replace(rt, out, &code).map_err(|fault| stop_at(out, fault))?;
     Ok(Output::with_aside(text, aside))
+}
+
+/// A filter on standard output, and on standard error the answer before these lines.
+fn streamed(
+    alloc: Global,
+    code: Vec<u8>,
+    answer: String,
+    lines: &str,
+) -> Result<Output, AllocError> {
+    let mut aside = answer;
+    aside.push_str(lines)?;
+    Ok(Output {
+        text: String::new(alloc),
+        code: Some(code),
+        aside,
+        status: 0,
+    })
 }
 
 /// How many instructions a run of the filter takes at most.
@@ -308,10 +356,13 @@ fn show_text<'a, R: rt::Files + AllocGlobal>(
     form: Form,
 ) -> Result<String, Stop<'a>> {
     let bytes = bytes_at(rt, path)?;
-    let code = bpf_code::read(rt.alloc(), &bytes).map_err(|fault| filter_stop(
-        path,
-        Refusal::Code(fault),
-    ))?;
+    let code = match bpf_code::read(rt.alloc(), &bytes) {
+        Ok(code) => code,
+        Err(fault) => {
+            let refused = Refused::Filter(Refusal::Code(fault));
+            return Err(refused_stop(path, bytes, refused));
+        }
+    };
     let number_tests = number_tests(rt.alloc(), &code)?;
     Ok(match form {
         Form::Text => code_lines(rt.alloc(), &code, number_tests.as_slice())?,
@@ -342,7 +393,10 @@ fn played_at<'a, R: rt::Files + AllocGlobal>(
     attempt: u32,
 ) -> Result<Outcome, Stop<'a>> {
     let bytes = bytes_at(rt, path)?;
-    let script = script::read_placed(rt.alloc(), &bytes).map_err(|found| script_stop(path, found))?;
+    let script = match script::read_placed(rt.alloc(), &bytes) {
+        Ok(script) => script,
+        Err(found) => return Err(refused_stop(path, bytes, Refused::Script(found))),
+    };
     let stack = stack_at(rt, filters)?;
     Ok(play(rt.alloc(), script, stack, attempt)?)
 }
@@ -360,21 +414,24 @@ fn record_text(
     }
 }
 
-/// The profile of each container of a pod.
-fn pick_text<'a, R: rt::Files + AllocGlobal>(
+/// The profile of each container of a pod, and beside it what of the manifest has no effect.
+fn pick_output<'a, R: rt::Files + AllocGlobal>(
     rt: &R,
     path: &'a str,
     seccomp_default: bool,
     form: Form,
-) -> Result<String, Stop<'a>> {
+) -> Result<Output, Stop<'a>> {
     let bytes = bytes_at(rt, path)?;
-    let pod = manifest::read_placed(rt.alloc(), &bytes).map_err(|found| manifest_stop(
-        path, found,
-    ))?;
-    Ok(match form {
+    let pod = match manifest::read_placed(rt.alloc(), &bytes) {
+        Ok(pod) => pod,
+        Err(found) => return Err(refused_stop(path, bytes, Refused::Manifest(found))),
+    };
+    let text = match form {
         Form::Text => picked_lines(rt.alloc(), &pod, seccomp_default)?,
         Form::Json => picked_objects(rt.alloc(), &pod, seccomp_default)?,
-    })
+    };
+    let aside = manifest_lines(rt.alloc(), path, &bytes)?;
+    Ok(Output::with_aside(text, aside))
 }
 
 /// The stack of the filters in these files, the oldest one first. Each is read, judged and added before
@@ -383,17 +440,13 @@ fn stack_at<'a, R: rt::Files + AllocGlobal>(rt: &R, paths: &[&'a str]) -> Result
     let mut stack = Stack::new(rt.alloc());
     for path in paths {
         let bytes = bytes_at(rt, path)?;
-        match filter_of(rt.alloc(), &bytes) {
-            Ok(filter) => stack
-                .push(filter)
-                .map_err(|(_, fault)| stack_stop(path, fault))?,
-            Err(refusal) => return Err(stack_filter_stop(path, refusal)),
+        let filter = match filter_of(rt.alloc(), &bytes) {
+            Ok(filter) => filter,
+            Err(refusal) => return Err(refused_stop(path, bytes, Refused::StackFilter(refusal))),
+        };
+        if let Err((_, fault)) = stack.push(filter) {
+            return Err(refused_stop(path, bytes, Refused::Stack(fault)));
         }
     }
     Ok(stack)
-}
-
-/// The profile that these bytes of a file are.
-fn profile_of<'a>(alloc: Global, path: &'a str, bytes: &[u8]) -> Result<Profile, Stop<'a>> {
-    oci_profile::read_placed(alloc, bytes).map_err(|found| profile_stop(path, found))
 }

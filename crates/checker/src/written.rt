@@ -3,7 +3,7 @@ ghost use Rattle.std.specs.Prelude.{◌≡◌, IfOk};
 ghost use Rattle.checker.specs.Written.{file_bytes};
 
 use base64::engine::general_purpose::STANDARD;
-use check_stops::{Output, Stop, bytes_at, profile_stop};
+use check_stops::{Output, ProfileFile, Stop, profile_at};
 use fault_notes::ShownPath;
 use profile_unit::{UnitFault, unit_of, unit_text};
 use std::alloc::{AllocError, Global};
@@ -31,14 +31,11 @@ pub(crate) fn unit_output<'a, R: rt::Files + AllocGlobal>(
     path: &'a str,
 ) -> Result<Output, Stop<'a>> {
     let alloc = rt.alloc();
-    let bytes = bytes_at(rt, path)?;
-    let profile = oci_profile::read_placed(alloc, &bytes).map_err(|found| profile_stop(
-        path, found,
-    ))?;
+    let ProfileFile { profile, aside, .. } = profile_at(rt, path)?;
     match unit_of(alloc, &profile) {
-        Ok(unit) => Ok(Output::plain(alloc, unit_text(alloc, &unit)?)),
+        Ok(unit) => Ok(Output::with_aside(unit_text(alloc, &unit)?, aside)),
         Err(UnitFault::Memory) => Err(Stop::Memory),
-        Err(fault) => Ok(refused(alloc, path, fault)?),
+        Err(fault) => Ok(refused(alloc, path, fault)?.after(aside)?),
     }
 }
 
@@ -47,6 +44,7 @@ fn refused(alloc: Global, path: &str, fault: UnitFault) -> Result<Output, AllocE
     let (name, path) = (fault.name(), ShownPath(path));
     Ok(Output {
         text: format!(in alloc; "refused {name}\n")?,
+        code: None,
         aside: format!(in alloc; "seccheck: {path}: {fault}\n")?,
         status: 1,
     })

@@ -1,13 +1,13 @@
 //! The answer of `seccheck denied`: the calls that containers were denied, from files of records.
 use crate::used_profiles::UsedProfiles;
-use check_stops::{Form, Output, Stop, stop_at};
+use check_stops::{Form, Output, Stop, opened, stop_at};
 use denied_calls::{
     LineFault, Row, Sighting, aligned, by_cell, by_member, in_order, read_line, row_head, row_line,
     row_object, rows, total_head, total_line, total_object, totals,
 };
 use explain::Decider;
 use fault_notes::ShownPath;
-use node_io::{look_at_folder, read_file};
+use node_io::{look_at_folder, read_stream};
 use std::alloc::{AllocError, Global};
 use std::rt;
 
@@ -40,7 +40,7 @@ pub fn denied_output<'a, R: rt::Files + AllocGlobal>(
         aside: String::new(alloc),
     };
     for path in paths {
-        let bytes = read_file(rt, path, MAX_RECORDS_BYTES).map_err(|fault| stop_at(path, fault))?;
+        let bytes = records_at(rt, path)?;
         add_file(alloc, &mut found, path, &bytes)?;
     }
     let Found {
@@ -56,6 +56,11 @@ pub fn denied_output<'a, R: rt::Files + AllocGlobal>(
     Ok(Output::with_faults(text, aside))
 }
 
+/// The bytes of a file of records.
+fn records_at<'a, R: rt::Files + AllocGlobal>(rt: &R, path: &'a str) -> Result<Vec<u8>, Stop<'a>> {
+    read_stream(rt, opened(path), MAX_RECORDS_BYTES).map_err(|fault| stop_at(path, fault))
+}
+
 /// The denied calls of the records in a file as lines of six cells, the most denied first, and the reports on
 /// lines other than records.
 pub fn denied_lines<'a, R: rt::Files + AllocGlobal>(
@@ -67,7 +72,7 @@ pub fn denied_lines<'a, R: rt::Files + AllocGlobal>(
         sightings: Vec::new(alloc),
         aside: String::new(alloc),
     };
-    let bytes = read_file(rt, path, MAX_RECORDS_BYTES).map_err(|fault| stop_at(path, fault))?;
+    let bytes = records_at(rt, path)?;
     add_file(alloc, &mut found, path, &bytes)?;
     let Found { sightings, aside } = found;
     let sightings = in_order(sightings)?;

@@ -5,14 +5,16 @@ use call_names::Naming;
 use check_answers::{
     DeniedCall, Outcome, decided_by, denied_line, denied_object, ended_line, ended_object, play,
 };
-use check_stops::{AnswerObject, FileLine, Form, Output, Stop, bytes_at, filter_at, manifest_stop};
-use compile::{CompileFault, compile};
-use fault_notes::{profile_note, script_note};
+use check_stops::{
+    Form, Output, Refused, Stop, bytes_at, filter_at, manifest_lines, profile_of, refused_stop,
+    stop_at,
+};
+use compile::compile;
 use manifest::{Container, Pod};
-use node_io::{FileFault, MAX_FILE_BYTES, look_at_folder, read_file};
-use oci_profile::{Profile, ProfileFault, runtime_default};
+use node_io::{MAX_FILE_BYTES, look_at_folder, read_file};
+use oci_profile::{Profile, runtime_default};
 use profile_pick::{Choice, pick};
-use script::{Script, ScriptFault};
+use script::Script;
 use std::alloc::{AllocError, AllocFailed, Global};
 use std::rt;
 use verdict::Stack;
@@ -81,28 +83,34 @@ pub fn pod_output<'a, R: rt::Files + AllocGlobal>(
         None => None,
     };
     let bytes = bytes_at(rt, asked.manifest)?;
-    let pod = manifest::read_placed(rt.alloc(), &bytes).map_err(|found| manifest_stop(
-        asked.manifest,
-        found,
-    ))?;
-    match pod_text(rt, asked, &pod, baseline.as_ref()) {
-        Ok(text) => Ok(Output::plain(rt.alloc(), text)),
-        Err(Ended::Printed(output)) => Ok(output),
+    let pod = match manifest::read_placed(rt.alloc(), &bytes) {
+        Ok(pod) => pod,
+        Err(found) => {
+            let refused = Refused::Manifest(found);
+            return Err(refused_stop(asked.manifest, bytes, refused));
+        }
+    };
+    let mut aside = manifest_lines(rt.alloc(), asked.manifest, &bytes)?;
+    match pod_text(rt, asked, &pod, baseline.as_ref(), &mut aside) {
+        Ok(text) => Ok(Output::with_aside(text, aside)),
+        Err(Ended::Printed(output)) => Ok(output.after(aside)?),
         Err(Ended::Memory) => Err(Stop::Memory),
     }
 }
 
+/// The lines of all containers. Those about profiles that are templates go to `aside`.
 fn pod_text<'a, R: rt::Files + AllocGlobal>(
     rt: &R,
     asked: PodAsked<'a>,
     pod: &Pod,
     baseline: Option<&Filter>,
+    aside: &mut String,
 ) -> Result<String, Ended> {
     let mut text = String::new(rt.alloc());
     for (place, container) in pod.containers.as_slice().iter().enumerate() {
         let choice = pick(pod, place, asked.seccomp_default);
         let script = script_of(rt, asked, container)?;
-        let own = own_of(rt, asked, choice)?;
+        let own = own_of(rt, asked, choice, aside)?;
         let stack = stack_of(rt.alloc(), baseline, own.as_ref())?;
         let played = Played {
             choice,
@@ -161,11 +169,9 @@ fn script_of<R: rt::Files + AllocGlobal>(
     let bytes = bytes_in(rt, path.as_str(), asked.form)?;
     match script::read_placed(alloc, &bytes) {
         Ok(script) => Ok(script),
-        Err(found) if found.fault == ScriptFault::Memory => Err(Ended::Memory),
         Err(found) => {
-            let note = script_note(alloc, &bytes, &found)?;
-            let stop = Stop::Script(path.as_str(), found);
-            Err(ended_by(alloc, &stop, asked.form, path.as_str(), note.as_str())?)
+            let stop = refused_stop(path.as_str(), bytes, Refused::Script(found));
+            Err(ended_by(alloc, &stop, asked.form)?)
         }
     }
 }
@@ -175,14 +181,17 @@ fn own_of<R: rt::Files + AllocGlobal>(
     rt: &R,
     asked: PodAsked<'_>,
     choice: Choice<'_>,
+    aside: &mut String,
 ) -> Result<Option<Own>, Ended> {
+    let alloc = rt.alloc();
     match choice {
         Choice::Unconfined => Ok(None),
         Choice::RuntimeDefault => {
-            let profile = runtime_default(rt.alloc())?;
-            Ok(Some(compiled(rt.alloc(), asked, profile, "runtime/default")?))
+            let profile = runtime_default(alloc)?;
+            let bytes = Vec::new(alloc);
+            Ok(Some(compiled(alloc, asked, profile, "runtime/default", bytes)?))
         }
-        Choice::Localhost(path) => Ok(Some(own_at(rt, asked, path.as_str())?)),
+        Choice::Localhost(path) => Ok(Some(own_at(rt, asked, path.as_str(), aside)?)),
     }
 }
 
@@ -191,20 +200,21 @@ fn own_at<R: rt::Files + AllocGlobal>(
     rt: &R,
     asked: PodAsked<'_>,
     path: &str,
+    aside: &mut String,
 ) -> Result<Own, Ended> {
     let alloc = rt.alloc();
     let folder = asked.profiles;
     let path = format!(in alloc; "{folder}/{path}")?;
     let bytes = bytes_in(rt, path.as_str(), asked.form)?;
-    match oci_profile::read_placed(alloc, &bytes) {
-        Ok(profile) => compiled(alloc, asked, profile, path.as_str()),
-        Err(found) if found.fault == ProfileFault::Memory => Err(Ended::Memory),
-        Err(found) => {
-            let note = profile_note(alloc, &bytes, &found)?;
-            let stop = Stop::Profile(path.as_str(), found);
-            Err(ended_by(alloc, &stop, asked.form, path.as_str(), note.as_str())?)
-        }
+    let file = match profile_of(alloc, path.as_str(), bytes) {
+        Ok(file) => file,
+        Err(stop) => return Err(ended_by(alloc, &stop, asked.form)?),
+    };
+    // Another container may have this profile too.
+    if !aside.as_str().contains(file.aside.as_str()) {
+        aside.push_str(file.aside.as_str())?;
     }
+    compiled(alloc, asked, file.profile, path.as_str(), file.bytes)
 }
 
 fn compiled(
@@ -212,14 +222,13 @@ fn compiled(
     asked: PodAsked<'_>,
     profile: Profile,
     path: &str,
+    bytes: Vec<u8>,
 ) -> Result<Own, Ended> {
     match compile(alloc, &profile) {
         Ok(filter) => Ok(Own { profile, filter }),
-        Err(CompileFault::Memory) => Err(Ended::Memory),
         Err(fault) => {
-            let note = format!(in alloc; ": {fault}")?;
-            let stop = Stop::Compile(path, fault);
-            Err(ended_by(alloc, &stop, asked.form, path, note.as_str())?)
+            let stop = refused_stop(path, bytes, Refused::Compile(fault));
+            Err(ended_by(alloc, &stop, asked.form)?)
         }
     }
 }
@@ -228,41 +237,24 @@ fn compiled(
 fn bytes_in<R: rt::Files + AllocGlobal>(rt: &R, path: &str, form: Form) -> Result<Vec<u8>, Ended> {
     match read_file(rt, path, MAX_FILE_BYTES) {
         Ok(bytes) => Ok(bytes),
-        Err(caused) if caused.fault == FileFault::Memory => Err(Ended::Memory),
-        Err(caused) => {
-            let stop = Stop::File(path, caused);
-            Err(ended_by(rt.alloc(), &stop, form, path, "")?)
-        }
+        Err(caused) => Err(ended_by(rt.alloc(), &stop_at(path, caused), form)?),
     }
 }
 
-/// Ends the play because of a file: prints the answer, and on standard error the file's name with this note.
-/// A stop other than an answer goes to standard error alone.
-fn ended_by(
-    alloc: Global,
-    stop: &Stop<'_>,
-    form: Form,
-    path: &str,
-    note: &str,
-) -> Result<Ended, AllocError> {
-    if !stop.is_answer() {
-        return Ok(Ended::Printed(Output {
-            text: String::new(alloc),
-            aside: format!(in alloc; "{stop}")?,
-            status: stop.status(),
-        }));
+/// Ends the play: prints the stop's answer, with a note on standard error. A stop other than an answer goes to
+/// standard error alone.
+fn ended_by(alloc: Global, stop: &Stop<'_>, form: Form) -> Result<Ended, AllocError> {
+    if matches!(stop, Stop::Memory) {
+        return Ok(Ended::Memory);
     }
-    let line = FileLine { path, note };
-    let text = match form {
-        Form::Text => format!(in alloc; "{stop}")?,
-        Form::Json => {
-            let object = AnswerObject(stop);
-            format!(in alloc; "{object}")?
-        }
-    };
+    let lines = String::new(alloc);
+    if stop.is_answer() {
+        return Ok(Ended::Printed(Output::of_stop(alloc, stop, form, lines)?));
+    }
     Ok(Ended::Printed(Output {
-        text,
-        aside: format!(in alloc; "{line}")?,
+        text: lines,
+        code: None,
+        aside: format!(in alloc; "{stop}")?,
         status: stop.status(),
     }))
 }

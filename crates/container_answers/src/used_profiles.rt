@@ -1,11 +1,11 @@
 //! The profiles of containers, read as they are needed, each once.
-use check_stops::FileLine;
+use check_stops::{Stop, note_line, profile_of};
 use denied_calls::{DeniedCall, Returned, Sighting, deciders};
 use explain::Decider;
-use fault_notes::{ShownPath, profile_note};
+use fault_notes::ShownPath;
 use manifest::DescendingPath;
 use node_io::{FileFault, MAX_FILE_BYTES, read_file};
-use oci_profile::{Profile, ProfileFault, runtime_default};
+use oci_profile::{Profile, runtime_default};
 use std::alloc::{AllocError, Global};
 use std::rt;
 
@@ -115,17 +115,15 @@ fn profile_in<R: rt::Files + AllocGlobal>(
             return Ok(None);
         }
     };
-    match oci_profile::read_placed(alloc, &bytes) {
-        Ok(profile) => Ok(Some(profile)),
-        Err(found) if found.fault == ProfileFault::Memory => Err(AllocError),
-        Err(found) => {
-            let note = profile_note(alloc, &bytes, &found)?;
-            let line = FileLine {
-                path: whole.as_str(),
-                note: note.as_str(),
-            };
-            write!(aside, "{line}")?;
+    match profile_of(alloc, whole.as_str(), bytes) {
+        Ok(file) => {
+            aside.push_str(file.aside.as_str())?;
+            Ok(Some(file.profile))
+        }
+        Err(Stop::Refused(refused)) => {
+            aside.push_str(note_line(alloc, &refused)?.as_str())?;
             Ok(None)
         }
+        Err(_) => Err(AllocError),
     }
 }

@@ -1,4 +1,4 @@
--- The note on a place, from what was read and what is shown.
+-- What is said of a place, from what was read and what is shown.
 use Rattle.std.proofs.Common.{◌≡◌, ℕ, List, Option, Some, None, option_and_then, Result, Ok, Err, refl, sym}
 use Rattle.std.proofs.Common.{subst}
 use Rattle.std.specs.Prelude.{◌≢◌, IfOk, IfSome, string_bytes}
@@ -11,7 +11,7 @@ use Rattle.json_tree.proofs.Fields.{or_else_ok}
 use Rattle.json_place.specs.Parts.{Part}
 use Rattle.json_place.specs.Shown.{stands_at}
 use Rattle.json_place.specs.declared.shown.Shown as standing
-use Rattle.fault_notes.specs.Notes.{IsPlaceNote, IsShownOf, Says, place_note}
+use Rattle.fault_notes.specs.Notes.{IsShownAt, IsShownOf, Says, place_note}
 use Rattle.fault_notes.specs.declared.named.Named.{Named}
 
 pub says : {Y E : Type 0} (told : Result (String Y) E) (place : List Part) (fault : Named)
@@ -21,24 +21,24 @@ pub says : {Y E : Type 0} (told : Result (String Y) E) (place : List Part) (faul
 says (Ok text) place fault shown wanted h = (wanted, h)
 says (Err e) place fault shown wanted h = tt
 
-shows : {Y E : Type 0} (told : Result (String Y) E) (bytes : List ℕ) (fault : Named) (place : List Part)
-    (shown : Option standing.Shown)
+shows : {Y E : Type 0} (told : Result (String Y) E) (bytes : List ℕ) (place : List Part)
+    (shown : Option standing.Shown) (Are : Option standing.Shown → List ℕ → Type 0)
     → IsShownOf (option_and_then (stands_at place) (tree_of bytes)) shown
-    → IfOk told (λ text. Says place fault shown (string_bytes text))
-    → IfOk told (λ text. IsPlaceNote bytes fault place (string_bytes text))
-shows (Ok text) bytes fault place shown is h = (shown, is, h)
-shows (Err e) bytes fault place shown is h = tt
+    → IfOk told (λ text. Are shown (string_bytes text))
+    → IfOk told (λ text. IsShownAt bytes place Are (string_bytes text))
+shows (Ok text) bytes place shown Are is h = (shown, is, h)
+shows (Err e) bytes place shown Are is h = tt
 
 -- the value in the tree of the text
-pub in_tree : {Y E : Type 0} (told : Result (String Y) E) (bytes : List ℕ) (fault : Named) (place : List Part)
-    (shown : Option standing.Shown) (tree : Data)
+pub in_tree : {Y E : Type 0} (told : Result (String Y) E) (bytes : List ℕ) (place : List Part)
+    (shown : Option standing.Shown) (tree : Data) (Are : Option standing.Shown → List ℕ → Type 0)
     → document bytes ≡ Ok tree → IsShownOf (stands_at place tree) shown
-    → IfOk told (λ text. Says place fault shown (string_bytes text))
-    → IfOk told (λ text. IsPlaceNote bytes fault place (string_bytes text))
+    → IfOk told (λ text. Are shown (string_bytes text))
+    → IfOk told (λ text. IsShownAt bytes place Are (string_bytes text))
 unfolding document
-in_tree told bytes fault place shown tree read is h =
+in_tree told bytes place shown tree Are read is h =
     let found : tree_of bytes ≡ Some tree = or_else_ok NotJson (tree_of bytes) tree read in
-    shows told bytes fault place shown (subst (λ t. IsShownOf (option_and_then (stands_at place) t) shown)
+    shows told bytes place shown Are (subst (λ t. IsShownOf (option_and_then (stands_at place) t) shown)
     (sym found) is) h
 
 no_tree : (o : Option Data) → or_else NotJson o ≡ Err NotJson → o ≡ None
@@ -46,12 +46,13 @@ no_tree None h = refl
 no_tree (Some tree) h = absurd cc
 
 -- a text that is not JSON has no values
-pub in_none : {Y E : Type 0} (told : Result (String Y) E) (bytes : List ℕ) (fault : Named) (place : List Part)
+pub in_none : {Y E : Type 0} (told : Result (String Y) E) (bytes : List ℕ) (place : List Part)
+    (Are : Option standing.Shown → List ℕ → Type 0)
     → (NotJson ≢ Memory → document bytes ≡ Err NotJson)
-    → IfOk told (λ text. Says place fault None (string_bytes text))
-    → IfOk told (λ text. IsPlaceNote bytes fault place (string_bytes text))
+    → IfOk told (λ text. Are None (string_bytes text))
+    → IfOk told (λ text. IsShownAt bytes place Are (string_bytes text))
 unfolding document
-in_none told bytes fault place read h =
+in_none told bytes place Are read h =
     let none : tree_of bytes ≡ None = no_tree (tree_of bytes) (read (λ same. absurd cc)) in
-    shows told bytes fault place None (subst (λ t. IsShownOf (option_and_then (stands_at place) t) None)
+    shows told bytes place None Are (subst (λ t. IsShownOf (option_and_then (stands_at place) t) None)
     (sym none) refl) h

@@ -2,3 +2,4 @@ pub mod Starts
 pub mod Notes
 pub mod Paths
 pub mod Refusals
+pub mod Members

@@ -88,10 +88,14 @@ abbrev pub IsShownOf : Option Data → Option standing.Shown → Type 0
 IsShownOf None shown = shown ≡ None
 IsShownOf (Some found) shown = IsShown found shown
 
+-- the text has what is shown of the value at this place in the tree of the bytes
+abbrev pub IsShownAt : List ℕ → List Part → (Option standing.Shown → List ℕ → Type 0) → List ℕ → Type 0
+IsShownAt bytes place Are text = (shown : Option standing.Shown)
+    × IsShownOf (option_and_then (stands_at place) (tree_of bytes)) shown × Are shown text
+
 -- the value at the fault's place in the text's tree is shown
 abbrev pub IsPlaceNote : List ℕ → Named → List Part → List ℕ → Type 0
-IsPlaceNote bytes fault place text = (shown : Option standing.Shown)
-    × IsShownOf (option_and_then (stands_at place) (tree_of bytes)) shown × Says place fault shown text
+IsPlaceNote bytes fault place text = IsShownAt bytes place (Says place fault) text
 
 abbrev pub IsNoteBy : Kind → List ℕ → Named → List Part → List ℕ → Type 0
 IsNoteBy kind.NoJson bytes fault place text = (spot : Spot)

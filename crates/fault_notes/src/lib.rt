@@ -8,6 +8,7 @@
 //!
 //! - The note on a refused text has the fault's name, its place, and the value there as it is in the text's
 //!   own tree: `profile_note`, `template_note`, `manifest_note`, `script_note`.
+//! - The place and the value there as members of an object of JSON: `fault_members`.
 //! - For a text that is not JSON, the note shows whether it begins as YAML: `profile_note` and its like.
 //! - What a text begins with, and what is white space of JSON: `begins_object`, `begins_list`, `is_space`.
 //! - The name of a file, each character escaped: `ShownPath`.
@@ -17,6 +18,7 @@
 //! at a place.
 #![tactic(auto)]
 
+mod members;
 mod named;
 mod notes;
 mod paths;
@@ -26,6 +28,7 @@ mod starts;
 mod texts;
 mod wanted;
 
+pub use members::fault_members;
 pub use named::Named;
 pub use notes::{left_out_note, manifest_note, profile_note, script_note, template_note};
 pub use paths::ShownPath;

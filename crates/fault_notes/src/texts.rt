@@ -89,7 +89,7 @@ impl fmt::Display for TextNote {
 }
 
 // Where a text stops being JSON, by its parser.
-fn spot_in(alloc: Global, bytes: &[u8]) -> Spot {
+pub(crate) fn spot_in(alloc: Global, bytes: &[u8]) -> Spot {
     match Value::from_slice(alloc, bytes) {
         Err(error) if error.line() > 0 => Spot::At(error.line(), error.column()),
         _ => Spot::Whole,

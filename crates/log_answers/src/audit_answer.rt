@@ -3,7 +3,7 @@
 use crate::lines::FoundLine;
 use crate::log_file::{LineSink, Position, add_file};
 use crate::reports::Reports;
-use check_stops::{Form, Output, Stop, bytes_at, profile_stop};
+use check_stops::{Form, Output, ProfileFile, Stop, profile_at};
 use denied_calls::{
     AuditedCounts, AuditedKind, AuditedRow, DeniedCall, Returned, aligned, audited_head,
     audited_line, audited_object, by_cell, by_member, deciders,
@@ -22,10 +22,11 @@ pub fn audit_output<'a, R: rt::Files + AllocGlobal>(
     form: Form,
 ) -> Result<Output, Stop<'a>> {
     let alloc = rt.alloc();
-    let bytes = bytes_at(rt, profile)?;
-    let profile = oci_profile::read_placed(alloc, &bytes).map_err(|found| profile_stop(
-        profile, found,
-    ))?;
+    let ProfileFile {
+        profile,
+        aside: sign,
+        ..
+    } = profile_at(rt, profile)?;
     let mut audited = Audited {
         counts: AuditedCounts::new(alloc),
         reports: Reports::new(alloc),
@@ -41,7 +42,7 @@ pub fn audit_output<'a, R: rt::Files + AllocGlobal>(
         Form::Text => table(alloc, &profile, rows.as_slice())?,
         Form::Json => objects(alloc, &profile, rows.as_slice())?,
     };
-    Ok(Output::with_faults(text, reports.text))
+    Ok(Output::with_faults(text, reports.text).after(sign)?)
 }
 
 /// The calls of an audit so far.

@@ -2,7 +2,7 @@ use crate::defaults::default_of;
 use crate::found::Found;
 use crate::log_file::add_file;
 use crate::printed::profile_line;
-use check_stops::{Output, Stop, bytes_at, profile_stop};
+use check_stops::{Output, ProfileFile, Stop, profile_at};
 use oci_profile::{Decision, Entries, Errno, Profile};
 use profile_learn::{Learned, Wanted, small_argument};
 use profile_text::WriteFault;
@@ -33,29 +33,41 @@ pub fn learn_output<'a, R: rt::Files + AllocGlobal>(
     for path in paths {
         add_file(rt, path, &mut found)?;
         if found.is_refused() {
-            return Ok(refused_line(alloc, found)?);
+            return Ok(refused_line(alloc, found)?.after(base.aside)?);
         }
     }
-    Ok(output_of(alloc, found, &base, asked.wanted)?)
+    let output = output_of(alloc, found, &base.profile, asked.wanted)?;
+    Ok(output.after(base.aside)?)
+}
+
+/// A profile, and a line on standard error if its file is a template.
+#[derive(Drop)]
+struct Base {
+    profile: Profile,
+    aside: String,
 }
 
 /// The profile that decides calls that were not seen.
 fn base_of<'a, R: rt::Files + AllocGlobal>(
     rt: &R,
     asked: LearnAsked<'a>,
-) -> Result<Profile, Stop<'a>> {
+) -> Result<Base, Stop<'a>> {
     let alloc = rt.alloc();
     if let Some(path) = asked.base {
-        let bytes = bytes_at(rt, path)?;
-        return oci_profile::read_placed(alloc, &bytes).map_err(|found| profile_stop(path, found));
+        let ProfileFile { profile, aside, .. } = profile_at(rt, path)?;
+        return Ok(Base { profile, aside });
     }
     let default = match asked.default {
         Some(word) => default_of(alloc, word)?.map_err(|fault| Stop::BadWord(word, fault))?,
         None => Decision::Errno(Errno::eperm()),
     };
-    Ok(Profile {
+    let profile = Profile {
         default,
         entries: Entries::new(Vec::new(alloc)),
+    };
+    Ok(Base {
+        profile,
+        aside: String::new(alloc),
     })
 }
 
@@ -67,6 +79,7 @@ fn refused_line(alloc: Global, found: Found) -> Result<Output, AllocError> {
     }
     Ok(Output {
         text,
+        code: None,
         aside: found.reports.text,
         status: 1,
     })
@@ -120,6 +133,7 @@ fn refused(alloc: Global, name: &str, why: &str, reports: String) -> Result<Outp
     writeln!(aside, "seccheck: {name} ({why})")?;
     Ok(Output {
         text,
+        code: None,
         aside,
         status: 1,
     })

@@ -1,9 +1,9 @@
 //! A log, which is read in pieces.
 use crate::lines::{Begun, FoundLine};
-use check_stops::{Stop, stop_at};
+use check_stops::{Stop, opened, stop_at};
 use node_io::{Cause, CausedFault};
 use std::alloc::{AllocError, Global};
-use std::fs::{Metadata, OpenFile};
+use std::fs::OpenFile;
 use std::io::{ErrorKind, Read};
 use std::{fs, rt};
 
@@ -38,28 +38,14 @@ pub(crate) fn add_file<'a, R: rt::Files + AllocGlobal, S: LineSink>(
     sink: &mut S,
 ) -> Result<(), Stop<'a>> {
     let at = |fault| stop_at(path, fault);
-    // A pipe is not opened: that would wait for its writer.
-    judge(&fs::metadata(rt, path).map_err(|error| at(CausedFault::from(error)))?).map_err(at)?;
-    let mut file = fs::open(rt, path).map_err(|error| at(CausedFault::from(error)))?;
-    // Another file may be at the path by now.
-    judge(
-        &file
-            .metadata()
-            .map_err(|error| at(CausedFault::from(error)))?,
-    )
-    .map_err(at)?;
-    add_stream(rt.alloc(), path, &mut file, sink)
-}
-
-// Checks that the file can be read to its end.
-fn judge(about: &Metadata) -> Result<(), CausedFault> {
+    let mut file = fs::open(rt, opened(path)).map_err(|error| at(CausedFault::from(error)))?;
+    let about = file
+        .metadata()
+        .map_err(|error| at(CausedFault::from(error)))?;
     if about.is_dir() {
-        Err(CausedFault::failed(Cause::IsFolder))
-    } else if !about.is_file() {
-        Err(CausedFault::failed(Cause::NotRegular))
-    } else {
-        Ok(())
+        return Err(at(CausedFault::failed(Cause::IsFolder)));
     }
+    add_stream(rt.alloc(), path, &mut file, sink)
 }
 
 /// Hands over the lines of a stream, which is read in pieces.

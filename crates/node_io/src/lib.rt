@@ -18,7 +18,7 @@
 //!   count, moved, ok), `write` (fails, err, count, ok), `written`.
 //! - Below a folder, the opened path is the folder, `/` and the path. A path that is empty, begins at the
 //!   root or has a part `..` leads nowhere: `SystemFiles::read` (outside, folder, and `opened` within it),
-//!   `read_file` (within).
+//!   `read_file` (within), `read_stream` (within).
 //! - The causes and texts of faults: `Cause::of`, `Display` of `FileFault`, `WireFault`, `Cause`,
 //!   `CausedFault`.
 //!
@@ -45,5 +45,5 @@ pub use laws::constants_are_as_stated;
 pub use memory_files::{MemoryFiles, StoredFile};
 pub use memory_wire::MemoryWire;
 pub use stream_wire::StreamWire;
-pub use system_files::{SystemFiles, look_at_folder, read_file};
+pub use system_files::{SystemFiles, look_at_folder, read_file, read_stream};
 pub use wire::{Wire, WireFault};

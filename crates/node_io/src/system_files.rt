@@ -131,6 +131,26 @@ pub fn read_file<R: rt::Files + AllocGlobal>(
     read_all(rt.alloc(), &mut file, limit)
 }
 
+/// The bytes of a file of the system, by any path, if they are no more than the limit. A pipe or a device is
+/// read to its end, for which it waits. A folder counts as a failure, and so does a read that is interrupted.
+pub fn read_stream<R: rt::Files + AllocGlobal>(
+    rt: &R,
+    path: &str,
+    limit: u64,
+) -> Result<Vec<u8>, CausedFault>
+    ensures within { IfOk result (λ bytes. length bytes.items ≤ limit) }
+{
+    let mut file = fs::open(rt, path)?;
+    let about = file.metadata()?;
+    if about.is_dir() {
+        return Err(CausedFault::failed(Cause::IsFolder));
+    }
+    if about.len() > limit {
+        return Err(CausedFault::from(FileFault::TooLarge));
+    }
+    read_all(rt.alloc(), &mut file, limit)
+}
+
 // Checks that a file may be read: a regular file within the limit.
 fn judge(about: &Metadata, limit: u64) -> Result<(), CausedFault> {
     if about.is_dir() {

@@ -27,6 +27,7 @@ mod names;
 mod placed;
 mod reader;
 mod settings;
+mod signs;
 mod template;
 mod version;
 
@@ -36,5 +37,6 @@ pub use left_out::LeftOut;
 pub use placed::TemplateFaultAt;
 pub use reader::read;
 pub use settings::Settings;
+pub use signs::{TemplateSign, template_sign};
 pub use template::Template;
 pub use version::Version;

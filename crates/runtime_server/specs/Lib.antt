@@ -3,4 +3,5 @@ pub mod Places
 pub mod Queue
 pub mod Recording
 pub mod Telling
+pub mod Templates
 pub mod Wrong

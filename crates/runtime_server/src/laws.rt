@@ -6,6 +6,7 @@ ghost use Rattle.runtime_server.specs.declared.sockets.TheConstants.{FOLDERS};
 ghost use Rattle.runtime_stops.specs.declared.socket_fault.TheConstants.{MAX_NAME};
 ghost use Rattle.runtime_server.specs.declared.line_queue.TheConstants.{MAX_WAITING};
 ghost use Rattle.runtime_server.specs.declared.teller.TheConstants.{READER_PATIENCE};
+ghost use Rattle.runtime_server.specs.declared.templates.TheConstants.{MAX_SEEN};
 
 /// The values of this crate's constants.
 pub fn constants_are_as_stated()
@@ -19,4 +20,5 @@ pub fn constants_are_as_stated()
     // lines, and seconds
     ensures max_waiting { MAX_WAITING ≡ 16384 }
     ensures reader_patience { READER_PATIENCE ≡ 10 }
+    ensures max_seen { MAX_SEEN ≡ 16 }
 {}

@@ -21,6 +21,8 @@
 //!   `profile_fault`, which are private.
 //! - Which answers of a runtime are reported: `Tells::is_told`, which is private.
 //! - A line waits behind those before it, or is left out and counted: `LineQueue::add`, which is private.
+//! - The line on a template that is given as a profile, and which profiles are remembered: `profile_line`,
+//!   `SeenProfiles::is_known`, `remember`, which are private.
 //! - A removed cell is recorded unless it had ended by itself: `has_ended_alone`, which is private.
 //! - The constants are as stated: `constants_are_as_stated`.
 //!
@@ -45,6 +47,7 @@ mod site;
 mod sockets;
 mod teller;
 mod telling;
+mod templates;
 
 pub use connections::{Connections, MAX_CONNECTIONS, NoPlace};
 pub use engine::{Engine, EngineHost, start_runners};

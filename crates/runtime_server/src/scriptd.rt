@@ -64,14 +64,10 @@ fn run_line<'a, B: Node + Send + Sync, R: Threads + Wait + Clock + Copy + Send +
 ) -> Result<(), ServerStop<'a>>
     requires { begun ≡ (B.filter, B.table) }
 {
-    let teller = if line.verbose {
-        Some(Teller::start(*rt, *system, Stream::Error)?)
-    } else {
-        None
-    };
+    let teller = Teller::start(*rt, *system, Stream::Error)?;
     let recorder = recorder_for(rt, system, "scriptd", line.records, line.records_all)?;
     let reports = Reports {
-        teller,
+        teller: Some(teller),
         recorder,
         causes: None,
     };

@@ -9,6 +9,7 @@ use crate::recording::Recorder;
 use crate::sockets::Socket;
 use crate::teller::Teller;
 use crate::telling::{asked, listening_line, reply_line};
+use crate::templates::{SeenProfiles, given_profile, profile_line};
 use cri_msgs::{MessageFault, Reply, Request, Version};
 use node_io::{Cause, StreamWire, SystemFiles};
 use refusal_causes::{self, Causes};
@@ -68,7 +69,7 @@ impl Tells {
 /// Where a runtime's reports go.
 #[derive(Drop)]
 pub struct Reports {
-    /// Writes the reported answers, if any are reported.
+    /// Writes the reported answers, and which profiles are templates.
     pub teller: Option<Arc<Teller, Global>>,
     /// Writes the records of cells, if they are wanted.
     pub recorder: Option<Recorder>,
@@ -83,6 +84,7 @@ pub struct Site<'a, B: Node> {
     address: Address<'a>,
     socket: Socket,
     connections: Connections,
+    seen: Mutex<SeenProfiles>,
     teller: Option<Arc<Teller, Global>>,
     causes: Option<Arc<Mutex<Causes>, Global>>,
     /// The runtime.
@@ -116,6 +118,7 @@ impl<'a, B: Node> Site<'a, B> {
             address,
             socket,
             connections,
+            seen: Mutex::new(SeenProfiles::new(system.alloc())),
             teller,
             causes,
             engine: Engine::new(system.alloc(), begun, recorder),
@@ -185,6 +188,26 @@ impl<B: Node, R: Wait> ToldHost<'_, B, R> {
         }
     }
 
+    // Reports a profile that is a template, unless this one was reported. Out of memory, it is not reported.
+    // The text is read while no lock is held, so that no other connection waits for it.
+    fn tell_template(&self, request: &Request, files: &FileAnswers) {
+        let (Some(teller), Some((path, bytes))) = (&self.site.teller, given_profile(request, files))
+        else {
+            return;
+        };
+        let alloc = self.site.alloc;
+        if self.site.seen.lock(self.rt).is_known(path, bytes) {
+            return;
+        }
+        let Ok(line) = profile_line(alloc, path, bytes) else {
+            return;
+        };
+        let is_new = self.site.seen.lock(self.rt).remember(alloc, path, bytes);
+        if let (Some(line), Ok(true)) = (line, is_new) {
+            teller.tell(self.rt, Ok(line));
+        }
+    }
+
     // Reports the answer, if answers like it are reported.
     fn tell(&self, asked: Result<String, AllocError>, reply: &Reply, wrong: Option<Wrong>) {
         if let (Some(teller), true) = (&self.site.teller, self.site.address.tells.is_told(&wrong)) {
@@ -200,6 +223,7 @@ impl<B: Node, R: Wait> Host for ToldHost<'_, B, R> {
     ghost may = { MayServe B.filter };
 
     fn serve(&mut self, request: Request, files: FileAnswers) -> Reply {
+        self.tell_template(&request, &files);
         if self.site.is_silent() {
             return self.host.serve(request, files);
         }
