@@ -3,7 +3,7 @@ ghost use Rattle.std.specs.Prelude.{◌≡◌, IfSome};
 ghost use Rattle.node_lock.specs.Books.{worker_of};
 
 use crate::limits::SLICE;
-use agent_parts::{FolderLines, Repeats, SHORTEST_REST, for_node, rest_after};
+use agent_parts::{FolderLines, Repeats, SHORTEST_REST, advice_lines, for_node, rest_after};
 use manifest::Uid;
 use node_io::CausedFault;
 use pod_folder::{
@@ -32,6 +32,14 @@ impl<L: Ledger, R: Wait> FileTeller<'_, '_, L, R> {
     fn tell(&self, line: Result<String, AllocError>) {
         self.teller.tell(self.rt, line);
     }
+
+    // Reports what of a manifest has no effect.
+    fn advise(&self, path: &str, bytes: &[u8]) -> Result<(), AllocError> {
+        for line in advice_lines(self.lines.alloc, path, bytes)? {
+            self.tell(Ok(line));
+        }
+        Ok(())
+    }
 }
 
 impl<L: Ledger, R: Wait> ManifestReader for FileTeller<'_, '_, L, R> {
@@ -41,7 +49,11 @@ impl<L: Ledger, R: Wait> ManifestReader for FileTeller<'_, '_, L, R> {
 
     fn read(&self, name: &str, bytes: &[u8]) -> Result<Reading, AllocError> {
         let path = self.lines.path_of(name)?;
-        self.lines.reading(path.as_str(), bytes)
+        let reading = self.lines.reading(path.as_str(), bytes)?;
+        if let Reading::Pod(_) = &reading {
+            self.advise(path.as_str(), bytes)?;
+        }
+        Ok(reading)
     }
 
     fn is_on_node(&self, uid: &Uid) -> bool {

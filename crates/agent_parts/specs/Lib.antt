@@ -1,3 +1,4 @@
+pub mod AdviceLines
 pub mod Table
 pub mod Stops
 pub mod StopText

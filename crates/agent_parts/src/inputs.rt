@@ -4,6 +4,7 @@ ghost use Rattle.std.specs.Prelude.{IfErr, IfOk};
 ghost use Rattle.manifest.specs.Pod.{ReadsPod};
 ghost use Rattle.agent_parts.specs.Stops.{IsOfText};
 
+use crate::advice_lines::advice_lines;
 use crate::stops::AgentStop;
 use fault_notes::manifest_note;
 use manifest::{Pod, PodFault};
@@ -27,13 +28,22 @@ pub fn pod_of<'a>(alloc: Global, path: &'a str, bytes: &[u8]) -> Result<Pod, Age
     }
 }
 
-/// The pod of a manifest, and whether the manifest sets its uid. A generated uid ends with the name of the
-/// run.
+/// A pod of a manifest that the command line names.
+#[derive(Drop)]
+pub struct NamedPod {
+    pub pod: Pod,
+    /// Whether the manifest sets its uid.
+    pub gives_uid: bool,
+    /// The lines on what of the manifest has no effect.
+    pub advice: Vec<String>,
+}
+
+/// The pod of a manifest. A generated uid ends with the name of the run.
 pub fn pod_at<'a, R: rt::Files + AllocGlobal>(
     rt: &R,
     path: &'a str,
     run: Option<&str>,
-) -> Result<(Pod, bool), AgentStop<'a>> {
+) -> Result<NamedPod, AgentStop<'a>> {
     let bytes = bytes_at(rt, path)?;
     let mut pod = pod_of(rt.alloc(), path, bytes.as_slice())?;
     let gives_uid = gives_uid(rt.alloc(), bytes.as_slice())?;
@@ -43,5 +53,10 @@ pub fn pod_at<'a, R: rt::Files + AllocGlobal>(
             None => return Err(AgentStop::Manifest(path, PodFault::BadName)),
         }
     }
-    Ok((pod, gives_uid))
+    let advice = advice_lines(rt.alloc(), path, bytes.as_slice())?;
+    Ok(NamedPod {
+        pod,
+        gives_uid,
+        advice,
+    })
 }

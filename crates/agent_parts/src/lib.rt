@@ -20,9 +20,11 @@
 //!   `address_of`.
 //! - The name of a run, and the status and the text of its end: `run_name`, `run_end`.
 //! - The time between two looks into a folder of pods: `rest_after`.
+//! - The lines on what of a manifest has no effect: `advice_lines`.
 //! - The lines and constants: `working_line`, `FolderLines::reading`, `constants_are_as_stated`.
 #![tactic(auto)]
 
+mod advice_lines;
 mod folder_lines;
 mod inputs;
 mod laws;
@@ -42,8 +44,9 @@ mod tables;
 mod telling;
 mod troubles;
 
+pub use advice_lines::advice_lines;
 pub use folder_lines::FolderLines;
-pub use inputs::{pod_at, pod_of};
+pub use inputs::{NamedPod, pod_at, pod_of};
 pub use laws::constants_are_as_stated;
 pub use limits::{LONGEST_REST, LOOK_SHARE, POLL, REMOVAL, SETTLE_UNTIL, SHORTEST_REST};
 pub use looks::{for_node, rest_after};

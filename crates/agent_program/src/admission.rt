@@ -3,7 +3,7 @@ ghost use Rattle.std.specs.Prelude.{◌≡◌, IfOk};
 ghost use Rattle.node_lock.specs.declared.limits.TheConstants.{PARTS};
 
 use crate::tellers::shared_causes;
-use agent_parts::{AgentStop, StateFile, limit_of, observed_of, pod_at, settings_of};
+use agent_parts::{AgentStop, NamedPod, StateFile, limit_of, observed_of, pod_at, settings_of};
 use command_line::NodeagentLine;
 use node_lock::{Book, BookFault, PARTS};
 use pod_folder::Naming;
@@ -15,12 +15,14 @@ use std::sync::{Arc, Mutex, Wait};
 use worker_core::AgentEvent;
 use worker_crew::{BesideBook, Coordinator, Shared};
 
-/// What admits pods: the coordinator, the names of pods without uids, and the file of kept uids.
+/// What admits pods: the coordinator, the names of pods without uids, and the file of kept uids. The advice is
+/// the lines on what of the manifests has no effect.
 #[derive(Drop)]
 pub(crate) struct Admission<'a, L: Ledger> {
     pub(crate) coordinator: Coordinator<L>,
     pub(crate) naming: Naming<'a>,
     pub(crate) state: Option<StateFile<'a>>,
+    pub(crate) advice: Vec<String>,
 }
 
 /// The node of the command line, and its coordinator.
@@ -65,6 +67,7 @@ pub(crate) fn admission_of<'a, L: Ledger, R: Wait>(
         coordinator,
         naming: Naming::new(system.alloc(), line.run),
         state: state_of(system, line)?,
+        advice: Vec::new(system.alloc()),
     };
     for path in line.manifests.as_slice() {
         admit(rt, system, shared, &mut admission, path)?;
@@ -93,7 +96,12 @@ fn admit<'a, L: Ledger, R: Wait>(
 ) -> Result<(), AgentStop<'a>>
     ensures { admission.new.coordinator.parts ≡ admission.old.coordinator.parts }
 {
-    let (pod, gives_uid) = pod_at(system, path, admission.naming.run())?;
+    let NamedPod {
+        pod,
+        gives_uid,
+        mut advice,
+    } = pod_at(system, path, admission.naming.run())?;
+    admission.advice.append(&mut advice)?;
     if !gives_uid {
         admission.naming.reserve(&pod)?;
         admission.naming.count(&pod);

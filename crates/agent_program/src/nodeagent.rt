@@ -15,6 +15,7 @@ use runtime_stops::{ServerStop, socket_stop};
 use std::alloc::{AllocError, Global};
 use std::io::{Print, Write};
 use std::marker::Brand;
+use std::mem;
 use std::sync::Wait;
 use std::sync::ledger::{Blank, Ledger};
 use std::thread::Threads;
@@ -117,8 +118,10 @@ fn run_line<'a, L: Ledger + Send + Sync, R: Threads + Wait + Clock + Copy + Send
     let baseline = baseline_at(system, line.baseline)?;
     let causes = causes_for(system.alloc(), line)?;
     let (shared, coordinator) = node_of::<L>(system, line, blank, &causes)?;
-    let admission = admission_of(rt, system, line, &shared, coordinator)?;
+    let mut admission = admission_of(rt, system, line, &shared, coordinator)?;
     let outside = Outside::start(rt, system, line, causes)?;
+    let advice = mem::replace(&mut admission.advice, Vec::new(system.alloc()));
+    outside.tellers.tell_all(rt, advice);
     let left = run_admitted(rt, system, line, baseline, &shared, &outside, admission);
     outside.tellers.finish(rt);
     ended_by(rt, system, line, shared, &outside.tellers, left?)

@@ -68,6 +68,13 @@ impl Tellers {
         })
     }
 
+    /// Writes these lines to standard error.
+    pub(crate) fn tell_all<R: Wait>(&self, rt: &R, lines: Vec<String>) {
+        for line in lines {
+            self.lines.tell(rt, Ok(line));
+        }
+    }
+
     /// Waits until all lines are written.
     pub(crate) fn finish<R: Wait + Clock>(&self, rt: &R) {
         if let Some(teller) = &self.changes {

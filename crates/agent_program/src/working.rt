@@ -167,6 +167,7 @@ pub(crate) fn run_admitted<
         coordinator,
         naming,
         state,
+        advice: _,
     } = admission;
     let calls = outside.calls(rt, line);
     let errands = outside.errands(rt, system, line, shared, naming, state);

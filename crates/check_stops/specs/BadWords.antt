@@ -3,11 +3,12 @@
 use Rattle.std.specs.Prelude.{ℕ, List, codes}
 use Rattle.check_stops.specs.declared.bad_words.WordFault.{WordFault}
 use Rattle.check_stops.specs.declared.bad_words.WordFault.TheVariants.{BadCap, BadArch, BadKernel, BadAction}
-use Rattle.check_stops.specs.declared.bad_words.WordFault.TheVariants.{BadKind, ReadTwice}
+use Rattle.check_stops.specs.declared.bad_words.WordFault.TheVariants.{BadKind, NoArch, ReadTwice}
 
 abbrev pub word_fault_text : WordFault → List ℕ
 word_fault_text BadCap = codes "BadCap (give a capability of Linux, as CAP_SYS_ADMIN)"
 word_fault_text BadArch = codes "BadArch (give a name, as amd64, or an AUDIT_ARCH number)"
+word_fault_text NoArch = codes "BadNumber (give a name, as amd64, or an AUDIT_ARCH number)"
 word_fault_text BadKernel = codes "BadKernel (give two numbers, as 6.12)"
 word_fault_text BadAction = codes "BadAction (give an action, as 'ERRNO 38')"
 word_fault_text BadKind = codes "BadKind (give a kind as lint prints it)"

@@ -5,8 +5,10 @@ use std::fmt;
 pub enum WordFault {
     /// No capability of Linux has such a name.
     BadCap,
-    /// No architecture has this name, or this number.
+    /// No architecture of templates has this name, or this number.
     BadArch,
+    /// No architecture of a call has this name, and it is no number.
+    NoArch,
     /// It is no version of a kernel.
     BadKernel,
     /// It is no action of a profile, with its number.
@@ -28,6 +30,7 @@ impl fmt::Display for WordFault {
         f.write_str(match self {
             WordFault::BadCap => "BadCap (give a capability of Linux, as CAP_SYS_ADMIN)",
             WordFault::BadArch => "BadArch (give a name, as amd64, or an AUDIT_ARCH number)",
+            WordFault::NoArch => "BadNumber (give a name, as amd64, or an AUDIT_ARCH number)",
             WordFault::BadKernel => "BadKernel (give two numbers, as 6.12)",
             WordFault::BadAction => "BadAction (give an action, as 'ERRNO 38')",
             WordFault::BadKind => "BadKind (give a kind as lint prints it)",

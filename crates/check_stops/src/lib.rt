@@ -5,8 +5,8 @@
 //!
 //! # What is proved
 //!
-//! - The text of each stop: `Display` of `Stop`, `Refused`. Its object of JSON, with the place of a fault and the
-//!   value there: `object_line`.
+//! - The text of each stop, with what a word is that is no call: `Display` of `Stop`, `Refused`. Its object of JSON,
+//!   with the place of a fault and the value there: `object_line`.
 //! - The line on a refused file, byte by byte, with the note on the bytes that were read and their hint:
 //!   `note_line`.
 //! - The stop of a refused file has its path, its bytes and the fault. Running out of memory is reported as that,
@@ -23,6 +23,7 @@
 
 mod answer_object;
 mod bad_words;
+mod call_hint;
 mod form;
 mod inputs;
 mod notes;

@@ -1,6 +1,7 @@
 ghost use Rattle.check_stops.specs.Stops.{IsOfFile};
 
 use crate::bad_words::WordFault;
+use crate::call_hint::CallHint;
 use crate::refused::RefusedFile;
 use bpf_compare::Doubt;
 use check_answers::{Difference, reason};
@@ -22,6 +23,8 @@ pub enum Stop<'a> {
     CommandLine(clap::Error),
     /// A word of the command line is no number of its range.
     BadNumber(&'a str),
+    /// A word of the command line is no call: neither a number nor a name.
+    BadCall(&'a str),
     /// A word of the command line is none of those that may stand there.
     BadWord(&'a str, WordFault),
     /// A file can't be read or written.
@@ -44,7 +47,7 @@ impl Stop<'_> {
     {
         match self {
             Stop::Refused(_) | Stop::Differ(_) | Stop::Undecided(_) => 1,
-            Stop::CommandLine(_) | Stop::BadNumber(_) | Stop::BadWord(_, _) => 2,
+            Stop::CommandLine(_) | Stop::BadNumber(_) | Stop::BadCall(_) | Stop::BadWord(_, _) => 2,
             Stop::File(_, _) | Stop::SameFile(_) | Stop::Unwritten(_) => 3,
             Stop::Memory => 4,
         }
@@ -75,6 +78,14 @@ impl fmt::Display for Stop<'_> {
             Stop::Undecided(doubt) => writeln!(f, "undecided: {}", reason(*doubt)),
             Stop::CommandLine(error) => write!(f, "{error}"),
             Stop::BadNumber(word) => writeln!(f, "seccheck: {}: BadNumber", ShownPath(word)),
+            Stop::BadCall(word) => {
+                writeln!(
+                    f,
+                    "seccheck: {}: BadNumber{}",
+                    ShownPath(word),
+                    CallHint(word)
+                )
+            }
             Stop::BadWord(word, fault) => writeln!(f, "seccheck: {}: {fault}", ShownPath(word)),
             Stop::File(path, fault) => writeln!(f, "seccheck: {}: {fault}", ShownPath(path)),
             Stop::SameFile(path) => {

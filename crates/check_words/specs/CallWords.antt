@@ -1,12 +1,28 @@
 -- Which call the words of a command line write: docs/SEMANTICS.md, "Programs". Its numbers are looked at in
 -- the order of the usage line, and the first word that writes no number of its range is the answer else.
 use Rattle.std.specs.Prelude.{ℕ, ◌^◌, List, [], ◌∷◌, slice_get, Option, Some, None, Result, Ok}
-use Rattle.json_tree.specs.Reading.{◌>>=◌}
+use Rattle.json_tree.specs.Reading.{◌>>=◌, as_fault}
 use Rattle.call_data.specs.declared.sys_call.SysCall.{SysCall}
 use Rattle.command_line.specs.Numbers.{number_in}
 use Rattle.command_line.specs.Words.{number_or_word, written_or}
 use Rattle.check_words.specs.Architectures.{arch_or}
+use Rattle.check_words.specs.declared.call_words.BadCallWord.{BadCallWord}
+use Rattle.check_words.specs.declared.call_words.BadCallWord.TheVariants as of
 use Rattle.sys_table.specs.SysTable.{number_of}
+
+-- the word that is refused, as its bytes, by what it should write
+pub data BadWord : Type 0 where
+  Call : List ℕ → BadWord
+  Arch : List ℕ → BadWord
+  Number : List ℕ → BadWord
+
+abbrev pub bad_word : BadCallWord → BadWord
+bad_word (of.Call word) = BadWord.Call word.now
+bad_word (of.Arch word) = BadWord.Arch word.now
+bad_word (of.Number word) = BadWord.Number word.now
+
+abbrev pub told_word : {X : Type 0} → Result X BadCallWord → Result X BadWord
+told_word result = as_fault bad_word result
 
 -- the number that a word writes, else that of the call which it names
 abbrev pub number_or_name : Option ℕ → Option ℕ → Option ℕ
@@ -30,10 +46,10 @@ arguments_of words = do
   sixth ← argument_of words 5
   Ok (first ∷ second ∷ third ∷ fourth ∷ fifth ∷ sixth ∷ [])
 
-unfoldable pub call_of : List ℕ → List (List ℕ) → Option (List ℕ) → Option (List ℕ) → Result SysCall (List ℕ)
+unfoldable pub call_of : List ℕ → List (List ℕ) → Option (List ℕ) → Option (List ℕ) → Result SysCall BadWord
 call_of nr args arch ip = do
-  number ← call_number_of nr
-  arguments ← arguments_of args
-  architecture ← arch_or arch
-  pointer ← written_or (2 ^ 64) 0 ip
+  number ← as_fault BadWord.Call (call_number_of nr)
+  arguments ← as_fault BadWord.Number (arguments_of args)
+  architecture ← as_fault BadWord.Arch (arch_or arch)
+  pointer ← as_fault BadWord.Number (written_or (2 ^ 64) 0 ip)
   Ok (record { nr = number; arch = architecture; ip = pointer; args = arguments })

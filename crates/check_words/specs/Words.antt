@@ -4,7 +4,7 @@ use Rattle.std.specs.Prelude.{ℕ, ◌^◌, List, [], codes, option_map, unwrap_
 use Rattle.clap.specs.Matches.{first_value, matched_of, raw_values}
 use Rattle.clap.specs.declared.parser.matches.Found.{Found}
 use Rattle.call_data.specs.declared.sys_call.SysCall.{SysCall}
-use Rattle.check_words.specs.CallWords.{call_of}
+use Rattle.check_words.specs.CallWords.{BadWord, call_of}
 use Rattle.command_line.specs.Words.{written_or}
 
 -- the word of a required argument
@@ -16,7 +16,7 @@ abbrev pub words_in : List ℕ → Found → List (List ℕ)
 words_in id found = unwrap_or (option_map raw_values (matched_of found id)) []
 
 -- the call of `run` and `explain`
-abbrev pub call_in : Found → Result SysCall (List ℕ)
+abbrev pub call_in : Found → Result SysCall BadWord
 call_in found = call_of (word_in (codes "CALL") found) (words_in (codes "ARG") found)
     (first_value found (codes "arch")) (first_value found (codes "ip"))
 

@@ -1,13 +1,24 @@
-ghost use Rattle.std.specs.Prelude.{◌≡◌, map, option_map};
-ghost use Rattle.check_words.specs.CallWords.{argument_of, arguments_of, call_number_of, call_of};
-ghost use Rattle.command_line.specs.Words.{told};
+ghost use Rattle.std.specs.Prelude.{◌≡◌, ◌^◌, map, option_map};
+ghost use Rattle.json_tree.specs.Reading.{as_fault};
+ghost use Rattle.check_words.specs.Architectures.{arch_or};
+ghost use Rattle.check_words.specs.CallWords.{argument_of, arguments_of, call_number_of, call_of, told_word};
+ghost use Rattle.check_words.specs.CallWords.BadWord.{Arch, Call, Number};
+ghost use Rattle.command_line.specs.Words.{told, written_or};
 
 use crate::architectures::arch_or;
 use call_data::SysCall;
 use command_line::{number_or, word_of};
 
-// Each returns the word as the error if it is no number of its range and, for a call or an architecture, no name
-// of one.
+/// A word of a call that is no number of its range.
+#[derive(Clone, Copy, Debug, PartialEq, Eq)]
+pub enum BadCallWord<'w> {
+    /// It is no name of a call either.
+    Call(&'w str),
+    /// It is no name of an architecture either.
+    Arch(&'w str),
+    /// It is an argument or an address.
+    Number(&'w str),
+}
 
 /// The call that these words write: its number or name, up to six arguments, and its architecture and address.
 /// All but the first may be absent.
@@ -17,16 +28,53 @@ pub(crate) fn call<'w>(
     args: &[&'w str],
     arch: Option<&'w str>,
     ip: Option<&'w str>,
-) -> Result<SysCall, &'w str>
-    ensures { told result
+) -> Result<SysCall, BadCallWord<'w>>
+    ensures { told_word result
         ≡ call_of nr.now (map (λ w. w.now) args.now) (option_map (λ w. w.now) arch.entry)
         (option_map (λ w. w.now) ip.entry) }
 {
-    let nr = call_number(nr)?;
-    let args = arguments(args)?;
-    let arch = arch_or(arch)?;
-    let ip = number_or(0, ip)?;
+    let nr = number_in_call(nr)?;
+    let args = arguments_in_call(args)?;
+    let arch = arch_in_call(arch)?;
+    let ip = address_in_call(ip)?;
     Ok(SysCall { nr, arch, ip, args })
+}
+
+fn number_in_call(word: &str) -> Result<u32, BadCallWord<'_>>
+    ensures { told_word result ≡ as_fault Call (call_number_of word.now) }
+{
+    match call_number(word) {
+        Ok(number) => Ok(number),
+        Err(word) => Err(BadCallWord::Call(word)),
+    }
+}
+
+fn arguments_in_call<'w>(words: &[&'w str]) -> Result<[u64; 6], BadCallWord<'w>>
+    ensures { told_word result ≡ as_fault Number (arguments_of (map (λ w. w.now) words.now)) }
+{
+    match arguments(words) {
+        Ok(args) => Ok(args),
+        Err(word) => Err(BadCallWord::Number(word)),
+    }
+}
+
+fn arch_in_call(word: Option<&str>) -> Result<u32, BadCallWord<'_>>
+    ensures { told_word result ≡ as_fault Arch (arch_or (option_map (λ w. w.now) word.entry)) }
+{
+    match arch_or(word) {
+        Ok(arch) => Ok(arch),
+        Err(word) => Err(BadCallWord::Arch(word)),
+    }
+}
+
+fn address_in_call(word: Option<&str>) -> Result<u64, BadCallWord<'_>>
+    ensures { told_word result
+        ≡ as_fault Number (written_or (2 ^ 64) 0 (option_map (λ w. w.now) word.entry)) }
+{
+    match number_or(0, word) {
+        Ok(ip) => Ok(ip),
+        Err(word) => Err(BadCallWord::Number(word)),
+    }
 }
 
 #[tactic(auto, unfolding(crate::specs::CallWords::arguments_of))]

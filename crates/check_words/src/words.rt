@@ -1,9 +1,10 @@
 ghost use Rattle.std.specs.Prelude.{◌≡◌};
 ghost use Rattle.clap.specs.Matches.{found_of};
 ghost use Rattle.check_words.specs.Words.{attempt_in, budget_in, call_in, word_in};
+ghost use Rattle.check_words.specs.CallWords.{told_word};
 ghost use Rattle.command_line.specs.Words.{told};
 
-use crate::call_words::call;
+use crate::call_words::{BadCallWord, call};
 use call_data::SysCall;
 use clap::{Arg, ArgAction, ArgMatches, Command};
 use command_line::{VERSION, number_or, word_or};
@@ -65,7 +66,7 @@ fn compile<'a>(alloc: Global) -> Result<Command<'a>, AllocError> {
 fn lint<'a>(alloc: Global) -> Result<Command<'a>, AllocError> {
     Command::new(alloc, "lint")
         .about("Report entries of a profile that have no effect or are probably mistakes")
-        .arg(given(alloc, "PROFILE", "Profile"))?
+        .arg(given(alloc, "PROFILE", "Profile, or the manifest of a pod"))?
         .arg(flag(
             alloc,
             "all",
@@ -422,8 +423,8 @@ fn option<'a>(alloc: Global, id: &'static str, value: &'static str, help: &'stat
 }
 
 /// The call that the command line of `run` or `explain` writes.
-pub fn call_at<'a>(matches: &ArgMatches<'a>) -> Result<SysCall, &'a str>
-    ensures { told result ≡ call_in (found_of matches.now) }
+pub fn call_at<'a>(matches: &ArgMatches<'a>) -> Result<SysCall, BadCallWord<'a>>
+    ensures { told_word result ≡ call_in (found_of matches.now) }
 {
     call(
         word_at(matches, "CALL"),

@@ -13,9 +13,11 @@
 //! - The capabilities that words name, by their whole names, or the first word that names none: `caps_of`.
 //! - The settings of a template that words write, or the word that is refused: `settings_of` (caps, told).
 //! - The budget of `compare` that a word writes, or the default: `compare_asked` (budget), `default_budget`.
+//! - The lines or objects of `lint` about a manifest, and their status: `manifest_output` (text, status). Only
+//!   what looks like a manifest is linted as one: `refused_output`.
 //! - The line on a budget that is used up: `budget_note`, `lines_note`.
-//! - Where the program ends without a word: `is_silent`. Whether standard input is named more than once:
-//!   `reads_twice`.
+//! - Where the program ends without a word: `is_silent`. Why a word of a call ends it: `call_stop`. Whether
+//!   standard input is named more than once: `reads_twice`.
 //! - The bytes of a filter's file, also as Base64: `file_bytes`.
 //!
 //! Only tested: files; that what is printed reaches the writers; that a template's profile and the names left
@@ -25,6 +27,7 @@
 mod compared;
 mod file;
 mod linting;
+mod manifests;
 mod profiles;
 mod reporting;
 mod resolving;

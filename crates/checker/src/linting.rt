@@ -1,8 +1,12 @@
-//! What is told of profiles that are read and compiled all the same.
-ghost use Rattle.std.specs.Prelude.{◌≡◌, IfOk, string_bytes};
+//! The findings of `lint` about profiles and manifests that are read all the same.
+ghost use Rattle.std.specs.Prelude.{◌≡◌, IfOk, string_bytes, true};
+ghost use Rattle.wrong_files.specs.Trees.{is_manifest};
 ghost use Rattle.checker.specs.LintText.{count_text};
 
-use check_stops::{Form, Output, ProfileFile, Stop, WordFault, profile_at};
+use crate::manifests::manifest_output;
+use check_stops::{
+    Form, Output, ProfileFile, Refused, RefusedFile, Stop, WordFault, profile_at, refused_stop,
+};
 use fault_notes::ShownPath;
 use profile_lint::{
     Choice, Finding, FindingKind, Passed, all_findings, grave_count, has_newer_names, is_bad,
@@ -10,6 +14,7 @@ use profile_lint::{
 };
 use std::alloc::{AllocError, Global};
 use std::rt;
+use wrong_files::{Hint, Wanted, hint_of_text};
 
 /// The kinds of findings that these words name.
 fn kinds_of<'a>(alloc: Global, words: &[&'a str]) -> Result<Vec<FindingKind>, Stop<'a>> {
@@ -23,8 +28,8 @@ fn kinds_of<'a>(alloc: Global, words: &[&'a str]) -> Result<Vec<FindingKind>, St
     Ok(kinds)
 }
 
-/// The findings about the profile in a file but those of the allowed kinds, with status 1 if a warning or an
-/// error is among them.
+/// The findings about the profile or the manifest in a file but those of the allowed kinds, with status 1 if a
+/// warning or an error is among them. A file that is refused as a profile may be a manifest.
 pub(crate) fn lint_output<'a, R: rt::Files + AllocGlobal>(
     rt: &R,
     path: &'a str,
@@ -34,19 +39,64 @@ pub(crate) fn lint_output<'a, R: rt::Files + AllocGlobal>(
 ) -> Result<Output, Stop<'a>> {
     let alloc = rt.alloc();
     let kinds = kinds_of(alloc, allowed)?;
-    let ProfileFile {
-        bytes,
-        profile,
-        aside,
-    } = profile_at(rt, path)?;
-    // It was read before, so that memory alone can be wanting.
-    let tree = json_tree::read(alloc, &bytes).map_err(|_| AllocError)?;
-    let passed = passed_in(alloc, &tree)?;
-    let found = once(alloc, all_findings(alloc, &profile)?.as_slice())?;
     let choice = Choice {
         is_all,
         allowed: kinds.as_slice(),
     };
+    match profile_at(rt, path) {
+        Ok(file) => profile_output(alloc, file, choice, form),
+        Err(Stop::Refused(file)) => refused_output(alloc, file, choice.allowed, form),
+        Err(stop) => Err(stop),
+    }
+}
+
+/// The findings about a file that is refused as a profile, if it is a manifest.
+fn refused_output<'a>(
+    alloc: Global,
+    file: RefusedFile<'a>,
+    allowed: &[FindingKind],
+    form: Form,
+) -> Result<Output, Stop<'a>>
+    ensures { IfOk result (λ output. is_manifest file.bytes.items ≡ true) }
+{
+    match hint_of_text(alloc, &file.bytes, Wanted::Profile)? {
+        Some(Hint::Manifest) => manifest_lint(alloc, file.path, file.bytes, allowed, form),
+        _ => Err(Stop::Refused(file)),
+    }
+}
+
+/// The findings about the manifest in these bytes of a file.
+fn manifest_lint<'a>(
+    alloc: Global,
+    path: &'a str,
+    bytes: Vec<u8>,
+    allowed: &[FindingKind],
+    form: Form,
+) -> Result<Output, Stop<'a>> {
+    if let Err(found) = manifest::read_placed(alloc, &bytes) {
+        return Err(refused_stop(path, bytes, Refused::Manifest(found)));
+    }
+    // It was read before, so that memory alone can be wanting.
+    let tree = json_tree::read(alloc, &bytes).map_err(|_| AllocError)?;
+    Ok(manifest_output(alloc, &tree, allowed, form)?)
+}
+
+/// The findings about a profile.
+fn profile_output<'a>(
+    alloc: Global,
+    file: ProfileFile,
+    choice: Choice<'_>,
+    form: Form,
+) -> Result<Output, Stop<'a>> {
+    let ProfileFile {
+        bytes,
+        profile,
+        aside,
+    } = file;
+    // It was read before, so that memory alone can be wanting.
+    let tree = json_tree::read(alloc, &bytes).map_err(|_| AllocError)?;
+    let passed = passed_in(alloc, &tree)?;
+    let found = once(alloc, all_findings(alloc, &profile)?.as_slice())?;
     let output = printed(
         alloc,
         passed.as_slice(),

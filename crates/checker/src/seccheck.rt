@@ -1,6 +1,6 @@
 ghost use Rattle.std.specs.Prelude.{◌≡◌, ◌==◌, count_by, map, string_bytes};
 ghost use Rattle.std.specs.Str.{bytes_eq};
-ghost use Rattle.checker.specs.Ends.{is_dash, is_silent, reads_twice};
+ghost use Rattle.checker.specs.Ends.{call_stop, is_dash, is_silent, reads_twice};
 
 use crate::compared::{against_asked, compare_asked, compare_output, differences_output};
 use crate::file::is_same_file;
@@ -22,7 +22,7 @@ use check_stops::{
     Form, Output, Refused, Stop, WordFault, bytes_at, filter_at, manifest_lines, opened,
     print_note, profile_at, refused_stop, stop_at, write_object,
 };
-use check_words::{attempt_at, call_at, command, word_at};
+use check_words::{BadCallWord, attempt_at, call_at, command, word_at};
 use clap::ArgMatches;
 use clap::error::ErrorKind;
 use compile::compile;
@@ -93,6 +93,17 @@ fn report<E: Write>(stop: &Stop, err: &mut E) -> u8 {
         let _ = write!(err, "{stop}");
     }
     stop.status()
+}
+
+/// Why a word of a call ends the program.
+fn call_stop(word: BadCallWord<'_>) -> Stop<'_>
+    ensures { result ≡ call_stop word }
+{
+    match word {
+        BadCallWord::Call(word) => Stop::BadCall(word),
+        BadCallWord::Arch(word) => Stop::BadWord(word, WordFault::NoArch),
+        BadCallWord::Number(word) => Stop::BadNumber(word),
+    }
 }
 
 /// Whether the program ends without a word: nobody reads standard output any more, as after `| head`.
@@ -167,7 +178,7 @@ fn output_of<'a, R: rt::Files + AllocGlobal>(
             audit_output(rt, word_at(matches, "PROFILE"), log, form)
         }
         "explain" => {
-            let call = call_at(matches).map_err(Stop::BadNumber)?;
+            let call = call_at(matches).map_err(call_stop)?;
             explain_output(rt, word_at(matches, "PROFILE"), call, form)
         }
         "lint" => {
@@ -257,7 +268,7 @@ fn text_of<'a, R: rt::Files + AllocGlobal>(
 ) -> Result<String, Stop<'a>> {
     match name {
         "run" => {
-            let call = call_at(matches).map_err(Stop::BadNumber)?;
+            let call = call_at(matches).map_err(call_stop)?;
             run_text(rt, word_at(matches, "FILTER"), call, form)
         }
         "default" => Ok(default_line(rt.alloc())?),

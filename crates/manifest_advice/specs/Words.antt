@@ -30,11 +30,16 @@ holder_text (of.Container listing index) = container_text listing index (codes "
 holder_text (of.Context listing index) = container_text listing index (codes "].securityContext.")
 holder_text (of.Profile listing index) = container_text listing index (codes "].securityContext.seccompProfile.")
 
+abbrev pub advice_place : Told → List ℕ
+advice_place (OtherCase holder key name) = holder_text holder ++ key
+advice_place (OldAnnotation key) = codes "metadata.annotations[" ++ (quoted_text key ++ codes "]")
+
+abbrev pub advice_words : Told → List ℕ
+advice_words (OtherCase holder key name) = codes "ignored, the member is " ++ name
+advice_words (OldAnnotation key) = codes "ignored since Kubernetes 1.27, see securityContext.seccompProfile"
+
 abbrev pub advice_text : Told → List ℕ
-advice_text (OtherCase holder key name) =
-    holder_text holder ++ (key ++ (codes ": ignored, the member is " ++ name))
-advice_text (OldAnnotation key) = codes "metadata.annotations[" ++ (quoted_text key
-    ++ codes "]: ignored since Kubernetes 1.27, see securityContext.seccompProfile")
+advice_text told = advice_place told ++ (codes ": " ++ advice_words told)
 
 abbrev pub texts_of : Option Data → List (List ℕ)
 texts_of None = []

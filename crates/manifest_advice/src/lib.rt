@@ -7,7 +7,8 @@
 //! # What is proved
 //!
 //! - The advice on a manifest's tree is exactly that of the definition, in its order: `advice_in`.
-//! - The words of each, byte by byte: `Display` of `Advice`, `Holder`, `advice_texts`.
+//! - The words of each, byte by byte: `Display` of `Advice`, `AdvicePlace`, `AdviceWords`, `Holder`,
+//!   `advice_texts`.
 //! - The constants are as stated: `constants_are_as_stated`.
 #![tactic(auto)]
 
@@ -18,7 +19,7 @@ mod members;
 mod texts;
 mod walk;
 
-pub use advice::Advice;
+pub use advice::{Advice, AdvicePlace, AdviceWords};
 pub use holder::{Holder, Listing};
 pub use laws::constants_are_as_stated;
 pub use texts::advice_texts;

@@ -49,6 +49,7 @@ kind_text kind.UnknownErrno = codes "UnknownErrno"
 kind_text kind.ShadowedName = codes "ShadowedName"
 kind_text kind.Bypass = codes "Bypass"
 kind_text kind.Powerful = codes "Powerful"
+kind_text kind.OldAnnotation = codes "OldAnnotation"
 
 -- the place of a kind in their order: no two kinds have the same
 abbrev pub rank_of : FindingKind → ℕ
@@ -77,6 +78,7 @@ rank_of kind.UnknownErrno = 21
 rank_of kind.ShadowedName = 22
 rank_of kind.Bypass = 23
 rank_of kind.Powerful = 24
+rank_of kind.OldAnnotation = 25
 
 abbrev pub one_named : FindingKind → List ℕ → Option FindingKind → Option FindingKind
 one_named kind name others = if bytes_eq name (kind_text kind) then Some kind else others
@@ -91,7 +93,8 @@ kind_named name = one_named kind.Ignored name (one_named kind.OtherArchitecture 
     (one_named kind.ForEngines name (one_named kind.OtherCase name (one_named kind.UnknownArchitecture name
     (one_named kind.AlwaysHolds name (one_named kind.UnusedValue name (one_named kind.NoArgument name
     (one_named kind.WideArgument name (one_named kind.UnknownErrno name (one_named kind.ShadowedName name
-    (one_named kind.Bypass name (one_named kind.Powerful name None))))))))))))))))))))))))
+    (one_named kind.Bypass name (one_named kind.Powerful name (one_named kind.OldAnnotation name
+    None)))))))))))))))))))))))))
 
 -- a misspelt name is an error; what may not be meant is a warning; what changes nothing, or is not known, a note
 abbrev pub severity_of : FindingKind → Severity
@@ -120,6 +123,7 @@ severity_of kind.UnknownErrno = severity.Warning
 severity_of kind.ShadowedName = severity.Warning
 severity_of kind.Bypass = severity.Warning
 severity_of kind.Powerful = severity.Note
+severity_of kind.OldAnnotation = severity.Warning
 
 abbrev pub kind_of_name : AbsentName → FindingKind
 kind_of_name (name.Newer number) = kind.NewerName

@@ -36,7 +36,7 @@ fn is_same(kind: FindingKind, other: FindingKind) -> bool
 }
 
 /// Whether the kind is one of these.
-fn is_allowed(kind: FindingKind, allowed: &[FindingKind]) -> bool
+pub fn is_allowed(kind: FindingKind, allowed: &[FindingKind]) -> bool
     ensures { result ≡ is_allowed allowed.now kind }
 {
     allowed.iter().any(|other| is_same(kind, *other))
@@ -59,7 +59,8 @@ pub fn is_shown(kind: FindingKind, choice: Choice<'_>) -> bool
     !is_allowed(kind, choice.allowed) && (choice.is_all || !is_counted(kind))
 }
 
-fn is_bad_kind(kind: FindingKind, allowed: &[FindingKind]) -> bool
+/// Whether findings of this kind are warnings or errors, and it is not allowed.
+pub fn is_bad_kind(kind: FindingKind, allowed: &[FindingKind]) -> bool
     ensures { result ≡ is_bad_kind allowed.now kind }
 {
     !is_allowed(kind, allowed) && severity_of(kind) != Severity::Note

@@ -89,6 +89,8 @@ pub enum FindingKind {
     Bypass,
     /// A call is allowed that can undo what confines a program.
     Powerful,
+    /// An annotation of a manifest named a profile up to Kubernetes 1.26.
+    OldAnnotation,
 }
 
 impl fmt::Display for FindingKind {
@@ -124,6 +126,7 @@ impl fmt::Display for FindingKind {
             FindingKind::ShadowedName => "ShadowedName",
             FindingKind::Bypass => "Bypass",
             FindingKind::Powerful => "Powerful",
+            FindingKind::OldAnnotation => "OldAnnotation",
         })
     }
 }
@@ -158,6 +161,7 @@ pub fn kind_named(name: &str) -> Option<FindingKind>
         "ShadowedName" => Some(FindingKind::ShadowedName),
         "Bypass" => Some(FindingKind::Bypass),
         "Powerful" => Some(FindingKind::Powerful),
+        "OldAnnotation" => Some(FindingKind::OldAnnotation),
         _ => None,
     }
 }
@@ -192,6 +196,7 @@ pub(crate) fn rank_of(kind: FindingKind) -> u8
         FindingKind::ShadowedName => 22,
         FindingKind::Bypass => 23,
         FindingKind::Powerful => 24,
+        FindingKind::OldAnnotation => 25,
     }
 }
 
@@ -214,7 +219,8 @@ pub fn severity_of(kind: FindingKind) -> Severity
         | FindingKind::WideArgument
         | FindingKind::UnknownErrno
         | FindingKind::ShadowedName
-        | FindingKind::Bypass => Severity::Warning,
+        | FindingKind::Bypass
+        | FindingKind::OldAnnotation => Severity::Warning,
         FindingKind::OtherArchitecture
         | FindingKind::NotImplemented
         | FindingKind::RepeatedName

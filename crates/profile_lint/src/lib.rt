@@ -22,9 +22,9 @@
 //!   it overlaps with no later entry, or it is reported as not found out, not looked at or not compared.
 //! - The errno of calls newer than the table, exactly: `newer_calls`.
 //! - The kind of each finding, and how severe each kind is: `kind_of_passed`, `kind_of_found`, `severity_of`.
-//!   Whether a warning or an error is among the findings: `is_bad`.
-//! - The printed lines and the JSON objects, byte by byte: `lint_lines`, `lint_objects`, `Display` of
-//!   `Passed`, `Finding`, `Holder`.
+//!   Whether a warning or an error is among the findings: `is_bad`, `is_bad_kind`.
+//! - The printed lines and the JSON objects, byte by byte: `lint_lines`, `lint_objects`, `finding_object`,
+//!   `Display` of `Passed`, `Finding`, `Holder`.
 //!
 //! Only tested: how seldom an entry is reported as not known, and that runc and libseccomp behave like the
 //! model.
@@ -49,13 +49,13 @@ mod text;
 mod witness;
 mod words;
 
-pub use choice::{Choice, grave_count, has_newer_names, is_bad};
+pub use choice::{Choice, grave_count, has_newer_names, is_allowed, is_bad, is_bad_kind};
 pub use entries::standing;
 pub use finder::{all_findings, findings, newer_calls, once};
 pub use finding::Finding;
 pub use kinds::{FindingKind, Severity, kind_named, kind_of_found, kind_of_passed, severity_of};
 pub use lines::lint_lines;
-pub use objects::lint_objects;
+pub use objects::{finding_object, lint_objects};
 pub use passed::{Holder, Passed};
 pub use stands::Standing;
 pub use text::passed_in;

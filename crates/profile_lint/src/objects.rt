@@ -29,8 +29,8 @@ fn quoted(alloc: Global, text: String) -> Result<String, AllocError>
     Value::String(text).to_string(alloc)
 }
 
-/// A finding of a kind, with members of its own.
-fn object(
+/// A finding of a kind as an object, with members of its own.
+pub fn finding_object(
     alloc: Global,
     place: String,
     kind: FindingKind,
@@ -96,7 +96,7 @@ fn passed_object(alloc: Global, passed: &Passed<'_>) -> Result<String, AllocErro
     let place = format!(in alloc; "{}", PassedPlace(passed))?;
     let words = format!(in alloc; "{}", PassedWords(passed))?;
     let members = passed_members(alloc, passed)?;
-    object(
+    finding_object(
         alloc,
         place,
         kind_of_passed(passed),
@@ -184,7 +184,8 @@ fn found_object(alloc: Global, found: Finding) -> Result<String, AllocError>
     let place = format!(in alloc; "{}", FoundPlace(found))?;
     let words = format!(in alloc; "{}", FoundWords(found))?;
     let members = format!(in alloc; "{}", FoundMembers(found))?;
-    object(alloc, place, kind_of_found(&found), members.as_str(), words)
+    let kind = kind_of_found(&found);
+    finding_object(alloc, place, kind, members.as_str(), words)
 }
 
 /// Adds the object of a finding about the text, if it has one.
