@@ -39,5 +39,5 @@ absent_hint word absent.NotImplemented = codes " (not implemented on x86-64)"
 absent_hint word absent.OtherArchitecture = codes " (a call of other architectures)"
 absent_hint word absent.Unknown = near_hint word (suggestion word)
 
-abbrev pub call_hint : List ℕ → List ℕ
+unfoldable pub call_hint : List ℕ → List ℕ
 call_hint word = if is_file word then codes " (a file? it comes first)" else absent_hint word (kind_of word)

@@ -15,6 +15,7 @@ impl fmt::Display for CallHint<'_> {
 
     ghost output = { λ hint. Some (call_hint hint.0.now) };
 
+    #[tactic(auto, unfolding(crate::specs::CallHints::call_hint))]
     fn fmt<W: fmt::Write>(&self, f: &mut fmt::Formatter<W>) -> fmt::Result {
         if is_file(self.0) {
             return f.write_str(" (a file? it comes first)");
