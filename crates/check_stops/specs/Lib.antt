@@ -1,7 +1,7 @@
 pub mod AnswerObjects
 pub mod Answers
 pub mod BadWords
-pub mod CallHints
+pub mod CallFaults
 pub mod Inputs
 pub mod NoteText
 pub mod Refused

@@ -7,7 +7,7 @@ use Rattle.node_io.specs.FaultText.{caused_text}
 use Rattle.check_answers.specs.Compared.{difference_text, reason_of}
 use Rattle.fault_notes.specs.Paths.{shown_path}
 use Rattle.check_stops.specs.BadWords.{word_fault_text}
-use Rattle.check_stops.specs.CallHints.{call_hint}
+use Rattle.check_stops.specs.CallFaults.{call_fault}
 use Rattle.check_stops.specs.Refused.{refused_text}
 use Rattle.check_stops.specs.declared.stop.Stop.{Stop}
 use Rattle.check_stops.specs.declared.stop.Stop.TheVariants.{Refused, Differ, Undecided, CommandLine}
@@ -20,8 +20,8 @@ stop_text (Differ difference) = Some (difference_text difference ++ codes "\n")
 stop_text (Undecided doubt) = Some (codes "undecided: " ++ reason_of doubt ++ codes "\n")
 stop_text (CommandLine error) = None
 stop_text (BadNumber word) = Some (codes "seccheck: " ++ shown_path word.now ++ codes ": BadNumber\n")
-stop_text (BadCall word) = Some (codes "seccheck: " ++ shown_path word.now ++ codes ": BadNumber"
-    ++ call_hint word.now ++ codes "\n")
+stop_text (BadCall word) = Some (codes "seccheck: " ++ shown_path word.now ++ codes ": "
+    ++ call_fault word.now ++ codes "\n")
 stop_text (BadWord word fault) = Some (codes "seccheck: " ++ shown_path word.now ++ codes ": "
     ++ word_fault_text fault ++ codes "\n")
 stop_text (File path caused) = Some (codes "seccheck: " ++ shown_path path.now ++ codes ": "

@@ -23,7 +23,7 @@
 
 mod answer_object;
 mod bad_words;
-mod call_hint;
+mod call_fault;
 mod form;
 mod inputs;
 mod notes;

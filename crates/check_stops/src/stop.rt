@@ -1,7 +1,7 @@
 ghost use Rattle.check_stops.specs.Stops.{IsOfFile};
 
 use crate::bad_words::WordFault;
-use crate::call_hint::CallHint;
+use crate::call_fault::CallFault;
 use crate::refused::RefusedFile;
 use bpf_compare::Doubt;
 use check_answers::{Difference, reason};
@@ -79,12 +79,7 @@ impl fmt::Display for Stop<'_> {
             Stop::CommandLine(error) => write!(f, "{error}"),
             Stop::BadNumber(word) => writeln!(f, "seccheck: {}: BadNumber", ShownPath(word)),
             Stop::BadCall(word) => {
-                writeln!(
-                    f,
-                    "seccheck: {}: BadNumber{}",
-                    ShownPath(word),
-                    CallHint(word)
-                )
+                writeln!(f, "seccheck: {}: {}", ShownPath(word), CallFault(word))
             }
             Stop::BadWord(word, fault) => writeln!(f, "seccheck: {}: {fault}", ShownPath(word)),
             Stop::File(path, fault) => writeln!(f, "seccheck: {}: {fault}", ShownPath(path)),

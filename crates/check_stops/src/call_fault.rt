@@ -1,48 +1,50 @@
 ghost use Rattle.std.specs.Prelude.{◌≡◌, ◌||◌, ◌==◌};
 ghost use Rattle.std.specs.List.{list_any};
-ghost use Rattle.check_stops.specs.CallHints.{begins_name, is_file, is_file_byte, is_name_byte, unknown_hint};
+ghost use Rattle.check_stops.specs.CallFaults.{begins_name, is_file, is_file_byte, is_name_byte, unknown_fault};
 
 use absent_names::{AbsentName, kind_of, suggestion};
 use std::fmt;
 
-/// Why a word is no call, with a space in front and in parentheses. There is nothing to say of a number.
+/// The fault's name of a word that is no call, and what the word is, if it is no number.
 #[derive(Clone, Copy)]
-pub(crate) struct CallHint<'a>(pub(crate) &'a str);
+pub(crate) struct CallFault<'a>(pub(crate) &'a str);
 
-impl fmt::Display for CallHint<'_> {
+impl fmt::Display for CallFault<'_> {
     ghost use Rattle.std.specs.Prelude.{Some};
-    ghost use Rattle.check_stops.specs.CallHints.{call_hint};
+    ghost use Rattle.check_stops.specs.CallFaults.{call_fault};
 
-    ghost output = { λ hint. Some (call_hint hint.0.now) };
+    ghost output = { λ fault. Some (call_fault fault.0.now) };
 
-    #[tactic(auto, unfolding(crate::specs::CallHints::call_hint))]
+    #[tactic(auto, unfolding(crate::specs::CallFaults::call_fault))]
     fn fmt<W: fmt::Write>(&self, f: &mut fmt::Formatter<W>) -> fmt::Result {
         if is_file(self.0) {
-            return f.write_str(" (a file? it comes first)");
+            return f.write_str("BadNumber (a file? it comes first)");
         }
         match kind_of(self.0) {
             AbsentName::Newer(number) => write!(
                 f,
-                " (call {number}, newer than the table: give the number)"
+                "BadNumber (call {number}, newer than the table: give the number)"
             ),
-            AbsentName::NotImplemented => f.write_str(" (not implemented on x86-64)"),
-            AbsentName::OtherArchitecture => f.write_str(" (a call of other architectures)"),
+            AbsentName::NotImplemented => f.write_str("BadNumber (not implemented on x86-64)"),
+            AbsentName::OtherArchitecture => f.write_str(
+                "BadNumber (a call of other architectures)",
+            ),
             AbsentName::Unknown => match suggestion(self.0) {
-                Some(call) => write!(f, " (no call of that name; near: {call})"),
-                None => f.write_str(unknown_hint(self.0)),
+                Some(call) => write!(f, "BadNumber (no call of that name; near: {call})"),
+                None => f.write_str(unknown_fault(self.0)),
             },
         }
     }
 }
 
 /// What is printed of a word that no call is like.
-fn unknown_hint(word: &str) -> &'static str
-    ensures { result.now ≡ unknown_hint word.now }
+fn unknown_fault(word: &str) -> &'static str
+    ensures { result.now ≡ unknown_fault word.now }
 {
     if begins_name(word.as_bytes()) {
-        " (no call of that name)"
+        "BadNumber (no call of that name)"
     } else {
-        ""
+        "BadNumber"
     }
 }
 
