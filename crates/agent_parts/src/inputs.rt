@@ -4,7 +4,7 @@ ghost use Rattle.std.specs.Prelude.{IfErr, IfOk};
 ghost use Rattle.manifest.specs.Pod.{ReadsPod};
 ghost use Rattle.agent_parts.specs.Stops.{IsOfText};
 
-use crate::advice_lines::advice_lines;
+use crate::advice::advice_lines;
 use crate::stops::AgentStop;
 use fault_notes::manifest_note;
 use manifest::{Pod, PodFault};

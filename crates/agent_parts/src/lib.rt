@@ -24,7 +24,7 @@
 //! - The lines and constants: `working_line`, `FolderLines::reading`, `constants_are_as_stated`.
 #![tactic(auto)]
 
-mod advice_lines;
+mod advice;
 mod folder_lines;
 mod inputs;
 mod laws;
@@ -44,7 +44,7 @@ mod tables;
 mod telling;
 mod troubles;
 
-pub use advice_lines::advice_lines;
+pub use advice::advice_lines;
 pub use folder_lines::FolderLines;
 pub use inputs::{NamedPod, pod_at, pod_of};
 pub use laws::constants_are_as_stated;

@@ -2,7 +2,7 @@
 use Rattle.std.proofs.Common.{◌≡◌, ◌++◌, drop, map}
 use Rattle.std.specs.Prelude.{string_bytes}
 use Rattle.agent_parts.specs.AdviceLines.{advice_line}
-use Rattle.agent_parts.proofs.advice_lines.lines_on.Given as goal
+use Rattle.agent_parts.proofs.advice.lines_on.Given as goal
 
 abbrev pub invariant-loop-text : goal.invariant-loop-text
 invariant-loop-text l = map string_bytes l.lines.items
