@@ -3,7 +3,7 @@ use Rattle.std.specs.Prelude.{ℕ, List, ◌++◌, codes, map}
 use Rattle.fault_notes.specs.Paths.{shown_path}
 use Rattle.manifest_advice.specs.Words.{advice_texts}
 
-abbrev pub advice_line : List ℕ → List ℕ → List ℕ
+unfoldable pub advice_line : List ℕ → List ℕ → List ℕ
 advice_line path text = codes "nodeagent: " ++ (shown_path path ++ (codes ": " ++ text))
 
 abbrev pub advice_lines : List ℕ → List ℕ → List (List ℕ)

@@ -25,6 +25,7 @@ fn lines_on(alloc: Global, path: &str, texts: &[String]) -> Result<Vec<String>, 
     Ok(lines)
 }
 
+#[tactic(auto, unfolding(crate::specs::AdviceLines::advice_line))]
 fn advice_line(alloc: Global, path: &str, text: &str) -> Result<String, AllocError>
     ensures { IfOk result (λ line. string_bytes line ≡ advice_line path.now text.now) }
 {
