@@ -28,13 +28,19 @@ key_of (OldAnnotation key) = key
 abbrev pub field_member : List ℕ → List ℕ
 field_member key = codes ",\"field\":" ++ compact_text (string key)
 
+-- a finding with the severity of its kind
+abbrev pub finding_line : FindingKind → List ℕ → List ℕ → List ℕ
+finding_line kind place words = graded kind (text_of place (kind_text kind) words)
+
 abbrev pub text_line : Told → List ℕ
-text_line told = graded (kind_of_advice told)
-    (text_of (advice_place told) (kind_text (kind_of_advice told)) (advice_words told))
+text_line told = finding_line (kind_of_advice told) (advice_place told) (advice_words told)
+
+unfoldable pub advice_object : Told → List ℕ
+advice_object told = object_text (advice_place told) (kind_of_advice told) (field_member (key_of told))
+    (advice_words told)
 
 abbrev pub object_line : Told → List ℕ
-object_line told = line_of (object_text (advice_place told) (kind_of_advice told)
-    (field_member (key_of told)) (advice_words told))
+object_line told = line_of (advice_object told)
 
 abbrev pub shown : Form → Told → List ℕ
 shown form.Text told = text_line told

@@ -57,7 +57,7 @@ fn refused_output<'a>(
     allowed: &[FindingKind],
     form: Form,
 ) -> Result<Output, Stop<'a>>
-    ensures { IfOk result (λ output. is_manifest file.bytes.items ≡ true) }
+    ensures { IfOk result (λ output. is_manifest file.entry.bytes.items ≡ true) }
 {
     match hint_of_text(alloc, &file.bytes, Wanted::Profile)? {
         Some(Hint::Manifest) => manifest_lint(alloc, file.path, file.bytes, allowed, form),

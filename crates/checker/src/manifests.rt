@@ -4,8 +4,10 @@ ghost use Rattle.std.specs.List.{list_any};
 ghost use Rattle.serde_json.specs.View.{view};
 ghost use Rattle.manifest_advice.specs.Advice as advice;
 ghost use Rattle.manifest_advice.specs.Advice.{told};
-ghost use Rattle.checker.specs.ManifestLint.{advice_line, advice_lines, field_member, is_manifest_bad, key_of};
-ghost use Rattle.checker.specs.ManifestLint.{kind_of_advice, manifest_status, object_line, shown, text_line};
+ghost use Rattle.profile_lint.specs.Text.{graded};
+ghost use Rattle.checker.specs.ManifestLint.{advice_line, advice_lines, advice_object, field_member, finding_line};
+ghost use Rattle.checker.specs.ManifestLint.{is_manifest_bad, key_of, kind_of_advice, manifest_status, object_line};
+ghost use Rattle.checker.specs.ManifestLint.{shown, text_line};
 
 use check_stops::{Form, Output};
 use manifest_advice::{Advice, AdvicePlace, AdviceWords, advice_in};
@@ -83,7 +85,7 @@ fn add_advice(
     form: Form,
 ) -> Result<(), AllocError>
     ensures { OnOk result (string_bytes text.new
-        ≡ string_bytes text.old ++ advice_line form allowed.now (told advice)) }
+        ≡ string_bytes text.old ++ advice_line form allowed.now (told advice.entry)) }
 {
     if !is_allowed(kind_of_advice(advice), allowed) {
         let line = shown(alloc, advice, form)?;
@@ -93,7 +95,7 @@ fn add_advice(
 }
 
 fn shown(alloc: Global, advice: Advice<'_>, form: Form) -> Result<String, AllocError>
-    ensures { IfOk result (λ text. string_bytes text ≡ shown form (told advice)) }
+    ensures { IfOk result (λ text. string_bytes text ≡ shown form (told advice.entry)) }
 {
     match form {
         Form::Text => text_line(alloc, advice),
@@ -102,24 +104,54 @@ fn shown(alloc: Global, advice: Advice<'_>, form: Form) -> Result<String, AllocE
 }
 
 fn text_line(alloc: Global, advice: Advice<'_>) -> Result<String, AllocError>
-    ensures { IfOk result (λ text. string_bytes text ≡ text_line (told advice)) }
+    ensures { IfOk result (λ text. string_bytes text ≡ text_line (told advice.entry)) }
 {
-    let kind = kind_of_advice(advice);
+    let place = format!(in alloc; "{}", AdvicePlace(advice))?;
+    let words = format!(in alloc; "{}", AdviceWords(advice))?;
+    finding_line(
+        alloc,
+        kind_of_advice(advice),
+        place.as_str(),
+        words.as_str(),
+    )
+}
+
+fn finding_line(
+    alloc: Global,
+    kind: FindingKind,
+    place: &str,
+    words: &str,
+) -> Result<String, AllocError>
+    ensures { IfOk result (λ text. string_bytes text ≡ finding_line kind place.now words.now) }
+{
+    let text = format!(in alloc; "{place}: {kind}: {words}")?;
+    graded_line(alloc, kind, text.as_str())
+}
+
+/// A finding with the severity of its kind.
+fn graded_line(alloc: Global, kind: FindingKind, text: &str) -> Result<String, AllocError>
+    ensures { IfOk result (λ line. string_bytes line ≡ graded kind text.now) }
+{
     let severity = severity_of(kind);
-    let (place, words) = (AdvicePlace(advice), AdviceWords(advice));
-    format!(in alloc; "{severity}: {place}: {kind}: {words}\n")
+    format!(in alloc; "{severity}: {text}\n")
+}
+
+fn object_line(alloc: Global, advice: Advice<'_>) -> Result<String, AllocError>
+    ensures { IfOk result (λ text. string_bytes text ≡ object_line (told advice.entry)) }
+{
+    let object = advice_object(alloc, advice)?;
+    format!(in alloc; "{object}\n")
 }
 
 /// An object of JSON (RFC 8259), with the key in the manifest as `field`.
-fn object_line(alloc: Global, advice: Advice<'_>) -> Result<String, AllocError>
-    ensures { IfOk result (λ text. string_bytes text ≡ object_line (told advice)) }
+#[tactic(auto, unfolding(crate::specs::ManifestLint::advice_object))]
+fn advice_object(alloc: Global, advice: Advice<'_>) -> Result<String, AllocError>
+    ensures { IfOk result (λ text. string_bytes text ≡ advice_object (told advice.entry)) }
 {
     let place = format!(in alloc; "{}", AdvicePlace(advice))?;
     let words = format!(in alloc; "{}", AdviceWords(advice))?;
     let field = field_member(alloc, key_of(advice))?;
-    let kind = kind_of_advice(advice);
-    let object = finding_object(alloc, place, kind, field.as_str(), words)?;
-    format!(in alloc; "{object}\n")
+    finding_object(alloc, place, kind_of_advice(advice), field.as_str(), words)
 }
 
 fn field_member(alloc: Global, key: &str) -> Result<String, AllocError>
@@ -130,7 +162,7 @@ fn field_member(alloc: Global, key: &str) -> Result<String, AllocError>
 }
 
 fn kind_of_advice(advice: Advice<'_>) -> FindingKind
-    ensures { result ≡ kind_of_advice (told advice) }
+    ensures { result ≡ kind_of_advice (told advice.entry) }
 {
     match advice {
         Advice::OtherCase(_, _, _) => FindingKind::OtherCase,
@@ -140,7 +172,7 @@ fn kind_of_advice(advice: Advice<'_>) -> FindingKind
 
 /// The key that has no effect.
 fn key_of<'v>(advice: Advice<'v>) -> &'v str
-    ensures { result.now ≡ key_of (told advice) }
+    ensures { result.now ≡ key_of (told advice.entry) }
 {
     match advice {
         Advice::OtherCase(_, key, _) => key,

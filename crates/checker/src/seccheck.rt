@@ -97,7 +97,7 @@ fn report<E: Write>(stop: &Stop, err: &mut E) -> u8 {
 
 /// Why a word of a call ends the program.
 fn call_stop(word: BadCallWord<'_>) -> Stop<'_>
-    ensures { result ≡ call_stop word }
+    ensures { result ≡ call_stop word.entry }
 {
     match word {
         BadCallWord::Call(word) => Stop::BadCall(word),

@@ -7,5 +7,5 @@ use Rattle.checker.proofs.manifests.advice_lines.Given as goal
 
 abbrev pub invariant-loop-advice : goal.invariant-loop-advice
 invariant-loop-advice l = string_bytes l.text
-    ++ flat_map (advice_line l.form l.allowed.now) (map told (drop l.advice-index l.found))
-    ≡ flat_map (advice_line l.form l.allowed.now) (map told l.found)
+    ++ flat_map (advice_line l.form l.allowed) (map told (drop l.advice-index l.found))
+    ≡ flat_map (advice_line l.form l.allowed) (map told l.found)

@@ -7,6 +7,6 @@ use Rattle.checker.specs.ManifestLint.{kind_of_advice}
 use Rattle.checker.proofs.manifests.is_manifest_bad.Given as goal
 
 abbrev pub invariant-loop-advice : goal.invariant-loop-advice
-invariant-loop-advice l = list_any (λ t. is_bad_kind l.allowed.now (kind_of_advice t))
+invariant-loop-advice l = list_any (λ t. is_bad_kind l.allowed (kind_of_advice t))
     (map told (drop l.advice-index l.found))
-    ≡ list_any (λ t. is_bad_kind l.allowed.now (kind_of_advice t)) (map told l.found)
+    ≡ list_any (λ t. is_bad_kind l.allowed (kind_of_advice t)) (map told l.found)
