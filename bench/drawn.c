@@ -4,17 +4,19 @@
  * always allowed, so the steps of calls with conditions are those that count. */
 #include "rules.h"
 
-enum { LISTS = 150, GROUPS = 13, MEASURES = 2, CALLS = 2 * RULES };
+enum { LISTS = 150, GROUPS = 16, MEASURES = 2, CALLS = 2 * RULES, SOME = 12 };
 
 /* How many of a list's names have conditions, and which. */
+enum { TENTH = -2, ONE_TO_SOME = -1 };
+
 static const struct group {
     const char *title;
-    int conditional; /* or 0: one in ten */
+    int conditional;
     enum asked asked;
 } groups[GROUPS] = {{"5", 5, EQUALITIES},
                     {"10", 10, EQUALITIES},
                     {"20", 20, EQUALITIES},
-                    {"one in ten", 0, EQUALITIES},
+                    {"one in ten", TENTH, EQUALITIES},
                     {"10, any comparisons", 10, COMPARISONS},
                     {"10, any arguments", 10, ARGUMENTS_TOO},
                     {"1, types under a mask", 1, TYPES},
@@ -23,12 +25,24 @@ static const struct group {
                     {"1, bits", 1, BITS},
                     {"1, masks", 1, MASKS},
                     {"1, two of four arguments", 1, TWO_ARGUMENTS},
-                    {"1, a shared condition", 1, SHARED}};
+                    {"1, a shared condition", 1, SHARED},
+                    {"1 to 12", ONE_TO_SOME, EQUALITIES},
+                    {"1 to 12, any comparisons", ONE_TO_SOME, COMPARISONS},
+                    {"1 to 12, any arguments", ONE_TO_SOME, ARGUMENTS_TOO}};
 
 struct calls {
     struct seccomp_data data[CALLS];
     int count;
 };
+
+/* How many names of a list have conditions. */
+static int conditional_of(const struct group *group, int list, int names) {
+    switch (group->conditional) {
+    case TENTH: return names / 10;
+    case ONE_TO_SOME: return 1 + list % SOME;
+    default: return group->conditional;
+    }
+}
 
 /* A call whose arguments are what the conditions name. */
 static struct seccomp_data named_by(const struct rule *rule) {
@@ -108,7 +122,7 @@ int main(void) {
         struct figures all[COMPILERS] = {0};
         for (int list = 0; list < LISTS; list++) {
             int wanted = 100 + below(201);
-            drawn_names(wanted, group->conditional ? group->conditional : wanted / 10, group->asked);
+            drawn_names(wanted, conditional_of(group, list, wanted), group->asked);
             measure_list(all);
         }
         for (int how = 0; how < COMPILERS; how++)

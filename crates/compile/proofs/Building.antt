@@ -1,9 +1,9 @@
 -- Putting an instruction in front of code that is built from its end.
 use Rattle.compile.proofs.Common.{◌≡◌, ℕ, zero, suc, ◌+◌, ◌-◌, ◌<◌, ◌≤◌, List, [], ◌∷◌, ◌++◌, ◌⊎◌, Some}
 use Rattle.compile.proofs.Common.{length, slice_get, refl, sym, ap, ◌∙◌, arith, inl, inr, subst, Result, Ok}
-use Rattle.compile.proofs.Common.{Err, IfOk, OnOk, Bool, true, false, cond, Insn, AndK, LoadData, ReturnK}
+use Rattle.compile.proofs.Common.{Err, IfOk, OnOk, Bool, true, false, cond, Insn, LoadData, ReturnK}
 use Rattle.compile.proofs.Common.{Operation, AllocError, SysCall, LeadsTo, Gives, Keeps, IsBackward}
-use Rattle.compile.proofs.Common.{PointsInside, data_word, bit_and, holds_of, ends, leads}
+use Rattle.compile.proofs.Common.{PointsInside, data_word, holds_of, ends, leads}
 use Rattle.std.proofs.lemmas.Option.{same_Some}
 use Rattle.std.proofs.lemmas.List.{take-append-le, length-take}
 use Rattle.std.proofs.Math.Nat.{min-le_right}
@@ -199,16 +199,6 @@ load_gives insn code call at a value most stands op inside on =
     let some : 0 < at = (subst P op inside).2 in
     leads insn stands (at - 1) (data_word call insn.k) most (subst Q (sym op) (omega arith, refl))
     (omega arith)
-    on
-
-pub mask_gives : (insn : Insn) (code : List Insn) (call : SysCall) (at a value most : ℕ)
-    → slice_get code at ≡ Some insn → insn.op ≡ AndK → PointsInside insn.op insn at
-    → Gives code call (at - 1) (bit_and a insn.k) value most → Gives code call at a value (most + 1)
-mask_gives insn code call at a value most stands op inside on =
-    let P : Operation → Type 0 = λ o. PointsInside o insn at in
-    let Q : Operation → Type 0 = λ o. LeadsTo o call insn at a (at - 1) (bit_and a insn.k) in
-    let some : 0 < at = subst P op inside in
-    leads insn stands (at - 1) (bit_and a insn.k) most (subst Q (sym op) (omega arith, refl)) (omega arith)
     on
 
 -- what is in A does not matter at a return

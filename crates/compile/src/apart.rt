@@ -3,21 +3,26 @@ ghost use Rattle.compile.specs.Common.{SysCall, first_value};
 
 use crate::atom::NOWHERE;
 use crate::choose::{alike, best};
-use crate::clause::{Literal, Rule};
+use crate::clause::{Clause, Literal, Rule};
 
 /// The arguments that a literal asks about, one bit each.
-fn asked_by(literal: &Literal) -> u32 {
+fn argument(literal: &Literal) -> u32 {
     match *literal {
         Literal::Asked(atom, _) if atom.view.offset < 64 => 1 << (atom.view.offset / 8),
         _ => 0,
     }
 }
 
+/// The arguments that a clause asks about, one bit each.
+pub(crate) fn asked_by(clause: &Clause) -> u32 {
+    argument(&clause.one) | argument(&clause.other)
+}
+
 /// The arguments that a rule asks about, one bit each.
 pub(crate) fn arguments(rule: &Rule) -> u32 {
     let mut found = 0;
     for clause in rule.clauses.as_slice() {
-        found |= asked_by(&clause.one) | asked_by(&clause.other);
+        found |= asked_by(clause);
     }
     found
 }
@@ -31,9 +36,14 @@ fn all_arguments(rules: &[Rule]) -> u32 {
     found
 }
 
+/// Whether the rules ask about more than one argument.
+pub(crate) fn ask_several(rules: &[Rule]) -> bool {
+    all_arguments(rules).count_ones() > 1
+}
+
 /// Up to this many rules part only where the rules before and after share no argument. More rules part where
 /// the next one asks about none of the arguments that all rules before it share.
-const FEW: usize = 4;
+const FEW: usize = 5;
 
 /// Whether the rules part at a place, given the arguments that all rules since the last parting share.
 fn part_at(rules: &[Rule], at: usize, shared: u32) -> bool
@@ -87,7 +97,7 @@ pub(crate) fn certain(rules: &[Rule]) -> Option<u32>
 /// The arguments that the first clause of a rule asks about, one bit each.
 pub(crate) fn first_argument(rule: &Rule) -> u32 {
     match rule.clauses.as_slice().first() {
-        Some(clause) => asked_by(&clause.one) | asked_by(&clause.other),
+        Some(clause) => asked_by(clause),
         None => 0,
     }
 }

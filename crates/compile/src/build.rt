@@ -56,8 +56,8 @@ fn nearer(code: &mut Code, way: Way, reach: usize) -> Built
     }
 }
 
-/// Where to enter the branch at `front - 1`, given the view in A. If A does not have what the branch needs,
-/// the instructions from `front` on must load it.
+/// Where to enter the branch at `front - 1`, given the view in A. If A does not have what the branch needs, the
+/// instruction at `front` must load it.
 fn brought_at(code: &Code, front: usize, base: View, view: View) -> Option<Way>
     requires some { 0 < front }
     requires inside { front ≤ length code.now }
@@ -73,23 +73,11 @@ fn brought_at(code: &Code, front: usize, base: View, view: View) -> Option<Way>
             most: 0,
         });
     }
-    if base.mask == WHOLE {
-        let way = Way { at: front, most: 1 };
-        return code.loads(front, base.offset).then_some(way);
-    }
-    if !code.masks(front, base.mask) {
+    if base.mask != WHOLE {
         return None;
     }
-    if view.covers(base) {
-        return Some(Way { at: front, most: 1 });
-    }
-    if front >= code.len() || !code.loads(front + 1, base.offset) {
-        return None;
-    }
-    Some(Way {
-        at: front + 1,
-        most: 2,
-    })
+    let way = Way { at: front, most: 1 };
+    code.loads(front, base.offset).then_some(way)
 }
 
 /// A recent branch with the same test and targets, and where to enter it, given the view in A.

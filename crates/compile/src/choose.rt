@@ -1,5 +1,6 @@
 ghost use Rattle.std.specs.Prelude.{◌≤◌, ◌<◌, length};
 
+use crate::apart::{ask_several, asked_by, first_argument};
 use crate::atom::{Ask, Atom, NOWHERE, View, WHOLE};
 use crate::build::cost;
 use crate::clause::{Clause, Literal, Rule};
@@ -7,9 +8,16 @@ use std::alloc::{AllocError, Global};
 
 /// If a word is compared with this many numbers, the middle one splits them.
 const MANY: usize = 4;
+/// The same for a word that must be loaded, if the rules ask about several arguments.
+const MANY_BESIDE_OTHERS: usize = 3;
 
 /// How many rules are searched for those that need a literal.
 const SHARING: usize = 16;
+
+/// Up to this many rules are few: more mostly share an argument that they do not ask about first.
+const FEW: usize = 4;
+/// How much the argument counts that a rule asks about first.
+const WRITTEN_FIRST: u64 = 3;
 
 /// The question for rules that ask nothing.
 const ANY: Atom = Atom {
@@ -61,20 +69,33 @@ fn needing(rules: &[Rule], literal: &Literal) -> u64 {
     many
 }
 
-/// The best clause of a rule to try first: the one that fails most often. If the rules return different
-/// values, a failure counts once for each rule that needs the clause.
+/// How much a failure of a clause of a rule counts. If all rules return the same value, the argument that the
+/// rule asks about first counts more. Otherwise a clause counts for each rule that needs it, and by the square
+/// if few rules ask about several arguments, since it is then asked once for all of them.
+fn importance(clause: &Clause, rule: &Rule, rules: &[Rule], is_alike: bool) -> u64 {
+    let are_few = rules.len() <= FEW;
+    if is_alike {
+        let is_first = are_few && asked_by(clause) & first_argument(rule) != 0;
+        return if is_first { WRITTEN_FIRST } else { 1 };
+    }
+    if !clause.is_alone() {
+        return 1;
+    }
+    let many = needing(rules, &clause.one);
+    if are_few && ask_several(rules) {
+        return many.saturating_mul(many);
+    }
+    many
+}
+
+/// The best clause of a rule to try first: the one whose failures count most for the steps it takes.
 fn first_clause(rule: &Rule, rules: &[Rule], is_alike: bool, view: View) -> Option<Clause> {
     let mut best = rule.clauses.as_slice().first().copied();
     let mut odds = WORST;
     for clause in rule.clauses.as_slice() {
         let Odds { share, steps } = clause_odds(clause, view);
-        let many = if clause.is_alone() && !is_alike {
-            needing(rules, &clause.one)
-        } else {
-            1
-        };
         let it = Odds {
-            share: rest(share).saturating_mul(many),
+            share: rest(share).saturating_mul(importance(clause, rule, rules, is_alike)),
             steps,
         };
         if is_better(&it, &odds) {
@@ -96,41 +117,15 @@ fn first_literal(clause: &Clause, view: View) -> Literal {
     }
 }
 
-/// The numbers that a view is compared with, and the smallest that it may equal.
-#[derive(Drop)]
-struct Cuts {
-    numbers: Vec<u32>,
-    least: u32,
-}
-
-impl Cuts {
-    fn add(&mut self, literal: &Literal, view: View) -> Result<(), AllocError> {
-        match *literal {
-            Literal::Asked(atom, _) if atom.view == view => match atom.ask {
-                Ask::Equal(k) => {
-                    self.least = self.least.min(k);
-                    self.numbers.push(k)?;
-                }
-                Ask::AtLeast(k) => self.numbers.push(k)?,
-            },
-            _ => {}
-        }
-        Ok(())
+/// Adds the number that a literal compares a view with.
+fn add(numbers: &mut Vec<u32>, literal: &Literal, view: View) -> Result<(), AllocError> {
+    match *literal {
+        Literal::Asked(atom, _) if atom.view == view => match atom.ask {
+            Ask::Equal(k) | Ask::AtLeast(k) => numbers.push(k)?,
+        },
+        _ => {}
     }
-
-    /// Asks about the middle number if there are many, else about the smallest that the view may equal.
-    fn ask(self, best: Ask) -> Result<Ask, AllocError> {
-        let mut numbers = self.numbers;
-        numbers.sort()?;
-        numbers.dedup();
-        if numbers.len() >= MANY {
-            return Ok(from(numbers[numbers.len() / 2]));
-        }
-        match best {
-            Ask::Equal(_) => Ok(Ask::Equal(self.least)),
-            Ask::AtLeast(k) => Ok(from(k)),
-        }
-    }
+    Ok(())
 }
 
 /// The best literal to try first.
@@ -145,28 +140,48 @@ fn first_of(rules: &[Rule], view: View) -> Option<Literal> {
 /// little code.
 pub(crate) fn choose(alloc: Global, rules: &[Rule], view: View) -> Result<Atom, AllocError> {
     match first_of(rules, view) {
-        Some(Literal::Asked(best, wanted)) => parted(alloc, rules, best, wanted),
+        Some(Literal::Asked(best, wanted)) => {
+            let many = if ask_several(rules) && !best.view.is(view) {
+                MANY_BESIDE_OTHERS
+            } else {
+                MANY
+            };
+            parted(alloc, rules, best, wanted, many)
+        }
         _ => Ok(ANY),
     }
 }
 
-/// A question about the best one's view.
-fn parted(alloc: Global, rules: &[Rule], best: Atom, wanted: bool) -> Result<Atom, AllocError> {
+/// A question about the best one's view: whether it is at least the middle one of this many numbers, and of
+/// fewer the best question, asked for the smallest number.
+fn parted(
+    alloc: Global,
+    rules: &[Rule],
+    best: Atom,
+    wanted: bool,
+    many: usize,
+) -> Result<Atom, AllocError> {
     if !wanted && matches!(best.ask, Ask::Equal(_)) {
         return Ok(best);
     }
     let view = best.view;
-    let mut cuts = Cuts {
-        numbers: Vec::new(alloc),
-        least: u32::MAX,
-    };
+    let mut numbers = Vec::new(alloc);
     for rule in rules {
         for clause in rule.clauses.as_slice() {
-            cuts.add(&clause.one, view)?;
-            cuts.add(&clause.other, view)?;
+            add(&mut numbers, &clause.one, view)?;
+            add(&mut numbers, &clause.other, view)?;
         }
     }
-    let ask = cuts.ask(best.ask)?;
+    numbers.sort()?;
+    numbers.dedup();
+    let Some(least) = numbers.as_slice().first() else {
+        return Ok(best);
+    };
+    let ask = match best.ask {
+        _ if numbers.len() >= many => from(numbers[numbers.len() / 2]),
+        Ask::Equal(_) => Ask::Equal(*least),
+        Ask::AtLeast(_) => best.ask,
+    };
     Ok(Atom { view, ask })
 }
 
@@ -199,18 +214,20 @@ fn part(steps: u64, share: u64) -> u64 {
     steps.saturating_mul(share) / ALL
 }
 
-/// The share of calls that answer yes. Upper halves are mostly 0, and lower halves mostly another number.
+/// The share of calls that answer yes. Upper halves are mostly 0, and lower halves mostly another number, and
+/// small.
 fn share_of(atom: &Atom) -> u64 {
     if atom.view.offset.is_multiple_of(8) {
         match atom.ask {
             Ask::Equal(0) if atom.view.mask != WHOLE => 910,
             Ask::Equal(_) => 220,
-            Ask::AtLeast(_) => 550,
+            Ask::AtLeast(k) => 620u64.saturating_sub(12 * u64::from(k.max(1).ilog2())),
         }
     } else {
         match atom.ask {
             Ask::Equal(0) => 900,
-            _ => 50,
+            Ask::Equal(_) => 250,
+            Ask::AtLeast(_) => 50,
         }
     }
 }

@@ -3,7 +3,7 @@ ghost use Rattle.std.specs.Prelude.{take, length, IfOk, OnOk, IsTrue, bit_and, i
 ghost use Rattle.compile.specs.Common.{Builds, IsRecent, DATA_LEN, MAX_INSNS, SysCall, IsSound, Runs, Gives};
 ghost use Rattle.compile.specs.Common.{GivesAlways, data_word, holds_of, REACH, RECENT, Insn, IsBackward};
 ghost use Rattle.compile.specs.Common.{PointsInside, Puts, operation_of};
-ghost use Rattle.bpf_code.specs.declared.operation.Operation.TheVariants.{AndK, LoadData, ReturnK};
+ghost use Rattle.bpf_code.specs.declared.operation.Operation.TheVariants.{LoadData, ReturnK};
 
 use bpf_code::{Insn, MAX_INSNS, Operation};
 use bpf_verify::{Filter, verify};
@@ -271,22 +271,6 @@ impl Code {
         insn.k == offset
     }
 
-    /// Whether a place masks A with these bits.
-    pub(crate) fn masks(&self, place: usize, bits: u32) -> bool
-        ensures { IsTrue result → (place < length self.now) × ((call : SysCall) (a value most : ℕ)
-            → Gives self.now call (place - 1) (bit_and a bits) value most
-            → Gives self.now call place a value (most + 1)) }
-    {
-        if place >= self.len() {
-            return false;
-        }
-        let insn = self.at(place);
-        if !is_mask(insn.op) {
-            return false;
-        }
-        insn.k == bits
-    }
-
     /// Removes what was put in front last, down to this length.
     pub(crate) fn cut(&mut self, len: usize)
         ensures { self.new ≡ take len self.old }
@@ -333,12 +317,6 @@ pub(crate) fn is_load(op: Operation) -> bool
     ensures { IsTrue result → op ≡ LoadData }
 {
     matches!(op, Operation::LoadData)
-}
-
-fn is_mask(op: Operation) -> bool
-    ensures { IsTrue result → op ≡ AndK }
-{
-    matches!(op, Operation::AndK)
 }
 
 fn is_return(op: Operation) -> bool
