@@ -2,7 +2,7 @@
 use Rattle.compile.proofs.Common.{◌≡◌, ℕ, ◌+◌, ◌-◌, ◌<◌, arith, List, [], ◌∷◌, ◌++◌, cond, drop, get_or}
 use Rattle.compile.proofs.Common.{length, take, refl, sym, ap, subst, ◌∙◌, Bool, true, false, Option, Some}
 use Rattle.compile.proofs.Common.{IfSome, at_drop_more, take_all, take-append-drop, SysCall, Rule}
-use Rattle.compile.proofs.Common.{clauses_hold, first_value}
+use Rattle.compile.proofs.Common.{Clause, clauses_hold, first_value}
 use Rattle.std.proofs.lemmas.List.{length-drop}
 
 pub first_append : (rules others : List Rule) (other : ℕ) (call : SysCall)
@@ -58,3 +58,8 @@ pub certain_here : (rules : List Rule) (at other value : ℕ) (call : SysCall) (
 certain_here rules at other value call rule inside is same holds =
     first_from rules at other call rule inside is
     ∙ ap (λ b. cond b rule.value (first_value (drop (at + 1) rules) other call)) holds ∙ same
+
+-- no clauses always hold
+pub none_hold : (clauses : List Clause) (call : SysCall) → length clauses ≡ 0 → clauses_hold clauses call ≡ true
+none_hold [] call none = refl
+none_hold (clause ∷ clauses) call none = absurd (omega (arith, none))

@@ -56,8 +56,8 @@ fn nearer(code: &mut Code, way: Way, reach: usize) -> Built
     }
 }
 
-/// Where to enter the branch at `front - 1`, given the view in A. If A does not have what the branch needs, the
-/// instruction at `front` must load it.
+/// Where to enter the branch at `front - 1`, given the view in A. If A does not have what the branch needs,
+/// the instruction at `front` must load it.
 fn brought_at(code: &Code, front: usize, base: View, view: View) -> Option<Way>
     requires some { 0 < front }
     requires inside { front ≤ length code.now }

@@ -11,9 +11,6 @@ const MANY: usize = 4;
 /// The same for a word that must be loaded, if the rules ask about several arguments.
 const MANY_BESIDE_OTHERS: usize = 3;
 
-/// How many rules are searched for those that need a literal.
-const SHARING: usize = 16;
-
 /// Up to this many rules are few: more mostly share an argument that they do not ask about first.
 const FEW: usize = 4;
 /// How much the argument counts that a rule asks about first.
@@ -56,10 +53,10 @@ pub(crate) fn best(rules: &[Rule], view: View) -> usize
     best
 }
 
-/// How many of the first rules need this literal to hold.
+/// How many of the rules need this literal to hold.
 fn needing(rules: &[Rule], literal: &Literal) -> u64 {
     let mut many: u64 = 0;
-    for rule in &rules[..SHARING.min(rules.len())] {
+    for rule in rules {
         for clause in rule.clauses.as_slice() {
             if clause.is_alone() && clause.one == *literal {
                 many = many.saturating_add(1);
@@ -214,8 +211,7 @@ fn part(steps: u64, share: u64) -> u64 {
     steps.saturating_mul(share) / ALL
 }
 
-/// The share of calls that answer yes. Upper halves are mostly 0, and lower halves mostly another number, and
-/// small.
+/// The share of calls that answer yes. Upper halves are mostly 0, lower halves mostly another, small number.
 fn share_of(atom: &Atom) -> u64 {
     if atom.view.offset.is_multiple_of(8) {
         match atom.ask {

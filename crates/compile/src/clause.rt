@@ -258,7 +258,7 @@ fn clauses_where(
     Ok(Some(left))
 }
 
-/// What is left of rules on calls where a question has this answer.
+/// What is left of rules on calls where a question has this answer, up to the first that always holds.
 pub(crate) fn rules_where(
     alloc: Global,
     rules: &[Rule],
@@ -271,10 +271,14 @@ pub(crate) fn rules_where(
     let mut left = Vec::new(alloc);
     for rule in rules {
         if let Some(clauses) = clauses_where(alloc, rule.clauses.as_slice(), given, answer)? {
+            let is_last = clauses.as_slice().is_empty();
             left.push(Rule {
                 clauses,
                 value: rule.value,
             })?;
+            if is_last {
+                return Ok(left);
+            }
         }
     }
     Ok(left)
