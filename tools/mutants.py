@@ -11,7 +11,8 @@ sources, the old text, which that file has once, the new text, and the promise t
 \\n is the end of a line. In the new text MUTANT is a condition: it is true where the wrong body is switched on, and
 else the new text has to do what the old one does. A new text without this word gets a build of its own.
 
-KEEP=FOLDER keeps the built programs in this folder. A later run builds those whose sources have changed.
+KEEP=FOLDER keeps the built programs in this folder. A later run builds those whose sources have changed. SIDE=N
+tries N wrong bodies side by side, two if it is absent.
 """
 import hashlib
 import os
@@ -27,7 +28,7 @@ sys.dont_write_bytecode = True
 from side_by_side import ROOT, crates_of, with_below
 from tried import built
 
-LIST, SIDE = f"{ROOT}/tests/mutants", 2
+LIST, SIDE = f"{ROOT}/tests/mutants", int(os.environ.get("SIDE", "2"))
 COLUMNS = ("program", "cases", "file", "old", "new", "promise")
 PROGRAMS = ("seccheck", "scriptd", "scriptctl", "nodeagent")
 TRIALS = ("memory_trials", "node_trials")
