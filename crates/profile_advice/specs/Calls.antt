@@ -1,4 +1,4 @@
--- Calls that undo what a profile is for, this project's own choice: docs/SEMANTICS.md, "What is told of a profile".
+-- Calls that undo what a profile is for, this project's own choice: docs/SEMANTICS.md, "What lint reports".
 use Rattle.std.specs.Prelude.{ℕ, ◌&&◌, Bool, if◌then◌else◌, List, [], ◌++◌, filter_map}
 use Rattle.std.specs.Prelude.{Option, Some, None}
 use Rattle.oci_profile.specs.declared.profile.Profile.{Profile}

@@ -1,4 +1,4 @@
--- The words for advice, this project's own: docs/SEMANTICS.md, "What is told of a profile".
+-- The words for advice, this project's own: docs/SEMANTICS.md, "What lint reports".
 use Rattle.std.specs.Prelude.{ℕ, ◌==◌, Bool, if◌then◌else◌, List, [], ◌∷◌, ◌++◌, codes, unwrap_or}
 use Rattle.std.specs.List.{list_any}
 use Rattle.std.specs.Fmt.{decimal}

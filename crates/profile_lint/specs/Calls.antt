@@ -1,4 +1,4 @@
--- Calls and values as they are printed, this project's own: docs/SEMANTICS.md, "What is told of a profile".
+-- Calls and values as they are printed, this project's own: docs/SEMANTICS.md, "What lint reports".
 use Rattle.std.specs.Prelude.{ℕ, List, ◌++◌, codes, slice_index}
 use Rattle.std.specs.Fmt.{decimal}
 use Rattle.action.specs.Verdict.{name_of, verdict_of}

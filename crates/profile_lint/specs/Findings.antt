@@ -1,5 +1,5 @@
 -- Findings about a profile: OCI runtime-spec 1.1, config-linux, seccomp. That calls newer than the table want
--- ENOSYS is this project's own: docs/SEMANTICS.md, "What is told of a profile".
+-- ENOSYS is this project's own: docs/SEMANTICS.md, "What lint reports".
 use Rattle.std.specs.Prelude.{◌≡◌, ℕ, ◌==◌, nat_le, ◌&&◌, if◌then◌else◌, Bool, true, false, Option, Some, None}
 use Rattle.std.specs.Prelude.{List, [], ◌∷◌, ◌++◌, ◌||◌, slice_get, map, All, Contains}
 use Rattle.std.specs.List.{list_any}

@@ -1,5 +1,5 @@
--- The kinds of findings and their severities, this project's own: docs/SEMANTICS.md, "What is told of a
--- profile".
+-- The kinds of findings and their severities, this project's own: docs/SEMANTICS.md, "What lint
+-- reports".
 use Rattle.std.specs.Prelude.{ℕ, List, codes, Option, Some, None, if◌then◌else◌}
 use Rattle.std.specs.Str.{bytes_eq}
 use Rattle.absent_names.specs.Kinds.{kind_of}

@@ -1,6 +1,6 @@
 -- The parts of a profile's text that decide nothing: OCI runtime-spec 1.1, config-linux, seccomp. This
--- project's own is that empty members and comments are not reported: docs/SEMANTICS.md, "What is told of a
--- profile".
+-- project's own is that empty members and comments are not reported: docs/SEMANTICS.md, "What lint
+-- reports".
 use Rattle.std.specs.Prelude.{◌≡◌, ℕ, ◌==◌, Bool, false, not, ◌&&◌, ◌||◌, if◌then◌else◌, List, [], ◌∷◌, ◌++◌}
 use Rattle.std.specs.Prelude.{length, codes, take, filter_map, flat_map, Option, Some, None, option_and_then}
 use Rattle.std.specs.Prelude.{is_some, map, option_map, unwrap_or}

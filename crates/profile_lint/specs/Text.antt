@@ -1,4 +1,4 @@
--- The printed findings about a profile, this project's own: docs/SEMANTICS.md, "What is told of a profile".
+-- The printed findings about a profile, this project's own: docs/SEMANTICS.md, "What lint reports".
 use Rattle.std.specs.Prelude.{ℕ, ◌==◌, nat_le, not, Bool, ◌&&◌, ◌||◌, if◌then◌else◌, List, [], ◌++◌, codes}
 use Rattle.std.specs.Prelude.{length, flat_map, nat_lt, ◌-◌, Option, Some, None}
 use Rattle.std.specs.List.{list_all}
