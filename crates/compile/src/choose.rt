@@ -12,7 +12,7 @@ const MANY: usize = 4;
 const MANY_BESIDE_OTHERS: usize = 3;
 
 /// Up to this many rules are few: more mostly share an argument that they do not ask about first.
-const FEW: usize = 4;
+pub(crate) const FEW: usize = 4;
 /// How much the argument counts that a rule asks about first.
 const WRITTEN_FIRST: u64 = 3;
 
@@ -66,14 +66,22 @@ fn needing(rules: &[Rule], literal: &Literal) -> u64 {
     many
 }
 
+/// Whether a clause asks about a lower half first.
+fn asks_lower(clause: &Clause) -> bool {
+    matches!(clause.one, Literal::Asked(atom, _) if atom.view.offset.is_multiple_of(8))
+}
+
 /// How much a failure of a clause of a rule counts. If all rules return the same value, the argument that the
-/// rule asks about first counts more. Otherwise a clause counts for each rule that needs it, and by the square
-/// if few rules ask about several arguments, since it is then asked once for all of them.
+/// rule asks about first counts more, and so does a lower half if there are several rules, since the others
+/// mostly ask about it too. Otherwise a clause counts for each rule that needs it, and by the square if few
+/// rules ask about several arguments, since it is then asked once for all of them.
 fn importance(clause: &Clause, rule: &Rule, rules: &[Rule], is_alike: bool) -> u64 {
     let are_few = rules.len() <= FEW;
     if is_alike {
         let is_first = are_few && asked_by(clause) & first_argument(rule) != 0;
-        return if is_first { WRITTEN_FIRST } else { 1 };
+        let is_shared = rules.len() > 1 && asks_lower(clause);
+        let half = if is_shared { 3 } else { 2 };
+        return if is_first { WRITTEN_FIRST * half } else { half };
     }
     if !clause.is_alone() {
         return 1;
@@ -137,13 +145,14 @@ fn first_of(rules: &[Rule], view: View) -> Option<Literal> {
 /// little code.
 pub(crate) fn choose(alloc: Global, rules: &[Rule], view: View) -> Result<Atom, AllocError> {
     match first_of(rules, view) {
-        Some(Literal::Asked(best, wanted)) => {
+        Some(Literal::Asked(best, false)) if matches!(best.ask, Ask::Equal(_)) => Ok(best),
+        Some(Literal::Asked(best, _)) => {
             let many = if ask_several(rules) && !best.view.is(view) {
                 MANY_BESIDE_OTHERS
             } else {
                 MANY
             };
-            parted(alloc, rules, best, wanted, many)
+            parted(alloc, rules, best, many)
         }
         _ => Ok(ANY),
     }
@@ -151,16 +160,7 @@ pub(crate) fn choose(alloc: Global, rules: &[Rule], view: View) -> Result<Atom, 
 
 /// A question about the best one's view: whether it is at least the middle one of this many numbers, and of
 /// fewer the best question, asked for the smallest number.
-fn parted(
-    alloc: Global,
-    rules: &[Rule],
-    best: Atom,
-    wanted: bool,
-    many: usize,
-) -> Result<Atom, AllocError> {
-    if !wanted && matches!(best.ask, Ask::Equal(_)) {
-        return Ok(best);
-    }
+fn parted(alloc: Global, rules: &[Rule], best: Atom, many: usize) -> Result<Atom, AllocError> {
     let view = best.view;
     let mut numbers = Vec::new(alloc);
     for rule in rules {
@@ -213,18 +213,14 @@ fn part(steps: u64, share: u64) -> u64 {
 
 /// The share of calls that answer yes. Upper halves are mostly 0, lower halves mostly another, small number.
 fn share_of(atom: &Atom) -> u64 {
-    if atom.view.offset.is_multiple_of(8) {
-        match atom.ask {
-            Ask::Equal(0) if atom.view.mask != WHOLE => 910,
-            Ask::Equal(_) => 220,
-            Ask::AtLeast(k) => 620u64.saturating_sub(12 * u64::from(k.max(1).ilog2())),
-        }
-    } else {
-        match atom.ask {
-            Ask::Equal(0) => 900,
-            Ask::Equal(_) => 250,
-            Ask::AtLeast(_) => 50,
-        }
+    let is_lower = atom.view.offset.is_multiple_of(8);
+    match atom.ask {
+        Ask::Equal(0) if is_lower && atom.view.mask != WHOLE => 910,
+        Ask::Equal(_) if is_lower => 220,
+        Ask::AtLeast(k) if is_lower => 620u64.saturating_sub(12 * u64::from(k.max(1).ilog2())),
+        Ask::Equal(0) => 900,
+        Ask::Equal(_) => 250,
+        Ask::AtLeast(_) => 50,
     }
 }
 

@@ -1,4 +1,4 @@
-use Rattle.compile.proofs.Common.{◌≡◌, ℕ, ◌-◌, ◌/◌, ◌∙◌, List, length, take, drop, subst, ap, sym, arith}
+use Rattle.compile.proofs.Common.{◌≡◌, ℕ, ◌-◌, ◌∙◌, List, length, take, drop, subst, ap, sym, arith}
 use Rattle.compile.proofs.Common.{take_all, Insn, NOWHERE, SysCall, first_value, WayGives, Way, Rule}
 use Rattle.compile.proofs.Restricting.{first_parted, left_some}
 use Rattle.compile.proofs.Reaching.{found_weaker}
@@ -10,7 +10,7 @@ returns-clause-gives t c =
     let mid : List Insn = c.parts.new.code in
     let new : List Insn = c.parts-2.new.code in
     let rules : List Rule = c.args.rules.now in
-    let at : ℕ = length rules / 2 in
+    let at : ℕ = c.if-many-gt-FEW.middle in
     let back : c.cut.new.self ≡ old =
     c.cut.ensures ∙ ap (λ n. take n c.build.new.code) c.len-start.ensures
     ∙ c.in_ok-way.ensures.builds.extends old (take_all (length old) old (omega arith)) in
