@@ -25,10 +25,11 @@
  * MOTCHIDU_MEMORY. They keep nothing between two calls, and may run in many threads at once, but not in a
  * signal handler, nor in the forked child of a process with threads.
  *
- * Those that read JSON, which are motchidu_compile, motchidu_compile_at, motchidu_explain and
- * motchidu_resolve, need 128 KiB of stack, because a text may have 127 nested objects: motchidu_compile took
- * 119 KiB for these, and 26 KiB for profiles as engines write them, and the other three take as much. The
- * others need 24 KiB (12 motchidu_verify, 17 motchidu_longest, 9 motchidu_run_all, 15 motchidu_compare).
+ * Those that read JSON, which are motchidu_compile, motchidu_compile_at, motchidu_compile_with,
+ * motchidu_explain and motchidu_resolve, need 128 KiB of stack, because a text may have 127 nested objects:
+ * motchidu_compile took 119 KiB for these, and 26 KiB for profiles as engines write them, and the other four
+ * take as much. The others need 24 KiB (12 motchidu_verify, 17 motchidu_longest, 9 motchidu_run_all, 15
+ * motchidu_compare).
  *
  * Link with -lmotchidu. The library is for x86-64, as of x86-64-v2.
  */
@@ -51,7 +52,8 @@ extern "C" {
  * first fault in that order is returned. P marks those that have a place in a filter. Those from
  * MOTCHIDU_LENGTH to MOTCHIDU_UNSTORED are about filters, those from MOTCHIDU_NOT_JSON to MOTCHIDU_TOO_HEAVY
  * about profiles and templates. Only motchidu_compare returns those from MOTCHIDU_SAME to
- * MOTCHIDU_ARITHMETIC, which are about two filters, and only motchidu_resolve the three after them. */
+ * MOTCHIDU_ARITHMETIC, which are about two filters, only motchidu_resolve the three after them, and only
+ * motchidu_compile_with the last one. */
 enum motchidu_status {
     MOTCHIDU_ACCEPTED = 0,        /* done; of a filter: it is sound, and may be run on any call */
     MOTCHIDU_LENGTH = 1,          /* its length is not a multiple of 8 */
@@ -93,7 +95,8 @@ enum motchidu_status {
     MOTCHIDU_BOTH = 34,           /* two fields that exclude each other: name and names, or architectures
                                      and archMap */
     MOTCHIDU_UNKNOWN_ERRNO = 35,  /* an errno's name that does not exist */
-    MOTCHIDU_BAD_KERNEL = 36      /* a minKernel that is not a version of two numbers */
+    MOTCHIDU_BAD_KERNEL = 36,     /* a minKernel that is not a version of two numbers */
+    MOTCHIDU_UNKNOWN_VERSION = 37 /* a number that names no version of Linux */
 };
 
 /* What decides a call under a profile. */
@@ -104,19 +107,25 @@ enum motchidu_decider {
     MOTCHIDU_BY_X32 = 3           /* the call is one of x32, from number 2^30 on: it kills the process */
 };
 
+/* The version of Linux whose calls a profile can name. */
+enum motchidu_version {
+    MOTCHIDU_LINUX_5_8 = 0,       /* calls up to number 439 */
+    MOTCHIDU_LINUX_6_12 = 1       /* calls up to number 462, and all calls of Linux 5.8 */
+};
+
 /*
  * Finds the name of the call of x86-64 with this number, such as read for 0.
  *
  * With MOTCHIDU_ACCEPTED the name is the first *length of the name_len bytes at name; 32 bytes are room for
- * any name. With MOTCHIDU_UNKNOWN_CALL no call that the project knows has the number, and nothing is written.
+ * any name. With MOTCHIDU_UNKNOWN_CALL no call of Linux 5.8 has the number, and nothing is written.
  */
 enum motchidu_status motchidu_call_name(uint32_t number, char *name, size_t name_len, size_t *length);
 
 /*
  * Finds the number of the call of x86-64 with this name, of name_len bytes, such as 0 for read.
  *
- * With MOTCHIDU_ACCEPTED *number becomes the number. With MOTCHIDU_UNKNOWN_CALL no call that the project
- * knows has the name, and nothing is written.
+ * With MOTCHIDU_ACCEPTED *number becomes the number. With MOTCHIDU_UNKNOWN_CALL no call of Linux 5.8 has the
+ * name, and nothing is written.
  */
 enum motchidu_status motchidu_call_number(const void *name, size_t name_len, uint32_t *number);
 
@@ -166,6 +175,18 @@ enum motchidu_status motchidu_compile_at(const void *profile, size_t profile_len
                                          char *place, size_t place_len, size_t *place_length);
 
 /*
+ * Compiles the profile as motchidu_compile_at does, with the calls of a version of Linux: calls is the number
+ * of the version, of enum motchidu_version. The calls of motchidu_compile_at are those of MOTCHIDU_LINUX_5_8.
+ *
+ * A name of a call that the version does not have is left out of its entry, or is MOTCHIDU_UNKNOWN_CALL if
+ * the entry is stricter than the default. Answers and outputs are those of motchidu_compile_at. With any
+ * other number the answer is MOTCHIDU_UNKNOWN_VERSION, and nothing is written.
+ */
+enum motchidu_status motchidu_compile_with(uint32_t calls, const void *profile, size_t profile_len,
+                                           void *filter, size_t filter_len, size_t *length,
+                                           char *place, size_t place_len, size_t *place_length);
+
+/*
  * Writes the text of RuntimeDefault, the profile that a container gets where its manifest says so. It is the
  * line that seccheck default prints, without its end.
  *
@@ -202,8 +223,8 @@ enum motchidu_status motchidu_longest(const void *filter, size_t filter_len,
  * caps has a bit for each capability of the container: that of number n in linux/capability.h is bit n, as in
  * CapBnd of /proc/PID/status. Bits from 41 on have no effect. The kernel is of version
  * kernel_major.kernel_minor; UINT32_MAX for both is newer than any that a template asks for. The architecture
- * is x86-64, amd64 in templates. Names of calls that the project does not know are left out of entries that
- * are stricter than the default, since the profile would be refused for them.
+ * is x86-64, amd64 in templates. Names of calls that Linux 5.8 does not have are left out of entries that are
+ * stricter than the default, since the profile would be refused for them.
  *
  * With MOTCHIDU_ACCEPTED the text is the first *length of the text_len bytes at text; 262,144 bytes are room
  * for any. With any other answer but MOTCHIDU_NO_ROOM nothing is written.
@@ -275,6 +296,7 @@ static inline const char *motchidu_status_text(enum motchidu_status status)
     case MOTCHIDU_BOTH: return "Both";
     case MOTCHIDU_UNKNOWN_ERRNO: return "UnknownErrno";
     case MOTCHIDU_BAD_KERNEL: return "BadKernel";
+    case MOTCHIDU_UNKNOWN_VERSION: return "UnknownVersion";
     }
     return "Unknown";
 }

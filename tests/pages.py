@@ -183,7 +183,7 @@ def check_completions(prefix):
             with open(f"{prefix}/share/{place.format(program)}", encoding="utf-8") as it:
                 words = set(re.findall(r"[a-z-]+", it.read().replace("-l ", "--")))
             check(f"{place.format(program)} has each option", sorted(options - words), [])
-    for typed, wanted in (("seccheck com", "compile compare"), ("seccheck lint --", "--all --allow --json --help"),
+    for typed, wanted in (("seccheck com", "compile compare"), ("seccheck lint --", "--all --allow --calls --json --help"),
                           ("nodeagent --w", "--with-runtime --workers --watch"), ("scriptd --scripts bi", "bin")):
         name, last = typed.split()[0], len(typed.split()) - 1
         script = (f". share/bash-completion/completions/{name}; COMP_WORDS=({typed}); COMP_CWORD={last}; _{name}; "
@@ -442,11 +442,15 @@ LINES = {
 }
 
 
+# two whole numbers, and no part of a version such as 6.12
+LIMITS = re.compile(r"(?<![\d.])(\d+) (?:to|or) (\d+)(?!\.?\d)")
+
+
 def told_in_help(said):
     """The ranges and defaults of options that --help tells."""
     found = {}
     for option, text in re.findall(r"^ +(--[a-z-]+)(?: <[A-Z]+>)? +(.*)$", said, re.M):
-        limits = re.search(r"(\d+) (?:to|or) (\d+)", text)
+        limits = LIMITS.search(text)
         default = re.search(r"\[default(?: with --settle)?: (\S+)\]", text)
         if limits or default:
             found[option] = (limits and limits.groups(), default and default[1])
@@ -457,8 +461,8 @@ def told_in_page(plain, option):
     """The range and the default that a manual page tells of an option."""
     part = re.search(rf"^\.(?:BI|B) {option}\b.*\n((?:(?!\.TP|\.SH).*\n)*)", plain, re.M)
     text = " ".join(part[1].split()) if part else ""
-    limits = re.search(r"(\d+) (?:to|or) (\d+)", text)
-    default = re.search(r"(?:By default|\.B --settle) (\d+|the working directory)", text)
+    limits = LIMITS.search(text)
+    default = re.search(r"(?:By default|\.B --settle) (\d+(?:\.\d+)?|the working directory)", text)
     return limits and limits.groups(), default and default[1].replace("the working directory", ".")
 
 

@@ -50,6 +50,10 @@ if build explain "${shared[@]}"; then
 fi
 count c/explain $?
 
+build versions "${shared[@]}" && "$out/versions" examples/c/versions.json > "$out/versions.stdout" \
+  && diff examples/c/versions.stdout "$out/versions.stdout"
+count c/versions $?
+
 build every_status -I$library $library/libmotchidu.a -Wl,--wrap=malloc && "$out/every_status"
 count c/every_status $?
 

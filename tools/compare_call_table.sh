@@ -1,7 +1,8 @@
 #!/bin/bash
-# Compares each name and number of the call table with the kernel's header on this machine
-# (asm/unistd_64.h, of Debian's linux-libc-dev). Numbers that the header has and the table leaves out
-# are counted, not refused: the table has the calls that are implemented.
+# Compares each name and number of both call tables with the kernel's header on this machine
+# (asm/unistd_64.h, of Debian's linux-libc-dev), as far as the header goes: an older header lacks the newest calls
+# of Linux 6.12. Numbers that the header has and a table leaves out are counted, not refused: the tables have the
+# calls that are implemented.
 set -e
 cd "$(dirname "$0")/.."
 header=$(ls /usr/include/x86_64-linux-gnu/asm/unistd_64.h /usr/include/asm/unistd_64.h 2>/dev/null | head -1)
@@ -11,14 +12,23 @@ if [ -z "$header" ]; then
 fi
 parts=$(mktemp -d)
 trap 'rm -rf "$parts"' EXIT
-sed -n '/static NAMES/,/^\];/p' crates/sys_table/src/table.rt | sed '1d;s://.*::' | grep -o '"[^"]*"' |
-  tr -d '"' | awk '{ if ($0 != "") print NR - 1, $0 }' | sort > "$parts/table"
 awk '$1 == "#define" && $2 ~ /^__NR_/ { print $3, substr($2, 6) }' "$header" | sort > "$parts/header"
-wrong=$(comm -23 "$parts/table" "$parts/header")
-if [ -n "$wrong" ]; then
-  echo "call table: not as in $header:"
-  echo "$wrong"
-  exit 1
-fi
-more=$(comm -13 "$parts/table" "$parts/header" | wc -l)
-echo "call table: $(wc -l < "$parts/table") names as in $header, which has $more more"
+last=$(sort -n "$parts/header" | tail -1 | cut -d ' ' -f 1)
+sed -n '/static NAMES/,/^\];/p' crates/sys_table/src/table.rt | sed '1d;s://.*::' | grep -o '"[^"]*"' |
+  tr -d '"' | awk '{ if ($0 != "") print NR - 1, $0 }' | sort > "$parts/6.12"
+awk '$1 < 440 && $2 != "uretprobe"' "$parts/6.12" > "$parts/5.8"
+
+# Linux 6.11 added uretprobe at 335, and mseal, of Linux 6.10, is 462.
+for version in 5.8 6.12; do
+  awk -v last="$last" '$1 <= last && (last >= 462 || $2 != "uretprobe")' "$parts/$version" > "$parts/known"
+  wrong=$(comm -23 "$parts/known" "$parts/header")
+  if [ -n "$wrong" ]; then
+    echo "call table of Linux $version: not as in $header:"
+    echo "$wrong"
+    exit 1
+  fi
+  more=$(comm -13 "$parts/known" "$parts/header" | wc -l)
+  later=$(($(wc -l < "$parts/$version") - $(wc -l < "$parts/known")))
+  echo "call table of Linux $version: $(wc -l < "$parts/known") names as in $header, which has $more more" \
+    "and lacks $later"
+done

@@ -570,6 +570,51 @@ static uint32_t compile_faulty(void) {
     return kept("compile_at", status, place_length, place);
 }
 
+/* Compiles a profile with the calls of a version, and checks the answer and all that was written. */
+static void expect_version(uint32_t version, const char *text, uint32_t want, size_t want_length,
+                           const char *want_place) {
+    static uint8_t filter[256];
+    char place[32], row[32];
+    size_t length = NOWHERE, place_length = NOWHERE, written = want == MOTCHIDU_ACCEPTED ? want_length : 0;
+    memset(filter, 0xa5, sizeof filter);
+    memset(place, '#', sizeof place);
+    snprintf(row, sizeof row, "version %u", version);
+    uint32_t status = motchidu_compile_with(version, text, strlen(text), filter, sizeof filter, &length,
+                                            place, sizeof place, &place_length);
+    expect(row, status, length, want, want_length);
+    for (size_t i = written; i < sizeof filter; i++)
+        expect(row, filter[i], i, 0xa5, i);
+    expect(row, place_length, 0, want_place ? strlen(want_place) : NOWHERE, 0);
+    for (size_t i = 0; i < sizeof place; i++)
+        expect(row, place[i], i, want_place && i < strlen(want_place) ? want_place[i] : '#', i);
+}
+
+/* Entries that are stricter than the default, for a call that only Linux 6.12 has, and for an older call. */
+static void expect_versions(void) {
+    static const char late[] = ENTRY("\"names\":[\"futex_waitv\"],\"action\":\"SCMP_ACT_TRAP\"");
+    static const char both[] = ENTRY("\"names\":[\"openat2\"],\"action\":\"SCMP_ACT_TRAP\"");
+    expect_version(MOTCHIDU_LINUX_5_8, late, MOTCHIDU_UNKNOWN_CALL, NOWHERE, "syscalls[0].names[0]");
+    expect_version(MOTCHIDU_LINUX_6_12, late, MOTCHIDU_ACCEPTED, 64, NULL);
+    expect_version(MOTCHIDU_LINUX_5_8, both, MOTCHIDU_ACCEPTED, 64, NULL);
+    expect_version(MOTCHIDU_LINUX_6_12, both, MOTCHIDU_ACCEPTED, 64, NULL);
+    expect_version(2, both, MOTCHIDU_UNKNOWN_VERSION, NOWHERE, NULL);
+    expect_version(UINT32_MAX, "{", MOTCHIDU_UNKNOWN_VERSION, NOWHERE, NULL);
+    served = 0;
+    expect_version(MOTCHIDU_LINUX_6_12, late, MOTCHIDU_MEMORY, NOWHERE, NULL);
+    expect_version(2, both, MOTCHIDU_UNKNOWN_VERSION, NOWHERE, NULL);
+    served = ALL;
+}
+
+static uint32_t compile_late(void) {
+    static const char text[] = ENTRY("\"names\":[\"futex_waitv\",1],\"action\":\"SCMP_ACT_TRAP\"");
+    static uint8_t filter[64];
+    char place[32] = "#";
+    size_t length = NOWHERE, place_length = NOWHERE;
+    uint32_t status = motchidu_compile_with(MOTCHIDU_LINUX_6_12, text, strlen(text), filter, sizeof filter,
+                                            &length, place, sizeof place, &place_length);
+    return kept("compile_with", status, place_length, place);
+}
+
 /* The length of a text is checked before memory is taken. */
 static void expect_too_large(void) {
     static const struct seccomp_data call;
@@ -605,6 +650,7 @@ static void expect_texts_without_memory(void) {
     expect_in_turn("resolve", resolve_template, MOTCHIDU_ACCEPTED);
     expect_in_turn("explain", explain_call, MOTCHIDU_ACCEPTED);
     expect_in_turn("compile_at", compile_faulty, MOTCHIDU_WRONG_TYPE);
+    expect_in_turn("compile_with", compile_late, MOTCHIDU_WRONG_TYPE);
 }
 
 /* In the order of their numbers. */
@@ -613,7 +659,7 @@ static const char *const names[] = {
     "ZeroDivisor", "NoFinalReturn", "Unstored", "Memory", "Lengths", "NotJson", "NotObject", "Missing",
     "WrongType", "UnknownAction", "UnknownOp", "BadIndex", "EmptyNames", "RepeatedIndex", "ErrnoNotAllowed",
     "ErrnoTooLarge", "UnknownCall", "Notify", "TooLarge", "TooHeavy", "NoRoom", "Same", "Differ", "Budget",
-    "Arithmetic", "Both", "UnknownErrno", "BadKernel", "Unknown",
+    "Arithmetic", "Both", "UnknownErrno", "BadKernel", "UnknownVersion", "Unknown",
 };
 
 static void expect_names(void) {
@@ -647,6 +693,7 @@ int main(void) {
     expect_deciders();
     expect_templates();
     expect_capabilities();
+    expect_versions();
     expect_too_large();
     expect_texts_without_memory();
     expect_pairs();

@@ -45,6 +45,10 @@ static void expect_read(const char *name, const char *text, uint32_t want) {
            motchidu_compile_at(text, text_len, filter, sizeof filter, &length, place, sizeof place,
                                &place_length),
            want);
+    expect(name,
+           motchidu_compile_with(MOTCHIDU_LINUX_6_12, text, text_len, filter, sizeof filter, &length, place,
+                                 sizeof place, &place_length),
+           want);
     expect(name, motchidu_explain(text, text_len, &call, &decider, &entry, &value), want);
     expect(name, motchidu_resolve(text, text_len, UINT64_MAX, 6, 1, profile, sizeof profile, &length), want);
 }

@@ -24,11 +24,13 @@ NEWEST = (0xFFFFFFFF, 0xFFFFFFFF)  # newer than any kernel that a template asks 
 NAMES = """Accepted Length TooLong BadCode Empty BadOffset BadJump BadWord BadShift ZeroDivisor NoFinalReturn
 Unstored Memory Lengths NotJson NotObject Missing WrongType UnknownAction UnknownOp BadIndex EmptyNames
 RepeatedIndex ErrnoNotAllowed ErrnoTooLarge UnknownCall Notify TooLarge TooHeavy NoRoom Same Differ Budget
-Arithmetic Both UnknownErrno BadKernel""".split()
+Arithmetic Both UnknownErrno BadKernel UnknownVersion""".split()
 # The statuses that have a place in a filter.
 PLACED = {"BadCode", "BadOffset", "BadJump", "BadWord", "BadShift", "ZeroDivisor", "Unstored"}
 # In the order of enum motchidu_decider.
 ENTRY, DEFAULT, ARCHITECTURE, X32 = range(4)
+# In the order of enum motchidu_version.
+LINUX_5_8, LINUX_6_12 = range(2)
 
 _BYTES, _SIZE, _WORDS = ctypes.c_char_p, ctypes.c_size_t, ctypes.POINTER(ctypes.c_uint32)
 _WORD, _MASK, _PLACE = ctypes.c_uint32, ctypes.c_uint64, ctypes.POINTER(ctypes.c_size_t)
@@ -38,6 +40,7 @@ _ARGUMENTS = {
     "motchidu_compare": [_BYTES, _SIZE, _BYTES, _SIZE, ctypes.c_bool, ctypes.c_uint64, _BYTES, _WORDS],
     "motchidu_compile": [_BYTES, _SIZE, _BYTES, _SIZE, _PLACE],
     "motchidu_compile_at": [_BYTES, _SIZE, _BYTES, _SIZE, _PLACE, _BYTES, _SIZE, _PLACE],
+    "motchidu_compile_with": [_WORD, _BYTES, _SIZE, _BYTES, _SIZE, _PLACE, _BYTES, _SIZE, _PLACE],
     "motchidu_default": [_BYTES, _SIZE, _PLACE],
     "motchidu_explain": [_BYTES, _SIZE, _BYTES, _WORDS, _PLACE, _WORDS],
     "motchidu_longest": [_BYTES, _SIZE, _WORDS, _PLACE],
@@ -80,12 +83,12 @@ class Library:
             raise Refused(status)
         return text.raw[: length.value]
 
-    def compile(self, profile):
-        """The filter of a profile, the bytes of OCI's linux.seccomp as JSON."""
+    def compile(self, profile, calls=LINUX_5_8):
+        """The filter of a profile, the bytes of OCI's linux.seccomp as JSON. calls is a version of Linux."""
         code, length = ctypes.create_string_buffer(MAX_FILTER), ctypes.c_size_t()
         place, place_length = ctypes.create_string_buffer(MAX_PLACE), ctypes.c_size_t()
-        status = self._library.motchidu_compile_at(
-            profile, len(profile), code, MAX_FILTER, length, place, MAX_PLACE, place_length)
+        status = self._library.motchidu_compile_with(
+            calls, profile, len(profile), code, MAX_FILTER, length, place, MAX_PLACE, place_length)
         if status != ACCEPTED:
             raise Refused(status, place.raw[: place_length.value].decode() or None)
         return Filter(self, code.raw[: length.value])

@@ -1,12 +1,13 @@
 ghost use Rattle.std.specs.Prelude.{◌≡◌, ◌≤◌, ◌+◌, length, map};
-ghost use Rattle.absent_names.specs.Kinds.{kind_of, left_out, newer, number_in, others, probes};
+ghost use Rattle.absent_names.specs.Kinds.{kind_of, left_out, newer, numbered_from, others, probes};
 
 use crate::table::{LEFT_OUT, NEWER, OTHERS, PROBES};
+use sys_table::CallTable;
 
 /// What a name is that the call table lacks.
 #[derive(Clone, Copy, Debug, PartialEq, Eq)]
 pub enum AbsentName {
-    /// A call of x86-64 with this number, newer than the table: asm/unistd_64.h.
+    /// A call of x86-64 with this number, newer than the known calls: asm/unistd_64.h.
     Newer(u32),
     /// A call with a number of x86-64 that Linux implements no call for.
     NotImplemented,
@@ -49,30 +50,32 @@ fn others() -> &'static [&'static str]
 }
 
 /// The number of the wanted name, if the first name has this number and the others follow it.
-fn number_in(names: &[&str], first: u32, wanted: &str) -> Option<u32>
+fn numbered_from(names: &[&str], first: u32, wanted: &str) -> Option<u32>
     requires { first + length names.now ≤ 1000 }
-    ensures { result ≡ number_in (map (λ name. name.now) names.now) first wanted.now }
+    ensures { result ≡ numbered_from (map (λ name. name.now) names.now) first wanted.now }
 {
     let (name, others) = names.split_first()?;
     if *name == wanted {
         Some(first)
     } else {
-        number_in(others, first + 1, wanted)
+        numbered_from(others, first + 1, wanted)
     }
 }
 
-/// What the name is. The call table does not have it.
+/// What the name is, if it is of no known call.
 #[tactic(auto, unfolding(crate::specs::Kinds::kind_of))]
 pub fn kind_of(name: &str) -> AbsentName
     ensures { result ≡ kind_of name.now }
 {
-    if let Some(number) = number_in(newer(), 440, name) {
+    if let Some(number) = CallTable::Linux6_12.number(name) {
         AbsentName::Newer(number)
-    } else if let Some(number) = number_in(probes(), 335, name) {
+    } else if let Some(number) = numbered_from(newer(), 463, name) {
         AbsentName::Newer(number)
-    } else if number_in(left_out(), 0, name).is_some() {
+    } else if let Some(number) = numbered_from(probes(), 336, name) {
+        AbsentName::Newer(number)
+    } else if numbered_from(left_out(), 0, name).is_some() {
         AbsentName::NotImplemented
-    } else if number_in(others(), 0, name).is_some() {
+    } else if numbered_from(others(), 0, name).is_some() {
         AbsentName::OtherArchitecture
     } else {
         AbsentName::Unknown

@@ -1,16 +1,12 @@
-/// The calls of x86-64 with the numbers from 440 on: asm/unistd_64.h of Linux 6.17.
+/// The calls of x86-64 with the numbers from 463 on: asm/unistd_64.h of Linux 6.17.
 #[rattlefmt::skip]
-pub(crate) static NEWER: [&str; 30] = [
-    "process_madvise", "epoll_pwait2", "mount_setattr", "quotactl_fd", "landlock_create_ruleset",
-    "landlock_add_rule", "landlock_restrict_self", "memfd_secret", "process_mrelease",
-    "futex_waitv", "set_mempolicy_home_node", "cachestat", "fchmodat2", "map_shadow_stack",
-    "futex_wake", "futex_wait", "futex_requeue", "statmount", "listmount", "lsm_get_self_attr",
-    "lsm_set_self_attr", "lsm_list_modules", "mseal", "setxattrat", "getxattrat", "listxattrat",
-    "removexattrat", "open_tree_attr", "file_getattr", "file_setattr",
+pub(crate) static NEWER: [&str; 7] = [
+    "setxattrat", "getxattrat", "listxattrat", "removexattrat", "open_tree_attr", "file_getattr",
+    "file_setattr",
 ];
 
-/// The calls of x86-64 with the numbers from 335 on, of Linux 6.11 and 6.18.
-pub(crate) static PROBES: [&str; 2] = ["uretprobe", "uprobe"];
+/// The call of x86-64 with the number 336, of Linux 6.18.
+pub(crate) static PROBES: [&str; 1] = ["uprobe"];
 
 /// The names of numbers for which Linux implements no call on x86-64.
 #[rattlefmt::skip]

@@ -3,7 +3,7 @@
 use Rattle.std.specs.Prelude.{ℕ, List, codes}
 use Rattle.check_stops.specs.declared.bad_words.WordFault.{WordFault}
 use Rattle.check_stops.specs.declared.bad_words.WordFault.TheVariants.{BadCap, BadArch, BadKernel, BadAction}
-use Rattle.check_stops.specs.declared.bad_words.WordFault.TheVariants.{BadKind, NoArch, ReadTwice}
+use Rattle.check_stops.specs.declared.bad_words.WordFault.TheVariants.{BadCalls, BadKind, NoArch, ReadTwice}
 
 abbrev pub word_fault_text : WordFault → List ℕ
 word_fault_text BadCap = codes "BadCap (give a capability of Linux, as CAP_SYS_ADMIN)"
@@ -12,4 +12,5 @@ word_fault_text NoArch = codes "BadNumber (give a name, as amd64, or an AUDIT_AR
 word_fault_text BadKernel = codes "BadKernel (give two numbers, as 6.12)"
 word_fault_text BadAction = codes "BadAction (give an action, as 'ERRNO 38')"
 word_fault_text BadKind = codes "BadKind (give a kind as lint prints it)"
+word_fault_text BadCalls = codes "BadCalls (give a version of Linux, 5.8 or 6.12)"
 word_fault_text ReadTwice = codes "ReadTwice (standard input can be read once)"

@@ -15,6 +15,8 @@ pub enum WordFault {
     BadAction,
     /// No finding has such a kind.
     BadKind,
+    /// It is no version of Linux whose calls are known.
+    BadCalls,
     /// Standard input is named more than once.
     ReadTwice,
 }
@@ -34,6 +36,7 @@ impl fmt::Display for WordFault {
             WordFault::BadKernel => "BadKernel (give two numbers, as 6.12)",
             WordFault::BadAction => "BadAction (give an action, as 'ERRNO 38')",
             WordFault::BadKind => "BadKind (give a kind as lint prints it)",
+            WordFault::BadCalls => "BadCalls (give a version of Linux, 5.8 or 6.12)",
             WordFault::ReadTwice => "ReadTwice (standard input can be read once)",
         })
     }

@@ -1,6 +1,6 @@
 //! The files that commands read.
 ghost use Rattle.std.specs.Prelude.{◌≡◌, ◌≤◌, IfOk, flat_map, length, map, string_bytes};
-ghost use Rattle.oci_profile.specs.Profile.{ReadsProfile};
+ghost use Rattle.oci_profile.specs.Profile.{ReadsProfileWith};
 ghost use Rattle.check_stops.specs.Inputs.{manifest_line, manifest_lines, opened, template_line};
 
 use crate::notes::FileLine;
@@ -13,6 +13,7 @@ use oci_profile::Profile;
 use profile_template::template_sign;
 use std::alloc::{AllocError, Global};
 use std::rt;
+use sys_table::CallTable;
 
 /// The path that is opened for a file's name: `-` is standard input.
 pub fn opened(name: &str) -> &str
@@ -51,24 +52,30 @@ pub struct ProfileFile {
     pub aside: String,
 }
 
-/// The profile in a file.
+/// The profile in a file, if these are the known calls.
 pub fn profile_at<'a, R: rt::Files + AllocGlobal>(
     rt: &R,
+    calls: CallTable,
     path: &'a str,
 ) -> Result<ProfileFile, Stop<'a>>
-    ensures profile { IfOk result (λ file. ReadsProfile file.bytes.items file.profile) }
+    ensures profile { IfOk result (λ file. ReadsProfileWith calls file.bytes.items file.profile) }
     ensures aside { IfOk result (λ file. string_bytes file.aside ≡ template_line path.now file.bytes.items) }
 {
     let bytes = bytes_at(rt, path)?;
-    profile_of(rt.alloc(), path, bytes)
+    profile_of(rt.alloc(), calls, path, bytes)
 }
 
-/// The profile that these bytes of a file are.
-pub fn profile_of<'a>(alloc: Global, path: &'a str, bytes: Vec<u8>) -> Result<ProfileFile, Stop<'a>>
-    ensures profile { IfOk result (λ file. ReadsProfile file.bytes.items file.profile) }
+/// The profile that these bytes of a file are, if these are the known calls.
+pub fn profile_of<'a>(
+    alloc: Global,
+    calls: CallTable,
+    path: &'a str,
+    bytes: Vec<u8>,
+) -> Result<ProfileFile, Stop<'a>>
+    ensures profile { IfOk result (λ file. ReadsProfileWith calls file.bytes.items file.profile) }
     ensures aside { IfOk result (λ file. string_bytes file.aside ≡ template_line path.now file.bytes.items) }
 {
-    match oci_profile::read_placed(alloc, &bytes) {
+    match oci_profile::read_placed_with(alloc, calls, &bytes) {
         Ok(profile) => {
             let aside = template_line(alloc, path, &bytes)?;
             Ok(ProfileFile {

@@ -8,7 +8,8 @@ use Rattle.command_line.specs.Words.{number_or_word, written_or}
 use Rattle.check_words.specs.Architectures.{arch_or}
 use Rattle.check_words.specs.declared.call_words.BadCallWord.{BadCallWord}
 use Rattle.check_words.specs.declared.call_words.BadCallWord.TheVariants as of
-use Rattle.sys_table.specs.SysTable.{number_of}
+use Rattle.sys_table.specs.SysTable.{number_in as number_named}
+use Rattle.sys_table.specs.declared.calls.CallTable.{CallTable}
 
 -- the word that is refused, as its bytes, by what it should write
 pub data BadWord : Type 0 where
@@ -24,13 +25,14 @@ bad_word (of.Number word) = BadWord.Number word.now
 abbrev pub told_word : {X : Type 0} → Result X BadCallWord → Result X BadWord
 told_word result = as_fault bad_word result
 
--- the number that a word writes, else that of the call which it names
+-- the number that a word writes, else that of the known call with this name
 abbrev pub number_or_name : Option ℕ → Option ℕ → Option ℕ
 number_or_name (Some number) named = Some number
 number_or_name None named = named
 
-abbrev pub call_number_of : List ℕ → Result ℕ (List ℕ)
-call_number_of word = number_or_word word (number_or_name (number_in (2 ^ 32) word) (number_of word))
+abbrev pub call_number_of : CallTable → List ℕ → Result ℕ (List ℕ)
+call_number_of calls word =
+    number_or_word word (number_or_name (number_in (2 ^ 32) word) (number_named calls word))
 
 -- an argument that is left out is 0
 abbrev pub argument_of : List (List ℕ) → ℕ → Result ℕ (List ℕ)
@@ -46,9 +48,10 @@ arguments_of words = do
   sixth ← argument_of words 5
   Ok (first ∷ second ∷ third ∷ fourth ∷ fifth ∷ sixth ∷ [])
 
-unfoldable pub call_of : List ℕ → List (List ℕ) → Option (List ℕ) → Option (List ℕ) → Result SysCall BadWord
-call_of nr args arch ip = do
-  number ← as_fault BadWord.Call (call_number_of nr)
+unfoldable pub call_of : CallTable → List ℕ → List (List ℕ) → Option (List ℕ) → Option (List ℕ)
+    → Result SysCall BadWord
+call_of calls nr args arch ip = do
+  number ← as_fault BadWord.Call (call_number_of calls nr)
   arguments ← as_fault BadWord.Number (arguments_of args)
   architecture ← as_fault BadWord.Arch (arch_or arch)
   pointer ← as_fault BadWord.Number (written_or (2 ^ 64) 0 ip)

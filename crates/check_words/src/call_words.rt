@@ -8,6 +8,7 @@ ghost use Rattle.command_line.specs.Words.{told, written_or};
 use crate::architectures::arch_or;
 use call_data::SysCall;
 use command_line::{number_or, word_of};
+use sys_table::CallTable;
 
 /// A word of a call that is no number of its range.
 #[derive(Clone, Copy, Debug, PartialEq, Eq)]
@@ -20,30 +21,31 @@ pub enum BadCallWord<'w> {
     Number(&'w str),
 }
 
-/// The call that these words write: its number or name, up to six arguments, and its architecture and address.
-/// All but the first may be absent.
+/// The call that these words write: its number, or its name if it is a known one, up to six arguments, and its
+/// architecture and address. All but the first may be absent.
 #[tactic(auto, unfolding(crate::specs::CallWords::call_of))]
 pub(crate) fn call<'w>(
+    calls: CallTable,
     nr: &'w str,
     args: &[&'w str],
     arch: Option<&'w str>,
     ip: Option<&'w str>,
 ) -> Result<SysCall, BadCallWord<'w>>
     ensures { told_word result
-        ≡ call_of nr.now (map (λ w. w.now) args.now) (option_map (λ w. w.now) arch.entry)
+        ≡ call_of calls nr.now (map (λ w. w.now) args.now) (option_map (λ w. w.now) arch.entry)
         (option_map (λ w. w.now) ip.entry) }
 {
-    let nr = number_in_call(nr)?;
+    let nr = number_in_call(calls, nr)?;
     let args = arguments_in_call(args)?;
     let arch = arch_in_call(arch)?;
     let ip = address_in_call(ip)?;
     Ok(SysCall { nr, arch, ip, args })
 }
 
-fn number_in_call(word: &str) -> Result<u32, BadCallWord<'_>>
-    ensures { told_word result ≡ as_fault Call (call_number_of word.now) }
+fn number_in_call(calls: CallTable, word: &str) -> Result<u32, BadCallWord<'_>>
+    ensures { told_word result ≡ as_fault Call (call_number_of calls word.now) }
 {
-    match call_number(word) {
+    match call_number(calls, word) {
         Ok(number) => Ok(number),
         Err(word) => Err(BadCallWord::Call(word)),
     }
@@ -98,11 +100,11 @@ fn argument<'w>(words: &[&'w str], place: usize) -> Result<u64, &'w str>
 }
 
 // No call's name begins with a digit, so no word is both.
-fn call_number(word: &str) -> Result<u32, &str>
-    ensures { told result ≡ call_number_of word.now }
+fn call_number(calls: CallTable, word: &str) -> Result<u32, &str>
+    ensures { told result ≡ call_number_of calls word.now }
 {
     match word_of(word) {
         Some(number) => Ok(number),
-        None => sys_table::number(word).ok_or(word),
+        None => calls.number(word).ok_or(word),
     }
 }

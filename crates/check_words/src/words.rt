@@ -1,6 +1,6 @@
-ghost use Rattle.std.specs.Prelude.{◌≡◌};
+ghost use Rattle.std.specs.Prelude.{◌≡◌, option_map};
 ghost use Rattle.clap.specs.Matches.{found_of};
-ghost use Rattle.check_words.specs.Words.{attempt_in, budget_in, call_in, word_in};
+ghost use Rattle.check_words.specs.Words.{attempt_in, budget_in, call_in, calls_in, calls_or, word_in};
 ghost use Rattle.check_words.specs.CallWords.{told_word};
 ghost use Rattle.command_line.specs.Words.{told};
 
@@ -9,6 +9,7 @@ use call_data::SysCall;
 use clap::{Arg, ArgAction, ArgMatches, Command};
 use command_line::{VERSION, number_or, word_or};
 use std::alloc::{AllocError, Global};
+use sys_table::CallTable;
 
 /// The program's name.
 pub(crate) const PROGRAM: &str = "seccheck";
@@ -60,6 +61,7 @@ fn compile<'a>(alloc: Global) -> Result<Command<'a>, AllocError> {
             "base64",
             "Write the filter in Base64, as an annotation of crun takes it",
         ))?
+        .arg(calls(alloc))?
         .arg(json(alloc))
 }
 
@@ -79,6 +81,7 @@ fn lint<'a>(alloc: Global) -> Result<Command<'a>, AllocError> {
             "Kind of findings to leave out, such as Redundant; may be repeated",
         )
         .action(ArgAction::Append))?
+        .arg(calls(alloc))?
         .arg(json(alloc))
 }
 
@@ -140,6 +143,7 @@ fn resolve<'a>(alloc: Global) -> Result<Command<'a>, AllocError> {
             "V",
             "Version of the kernel, as `uname -r` prints it; the newest if absent",
         ))?
+        .arg(calls(alloc))?
         .arg(flag(
             alloc,
             "drop-newer",
@@ -207,6 +211,7 @@ fn of_call<'a>(alloc: Global, command: Command<'a>) -> Result<Command<'a>, Alloc
             "Architecture of the call, by name or number; x86_64 if absent",
         ))?
         .arg(option(alloc, "ip", "I", "Instruction pointer of the call"))?
+        .arg(calls(alloc))?
         .arg(json(alloc))
 }
 
@@ -232,6 +237,7 @@ fn compare<'a>(alloc: Global) -> Result<Command<'a>, AllocError> {
             "N",
             "Instructions to follow at most, with --all for each part",
         ))?
+        .arg(calls(alloc))?
         .arg(json(alloc))
 }
 
@@ -404,6 +410,16 @@ fn flag<'a>(alloc: Global, id: &'static str, help: &'static str) -> Arg<'a> {
         .help(help)
 }
 
+/// The calls that are known by name.
+fn calls<'a>(alloc: Global) -> Arg<'a> {
+    option(
+        alloc,
+        "calls",
+        "V",
+        "Version of Linux whose calls are known by name, 5.8 or 6.12 [default: 5.8]",
+    )
+}
+
 /// Has the answer written as JSON.
 fn json<'a>(alloc: Global) -> Arg<'a> {
     Arg::new(alloc, "json")
@@ -422,11 +438,28 @@ fn option<'a>(alloc: Global, id: &'static str, value: &'static str, help: &'stat
     Arg::new(alloc, id).long(id).value_name(value).help(help)
 }
 
-/// The call that the command line of `run` or `explain` writes.
-pub fn call_at<'a>(matches: &ArgMatches<'a>) -> Result<SysCall, BadCallWord<'a>>
-    ensures { told_word result ≡ call_in (found_of matches.now) }
+/// The calls that are known by name, or the word that is no version of Linux with a table.
+pub fn calls_at<'a>(matches: &ArgMatches<'a>) -> Result<CallTable, &'a str>
+    ensures { told result ≡ calls_in (found_of matches.now) }
+{
+    calls_or(matches.get_str("calls"))
+}
+
+fn calls_or(word: Option<&str>) -> Result<CallTable, &str>
+    ensures { told result ≡ calls_or (option_map (λ w. w.now) word.entry) }
+{
+    match word {
+        Some(word) => CallTable::of_linux(word).ok_or(word),
+        None => Ok(CallTable::Linux5_8),
+    }
+}
+
+/// The call that the command line of `run` or `explain` writes, if these are the known calls.
+pub fn call_at<'a>(calls: CallTable, matches: &ArgMatches<'a>) -> Result<SysCall, BadCallWord<'a>>
+    ensures { told_word result ≡ call_in calls (found_of matches.now) }
 {
     call(
+        calls,
         word_at(matches, "CALL"),
         matches.get_strs("ARG").unwrap_or(&[]),
         matches.get_str("arch"),

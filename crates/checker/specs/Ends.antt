@@ -1,10 +1,11 @@
 -- Where the program ends without a word, why a word of a call ends it, and which words name standard input: this
 -- project's own, docs/SEMANTICS.md, "Programs".
 use Rattle.std.specs.Prelude.{ℕ, Bool, true, false, List, codes, count_by, if◌then◌else◌, nat_lt}
+use Rattle.std.specs.Borrow.{Bor}
 use Rattle.std.specs.Str.{bytes_eq}
 use Rattle.node_io.specs.declared.causes.Cause.TheVariants.{Gone}
 use Rattle.check_stops.specs.declared.stop.Stop.{Stop}
-use Rattle.check_stops.specs.declared.bad_words.WordFault.TheVariants.{NoArch}
+use Rattle.check_stops.specs.declared.bad_words.WordFault.TheVariants.{BadCalls, NoArch}
 use Rattle.check_stops.specs.declared.stop.Stop.TheVariants.{BadCall, BadNumber, BadWord, Unwritten}
 use Rattle.check_words.specs.declared.call_words.BadCallWord.{BadCallWord}
 use Rattle.check_words.specs.declared.call_words.BadCallWord.TheVariants as of
@@ -18,6 +19,9 @@ abbrev pub call_stop : BadCallWord → Stop
 call_stop (of.Call word) = BadCall word
 call_stop (of.Arch word) = BadWord word NoArch
 call_stop (of.Number word) = BadNumber word
+
+abbrev pub calls_stop : Bor (List ℕ) → Stop
+calls_stop word = BadWord word BadCalls
 
 abbrev pub is_dash : List ℕ → Bool
 is_dash word = bytes_eq word (codes "-")

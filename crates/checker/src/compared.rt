@@ -6,17 +6,19 @@ ghost use Rattle.fault_notes.specs.Starts.{begins_object};
 ghost use Rattle.check_words.specs.Words.{budget_in};
 ghost use Rattle.checker.specs.Compared.{budget_note, default_budget, is_beyond, lines_note, told_of};
 
+use crate::seccheck::calls_stop;
 use bpf_compare::{Calls, Comparison, Doubt, compare};
 use bpf_verify::filter_of;
 use check_answers::{Difference, same_line, same_object};
 use check_stops::{Form, Output, ProfileFile, Refused, Stop, bytes_at, profile_of, refused_stop};
-use check_words::{budget_at, word_at};
+use check_words::{budget_at, calls_at as known_at, word_at};
 use clap::ArgMatches;
 use fault_notes::begins_object;
 use filter_differences::differences;
 use shown_differences::{Compiled, Line, Side, all_lines, all_objects, lines};
 use std::alloc::{AllocError, Global};
 use std::rt;
+use sys_table::CallTable;
 
 /// The budget of `compare` in instructions, if the command line has none. It takes seconds.
 const BUDGET: u64 = 100_000_000;
@@ -35,6 +37,8 @@ pub(crate) struct CompareAsked<'a> {
     pub(crate) first: &'a str,
     /// The file of the second one.
     pub(crate) second: &'a str,
+    /// The calls that profiles may name.
+    pub(crate) known: CallTable,
     /// The calls on which they are compared.
     pub(crate) calls: Calls,
     /// How many instructions are followed at most, in all or for each part.
@@ -53,10 +57,12 @@ pub(crate) fn compare_asked<'a>(
     ensures budget { IfOk result (λ asked.
         budget_in (default_budget is_all) (found_of matches.now) ≡ Ok asked.budget) }
 {
+    let known = known_at(matches).map_err(calls_stop)?;
     let budget = budget_at(default_budget(is_all), matches).map_err(Stop::BadNumber)?;
     Ok(CompareAsked {
         first: word_at(matches, "A"),
         second: word_at(matches, "B"),
+        known,
         calls: calls_at(matches),
         budget,
         takes_budget: true,
@@ -69,6 +75,7 @@ pub(crate) fn against_asked<'a>(matches: &ArgMatches<'a>, form: Form) -> Compare
     CompareAsked {
         first: matches.get_str("against").unwrap_or(""),
         second: word_at(matches, "PROFILE"),
+        known: CallTable::Linux5_8,
         calls: Calls::Native,
         budget: PART_BUDGET,
         takes_budget: false,
@@ -120,8 +127,8 @@ pub(crate) fn compare_output<'a, R: rt::Files + AllocGlobal>(
     asked: CompareAsked<'a>,
 ) -> Result<Output, Stop<'a>> {
     let alloc = rt.alloc();
-    let first = side_at(rt, asked.first)?;
-    let second = side_at(rt, asked.second)?;
+    let first = side_at(rt, asked.known, asked.first)?;
+    let second = side_at(rt, asked.known, asked.second)?;
     let found = compare(
         alloc,
         first.side.filter(),
@@ -169,8 +176,8 @@ pub(crate) fn differences_output<'a, R: rt::Files + AllocGlobal>(
     asked: CompareAsked<'a>,
 ) -> Result<Output, Stop<'a>> {
     let alloc = rt.alloc();
-    let first = side_at(rt, asked.first)?;
-    let second = side_at(rt, asked.second)?;
+    let first = side_at(rt, asked.known, asked.first)?;
+    let second = side_at(rt, asked.known, asked.second)?;
     let found = differences(
         alloc,
         first.side.filter(),
@@ -236,15 +243,17 @@ pub(crate) struct SideFile {
 /// The filter in a file, or the profile in it with its filter.
 pub(crate) fn side_at<'a, R: rt::Files + AllocGlobal>(
     rt: &R,
+    calls: CallTable,
     path: &'a str,
 ) -> Result<SideFile, Stop<'a>> {
     let bytes = bytes_at(rt, path)?;
-    side_of(rt.alloc(), path, bytes)
+    side_of(rt.alloc(), calls, path, bytes)
 }
 
 /// The filter that these bytes of a file are, or the profile with its filter.
 pub(crate) fn side_of<'a>(
     alloc: Global,
+    calls: CallTable,
     path: &'a str,
     bytes: Vec<u8>,
 ) -> Result<SideFile, Stop<'a>> {
@@ -253,7 +262,7 @@ pub(crate) fn side_of<'a>(
             bytes,
             profile,
             aside,
-        } = profile_of(alloc, path, bytes)?;
+        } = profile_of(alloc, calls, path, bytes)?;
         match Compiled::new(alloc, profile) {
             Ok(compiled) => Ok(SideFile {
                 side: Side::Profile(compiled),

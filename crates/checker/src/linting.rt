@@ -9,11 +9,12 @@ use check_stops::{
 };
 use fault_notes::ShownPath;
 use profile_lint::{
-    Choice, Finding, FindingKind, Passed, all_findings, grave_count, has_newer_names, is_bad,
-    kind_named, lint_lines, lint_objects, newer_calls, once, passed_in,
+    Choice, FindingKind, all_findings, grave_count, has_newer_names, is_bad, kind_named,
+    lint_lines, lint_objects, newer_calls, once, passed_in,
 };
 use std::alloc::{AllocError, Global};
 use std::rt;
+use sys_table::CallTable;
 use wrong_files::{Hint, Wanted, hint_of_text};
 
 /// The kinds of findings that these words name.
@@ -32,6 +33,7 @@ fn kinds_of<'a>(alloc: Global, words: &[&'a str]) -> Result<Vec<FindingKind>, St
 /// warning or an error is among them. A file that is refused as a profile may be a manifest.
 pub(crate) fn lint_output<'a, R: rt::Files + AllocGlobal>(
     rt: &R,
+    calls: CallTable,
     path: &'a str,
     is_all: bool,
     allowed: &[&'a str],
@@ -43,8 +45,8 @@ pub(crate) fn lint_output<'a, R: rt::Files + AllocGlobal>(
         is_all,
         allowed: kinds.as_slice(),
     };
-    match profile_at(rt, path) {
-        Ok(file) => profile_output(alloc, file, choice, form),
+    match profile_at(rt, calls, path) {
+        Ok(file) => profile_output(alloc, calls, file, choice, form),
         Err(Stop::Refused(file)) => refused_output(alloc, file, choice.allowed, form),
         Err(stop) => Err(stop),
     }
@@ -84,6 +86,7 @@ fn manifest_lint<'a>(
 /// The findings about a profile.
 fn profile_output<'a>(
     alloc: Global,
+    calls: CallTable,
     file: ProfileFile,
     choice: Choice<'_>,
     form: Form,
@@ -95,48 +98,37 @@ fn profile_output<'a>(
     } = file;
     // It was read before, so that memory alone can be wanting.
     let tree = json_tree::read(alloc, &bytes).map_err(|_| AllocError)?;
-    let passed = passed_in(alloc, &tree)?;
+    let passed = passed_in(alloc, calls, &tree)?;
     let found = once(alloc, all_findings(alloc, &profile)?.as_slice())?;
-    let output = printed(
-        alloc,
-        passed.as_slice(),
-        found.as_slice(),
-        choice,
-        profile.default.value(),
-        form,
-    )?;
+    let (passed, found) = (passed.as_slice(), found.as_slice());
+    let default = profile.default.value();
+    let text = match form {
+        Form::Text => lint_lines(alloc, calls, passed, found, choice, default)?,
+        Form::Json => lint_objects(alloc, calls, passed, found, choice, default)?,
+    };
+    let output = graded(alloc, text, is_bad(passed, found, choice.allowed));
     Ok(output.after(aside)?)
 }
 
-/// The chosen findings, and the status.
-fn printed<'a>(
-    alloc: Global,
-    passed: &[Passed<'_>],
-    found: &[Finding],
-    choice: Choice<'_>,
-    default: u32,
-    form: Form,
-) -> Result<Output, Stop<'a>> {
-    let text = match form {
-        Form::Text => lint_lines(alloc, passed, found, choice, default)?,
-        Form::Json => lint_objects(alloc, passed, found, choice, default)?,
-    };
-    let status = if is_bad(passed, found, choice.allowed) {
-        1
-    } else {
-        0
-    };
-    Ok(Output {
+/// The lines of findings, with status 1 if a warning or an error is among them.
+fn graded(alloc: Global, text: String, is_bad: bool) -> Output {
+    let status = if is_bad { 1 } else { 0 };
+    Output {
         text,
         code: None,
         aside: String::new(alloc),
         status,
-    })
+    }
 }
 
 /// What is printed beside the filter of the profile in this file: that it is a template, if it is one, and how
 /// many warnings and errors its text has, and its default.
-pub(crate) fn beside(alloc: Global, path: &str, file: ProfileFile) -> Result<String, AllocError> {
+pub(crate) fn beside(
+    alloc: Global,
+    calls: CallTable,
+    path: &str,
+    file: ProfileFile,
+) -> Result<String, AllocError> {
     let ProfileFile {
         bytes,
         profile,
@@ -144,7 +136,7 @@ pub(crate) fn beside(alloc: Global, path: &str, file: ProfileFile) -> Result<Str
     } = file;
     // It was read before, so that memory alone can be wanting.
     let tree = json_tree::read(alloc, &bytes).map_err(|_| AllocError)?;
-    let passed = passed_in(alloc, &tree)?;
+    let passed = passed_in(alloc, calls, &tree)?;
     let others = [
         has_newer_names(passed.as_slice()),
         newer_calls(&profile).is_some(),

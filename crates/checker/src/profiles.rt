@@ -9,15 +9,17 @@ use profile_table::{rows, table_lines, table_objects};
 use profile_text::default_text;
 use std::alloc::{AllocError, Global};
 use std::rt;
+use sys_table::CallTable;
 
 /// Which entry of the profile decides the call, and what is passed over before.
 pub(crate) fn explain_output<'a, R: rt::Files + AllocGlobal>(
     rt: &R,
+    calls: CallTable,
     path: &'a str,
     call: SysCall,
     form: Form,
 ) -> Result<Output, Stop<'a>> {
-    let ProfileFile { profile, aside, .. } = profile_at(rt, path)?;
+    let ProfileFile { profile, aside, .. } = profile_at(rt, calls, path)?;
     let explanation = explain(rt.alloc(), &profile, &call)?;
     let text = match form {
         Form::Text => explanation_lines(rt.alloc(), &explanation)?,
@@ -33,7 +35,7 @@ pub(crate) fn table_output<'a, R: rt::Files + AllocGlobal>(
     form: Form,
 ) -> Result<Output, Stop<'a>> {
     let alloc = rt.alloc();
-    let ProfileFile { profile, aside, .. } = profile_at(rt, path)?;
+    let ProfileFile { profile, aside, .. } = profile_at(rt, CallTable::Linux5_8, path)?;
     let rows = rows(alloc, &profile)?;
     let text = match form {
         Form::Text => table_lines(alloc, &profile, rows.as_slice())?,

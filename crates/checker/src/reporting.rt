@@ -11,6 +11,7 @@ use profile_report::{Parts, STYLE, changes_html, denials_html, no_tree_html, pag
 use shown_differences::{Line, lines};
 use std::alloc::{AllocError, Global};
 use std::rt;
+use sys_table::CallTable;
 
 /// The words of `report`.
 #[derive(Clone, Copy)]
@@ -33,7 +34,7 @@ pub(crate) fn report_output<'a, R: rt::Files + AllocGlobal>(
         bytes,
         profile,
         aside: sign,
-    } = profile_at(rt, path)?;
+    } = profile_at(rt, CallTable::Linux5_8, path)?;
     let compared = compared_with_old(rt, asked, &bytes)?;
     let (denied, faults) = denied(rt, asked.records)?;
     let tree = filter_part(alloc, &profile)?;
@@ -68,7 +69,7 @@ fn page_text(
 ) -> Result<String, AllocError> {
     // It was read before, so that memory alone can be wanting.
     let tree = json_tree::read(alloc, bytes).map_err(|_| AllocError)?;
-    let passed = passed_in(alloc, &tree)?;
+    let passed = passed_in(alloc, CallTable::Linux5_8, &tree)?;
     let found = once(alloc, all_findings(alloc, profile)?.as_slice())?;
     page(
         alloc,
@@ -104,8 +105,13 @@ fn compared_with_old<'a, R: rt::Files + AllocGlobal>(
             aside: String::new(alloc),
         });
     };
-    let old = side_at(rt, path)?;
-    let new = side_of(alloc, asked.profile, Vec::from_slice(alloc, bytes)?)?;
+    let old = side_at(rt, CallTable::Linux5_8, path)?;
+    let new = side_of(
+        alloc,
+        CallTable::Linux5_8,
+        asked.profile,
+        Vec::from_slice(alloc, bytes)?,
+    )?;
     let found = differences(
         alloc,
         old.side.filter(),

@@ -8,21 +8,23 @@ use fault_notes::left_out_note;
 use json_place::{Place, Step, stands_at};
 use json_tree::text;
 use oci_profile::ProfileFault;
-use profile_template::{LeftOut, Settings, Template, TemplateFault, TemplateFaultAt};
+use profile_template::{LeftOut, Settings, TemplateFault, TemplateFaultAt};
 use profile_text::WriteFault;
 use serde_json::Value;
 use std::alloc::{AllocError, Global};
 use std::rt;
+use sys_table::CallTable;
 
 /// The plain profile of the template in a file, and beside it the names that it is written without.
 pub(crate) fn resolve_output<'a, R: rt::Files + AllocGlobal>(
     rt: &R,
+    calls: CallTable,
     path: &'a str,
     settings: &Settings<'_>,
     drops_newer: bool,
 ) -> Result<Output, Stop<'a>> {
     let bytes = bytes_at(rt, path)?;
-    match resolved(rt.alloc(), path, &bytes, settings, drops_newer) {
+    match resolved(rt.alloc(), calls, path, &bytes, settings, drops_newer) {
         Ok(output) => Ok(output),
         Err(found) => Err(refused_stop(path, bytes, Refused::Template(found))),
     }
@@ -30,14 +32,21 @@ pub(crate) fn resolve_output<'a, R: rt::Files + AllocGlobal>(
 
 fn resolved(
     alloc: Global,
+    calls: CallTable,
     path: &str,
     bytes: &[u8],
     settings: &Settings<'_>,
     drops_newer: bool,
 ) -> Result<Output, TemplateFaultAt> {
     let template = profile_template::read(alloc, bytes, settings)?;
-    let aside = aside(alloc, path, bytes, &template, drops_newer)?;
-    match template.write(alloc) {
+    let aside = aside(
+        alloc,
+        path,
+        bytes,
+        template.left_out(alloc, calls)?,
+        drops_newer,
+    )?;
+    match template.write(alloc, calls) {
         Ok(text) => Ok(Output::with_aside(ended(text)?, aside)),
         Err(WriteFault::Memory) => Err(AllocError.into()),
         Err(WriteFault::TooLarge | WriteFault::NoName) => Err(TemplateFaultAt {
@@ -59,11 +68,10 @@ fn aside(
     alloc: Global,
     path: &str,
     bytes: &[u8],
-    template: &Template,
+    left_out: Vec<LeftOut>,
     drops_newer: bool,
 ) -> Result<String, TemplateFaultAt> {
     let mut lines = String::new(alloc);
-    let left_out = template.left_out(alloc)?;
     if left_out.is_empty() {
         return Ok(lines);
     }

@@ -1,6 +1,6 @@
 ghost use Rattle.std.specs.Prelude.{◌≡◌, ◌==◌, count_by, map, string_bytes};
 ghost use Rattle.std.specs.Str.{bytes_eq};
-ghost use Rattle.checker.specs.Ends.{call_stop, is_dash, is_silent, reads_twice};
+ghost use Rattle.checker.specs.Ends.{call_stop, calls_stop, is_dash, is_silent, reads_twice};
 
 use crate::compared::{against_asked, compare_asked, compare_output, differences_output};
 use crate::file::is_same_file;
@@ -22,7 +22,7 @@ use check_stops::{
     Form, Output, Refused, Stop, WordFault, bytes_at, filter_at, manifest_lines, opened,
     print_note, profile_at, refused_stop, stop_at, write_object,
 };
-use check_words::{BadCallWord, attempt_at, call_at, command, word_at};
+use check_words::{BadCallWord, attempt_at, call_at, calls_at, command, word_at};
 use clap::ArgMatches;
 use clap::error::ErrorKind;
 use compile::compile;
@@ -34,6 +34,7 @@ use profile_learn::Wanted;
 use std::alloc::{AllocError, Global};
 use std::io::{self, Write};
 use std::rt;
+use sys_table::CallTable;
 use verdict::Stack;
 
 /// The program `seccheck`. `words` are those of the command line, the program's name first. Returns the
@@ -106,6 +107,13 @@ fn call_stop(word: BadCallWord<'_>) -> Stop<'_>
     }
 }
 
+/// Why a word that is no version of Linux with a table ends the program.
+pub(crate) fn calls_stop(word: &str) -> Stop<'_>
+    ensures { result ≡ calls_stop word }
+{
+    Stop::BadWord(word, WordFault::BadCalls)
+}
+
 /// Whether the program ends without a word: nobody reads standard output any more, as after `| head`.
 fn is_silent(stop: &Stop) -> bool
     ensures { result ≡ is_silent stop.now }
@@ -159,6 +167,7 @@ fn output_of<'a, R: rt::Files + AllocGlobal>(
 ) -> Result<Output, Stop<'a>> {
     match name {
         "resolve" => {
+            let calls = calls_at(matches).map_err(calls_stop)?;
             let caps = caps_of(rt.alloc(), matches.get_strs("cap").unwrap_or(&[]))?;
             let (arch, kernel) = (matches.get_str("arch"), matches.get_str("kernel"));
             let settings = settings_of(caps.as_slice(), arch, kernel).map_err(|(
@@ -166,25 +175,35 @@ fn output_of<'a, R: rt::Files + AllocGlobal>(
                 fault,
             )| Stop::BadWord(word, fault))?;
             let drops_newer = matches.get_flag("drop-newer");
-            resolve_output(rt, word_at(matches, "TEMPLATE"), &settings, drops_newer)
+            resolve_output(
+                rt,
+                calls,
+                word_at(matches, "TEMPLATE"),
+                &settings,
+                drops_newer,
+            )
         }
         "compile" => {
+            let calls = calls_at(matches).map_err(calls_stop)?;
             let (path, out) = (word_at(matches, "PROFILE"), word_at(matches, "OUT"));
-            compile_output(rt, path, out, matches.get_flag("base64"), form)
+            compile_output(rt, calls, path, out, matches.get_flag("base64"), form)
         }
         "write" => unit_output(rt, word_at(matches, "PROFILE")),
         "explain" if matches.get_str("audit").is_some() => {
             let log = matches.get_str("audit").unwrap_or("");
-            audit_output(rt, word_at(matches, "PROFILE"), log, form)
+            let calls = calls_at(matches).map_err(calls_stop)?;
+            audit_output(rt, calls, word_at(matches, "PROFILE"), log, form)
         }
         "explain" => {
-            let call = call_at(matches).map_err(call_stop)?;
-            explain_output(rt, word_at(matches, "PROFILE"), call, form)
+            let calls = calls_at(matches).map_err(calls_stop)?;
+            let call = call_at(calls, matches).map_err(call_stop)?;
+            explain_output(rt, calls, word_at(matches, "PROFILE"), call, form)
         }
         "lint" => {
             let allowed = matches.get_strs("allow").unwrap_or(&[]);
+            let calls = calls_at(matches).map_err(calls_stop)?;
             let path = word_at(matches, "PROFILE");
-            lint_output(rt, path, matches.get_flag("all"), allowed, form)
+            lint_output(rt, calls, path, matches.get_flag("all"), allowed, form)
         }
         "table" if matches.get_str("against").is_some() => {
             differences_output(rt, against_asked(matches, form))
@@ -268,7 +287,8 @@ fn text_of<'a, R: rt::Files + AllocGlobal>(
 ) -> Result<String, Stop<'a>> {
     match name {
         "run" => {
-            let call = call_at(matches).map_err(call_stop)?;
+            let calls = calls_at(matches).map_err(calls_stop)?;
+            let call = call_at(calls, matches).map_err(call_stop)?;
             run_text(rt, word_at(matches, "FILTER"), call, form)
         }
         "default" => Ok(default_line(rt.alloc())?),
@@ -289,18 +309,19 @@ fn text_of<'a, R: rt::Files + AllocGlobal>(
 /// `lint`'s findings. If the file is `-`, standard output gets the filter, and standard error the answer.
 fn compile_output<'a, R: rt::Files + AllocGlobal>(
     rt: &R,
+    calls: CallTable,
     path: &'a str,
     out: &'a str,
     is_base64: bool,
     form: Form,
 ) -> Result<Output, Stop<'a>> {
     let alloc = rt.alloc();
-    let file = profile_at(rt, path)?;
+    let file = profile_at(rt, calls, path)?;
     let filter = match compile(alloc, &file.profile) {
         Ok(filter) => filter,
         Err(fault) => return Err(refused_stop(path, file.bytes, Refused::Compile(fault))),
     };
-    let aside = beside(alloc, path, file)?;
+    let aside = beside(alloc, calls, path, file)?;
     let code = bpf_code::write(alloc, filter.insns())?;
     let code = file_bytes(alloc, code, is_base64)?;
     let text = match form {

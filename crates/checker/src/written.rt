@@ -8,6 +8,7 @@ use fault_notes::ShownPath;
 use profile_unit::{UnitFault, unit_of, unit_text};
 use std::alloc::{AllocError, Global};
 use std::rt;
+use sys_table::CallTable;
 
 /// The bytes of the file of a filter with this code.
 pub(crate) fn file_bytes(
@@ -31,7 +32,7 @@ pub(crate) fn unit_output<'a, R: rt::Files + AllocGlobal>(
     path: &'a str,
 ) -> Result<Output, Stop<'a>> {
     let alloc = rt.alloc();
-    let ProfileFile { profile, aside, .. } = profile_at(rt, path)?;
+    let ProfileFile { profile, aside, .. } = profile_at(rt, CallTable::Linux5_8, path)?;
     match unit_of(alloc, &profile) {
         Ok(unit) => Ok(Output::with_aside(unit_text(alloc, &unit)?, aside)),
         Err(UnitFault::Memory) => Err(Stop::Memory),

@@ -32,7 +32,7 @@ pub use Rattle.oci_profile.specs.declared.decision.Decision.{Decision}
 pub use Rattle.oci_profile.specs.declared.decision.Decision.TheVariants.{KillProcess}
 pub use Rattle.oci_profile.specs.declared.profile.Entry.{Entry}
 pub use Rattle.oci_profile.specs.declared.profile.Profile.{Profile}
-pub use Rattle.sys_table.specs.declared.table.TheConstants.{NUMBER_LIMIT}
+pub use Rattle.sys_table.specs.declared.table.TheConstants.{TABLE_LIMIT}
 pub use Rattle.compile.specs.Backward.{Builds, Gives, GivesAlways, IsBackward, Keeps, LeadsTo, PointsInside}
 unfoldable pub use Rattle.compile.specs.Backward.{data_word}
 pub use Rattle.compile.specs.Backward.Gives.{ends, leads}

@@ -10,7 +10,7 @@ pub use Rattle.oci_profile.specs.Entries.{AreEntries}
 pub use Rattle.oci_profile.specs.Meaning.{all_hold, all_of, chosen, decision_of, entry_weight, holds_on}
 pub use Rattle.oci_profile.specs.Meaning.{meaning, names, weight}
 pub use Rattle.oci_profile.specs.declared.decision.Decision.{Decision}
-pub use Rattle.sys_table.specs.declared.table.TheConstants.{NUMBER_LIMIT}
+pub use Rattle.sys_table.specs.declared.table.TheConstants.{TABLE_LIMIT}
 pub use Rattle.compile.specs.Backward.{Builds, Gives, GivesAlways, IsBackward, IsRecent, PointsInside, Puts}
 pub use Rattle.compile.specs.Backward.{data_word}
 pub use Rattle.compile.specs.Bounds.{AreBare, AreEqualities, HasDigits, IsBare, IsEquality, conditions_at}

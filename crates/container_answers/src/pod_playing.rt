@@ -17,6 +17,7 @@ use profile_pick::{Choice, pick};
 use script::Script;
 use std::alloc::{AllocError, AllocFailed, Global};
 use std::rt;
+use sys_table::CallTable;
 use verdict::Stack;
 
 /// The options of `seccheck play --pod`: a manifest, and the node for its pod.
@@ -206,7 +207,7 @@ fn own_at<R: rt::Files + AllocGlobal>(
     let folder = asked.profiles;
     let path = format!(in alloc; "{folder}/{path}")?;
     let bytes = bytes_in(rt, path.as_str(), asked.form)?;
-    let file = match profile_of(alloc, path.as_str(), bytes) {
+    let file = match profile_of(alloc, CallTable::Linux5_8, path.as_str(), bytes) {
         Ok(file) => file,
         Err(stop) => return Err(ended_by(alloc, &stop, asked.form)?),
     };

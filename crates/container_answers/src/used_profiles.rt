@@ -8,6 +8,7 @@ use node_io::{FileFault, MAX_FILE_BYTES, read_file};
 use oci_profile::{Profile, runtime_default};
 use std::alloc::{AllocError, Global};
 use std::rt;
+use sys_table::CallTable;
 
 /// A profile by its name in records, or none if it can't be had.
 #[derive(Drop)]
@@ -115,7 +116,7 @@ fn profile_in<R: rt::Files + AllocGlobal>(
             return Ok(None);
         }
     };
-    match profile_of(alloc, whole.as_str(), bytes) {
+    match profile_of(alloc, CallTable::Linux5_8, whole.as_str(), bytes) {
         Ok(file) => {
             aside.push_str(file.aside.as_str())?;
             Ok(Some(file.profile))

@@ -12,11 +12,13 @@ use oci_profile::Profile;
 use seen_calls::{LineFault, audited_call};
 use std::alloc::{AllocError, Global};
 use std::rt;
+use sys_table::CallTable;
 
 /// The calls of the log, the most frequent first. A broken line of an audit is reported on standard error, and
 /// the status is 1.
 pub fn audit_output<'a, R: rt::Files + AllocGlobal>(
     rt: &R,
+    calls: CallTable,
     profile: &'a str,
     log: &'a str,
     form: Form,
@@ -26,7 +28,7 @@ pub fn audit_output<'a, R: rt::Files + AllocGlobal>(
         profile,
         aside: sign,
         ..
-    } = profile_at(rt, profile)?;
+    } = profile_at(rt, calls, profile)?;
     let mut audited = Audited {
         counts: AuditedCounts::new(alloc),
         reports: Reports::new(alloc),

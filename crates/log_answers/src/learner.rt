@@ -8,6 +8,7 @@ use profile_learn::{Learned, Wanted, small_argument};
 use profile_text::WriteFault;
 use std::alloc::{AllocError, Global};
 use std::rt;
+use sys_table::CallTable;
 
 /// What is asked for beside the files.
 #[derive(Clone, Copy)]
@@ -54,7 +55,7 @@ fn base_of<'a, R: rt::Files + AllocGlobal>(
 ) -> Result<Base, Stop<'a>> {
     let alloc = rt.alloc();
     if let Some(path) = asked.base {
-        let ProfileFile { profile, aside, .. } = profile_at(rt, path)?;
+        let ProfileFile { profile, aside, .. } = profile_at(rt, CallTable::Linux5_8, path)?;
         return Ok(Base { profile, aside });
     }
     let default = match asked.default {

@@ -1,12 +1,13 @@
 -- The names of calls are ASCII, so bytes that are not UTF-8 are none of them.
 use Rattle.std.proofs.Common.{◌≡◌, ℕ, zero, suc, ◌&&◌, List, [], ◌∷◌, Bool, true, false, Some, arith, refl}
-use Rattle.std.proofs.Common.{slice_index_or}
+use Rattle.std.proofs.Common.{cond, slice_index_or}
 use Rattle.std.specs.Prelude.{nat_lt}
 use Rattle.std.specs.List.{list_all}
 use Rattle.std.specs.Str.{IsAscii, IsUtf8}
 use Rattle.std.proofs.lemmas.Bool.{ltb-true}
 use Rattle.std.proofs.lemmas.Str.{IsUtf8-from_ascii}
-use Rattle.sys_table.specs.SysTable.{name_of, named, names, text_at}
+use Rattle.sys_table.specs.SysTable.{is_of, name_in, named, names}
+use Rattle.sys_table.specs.declared.calls.CallTable.{CallTable}
 
 are_ascii : List ℕ → Bool
 are_ascii bytes = list_all (λ c. nat_lt c 128) bytes
@@ -40,6 +41,12 @@ is_text (c ∷ cs) name ascii e =
     rw same (IsUtf8-from_ascii (c ∷ cs) (ascii_at (c ∷ cs) ascii))
 
 -- the name of a call is UTF-8
-pub name_is_text : (number : ℕ) (name : List ℕ) → name_of number ≡ Some name → IsUtf8 name
-unfolding name_of
-name_is_text number name e = is_text (text_at number) name (each_at names each number) e
+pub name_is_text : (calls : CallTable) (number : ℕ) (name : List ℕ) → name_in calls number ≡ Some name
+    → IsUtf8 name
+unfolding name_in
+name_is_text calls number name e =
+    elim (is_of calls number) as (λ b. named (cond b (slice_index_or names number []) []) ≡ Some name
+    → IsUtf8 name) [
+      | true ↦ λ there. is_text (slice_index_or names number []) name (each_at names each number) there
+      | false ↦ λ none. absurd cc
+    ] e

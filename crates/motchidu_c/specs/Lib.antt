@@ -5,3 +5,4 @@ pub mod Compared
 pub mod Room
 pub mod Templates
 pub mod Explained
+pub mod Versions

@@ -29,6 +29,7 @@ use Rattle.motchidu_c.specs.declared.status.Status.TheVariants.{EmptyNames, Repe
 use Rattle.motchidu_c.specs.declared.status.Status.TheVariants.{ErrnoTooLarge, UnknownCall, Notify, TooLarge}
 use Rattle.motchidu_c.specs.declared.status.Status.TheVariants.{TooHeavy, NoRoom, Same, Differ, Budget}
 use Rattle.motchidu_c.specs.declared.status.Status.TheVariants.{Arithmetic, Both, UnknownErrno, BadKernel}
+use Rattle.motchidu_c.specs.declared.status.Status.TheVariants.{UnknownVersion}
 
 abbrev pub number_of : Status → ℕ
 number_of Accepted = 0
@@ -68,6 +69,7 @@ number_of Arithmetic = 33
 number_of Both = 34
 number_of UnknownErrno = 35
 number_of BadKernel = 36
+number_of UnknownVersion = 37
 
 -- the status of a fault of the text
 abbrev pub status_of_text : CodeFault → Status

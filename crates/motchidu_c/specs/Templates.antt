@@ -5,6 +5,7 @@ use Rattle.std.specs.Prelude.{◌≡◌, ℕ, ◌/◌, ◌%◌, ◌^◌, ◌==�
 use Rattle.std.specs.Prelude.{Option, Some, None, Ok, Err}
 use Rattle.std.specs.List.{enumerate_from}
 use Rattle.oci_profile.specs.Profile.{ReadsProfile}
+use Rattle.sys_table.specs.declared.calls.CallTable.TheVariants.{Linux5_8}
 use Rattle.profile_template.specs.Reading.{reading_of}
 use Rattle.profile_template.specs.Resolved.{profile_of}
 use Rattle.profile_template.specs.declared.placed.TemplateFaultAt.{TemplateFaultAt}
@@ -37,7 +38,7 @@ pub record AreSettings (settings : Settings) (caps major minor : ℕ) : Type 0 w
 pub record ReadsTemplate (settings : Settings) (bytes text : List ℕ) : Type 0 where
   pub template : Template
   pub reads : reading_of settings bytes ≡ Ok template
-  pub written : ReadsProfile text (profile_of template)
+  pub written : ReadsProfile text (profile_of Linux5_8 template)
 
 -- the answer for bytes that are not resolved under these settings: the first fault, or, for a template, that
 -- its plain profile has too many bytes

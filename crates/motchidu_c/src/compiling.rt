@@ -4,10 +4,12 @@ ghost use Rattle.oci_profile.specs.declared.faults.ProfileFault.{ProfileFault};
 ghost use Rattle.oci_profile.specs.declared.profile.Profile.{Profile};
 ghost use Rattle.oci_profile.specs.declared.reader.TheConstants.{MAX_PROFILE_BYTES};
 ghost use Rattle.oci_profile.specs.Meaning.{weight};
-ghost use Rattle.oci_profile.specs.Profile.{ReadsProfile};
+ghost use Rattle.oci_profile.specs.Profile.{ReadsProfile, ReadsProfileWith};
 ghost use Rattle.oci_profile.specs.Reading.{first_fault};
+ghost use Rattle.sys_table.specs.declared.calls.CallTable.{CallTable};
+ghost use Rattle.sys_table.specs.declared.calls.CallTable.TheVariants.{Linux5_8};
 ghost use Rattle.motchidu_c.specs.declared.status.Status.TheVariants.{Accepted, Memory, NoRoom, TooHeavy};
-ghost use Rattle.motchidu_c.specs.declared.status.Status.TheVariants.{TooLarge};
+ghost use Rattle.motchidu_c.specs.declared.status.Status.TheVariants.{TooLarge, UnknownVersion};
 ghost use Rattle.motchidu_c.specs.Compiled.{IsCompiled, IsFilterOf, NeedsRoom};
 ghost use Rattle.motchidu_c.specs.Status.{number_of, status_of_compile, status_of_profile};
 
@@ -27,8 +29,9 @@ pub extern "C" fn motchidu_compile(
     filter: &mut [u8],
     len: &mut usize,
 ) -> u32
-    ensures compiled { result ≡ number_of Accepted → IsCompiled profile.now filter.old filter.new len.new }
-    ensures no_room { result ≡ number_of NoRoom → NeedsRoom profile.now filter.old len.new }
+    ensures compiled { result ≡ number_of Accepted
+        → IsCompiled Linux5_8 profile.now filter.old filter.new len.new }
+    ensures no_room { result ≡ number_of NoRoom → NeedsRoom Linux5_8 profile.now filter.old len.new }
 
     // Only a filter is written.
     ensures kept { result ≢ number_of Accepted → filter.new ≡ filter.old }
@@ -37,7 +40,7 @@ pub extern "C" fn motchidu_compile(
     // A text that is no profile is refused for its first fault, a profile that is too heavy as such, and any
     // other is compiled, unless memory runs out. A text that is too long is reported in any case.
     ensures large { MAX_PROFILE_BYTES < length profile.now → result ≡ number_of TooLarge }
-    ensures first { (fault : ProfileFault) → first_fault profile.now ≡ Some fault
+    ensures first { (fault : ProfileFault) → first_fault Linux5_8 profile.now ≡ Some fault
         → result ≢ number_of Memory → result ≡ number_of (status_of_profile fault) }
     ensures heavy { (p : Profile) → ReadsProfile profile.now p → MAX_INSNS < weight p
         → result ≢ number_of Memory → result ≡ number_of TooHeavy }
@@ -57,15 +60,16 @@ pub(crate) fn compiled(
     filter: &mut [u8],
     len: &mut usize,
 ) -> Status
-    ensures compiled { result ≡ Accepted → (text : List ℕ) → ReadsProfile text profile.now
-        → IsCompiled text filter.old filter.new len.new }
-    ensures no_room { result ≡ NoRoom → (text : List ℕ) → ReadsProfile text profile.now
-        → NeedsRoom text filter.old len.new }
+    ensures compiled { result ≡ Accepted → (calls : CallTable) (text : List ℕ)
+        → ReadsProfileWith calls text profile.now → IsCompiled calls text filter.old filter.new len.new }
+    ensures no_room { result ≡ NoRoom → (calls : CallTable) (text : List ℕ)
+        → ReadsProfileWith calls text profile.now → NeedsRoom calls text filter.old len.new }
     ensures kept { result ≢ Accepted → filter.new ≡ filter.old }
     ensures len_kept { result ≢ Accepted → result ≢ NoRoom → len.new ≡ len.old }
     ensures heavy { MAX_INSNS < weight profile.now → result ≢ Memory → result ≡ TooHeavy }
     ensures accepts { weight profile.now ≤ MAX_INSNS → result ≢ Memory
         → (result ≡ Accepted) ⊎ (result ≡ NoRoom) }
+    ensures version { result ≢ UnknownVersion }
 {
     match bytes_of(alloc, profile) {
         Ok(bytes) => give(&bytes, filter, len),
@@ -77,6 +81,7 @@ pub(crate) fn compiled(
 fn bytes_of(alloc: Global, profile: &Profile) -> Result<Vec<u8>, Status>
     ensures filter { IfOk result (λ bytes. IsFilterOf profile.now bytes.items) }
     ensures refused { IfErr result (λ status. (status ≢ Accepted) × (status ≢ NoRoom)) }
+    ensures version { result ≢ Err UnknownVersion }
     ensures light { IfOk result (λ _. weight profile.now ≤ MAX_INSNS) }
     ensures heavy { MAX_INSNS < weight profile.now → result ≢ Err Memory → result ≡ Err TooHeavy }
     ensures accepts { weight profile.now ≤ MAX_INSNS → result ≢ Err Memory → IsOk result }

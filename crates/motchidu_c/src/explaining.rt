@@ -5,6 +5,7 @@ ghost use Rattle.oci_profile.specs.declared.reader.TheConstants.{MAX_PROFILE_BYT
 ghost use Rattle.oci_profile.specs.Decision.{value_of};
 ghost use Rattle.oci_profile.specs.Profile.{ReadsProfile};
 ghost use Rattle.oci_profile.specs.Reading.{first_fault};
+ghost use Rattle.sys_table.specs.declared.calls.CallTable.TheVariants.{Linux5_8};
 ghost use Rattle.motchidu_c.specs.declared.status.Status.TheVariants.{Accepted, Memory, TooLarge};
 ghost use Rattle.motchidu_c.specs.Explained.{IsDecidedUnder, IsExplained, entry_or, number_of_decider};
 ghost use Rattle.motchidu_c.specs.Status.{number_of, status_of_profile};
@@ -38,7 +39,7 @@ pub extern "C" fn motchidu_explain(
     // A text that is no profile is refused for its first fault, and any other is accepted, unless memory runs
     // out. A text that is too long is reported in any case.
     ensures large { MAX_PROFILE_BYTES < length profile.now → result ≡ number_of TooLarge }
-    ensures first { (fault : ProfileFault) → first_fault profile.now ≡ Some fault
+    ensures first { (fault : ProfileFault) → first_fault Linux5_8 profile.now ≡ Some fault
         → result ≢ number_of Memory → result ≡ number_of (status_of_profile fault) }
     ensures accepts { (p : Profile) → ReadsProfile profile.now p
         → result ≢ number_of Memory → result ≡ number_of Accepted }
@@ -59,7 +60,7 @@ fn explained(alloc: Global, text: &[u8], call: &SysCall) -> Result<Explanation, 
         (value_of found.decision)) }
     ensures refused { IfErr result (λ status. status ≢ Accepted) }
     ensures large { MAX_PROFILE_BYTES < length text.now → result ≡ Err TooLarge }
-    ensures first { (fault : ProfileFault) → first_fault text.now ≡ Some fault
+    ensures first { (fault : ProfileFault) → first_fault Linux5_8 text.now ≡ Some fault
         → result ≢ Err Memory → result ≡ Err (status_of_profile fault) }
     ensures accepts { (p : Profile) → ReadsProfile text.now p → result ≢ Err Memory → IsOk result }
 {

@@ -15,6 +15,9 @@
 //! - The place of a profile's first fault is written whole, if there is room for it, and its length is set in
 //!   any case: `motchidu_compile_at`: placed. No place is written for a profile, or if memory runs out:
 //!   place_kept, place_len_kept, memory_place, memory_place_len.
+//! - The same with the calls of the version of Linux that a number names: `motchidu_compile_with`. A number
+//!   is UnknownVersion exactly if it names no version, and nothing is written then: version, kept, len_kept, version_place,
+//!   version_place_len.
 //! - What decides a call under a profile is another architecture, the bit of x32, the first entry that names
 //!   the call and whose conditions all hold, or the default; the value is the decision's, and the profile's
 //!   on the call: `motchidu_explain`: explained. Refusals are those of a profile, and write nothing: first,
@@ -24,8 +27,8 @@
 //!   template that was read, or Memory: refused. Nothing else is written: kept, len_kept.
 //! - A text that reads as RuntimeDefault is written, memory aside: `motchidu_default`: written, kept,
 //!   len_kept.
-//! - A call's name has exactly the number of the table, and the number exactly that name; others are
-//!   UnknownCall, and write nothing: `motchidu_call_number`: accepts, number, unknown, kept;
+//! - The name of a call of Linux 5.8 has exactly the call's number, and the number exactly that name; others
+//!   are UnknownCall, and write nothing: `motchidu_call_number`: accepts, number, unknown, kept;
 //!   `motchidu_call_name`: named, unknown, kept, len_kept.
 //! - Exactly the sound filters are accepted; another is refused for its first fault, with its place, memory
 //!   aside: `motchidu_verify` and `motchidu_longest`: sound, kept, refused, told, accepts, first. The longest
@@ -49,6 +52,7 @@ mod capabilities;
 mod comparing;
 mod compiling;
 mod compiling_at;
+mod compiling_with;
 mod default_profile;
 mod explaining;
 mod exports;
@@ -62,6 +66,7 @@ pub use call_number::motchidu_call_number;
 pub use comparing::motchidu_compare;
 pub use compiling::motchidu_compile;
 pub use compiling_at::motchidu_compile_at;
+pub use compiling_with::motchidu_compile_with;
 pub use default_profile::motchidu_default;
 pub use explaining::motchidu_explain;
 pub use exports::{motchidu_longest, motchidu_run_all, motchidu_verify};

@@ -12,6 +12,7 @@ use crate::status::Status;
 use profile_template::{Settings, TemplateFault, Version};
 use profile_text::WriteFault;
 use std::alloc::Global;
+use sys_table::CallTable;
 
 /// Resolves a template to the plain profile of a container with these capabilities, on x86-64 and a kernel of
 /// this version. A bit of the mask is a capability's number.
@@ -79,7 +80,7 @@ fn text_under(alloc: Global, template: &[u8], settings: &Settings<'_>) -> Result
         Ok(template) => template,
         Err(found) => return Err(status_of_template(found.fault)),
     };
-    match template.write(alloc) {
+    match template.write(alloc, CallTable::Linux5_8) {
         Ok(text) => Ok(text),
         Err(fault) => Err(status_of_write(fault)),
     }

@@ -54,7 +54,7 @@ pub enum Status {
     ErrnoNotAllowed = 23,
     /// An errno is above its action's limit.
     ErrnoTooLarge = 24,
-    /// An entry that is stricter than the default names a call that is not in the table.
+    /// An entry that is stricter than the default names an unknown call.
     UnknownCall = 25,
     /// The action SCMP_ACT_NOTIFY, for which there is no listener.
     Notify = 26,
@@ -78,6 +78,8 @@ pub enum Status {
     UnknownErrno = 35,
     /// A template has an invalid kernel version.
     BadKernel = 36,
+    /// A number that names no version of Linux.
+    UnknownVersion = 37,
 }
 
 impl Status {

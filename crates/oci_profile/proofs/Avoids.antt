@@ -15,6 +15,7 @@ use Rattle.json_place.specs.declared.fields.FieldFaultAt.{FieldFaultAt}
 use Rattle.json_place.specs.Parts.{Part, Member, Item}
 use Rattle.json_place.specs.Fields.{required, required_each, optional, optional_each}
 use Rattle.action.specs.declared.verdict.TheConstants.{MAX_ERRNO}
+use Rattle.sys_table.specs.declared.calls.CallTable.{CallTable}
 use Rattle.oci_profile.specs.declared.conditions.Cond.{Cond}
 use Rattle.oci_profile.specs.declared.decision.Decision.{Decision}
 use Rattle.oci_profile.specs.declared.decision.Decision.TheVariants.{KillProcess, KillThread, Trap, Errno}
@@ -80,9 +81,10 @@ under_avoids : {A : Type 0} (part : Part) (r : Result A ProfileFaultAt) → Avoi
 under_avoids part (Ok x) h = tt
 under_avoids part (Err e) h = h
 
-known_avoids : (needed : Bool) (names : List Data) → Avoids (known_if needed names)
-known_avoids false names = tt
-known_avoids true names = refuse_avoids (position (λ name. not (is_some (number_named name))) names)
+known_avoids : (calls : CallTable) (needed : Bool) (names : List Data) → Avoids (known_if calls needed names)
+known_avoids calls false names = tt
+known_avoids calls true names =
+    refuse_avoids (position (λ name. not (is_some (number_named calls name))) names)
   where
     refuse_avoids : (index : Option ℕ) → Avoids (refuse_at index)
     refuse_avoids None = tt
@@ -156,9 +158,9 @@ cond_avoids done item =
     bind _ _ (bind _ _ (field_avoids (required text (codes "op") tree)) (λ name.
     at_avoids (codes "op") _ (op_named_avoids name))) (λ op. tt))))))
 
-entry_avoids : (default : Decision) (item : Data) → Avoids (entry_of default item)
+entry_avoids : (calls : CallTable) (default : Decision) (item : Data) → Avoids (entry_of calls default item)
 unfolding entry_of names_of conds_of
-entry_avoids default item =
+entry_avoids calls default item =
     bind _ _ (otherwise (fault_here WrongType) (object item) (λ same. cc)) (λ tree.
     bind _ _ (bind _ _ (field_avoids (required_each text text_list (codes "names") tree)) (λ names.
     next _ _ (refused (eqb (length names) 0) (fault_at (codes "names") EmptyNames) (λ same. cc)) tt))
@@ -167,7 +169,7 @@ entry_avoids default item =
     bind _ _ (bind _ _ (field_avoids (optional list (codes "args") tree)) (λ items.
     under_avoids (Member (codes "args")) _ (each_after cond_at cond_avoids [] (unwrap_or items []))))
     (λ conds.
-    next _ _ (known_avoids (ltb (rank decision) (rank default)) names) tt))))
+    next _ _ (known_avoids calls (ltb (rank decision) (rank default)) names) tt))))
 
 ignored_avoids : (tree : Data) → Avoids (ignored_of tree)
 unfolding ignored_of
@@ -177,17 +179,17 @@ ignored_avoids tree =
     (next _ _ (field_avoids (optional text (codes "listenerPath") tree))
     (next _ _ (field_avoids (optional text (codes "listenerMetadata") tree)) tt)))
 
-profile_avoids : (tree : Data) → Avoids (profile_of tree)
+profile_avoids : (calls : CallTable) (tree : Data) → Avoids (profile_of calls tree)
 unfolding profile_of head_of items_of default_of
-profile_avoids whole_tree =
+profile_avoids calls whole_tree =
     bind _ _ (bind _ _ (otherwise (fault_here NotObject) (object whole_tree) (λ same. cc)) (λ tree.
     bind _ _ (decision_avoids (codes "defaultAction") (codes "defaultErrnoRet") tree) (λ default.
     next _ _ (ignored_avoids tree) tt))) (λ default.
     bind _ _ (bind _ _ (field_avoids (optional list (codes "syscalls") whole_tree)) (λ given. tt)) (λ items.
     bind _ _ (under_avoids (Member (codes "syscalls")) _
-    (each_after (entry_at default) (λ done item.
-    under_avoids (Item (length done)) _ (entry_avoids default item)) [] items)) (λ entries. tt)))
+    (each_after (entry_at calls default) (λ done item.
+    under_avoids (Item (length done)) _ (entry_avoids calls default item)) [] items)) (λ entries. tt)))
 
-pub short_avoids : (bytes : List ℕ) → Avoids (short_of bytes)
+pub short_avoids : (calls : CallTable) (bytes : List ℕ) → Avoids (short_of calls bytes)
 unfolding short_of
-short_avoids bytes = bind _ _ (text_avoids (document_of bytes)) profile_avoids
+short_avoids calls bytes = bind _ _ (text_avoids (document_of bytes)) (profile_avoids calls)

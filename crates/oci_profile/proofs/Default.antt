@@ -7,7 +7,8 @@ use Rattle.std.proofs.lemmas.List.Sums.{count_by-le-length, length-filter}
 use Rattle.std.proofs.lemmas.List.FromFn.{filter_of_map_range_with_len_more, get_or-range_with_len}
 use Rattle.std.proofs.lemmas.List.FromFn.{length-range_with_len}
 use Rattle.sys_table.specs.SysTable.{number_of}
-use Rattle.sys_table.specs.declared.table.TheConstants.{NUMBER_LIMIT}
+use Rattle.sys_table.specs.declared.calls.CallTable.TheVariants.{Linux5_8}
+use Rattle.sys_table.specs.declared.table.TheConstants.{NUMBER_LIMIT, TABLE_LIMIT}
 use Rattle.oci_profile.specs.declared.conditions.Cond.{Cond}
 use Rattle.oci_profile.specs.declared.decision.Decision.{Decision}
 use Rattle.oci_profile.specs.declared.profile.Entry.{Entry}
@@ -42,31 +43,31 @@ allowed_left limit numbers so_far is = rw (allowed_more limit, is, append-nil) s
 
 pub allowed_fit : (limit : ℕ) → limit ≤ NUMBER_LIMIT → AreNumbers (allowed_below limit)
 unfolding allowed_below
-allowed_fit limit short = All-filter is_allowed (λ nr. nr < NUMBER_LIMIT) (range_with_len 0 limit) (λ k d lt.
+allowed_fit limit short = All-filter is_allowed (λ nr. nr < TABLE_LIMIT) (range_with_len 0 limit) (λ k d lt.
     let in_range : k < limit = omega (arith, length-range_with_len 0 limit) in
     omega (arith, get_or-range_with_len 0 limit k d in_range))
 
-named_fits : AreSmall → (name : List ℕ) (decision : Decision) (conds : List Cond) → AreConds conds
+named_fits : AreSmall Linux5_8 → (name : List ℕ) (decision : Decision) (conds : List Cond) → AreConds conds
     → IsFit (entry_named name decision conds)
 unfolding entry_named
 named_fits small name decision conds fit =
-    record { numbers_fit = one_number_fits small name; conds_fit = fit }
+    record { numbers_fit = one_number_fits Linux5_8 small name; conds_fit = fit }
 
-persona_fits : AreSmall → (persona : ℕ) → IsFit (personality_entry persona)
+persona_fits : AreSmall Linux5_8 → (persona : ℕ) → IsFit (personality_entry persona)
 persona_fits small persona = named_fits small _ _ _ (one_fits _ (omega arith))
 
 allowed_entry_fits : IsFit allowed_entry
 unfolding allowed_entry
 allowed_entry_fits = record { numbers_fit = allowed_fit NUMBER_LIMIT (omega arith); conds_fit = none_fit }
 
-personas_fit : AreSmall → (personas : List ℕ) (rest : List Entry) → AreEntries rest
+personas_fit : AreSmall Linux5_8 → (personas : List ℕ) (rest : List Entry) → AreEntries rest
     → AreEntries (map personality_entry personas ++ rest)
 personas_fit small [] rest fit = fit
 personas_fit small (persona ∷ personas) rest fit =
     All-cons IsFit (personality_entry persona) (map personality_entry personas ++ rest)
     (persona_fits small persona) (personas_fit small personas rest fit)
 
-pub default_fit : AreSmall → AreEntries default_entries
+pub default_fit : AreSmall Linux5_8 → AreEntries default_entries
 unfolding default_entries
 default_fit small =
     let last : List Entry = allowed_entry ∷ [] in

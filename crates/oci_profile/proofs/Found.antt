@@ -22,6 +22,7 @@ use Rattle.json_place.proofs.PlacedFields.{optional_each_found}
 use Rattle.json_tree.proofs.After.{after_found}
 use Rattle.json_tree.proofs.Values.{object_same}
 use Rattle.action.specs.declared.verdict.TheConstants.{MAX_ERRNO}
+use Rattle.sys_table.specs.declared.calls.CallTable.{CallTable}
 use Rattle.oci_profile.specs.declared.conditions.Cond.{Cond}
 use Rattle.oci_profile.specs.declared.conditions.Op.{Op}
 use Rattle.oci_profile.specs.declared.conditions.Op.TheVariants.{NotEqual, Less, LessOrEqual, Equal}
@@ -40,7 +41,7 @@ use Rattle.oci_profile.specs.declared.reader.TheConstants.{MAX_PROFILE_BYTES}
 use Rattle.oci_profile.specs.Conditions.{AreConds}
 use Rattle.oci_profile.specs.Faults.{at, fault_at, fault_here, fault_of_text, fault_within}
 use Rattle.oci_profile.specs.Profile.{IsNameOf, IsErrnoOf, HasDecision, IsOpName, IsCond, number_named, rank}
-use Rattle.oci_profile.specs.Profile.{IsEntry, HasIgnored, IsProfile, ReadsProfile}
+use Rattle.oci_profile.specs.Profile.{IsEntry, HasIgnored, IsProfile, ReadsProfileWith}
 use Rattle.oci_profile.specs.Reading.{here, Reads, action_of, with_given, decision_of, op_named, op_of}
 use Rattle.oci_profile.specs.Reading.{is_tested, index_of, cond_of, cond_at, conds_of, names_of, known_if}
 use Rattle.oci_profile.specs.Reading.{entry_of, entry_at, entries_of, ignored_of, head_of, items_of}
@@ -262,42 +263,6 @@ names_found tree names h =
       omega arith,
     )
 
-pub entry_found : (default : Decision) (item : Data) (entry : Entry) → entry_of default item ≡ Ok entry
-    → IsEntry default item entry
-unfolding entry_of
-entry_found default item entry h =
-    let tree = bind_ok (or_else (fault_here WrongType) (object item)) _ _ h in
-    let is_object : object item ≡ Some tree.0 =
-    or_else_ok (fault_here WrongType) (object item) tree.0 tree.1 in
-    let same : tree.0 ≡ item = sym (object_same item tree.0 is_object) in
-    let names = bind_ok (names_of tree.0) _ _ tree.2 in
-    let decision = bind_ok (decision_of (codes "action") (codes "errnoRet") tree.0) _ _ names.2 in
-    let conds = bind_ok (conds_of tree.0) _ _ decision.2 in
-    let known = then_ok (known_if (ltb (rank decision.0) (rank default)) names.0) _ _ conds.2 in
-    let names_are = names_found tree.0 names.0 names.1 in
-    let conds_are = conds_found tree.0 conds.0 conds.1 in
-    let made : Entry = record {
-      numbers = filter_map number_named names.0;
-      decision = decision.0;
-      conds =
-          conds.0;
-    } in
-    let is : made ≡ entry = cc in
-    subst (IsEntry default item) is (subst (λ t. IsEntry default t made) same (record {
-      an_object = ap object same ∙ is_object;
-      names = names.0;
-      there = names_are.0;
-      some = names_are.1;
-      decides = decision_found (codes "action") (codes "errnoRet") tree.0 decision.0 decision.1;
-      args = conds_are.0;
-      args_there = conds_are.1;
-      conds_are = conds_are.2;
-      conds_fit = conds_are.3;
-      numbers_are = refl;
-      known = λ stricter. known_when_needed (ltb (rank decision.0) (rank default)) names.0 known.0 known.1
-          (lt-ltb (rank decision.0) (rank default) stricter);
-    }))
-
 ignored_found : (tree : Data) (u : ⊤) → ignored_of tree ≡ Ok u → HasIgnored tree
 unfolding ignored_of
 ignored_found tree u h =
@@ -343,62 +308,99 @@ head_found whole_tree default h =
       ignored_found tree.0 ignored.0 ignored.1,
     ))
 
--- nothing is kept beside what each item is
-entry_kept : (default : Decision) (done : List Entry) (item : Data) (entry : Entry) → ⊤
-    → entry_at default done item ≡ Ok entry → ⊤ × IsEntry default item entry
-entry_kept default done item entry kept h = (
-  tt,
-  entry_found default item entry (as_fault_ok (fault_within (Item (length done)))
-      (entry_of default item) entry h),
-)
+module _ (calls : CallTable) where
+  pub entry_found : (default : Decision) (item : Data) (entry : Entry) → entry_of calls default item ≡ Ok entry
+      → IsEntry calls default item entry
+  unfolding entry_of
+  entry_found default item entry h =
+      let tree = bind_ok (or_else (fault_here WrongType) (object item)) _ _ h in
+      let is_object : object item ≡ Some tree.0 =
+      or_else_ok (fault_here WrongType) (object item) tree.0 tree.1 in
+      let same : tree.0 ≡ item = sym (object_same item tree.0 is_object) in
+      let names = bind_ok (names_of tree.0) _ _ tree.2 in
+      let decision = bind_ok (decision_of (codes "action") (codes "errnoRet") tree.0) _ _ names.2 in
+      let conds = bind_ok (conds_of tree.0) _ _ decision.2 in
+      let known = then_ok (known_if calls (ltb (rank decision.0) (rank default)) names.0) _ _ conds.2 in
+      let names_are = names_found tree.0 names.0 names.1 in
+      let conds_are = conds_found tree.0 conds.0 conds.1 in
+      let made : Entry = record {
+        numbers = filter_map (number_named calls) names.0;
+        decision = decision.0;
+        conds =
+            conds.0;
+      } in
+      let is : made ≡ entry = cc in
+      subst (IsEntry calls default item) is (subst (λ t. IsEntry calls default t made) same (record {
+        an_object = ap object same ∙ is_object;
+        names = names.0;
+        there = names_are.0;
+        some = names_are.1;
+        decides = decision_found (codes "action") (codes "errnoRet") tree.0 decision.0 decision.1;
+        args = conds_are.0;
+        args_there = conds_are.1;
+        conds_are = conds_are.2;
+        conds_fit = conds_are.3;
+        numbers_are = refl;
+        known = λ stricter. known_when_needed calls (ltb (rank decision.0) (rank default)) names.0 known.0 known.1
+            (lt-ltb (rank decision.0) (rank default) stricter);
+      }))
 
-pub each_entry_found : (default : Decision) (items : List Data) (entries : List Entry)
-    → in_order_after (entry_at default) [] items ≡ Ok entries → Both (IsEntry default) items entries
-each_entry_found default items entries h =
-    let all = after_found (entry_at default) (λ done. ⊤) (IsEntry default) (entry_kept default)
-    [] items entries tt h in
-    subst (Both (IsEntry default) items) (sym all.1.1) all.1.2
+  -- nothing is kept beside what each item is
+  entry_kept : (default : Decision) (done : List Entry) (item : Data) (entry : Entry) → ⊤
+      → entry_at calls default done item ≡ Ok entry → ⊤ × IsEntry calls default item entry
+  entry_kept default done item entry kept h = (
+    tt,
+    entry_found default item entry (as_fault_ok (fault_within (Item (length done)))
+        (entry_of calls default item) entry h),
+  )
 
-profile_found : (tree : Data) (profile : Profile) → profile_of tree ≡ Ok profile → IsProfile tree profile
-unfolding profile_of items_of
-profile_found tree profile h =
-    let default = bind_ok (head_of tree) _ _ h in
-    let items = bind_ok (here (optional list (codes "syscalls") tree) >>= λ given.
-    Ok (unwrap_or given [])) _ _ default.2 in
-    let given = bind_ok (here (optional list (codes "syscalls") tree)) _ _ items.1 in
-    let entries = bind_ok (entries_of default.0 items.0) _ _ items.2 in
-    let made : Profile = record { default = default.0; entries = entries.0 } in
-    let is : made ≡ profile = cc in
-    let items_are : unwrap_or given.0 [] ≡ items.0 = cc in
-    let head = head_found tree default.0 default.1 in
-    subst (IsProfile tree) is (record {
-      an_object = head.0;
-      decides = head.1;
-      ignored = head.2;
-      syscalls = given.0;
-      there = optional_found list (codes "syscalls") tree given.0
-          (here_ok (optional list (codes "syscalls") tree) given.0 given.1);
-      each = each_entry_found default.0 (unwrap_or given.0 []) entries.0
-          (as_fault_ok (fault_within (Member (codes "syscalls")))
-          (in_order_after (entry_at default.0) [] (unwrap_or given.0 [])) entries.0
-          (ap (entries_of default.0) items_are ∙ entries.1));
-    })
+  pub each_entry_found : (default : Decision) (items : List Data) (entries : List Entry)
+      → in_order_after (entry_at calls default) [] items ≡ Ok entries → Both (IsEntry calls default) items entries
+  each_entry_found default items entries h =
+      let all = after_found (entry_at calls default) (λ done. ⊤) (IsEntry calls default) (entry_kept default)
+      [] items entries tt h in
+      subst (Both (IsEntry calls default) items) (sym all.1.1) all.1.2
 
-short_found : (bytes : List ℕ) (profile : Profile) → length bytes ≤ MAX_PROFILE_BYTES
-    → short_of bytes ≡ Ok profile → ReadsProfile bytes profile
-unfolding short_of document
-short_found bytes profile short h =
-    let tree = bind_ok (as_fault (λ fault. fault_here (fault_of_text fault)) (document bytes)) _ _ h in
-    record {
-      short = short;
-      tree = tree.0;
-      is = or_else_ok NotJson (tree_of bytes) tree.0
-          (as_fault_ok (λ fault. fault_here (fault_of_text fault)) (document bytes) tree.0 tree.1);
-      says = profile_found tree.0 profile tree.2;
-    }
+  profile_found : (tree : Data) (profile : Profile) → profile_of calls tree ≡ Ok profile → IsProfile calls tree profile
+  unfolding profile_of items_of
+  profile_found tree profile h =
+      let default = bind_ok (head_of tree) _ _ h in
+      let items = bind_ok (here (optional list (codes "syscalls") tree) >>= λ given.
+      Ok (unwrap_or given [])) _ _ default.2 in
+      let given = bind_ok (here (optional list (codes "syscalls") tree)) _ _ items.1 in
+      let entries = bind_ok (entries_of calls default.0 items.0) _ _ items.2 in
+      let made : Profile = record { default = default.0; entries = entries.0 } in
+      let is : made ≡ profile = cc in
+      let items_are : unwrap_or given.0 [] ≡ items.0 = cc in
+      let head = head_found tree default.0 default.1 in
+      subst (IsProfile calls tree) is (record {
+        an_object = head.0;
+        decides = head.1;
+        ignored = head.2;
+        syscalls = given.0;
+        there = optional_found list (codes "syscalls") tree given.0
+            (here_ok (optional list (codes "syscalls") tree) given.0 given.1);
+        each = each_entry_found default.0 (unwrap_or given.0 []) entries.0
+            (as_fault_ok (fault_within (Member (codes "syscalls")))
+            (in_order_after (entry_at calls default.0) [] (unwrap_or given.0 [])) entries.0
+            (ap (entries_of calls default.0) items_are ∙ entries.1));
+      })
 
--- the returned profile is the text's profile
-pub found : (bytes : List ℕ) (result : Result Profile ProfileFaultAt) → length bytes ≤ MAX_PROFILE_BYTES
-    → Reads (λ profile. profile) result (short_of bytes) → IfOk result (ReadsProfile bytes)
-found bytes (Ok profile) short h = short_found bytes profile short h
-found bytes (Err fault) short h = tt
+  short_found : (bytes : List ℕ) (profile : Profile) → length bytes ≤ MAX_PROFILE_BYTES
+      → short_of calls bytes ≡ Ok profile → ReadsProfileWith calls bytes profile
+  unfolding short_of document
+  short_found bytes profile short h =
+      let tree = bind_ok (as_fault (λ fault. fault_here (fault_of_text fault)) (document bytes)) _ _ h in
+      record {
+        short = short;
+        tree = tree.0;
+        is = or_else_ok NotJson (tree_of bytes) tree.0
+            (as_fault_ok (λ fault. fault_here (fault_of_text fault)) (document bytes) tree.0 tree.1);
+        says = profile_found tree.0 profile tree.2;
+      }
+
+  -- the returned profile is the text's profile
+  pub found : (bytes : List ℕ) (result : Result Profile ProfileFaultAt) → length bytes ≤ MAX_PROFILE_BYTES
+      → Reads (λ profile. profile) result (short_of calls bytes) → IfOk result (ReadsProfileWith calls bytes)
+  found bytes (Ok profile) short h = short_found bytes profile short h
+  found bytes (Err fault) short h = tt

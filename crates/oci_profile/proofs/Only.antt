@@ -11,6 +11,7 @@ use Rattle.json_place.proofs.PlacedFields.{required_only, required_each_only, op
 use Rattle.json_place.proofs.PlacedFields.{optional_each_only}
 use Rattle.json_tree.proofs.After.{after_only}
 use Rattle.action.specs.declared.verdict.TheConstants.{MAX_ERRNO}
+use Rattle.sys_table.specs.declared.calls.CallTable.{CallTable}
 use Rattle.oci_profile.specs.declared.conditions.Cond.{Cond}
 use Rattle.oci_profile.specs.declared.conditions.Op.{Op}
 use Rattle.oci_profile.specs.declared.conditions.Op.TheVariants.{NotEqual, Less, LessOrEqual, Equal}
@@ -21,7 +22,7 @@ use Rattle.oci_profile.specs.declared.decision.Decision.TheVariants.{Trace, Allo
 use Rattle.oci_profile.specs.declared.profile.Entry.{Entry}
 use Rattle.oci_profile.specs.declared.profile.Profile.{Profile}
 use Rattle.oci_profile.specs.Profile.{IsNameOf, IsErrnoOf, HasDecision, IsOpName, IsCond, rank, IsEntry}
-use Rattle.oci_profile.specs.Profile.{HasIgnored, IsProfile, ReadsProfile}
+use Rattle.oci_profile.specs.Profile.{HasIgnored, IsProfile, ReadsProfileWith}
 use Rattle.oci_profile.specs.Reading.{action_of, with_given, decision_of, op_named, op_of, is_tested}
 use Rattle.oci_profile.specs.Reading.{index_of, cond_of, cond_at, conds_of, names_of, entry_of, entry_at}
 use Rattle.oci_profile.specs.Reading.{ignored_of, head_of, items_of, default_of, profile_of, short_of}
@@ -131,24 +132,6 @@ names_only tree (name ∷ names) there some =
       eqb-suc-zero (length names),
     ) refl
 
-entry_only : (default : Decision) (item : Data) (entry : Entry) → IsEntry default item entry
-    → entry_of default item ≡ Ok entry
-unfolding entry_of
-entry_only default item entry h =
-    rw (
-      h.an_object,
-      names_only item h.names h.there h.some,
-      decision_only (codes "action") (codes "errnoRet") item entry.decision h.decides,
-      conds_only item h.args entry.conds h.args_there h.conds_are (h.conds_fit.in_range, h.conds_fit.apart),
-      goes_on_where_known (ltb (rank entry.decision) (rank default)) h.names (λ stricter.
-          h.known (ltb-true (rank entry.decision) (rank default) stricter)),
-    ) (ap (λ numbers. Ok (record { numbers = numbers; decision = entry.decision; conds = entry.conds }))
-    (sym h.numbers_are))
-
-entry_at_only : (default : Decision) (done : List Entry) (item : Data) (entry : Entry) (rest : List Entry) → ⊤
-    → IsEntry default item entry → entry_at default done item ≡ Ok entry
-entry_at_only default done item entry rest kept h = rw (entry_only default item entry h) refl
-
 ignored_only : (tree : Data) → HasIgnored tree → ignored_of tree ≡ Ok tt
 unfolding ignored_of
 ignored_only tree h =
@@ -159,19 +142,38 @@ ignored_only tree h =
       optional_only text (codes "listenerMetadata") tree h.metadata h.metadata_there,
     ) refl
 
-profile_only : (tree : Data) (profile : Profile) → IsProfile tree profile → profile_of tree ≡ Ok profile
-unfolding profile_of head_of items_of default_of
-profile_only tree profile h =
-    rw (
-      h.an_object,
-      decision_only (codes "defaultAction") (codes "defaultErrnoRet") tree profile.default h.decides,
-      ignored_only tree h.ignored,
-      optional_only list (codes "syscalls") tree h.syscalls h.there,
-      after_only (entry_at profile.default) (λ done. ⊤) (IsEntry profile.default)
-          (entry_at_only profile.default) [] (unwrap_or h.syscalls []) profile.entries tt h.each,
-    ) refl
+module _ (calls : CallTable) where
+  entry_only : (default : Decision) (item : Data) (entry : Entry) → IsEntry calls default item entry
+      → entry_of calls default item ≡ Ok entry
+  unfolding entry_of
+  entry_only default item entry h =
+      rw (
+        h.an_object,
+        names_only item h.names h.there h.some,
+        decision_only (codes "action") (codes "errnoRet") item entry.decision h.decides,
+        conds_only item h.args entry.conds h.args_there h.conds_are (h.conds_fit.in_range, h.conds_fit.apart),
+        goes_on_where_known calls (ltb (rank entry.decision) (rank default)) h.names (λ stricter.
+            h.known (ltb-true (rank entry.decision) (rank default) stricter)),
+      ) (ap (λ numbers. Ok (record { numbers = numbers; decision = entry.decision; conds = entry.conds }))
+      (sym h.numbers_are))
 
--- a text's profile is read
-pub only : (bytes : List ℕ) (profile : Profile) → ReadsProfile bytes profile → short_of bytes ≡ Ok profile
-unfolding short_of document
-only bytes profile h = rw h.is (profile_only h.tree profile h.says)
+  entry_at_only : (default : Decision) (done : List Entry) (item : Data) (entry : Entry) (rest : List Entry) → ⊤
+      → IsEntry calls default item entry → entry_at calls default done item ≡ Ok entry
+  entry_at_only default done item entry rest kept h = rw (entry_only default item entry h) refl
+
+  profile_only : (tree : Data) (profile : Profile) → IsProfile calls tree profile → profile_of calls tree ≡ Ok profile
+  unfolding profile_of head_of items_of default_of
+  profile_only tree profile h =
+      rw (
+        h.an_object,
+        decision_only (codes "defaultAction") (codes "defaultErrnoRet") tree profile.default h.decides,
+        ignored_only tree h.ignored,
+        optional_only list (codes "syscalls") tree h.syscalls h.there,
+        after_only (entry_at calls profile.default) (λ done. ⊤) (IsEntry calls profile.default)
+            (entry_at_only profile.default) [] (unwrap_or h.syscalls []) profile.entries tt h.each,
+      ) refl
+
+  -- a text's profile is read
+  pub only : (bytes : List ℕ) (profile : Profile) → ReadsProfileWith calls bytes profile → short_of calls bytes ≡ Ok profile
+  unfolding short_of document
+  only bytes profile h = rw h.is (profile_only h.tree profile h.says)

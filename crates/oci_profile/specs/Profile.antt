@@ -1,13 +1,15 @@
 -- Profiles as JSON trees: OCI runtime-spec 1.1, config-linux, seccomp. Which tree is which profile, field by
--- field, in no order of reading. This project's own are the limits of the text and of errnos, names that the
--- table lacks, and that no argument has two conditions in one entry.
+-- field, in no order of reading. This project's own are the limits of the text and of errnos, names of no known
+-- call, and that no argument has two conditions in one entry.
 use Rattle.std.specs.Prelude.{◌≡◌, ◌⊎◌, ℕ, ◌<◌, ◌≤◌, ◌^◌, List, [], filter_map, length, codes, Bool, is_some}
 use Rattle.std.specs.Prelude.{IsTrue, Option, Some, None, unwrap_or, option_and_then}
 use Rattle.std.specs.List.{list_all}
 use Rattle.serde_json.specs.Data.{Data}
 use Rattle.json_tree.specs.Tree.{tree_of, list, object, text, text_list, whole}
 use Rattle.json_tree.specs.Reading.{HasField, MayHaveField, Both}
-use Rattle.sys_table.specs.SysTable.{number_of}
+use Rattle.sys_table.specs.SysTable.{number_in}
+use Rattle.sys_table.specs.declared.calls.CallTable.{CallTable}
+use Rattle.sys_table.specs.declared.calls.CallTable.TheVariants.{Linux5_8}
 use Rattle.action.specs.Verdict.{rank_of}
 use Rattle.action.specs.declared.verdict.TheConstants.{MAX_ERRNO}
 use Rattle.oci_profile.specs.declared.conditions.Cond.{Cond}
@@ -73,21 +75,21 @@ pub record IsCond (tree : Data) (cond : Cond) : Type 0 where
   pub op : HasField text (codes "op") tree name
   pub named : IsOpName cond.op name
 
--- the number of the call with this name in the table, if the table has it
-unfoldable pub number_named : Data → Option ℕ
-number_named name = option_and_then number_of (text name)
+-- the number of the call with this name, if it is one of the known calls
+unfoldable pub number_named : CallTable → Data → Option ℕ
+number_named calls name = option_and_then (number_in calls) (text name)
 
--- whether the table has all the names
-abbrev pub are_known : List Data → Bool
-are_known names = list_all (λ name. is_some (number_named name)) names
+-- whether all names are those of known calls
+abbrev pub are_known : CallTable → List Data → Bool
+are_known calls names = list_all (λ name. is_some (number_named calls name)) names
 
 -- the decision's place in the order of actions
 abbrev pub rank : Decision → ℕ
 rank decision = rank_of (verdict_of decision).action
 
--- An item of "syscalls". A name that the table lacks is left out; if the entry is stricter than the default,
--- the table must have each.
-pub record IsEntry (default : Decision) (tree : Data) (entry : Entry) : Type 0 where
+-- An item of "syscalls". A name of no known call is left out; if the entry is stricter than the default, each
+-- call must be known.
+pub record IsEntry (calls : CallTable) (default : Decision) (tree : Data) (entry : Entry) : Type 0 where
   pub an_object : object tree ≡ Some tree
   pub names : List Data
   pub there : HasField text_list (codes "names") tree names
@@ -97,8 +99,8 @@ pub record IsEntry (default : Decision) (tree : Data) (entry : Entry) : Type 0 w
   pub args_there : MayHaveField list (codes "args") tree args
   pub conds_are : Both IsCond (unwrap_or args []) entry.conds
   pub conds_fit : AreConds entry.conds
-  pub numbers_are : entry.numbers ≡ filter_map number_named names
-  pub known : rank entry.decision < rank default → IsTrue (are_known names)
+  pub numbers_are : entry.numbers ≡ filter_map (number_named calls) names
+  pub known : rank entry.decision < rank default → IsTrue (are_known calls names)
 
 -- fields without effect here, which have the right type if present
 pub record HasIgnored (tree : Data) : Type 0 where
@@ -111,17 +113,21 @@ pub record HasIgnored (tree : Data) : Type 0 where
   pub metadata : Option (List ℕ)
   pub metadata_there : MayHaveField text (codes "listenerMetadata") tree metadata
 
-pub record IsProfile (tree : Data) (profile : Profile) : Type 0 where
+pub record IsProfile (calls : CallTable) (tree : Data) (profile : Profile) : Type 0 where
   pub an_object : object tree ≡ Some tree
   pub decides : HasDecision (codes "defaultAction") (codes "defaultErrnoRet") tree profile.default
   pub ignored : HasIgnored tree
   pub syscalls : Option (List Data)
   pub there : MayHaveField list (codes "syscalls") tree syscalls
-  pub each : Both (IsEntry profile.default) (unwrap_or syscalls []) profile.entries
+  pub each : Both (IsEntry calls profile.default) (unwrap_or syscalls []) profile.entries
 
--- the text is this profile
-pub record ReadsProfile (bytes : List ℕ) (profile : Profile) : Type 0 where
+-- the text is this profile, if these are the known calls
+pub record ReadsProfileWith (calls : CallTable) (bytes : List ℕ) (profile : Profile) : Type 0 where
   pub short : length bytes ≤ MAX_PROFILE_BYTES
   pub tree : Data
   pub is : tree_of bytes ≡ Some tree
-  pub says : IsProfile tree profile
+  pub says : IsProfile calls tree profile
+
+-- the same with the calls of Linux 5.8
+abbrev pub ReadsProfile : List ℕ → Profile → Type 0
+ReadsProfile bytes profile = ReadsProfileWith Linux5_8 bytes profile

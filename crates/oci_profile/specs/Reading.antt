@@ -13,6 +13,7 @@ use Rattle.json_tree.specs.Reading.{document as document_of}
 use Rattle.json_place.specs.declared.fields.FieldFaultAt.{FieldFaultAt}
 use Rattle.json_place.specs.Parts.{Member, Item}
 use Rattle.json_place.specs.Fields.{GivesAt, required, required_each, optional, optional_each}
+use Rattle.sys_table.specs.declared.calls.CallTable.{CallTable}
 use Rattle.action.specs.declared.verdict.TheConstants.{MAX_ERRNO}
 use Rattle.oci_profile.specs.declared.conditions.Cond.{Cond}
 use Rattle.oci_profile.specs.declared.conditions.Op.{Op}
@@ -135,10 +136,10 @@ refuse_at (Some index) = Err (record {
       Member (codes "names") ∷ Item index ∷ [];
 })
 
--- if the table must have each name, the first that it lacks is refused
-abbrev pub known_if : Bool → List Data → Result ⊤ ProfileFaultAt
-known_if false names = Ok tt
-known_if true names = refuse_at (position (λ name. not (is_some (number_named name))) names)
+-- if each name must be that of a known call, the first that is not is refused
+abbrev pub known_if : CallTable → Bool → List Data → Result ⊤ ProfileFaultAt
+known_if calls false names = Ok tt
+known_if calls true names = refuse_at (position (λ name. not (is_some (number_named calls name))) names)
 
 -- the parts of an entry that are read before its arguments
 unfoldable pub all_but_args_of : Data → Result Decision ProfileFaultAt
@@ -147,21 +148,21 @@ all_but_args_of item = do
   names ← names_of tree
   decision_of (codes "action") (codes "errnoRet") tree
 
-unfoldable pub entry_of : Decision → Data → Result Entry ProfileFaultAt
-entry_of default item = do
+unfoldable pub entry_of : CallTable → Decision → Data → Result Entry ProfileFaultAt
+entry_of calls default item = do
   tree ← or_else (fault_here WrongType) (object item)
   names ← names_of tree
   decision ← decision_of (codes "action") (codes "errnoRet") tree
   conds ← conds_of tree
-  known_if (nat_lt (rank decision) (rank default)) names
-  Ok (record { numbers = filter_map number_named names; decision = decision; conds = conds })
+  known_if calls (nat_lt (rank decision) (rank default)) names
+  Ok (record { numbers = filter_map (number_named calls) names; decision = decision; conds = conds })
 
 -- as the item after those that were read
-abbrev pub entry_at : Decision → List Entry → Data → Result Entry ProfileFaultAt
-entry_at default done item = under (Item (length done)) (entry_of default item)
+abbrev pub entry_at : CallTable → Decision → List Entry → Data → Result Entry ProfileFaultAt
+entry_at calls default done item = under (Item (length done)) (entry_of calls default item)
 
-abbrev pub entries_of : Decision → List Data → Result (List Entry) ProfileFaultAt
-entries_of default items = under (Member (codes "syscalls")) (in_order_after (entry_at default) [] items)
+abbrev pub entries_of : CallTable → Decision → List Data → Result (List Entry) ProfileFaultAt
+entries_of calls default items = under (Member (codes "syscalls")) (in_order_after (entry_at calls default) [] items)
 
 -- fields without effect must have the right type
 unfoldable pub ignored_of : Data → Result ⊤ ProfileFaultAt
@@ -195,27 +196,27 @@ all_but_entries_of tree = do
   head_of tree
   items_of tree
 
-unfoldable pub profile_of : Data → Result Profile ProfileFaultAt
-profile_of tree = do
+unfoldable pub profile_of : CallTable → Data → Result Profile ProfileFaultAt
+profile_of calls tree = do
   default ← head_of tree
   items ← items_of tree
-  entries ← entries_of default items
+  entries ← entries_of calls default items
   Ok (record { default = default; entries = entries })
 
-unfoldable pub short_of : List ℕ → Result Profile ProfileFaultAt
-short_of bytes = do
+unfoldable pub short_of : CallTable → List ℕ → Result Profile ProfileFaultAt
+short_of calls bytes = do
   tree ← as_fault (λ fault. fault_here (fault_of_text fault)) (document_of bytes)
-  profile_of tree
+  profile_of calls tree
 
-unfoldable pub reading_of : List ℕ → Result Profile ProfileFaultAt
-reading_of bytes = do
+unfoldable pub reading_of : CallTable → List ℕ → Result Profile ProfileFaultAt
+reading_of calls bytes = do
   refuse_if (nat_lt MAX_PROFILE_BYTES (length bytes)) (fault_here TooLarge)
-  short_of bytes
+  short_of calls bytes
 
 -- the fault of a text that is found first, and its place, if it has one
-abbrev pub first_fault_at : List ℕ → Option ProfileFaultAt
-first_fault_at bytes = result_err (reading_of bytes)
+abbrev pub first_fault_at : CallTable → List ℕ → Option ProfileFaultAt
+first_fault_at calls bytes = result_err (reading_of calls bytes)
 
 -- the first fault without its place
-abbrev pub first_fault : List ℕ → Option ProfileFault
-first_fault bytes = option_map (λ found. found.fault) (first_fault_at bytes)
+abbrev pub first_fault : CallTable → List ℕ → Option ProfileFault
+first_fault calls bytes = option_map (λ found. found.fault) (first_fault_at calls bytes)

@@ -6,7 +6,8 @@
 //!
 //! # What is proved
 //!
-//! - The reader accepts exactly the texts that are a profile: `read`, `read_placed` (found, only, no_fault).
+//! - The reader accepts exactly the texts that are a profile, by the calls that are known: `read`, `read_placed`,
+//!   `read_placed_with` (found, only, no_fault).
 //! - Other texts are refused with the first fault, and `read_placed` adds its place: `read`, `read_placed`
 //!   (first).
 //! - The length of a text is checked before memory is taken: `read`, `read_placed` (large).
@@ -43,4 +44,4 @@ pub use laws::{constants_are_as_stated, runtime_default_is_light};
 pub use meaning::X32_BIT;
 pub use placed::ProfileFaultAt;
 pub use profile::{Entries, Entry, Numbers, Profile};
-pub use reader::{MAX_PROFILE_BYTES, read, read_placed};
+pub use reader::{MAX_PROFILE_BYTES, read, read_placed, read_placed_with};

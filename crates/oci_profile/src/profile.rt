@@ -5,7 +5,7 @@ use crate::conditions::Conds;
 use crate::decision::Decision;
 use std::marker::Model;
 
-/// Numbers of system calls of the table, each below [`sys_table::NUMBER_LIMIT`].
+/// Numbers of system calls of the table, each below [`sys_table::TABLE_LIMIT`].
 #[derive(Drop)]
 pub struct Numbers {
     numbers: Vec<u32>,

@@ -8,7 +8,7 @@ use Rattle.std.proofs.lemmas.List.Elements.{All-filter}
 use Rattle.std.proofs.lemmas.List.Folds.{list_any-append}
 use Rattle.std.proofs.lemmas.List.FromFn.{filter_of_map_range_with_len_more, get_or-range_with_len}
 use Rattle.std.proofs.lemmas.List.FromFn.{length-range_with_len}
-use Rattle.sys_table.specs.declared.table.TheConstants.{NUMBER_LIMIT}
+use Rattle.sys_table.specs.declared.table.TheConstants.{NUMBER_LIMIT, TABLE_LIMIT}
 use Rattle.oci_profile.specs.Conditions.{AreNumbers}
 use Rattle.profile_learn.specs.declared.learned.Learned.{Learned}
 use Rattle.profile_learn.specs.declared.learner.Wanted.{Wanted}
@@ -45,7 +45,7 @@ pub any_fit : (learned : Learned) (wanted : Wanted) (limit : ℕ) → limit ≤ 
     → AreNumbers (any_below learned wanted limit)
 unfolding any_below
 any_fit learned wanted limit short =
-    All-filter (takes_any learned wanted) (λ nr. nr < NUMBER_LIMIT) (range_with_len 0 limit) (λ k d lt.
+    All-filter (takes_any learned wanted) (λ nr. nr < TABLE_LIMIT) (range_with_len 0 limit) (λ k d lt.
     let in_range : k < limit = omega (arith, length-range_with_len 0 limit) in
     omega (arith, get_or-range_with_len 0 limit k d in_range))
 

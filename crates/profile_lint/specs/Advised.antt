@@ -2,7 +2,8 @@
 use Rattle.std.specs.Prelude.{ℕ, ◌==◌, Bool, if◌then◌else◌, List, [], ◌∷◌, ◌++◌, codes, unwrap_or}
 use Rattle.std.specs.List.{list_any}
 use Rattle.std.specs.Fmt.{decimal}
-use Rattle.sys_table.specs.SysTable.{name_of}
+use Rattle.sys_table.specs.SysTable.{name_in}
+use Rattle.sys_table.specs.declared.calls.CallTable.TheVariants.{Linux6_12}
 use Rattle.call_data.specs.declared.sys_call.SysCall.{SysCall}
 use Rattle.profile_advice.specs.declared.kind.Advice.{Advice}
 use Rattle.profile_advice.specs.declared.kind.Advice.TheVariants as about
@@ -10,7 +11,7 @@ use Rattle.profile_lint.specs.Calls.{call_members, call_text, value_object, valu
 
 -- the name of a call, and nothing if there is none
 unfoldable pub call_name : ℕ → List ℕ
-call_name number = unwrap_or (name_of number) []
+call_name number = unwrap_or (name_in Linux6_12 number) []
 
 abbrev pub is_among : List ℕ → ℕ → Bool
 is_among numbers number = list_any (λ one. one == number) numbers

@@ -10,7 +10,8 @@ use Rattle.absent_names.specs.Kinds.{kind_of}
 use Rattle.absent_names.specs.Near.{suggestion}
 use Rattle.absent_names.specs.declared.kind.AbsentName.{AbsentName}
 use Rattle.absent_names.specs.declared.kind.AbsentName.TheVariants as absent
-use Rattle.sys_table.specs.declared.table.TheConstants.{NUMBER_LIMIT}
+use Rattle.sys_table.specs.SysTable.{limit_of}
+use Rattle.sys_table.specs.declared.calls.CallTable.{CallTable}
 use Rattle.profile_lint.specs.declared.choice.Tally.TheVariants as which
 use Rattle.profile_lint.specs.declared.finding.Finding.{Finding}
 use Rattle.profile_lint.specs.declared.finding.Finding.TheVariants as found
@@ -59,31 +60,31 @@ told_members (RepeatedName entry index name) = name_members name
 abbrev pub told_object : Told → List ℕ
 told_object told = object_text (told_place told) (kind_of_told told) (told_members told) (told_words told)
 
-abbrev pub found_members : Finding → List ℕ
-found_members (found.NeverDecides place) = []
-found_members (found.SameWithout place) = []
-found_members (found.NotFoundOut place) = []
-found_members (found.NotLookedAt place) = []
-found_members (found.NotCompared place) = []
-found_members (found.ReadOtherwise place call here there) = codes "," ++ (call_members call
+abbrev pub found_members : CallTable → Finding → List ℕ
+found_members calls (found.NeverDecides place) = []
+found_members calls (found.SameWithout place) = []
+found_members calls (found.NotFoundOut place) = []
+found_members calls (found.NotLookedAt place) = []
+found_members calls (found.NotCompared place) = []
+found_members calls (found.ReadOtherwise place call here there) = codes "," ++ (call_members call
     ++ (codes ",\"here\":" ++ (value_object here ++ (codes ",\"runc\":" ++ value_object there))))
-found_members (found.Overlap place other call) = codes "," ++ (call_members call
+found_members calls (found.Overlap place other call) = codes "," ++ (call_members call
     ++ (codes ",\"other\":\"syscalls[" ++ (decimal other ++ codes "]\"")))
-found_members (found.NewerCalls errno) = codes ",\"above\":" ++ (decimal (NUMBER_LIMIT - 1)
+found_members calls (found.NewerCalls errno) = codes ",\"above\":" ++ (decimal (limit_of calls - 1)
     ++ (codes ",\"errno\":" ++ (decimal errno ++ codes ",\"wanted\":38")))
-found_members (found.Advised advice) = advice_members advice
+found_members calls (found.Advised advice) = advice_members advice
 
-abbrev pub found_object : Finding → List ℕ
-found_object found =
-    object_text (found_place found) (kind_of_found found) (found_members found) (found_words found)
+abbrev pub found_object : CallTable → Finding → List ℕ
+found_object calls found =
+    object_text (found_place found) (kind_of_found found) (found_members calls found) (found_words calls found)
 
 abbrev pub told_line : Bool → List FindingKind → Told → List ℕ
 told_line all allowed told =
     if is_shown all allowed (kind_of_told told) then line_of (told_object told) else []
 
-abbrev pub found_line : Bool → List FindingKind → Finding → List ℕ
-found_line all allowed found =
-    if is_shown all allowed (kind_of_found found) then line_of (found_object found) else []
+abbrev pub found_line : CallTable → Bool → List FindingKind → Finding → List ℕ
+found_line calls all allowed found =
+    if is_shown all allowed (kind_of_found found) then line_of (found_object calls found) else []
 
 abbrev pub others_object : ℕ → List ℕ
 others_object count = if nat_lt 0 count
@@ -98,7 +99,7 @@ newer_object count value = if nat_lt 0 count
     else []
 
 -- an object for each line
-abbrev pub lint_objects : Bool → List FindingKind → ℕ → List Told → List Finding → List ℕ
-lint_objects all allowed value tolds finds = flat_map (told_line all allowed) tolds
+abbrev pub lint_objects : CallTable → Bool → List FindingKind → ℕ → List Told → List Finding → List ℕ
+lint_objects calls all allowed value tolds finds = flat_map (told_line all allowed) tolds
     ++ (others_object (counted which.Others all allowed tolds)
-    ++ (newer_object (counted which.Newer all allowed tolds) value ++ flat_map (found_line all allowed) finds))
+    ++ (newer_object (counted which.Newer all allowed tolds) value ++ flat_map (found_line calls all allowed) finds))

@@ -12,7 +12,8 @@ use Rattle.serde_json.specs.Data.{Data, Members}
 use Rattle.serde_json.specs.Find.{as_object}
 use Rattle.json_tree.specs.Tree.{list, member, text, value}
 use Rattle.oci_profile.specs.Profile.{number_named}
-use Rattle.sys_table.specs.SysTable.{number_of}
+use Rattle.sys_table.specs.SysTable.{number_in}
+use Rattle.sys_table.specs.declared.calls.CallTable.{CallTable}
 use Rattle.profile_lint.specs.declared.passed.Holder.{Holder}
 use Rattle.profile_lint.specs.declared.passed.Holder.TheVariants as of
 use Rattle.profile_lint.specs.declared.passed.Passed as passed
@@ -129,28 +130,30 @@ is_number number None = false
 is_number number (Some n) = n == number
 
 -- whether one of the names is that of the call with this number
-abbrev pub is_named_in : List Data → ℕ → Bool
-is_named_in names number = list_any (λ name. is_number number (number_named name)) names
+abbrev pub is_named_in : CallTable → List Data → ℕ → Bool
+is_named_in calls names number = list_any (λ name. is_number number (number_named calls name)) names
 
 -- the numbers are those of the names, whatever their order
-abbrev pub AreSeen : List Data → List ℕ → Type 0
-AreSeen names numbers = (number : ℕ) → list_any (λ n. n == number) numbers ≡ is_named_in names number
+abbrev pub AreSeen : CallTable → List Data → List ℕ → Type 0
+AreSeen calls names numbers = (number : ℕ)
+    → list_any (λ n. n == number) numbers ≡ is_named_in calls names number
 
--- the finding about the entry's name at this index: the table lacks its call, or an earlier name has it
-abbrev pub told_number : ℕ → ℕ → List ℕ → Option ℕ → List Data → Option Told
-told_number entry index name None before = Some (UnknownName entry index name)
-told_number entry index name (Some number) before =
-    if is_named_in before number then Some (RepeatedName entry index name) else None
+-- the finding about the entry's name at this index: its call is not known, or an earlier name has it
+abbrev pub told_number : CallTable → ℕ → ℕ → List ℕ → Option ℕ → List Data → Option Told
+told_number calls entry index name None before = Some (UnknownName entry index name)
+told_number calls entry index name (Some number) before =
+    if is_named_in calls before number then Some (RepeatedName entry index name) else None
 
-abbrev pub told_text : ℕ → ℕ → Option (List ℕ) → List Data → Option Told
-told_text entry index None before = None
-told_text entry index (Some name) before = told_number entry index name (number_of name) before
+abbrev pub told_text : CallTable → ℕ → ℕ → Option (List ℕ) → List Data → Option Told
+told_text calls entry index None before = None
+told_text calls entry index (Some name) before =
+    told_number calls entry index name (number_in calls name) before
 
-abbrev pub name_at : ℕ → List Data → ℕ × Data → Option Told
-name_at entry names (index, name) = told_text entry index (text name) (take index names)
+abbrev pub name_at : CallTable → ℕ → List Data → ℕ × Data → Option Told
+name_at calls entry names (index, name) = told_text calls entry index (text name) (take index names)
 
-abbrev pub names_in : ℕ → List Data → List Told
-names_in entry names = filter_map (name_at entry names) (enumerate_from 0 names)
+abbrev pub names_in : CallTable → ℕ → List Data → List Told
+names_in calls entry names = filter_map (name_at calls entry names) (enumerate_from 0 names)
 
 abbrev pub arg_at : ℕ → ℕ × Data → List Told
 arg_at entry (index, item) = ignored_in (of.Arg entry index) item
@@ -158,15 +161,15 @@ arg_at entry (index, item) = ignored_in (of.Arg entry index) item
 abbrev pub args_in : ℕ → List Data → List Told
 args_in entry items = flat_map (arg_at entry) (enumerate_from 0 items)
 
-abbrev pub entry_at : ℕ × Data → List Told
-entry_at (index, item) = ignored_in (of.Entry index) item
-    ++ (names_in index (items_in (codes "names") item) ++ args_in index (items_in (codes "args") item))
+abbrev pub entry_at : CallTable → ℕ × Data → List Told
+entry_at calls (index, item) = ignored_in (of.Entry index) item
+    ++ (names_in calls index (items_in (codes "names") item) ++ args_in index (items_in (codes "args") item))
 
-abbrev pub entries_in : List Data → List Told
-entries_in items = flat_map entry_at (enumerate_from 0 items)
+abbrev pub entries_in : CallTable → List Data → List Told
+entries_in calls items = flat_map (entry_at calls) (enumerate_from 0 items)
 
--- all findings about a profile's tree
-abbrev pub passed_in : Data → List Told
-passed_in tree = ignored_in of.Profile tree
+-- all findings about a profile's tree, if these are the known calls
+abbrev pub passed_in : CallTable → Data → List Told
+passed_in calls tree = ignored_in of.Profile tree
     ++ (others_in tree ++ (archs_in (items_in (codes "architectures") tree)
-    ++ entries_in (items_in (codes "syscalls") tree)))
+    ++ entries_in calls (items_in (codes "syscalls") tree)))

@@ -21,7 +21,8 @@ use Rattle.profile_lint.specs.declared.kinds.FindingKind.{FindingKind}
 use Rattle.profile_lint.specs.declared.choice.Tally.TheVariants as which
 use Rattle.profile_lint.specs.Choice.{counted, is_shown}
 use Rattle.profile_lint.specs.Kinds.{kind_of_found, kind_of_told, kind_text, severity_of, severity_text}
-use Rattle.sys_table.specs.declared.table.TheConstants.{NUMBER_LIMIT}
+use Rattle.sys_table.specs.SysTable.{limit_of}
+use Rattle.sys_table.specs.declared.calls.CallTable.{CallTable}
 use Rattle.profile_lint.specs.Advised.{advice_place, advice_words, entry_place}
 use Rattle.profile_lint.specs.Calls.{call_text, value_text}
 use Rattle.profile_lint.specs.Passed.{Told, is_recased}
@@ -115,23 +116,23 @@ found_place (found.Overlap place other call) = entry_place place
 found_place (found.NewerCalls errno) = codes "defaultAction"
 found_place (found.Advised advice) = advice_place advice
 
-abbrev pub found_words : Finding → List ℕ
-found_words (found.NeverDecides place) = codes "it decides no call"
-found_words (found.SameWithout place) = codes "what follows decides its calls the same way"
-found_words (found.NotFoundOut place) = codes "it may decide no call, or be redundant"
-found_words (found.NotLookedAt place) = codes "from here on entries may decide no call, or be redundant"
-found_words (found.NotCompared place) = codes "from here on engines may read entries differently"
-found_words (found.ReadOtherwise place call here there) = codes "at " ++ (call_text call ++ (codes ": "
+abbrev pub found_words : CallTable → Finding → List ℕ
+found_words calls (found.NeverDecides place) = codes "it decides no call"
+found_words calls (found.SameWithout place) = codes "what follows decides its calls the same way"
+found_words calls (found.NotFoundOut place) = codes "it may decide no call, or be redundant"
+found_words calls (found.NotLookedAt place) = codes "from here on entries may decide no call, or be redundant"
+found_words calls (found.NotCompared place) = codes "from here on engines may read entries differently"
+found_words calls (found.ReadOtherwise place call here there) = codes "at " ++ (call_text call ++ (codes ": "
     ++ (value_text here ++ (codes " here, " ++ (value_text there ++ codes " by runc")))))
-found_words (found.Overlap place other call) = codes "at " ++ (call_text call ++ (codes " syscalls["
+found_words calls (found.Overlap place other call) = codes "at " ++ (call_text call ++ (codes " syscalls["
     ++ (decimal other ++ codes "] decides otherwise, and libseccomp does not keep their order")))
-found_words (found.NewerCalls errno) = codes "calls newer than " ++ (decimal (NUMBER_LIMIT - 1)
+found_words calls (found.NewerCalls errno) = codes "calls newer than " ++ (decimal (limit_of calls - 1)
     ++ (codes " return errno "
     ++ (decimal errno ++ codes ", and programs fall back to older calls only on ENOSYS (38)")))
-found_words (found.Advised advice) = advice_words advice
+found_words calls (found.Advised advice) = advice_words advice
 
-abbrev pub found_text : Finding → List ℕ
-found_text found = text_of (found_place found) (kind_text (kind_of_found found)) (found_words found)
+abbrev pub found_text : CallTable → Finding → List ℕ
+found_text calls found = text_of (found_place found) (kind_text (kind_of_found found)) (found_words calls found)
 
 abbrev pub line_of : List ℕ → List ℕ
 line_of text = text ++ codes "\n"
@@ -144,9 +145,9 @@ abbrev pub told_line : Bool → List FindingKind → Told → List ℕ
 told_line all allowed told = if is_shown all allowed (kind_of_told told)
     then graded (kind_of_told told) (told_text told) else []
 
-abbrev pub found_line : Bool → List FindingKind → Finding → List ℕ
-found_line all allowed found = if is_shown all allowed (kind_of_found found)
-    then graded (kind_of_found found) (found_text found) else []
+abbrev pub found_line : CallTable → Bool → List FindingKind → Finding → List ℕ
+found_line calls all allowed found = if is_shown all allowed (kind_of_found found)
+    then graded (kind_of_found found) (found_text calls found) else []
 
 -- names that are no calls of x86-64, as many as there are
 abbrev pub others_words : ℕ → List ℕ
@@ -181,11 +182,11 @@ newer_line count value = if nat_lt 0 count
 abbrev pub told_lines : Bool → List FindingKind → List Told → List ℕ
 told_lines all allowed tolds = flat_map (told_line all allowed) tolds
 
-abbrev pub found_lines : Bool → List FindingKind → List Finding → List ℕ
-found_lines all allowed finds = flat_map (found_line all allowed) finds
+abbrev pub found_lines : CallTable → Bool → List FindingKind → List Finding → List ℕ
+found_lines calls all allowed finds = flat_map (found_line calls all allowed) finds
 
 -- the findings about the text, the counts of names, and the findings about the profile
-abbrev pub lint_text : Bool → List FindingKind → ℕ → List Told → List Finding → List ℕ
-lint_text all allowed value tolds finds = told_lines all allowed tolds
+abbrev pub lint_text : CallTable → Bool → List FindingKind → ℕ → List Told → List Finding → List ℕ
+lint_text calls all allowed value tolds finds = told_lines all allowed tolds
     ++ (others_line (counted which.Others all allowed tolds)
-    ++ (newer_line (counted which.Newer all allowed tolds) value ++ found_lines all allowed finds))
+    ++ (newer_line (counted which.Newer all allowed tolds) value ++ found_lines calls all allowed finds))

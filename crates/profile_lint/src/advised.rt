@@ -8,13 +8,14 @@ use crate::words::{Value, Words};
 use call_data::SysCall;
 use profile_advice::Advice;
 use std::fmt;
+use sys_table::CallTable;
 
-/// The name of a call, and nothing if there is none.
+/// The name of a call of Linux 6.12, and nothing if there is none.
 #[tactic(auto, unfolding(crate::specs::Advised::call_name))]
 fn call_name(number: u32) -> &'static str
     ensures { result.now ≡ call_name number }
 {
-    sys_table::name(number).unwrap_or("")
+    CallTable::Linux6_12.name(number).unwrap_or("")
 }
 
 fn is_among(number: u32, numbers: &[u32]) -> bool

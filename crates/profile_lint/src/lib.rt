@@ -24,7 +24,7 @@
 //! - The kind of each finding, and how severe each kind is: `kind_of_passed`, `kind_of_found`, `severity_of`.
 //!   Whether a warning or an error is among the findings: `is_bad`, `is_bad_kind`.
 //! - The printed lines and the JSON objects, byte by byte: `lint_lines`, `lint_objects`, `finding_object`,
-//!   `Display` of `Passed`, `Finding`, `Holder`.
+//!   `Display` of `Passed`, `ShownFinding`, `Holder`.
 //!
 //! Only tested: how seldom an entry is reported as not known, and that runc and libseccomp behave like the
 //! model.
@@ -59,3 +59,4 @@ pub use objects::{finding_object, lint_objects};
 pub use passed::{Holder, Passed};
 pub use stands::Standing;
 pub use text::passed_in;
+pub use words::ShownFinding;

@@ -8,10 +8,11 @@ use crate::choice::{Choice, Tally, counted, is_shown};
 use crate::finding::Finding;
 use crate::kinds::{FindingKind, kind_of_found, kind_of_passed, severity_of};
 use crate::passed::Passed;
-use crate::words::{FoundPlace, FoundWords, PassedPlace, PassedWords, Value};
+use crate::words::{ShownFinding, Value};
 use action::{Action, Verdict};
 use std::alloc::{AllocError, Global};
 use std::fmt;
+use sys_table::CallTable;
 
 /// How many names are no calls of x86-64, if there are some.
 #[derive(Clone, Copy)]
@@ -82,13 +83,19 @@ fn add_passed(text: &mut String, item: &Passed<'_>, choice: Choice<'_>) -> Resul
 }
 
 /// Adds the line of a finding about the profile, if it has one.
-fn add_found(text: &mut String, item: &Finding, choice: Choice<'_>) -> Result<(), AllocError>
+fn add_found(
+    text: &mut String,
+    calls: CallTable,
+    item: &Finding,
+    choice: Choice<'_>,
+) -> Result<(), AllocError>
     ensures { OnOk result (string_bytes text.new
-        ≡ string_bytes text.old ++ found_line choice.entry.is_all choice.entry.allowed.now item.now) }
+        ≡ string_bytes text.old ++ found_line calls choice.entry.is_all choice.entry.allowed.now item.now) }
 {
     let kind = kind_of_found(item);
     if is_shown(kind, choice) {
-        writeln!(text, "{}: {item}", severity_of(kind))?;
+        let shown = ShownFinding(calls, *item);
+        writeln!(text, "{}: {shown}", severity_of(kind))?;
     }
     Ok(())
 }
@@ -129,12 +136,17 @@ fn add_text(text: &mut String, passed: &[Passed<'_>], choice: Choice<'_>) -> Res
 }
 
 /// Adds the lines of the findings about the profile.
-fn add_profile(text: &mut String, found: &[Finding], choice: Choice<'_>) -> Result<(), AllocError>
+fn add_profile(
+    text: &mut String,
+    calls: CallTable,
+    found: &[Finding],
+    choice: Choice<'_>,
+) -> Result<(), AllocError>
     ensures { OnOk result (string_bytes text.new ≡ string_bytes text.old
-        ++ found_lines choice.entry.is_all choice.entry.allowed.now found.now) }
+        ++ found_lines calls choice.entry.is_all choice.entry.allowed.now found.now) }
 {
     for finding in found {
-        add_found(text, finding, choice)?;
+        add_found(text, calls, finding, choice)?;
     }
     Ok(())
 }
@@ -143,18 +155,19 @@ fn add_profile(text: &mut String, found: &[Finding], choice: Choice<'_>) -> Resu
 /// that are only counted have a line together, with the value that all other calls get.
 pub fn lint_lines(
     alloc: Global,
+    calls: CallTable,
     passed: &[Passed<'_>],
     found: &[Finding],
     choice: Choice<'_>,
     default: u32,
 ) -> Result<String, AllocError>
     ensures { IfOk result (λ text. string_bytes text
-        ≡ lint_text choice.entry.is_all choice.entry.allowed.now default (map told passed.now) found.now) }
+        ≡ lint_text calls choice.entry.is_all choice.entry.allowed.now default (map told passed.now) found.now) }
 {
     let mut text = String::new(alloc);
     add_text(&mut text, passed, choice)?;
     add_others(&mut text, counted(passed, Tally::Others, choice))?;
     add_newer(&mut text, counted(passed, Tally::Newer, choice), default)?;
-    add_profile(&mut text, found, choice)?;
+    add_profile(&mut text, calls, found, choice)?;
     Ok(text)
 }

@@ -10,20 +10,25 @@ use crate::passed::Passed;
 use json_tree::text;
 use serde_json::Value;
 use std::alloc::{AllocError, Global};
+use sys_table::CallTable;
 
-/// The names of an entry that the call table lacks, or that are repeated.
+/// The names of an entry whose calls are not known, or that are repeated.
 pub(crate) fn names_in<'v>(
     alloc: Global,
+    calls: CallTable,
     entry: usize,
     names: &'v [Value],
 ) -> Result<Vec<Passed<'v>>, AllocError>
-    ensures { IfOk result (λ v. map told v.items ≡ names_in entry (map view names.now)) }
+    ensures { IfOk result (λ v. map told v.items ≡ names_in calls entry (map view names.now)) }
 {
     let mut found = Vec::new(alloc);
     let mut seen = Vec::new(alloc);
     for (index, item) in names.iter().enumerate() {
-        tell(&mut found, name_at(entry, index, item, seen.as_slice()))?;
-        see(&mut seen, item)?;
+        tell(
+            &mut found,
+            name_at(calls, entry, index, item, seen.as_slice()),
+        )?;
+        see(calls, &mut seen, item)?;
     }
     Ok(found)
 }
@@ -42,12 +47,18 @@ pub(crate) fn tell<'v>(
 }
 
 /// The finding about the name at this index, after names with these numbers.
-fn name_at<'v>(entry: usize, index: usize, item: &'v Value, seen: &[u32]) -> Option<Passed<'v>>
-    ensures { (before : List Data) → AreSeen before seen.now
-        → option_map told result ≡ told_text entry index (text (view item.now)) before }
+fn name_at<'v>(
+    calls: CallTable,
+    entry: usize,
+    index: usize,
+    item: &'v Value,
+    seen: &[u32],
+) -> Option<Passed<'v>>
+    ensures { (before : List Data) → AreSeen calls before seen.now
+        → option_map told result ≡ told_text calls entry index (text (view item.now)) before }
 {
     let name = text(item)?;
-    match sys_table::number(name) {
+    match calls.number(name) {
         None => Some(Passed::UnknownName(entry, index, name)),
         Some(number) if is_seen(seen, number) => Some(Passed::RepeatedName(entry, index, name)),
         Some(_) => None,
@@ -56,11 +67,11 @@ fn name_at<'v>(entry: usize, index: usize, item: &'v Value, seen: &[u32]) -> Opt
 
 /// Adds the name's number, if it has one that was not seen.
 #[tactic(auto, using(crate::proofs::Seen::seen_more, crate::proofs::Seen::seen_again, crate::proofs::Seen::seen_none))]
-fn see(seen: &mut Vec<u32>, item: &Value) -> Result<(), AllocError>
-    ensures { IfOk result (λ _. (before : List Data) → AreSeen before seen.old.items
-        → AreSeen (before ++ view item.now ∷ []) seen.new.items) }
+fn see(calls: CallTable, seen: &mut Vec<u32>, item: &Value) -> Result<(), AllocError>
+    ensures { IfOk result (λ _. (before : List Data) → AreSeen calls before seen.old.items
+        → AreSeen calls (before ++ view item.now ∷ []) seen.new.items) }
 {
-    match number_named(item) {
+    match number_named(calls, item) {
         Some(number) if !is_seen(seen.as_slice(), number) => Ok(seen.push(number)?),
         _ => Ok(()),
     }
@@ -73,8 +84,8 @@ fn is_seen(seen: &[u32], number: u32) -> bool
 }
 
 #[tactic(auto, unfolding(oci_profile::specs::Profile::number_named))]
-fn number_named(name: &Value) -> Option<u32>
-    ensures { result ≡ number_named (view name.now) }
+fn number_named(calls: CallTable, name: &Value) -> Option<u32>
+    ensures { result ≡ number_named calls (view name.now) }
 {
-    sys_table::number(text(name)?)
+    calls.number(text(name)?)
 }

@@ -20,7 +20,7 @@ use call_data::SysCall;
 use serde_json::Value;
 use std::alloc::{AllocError, Global};
 use std::fmt;
-use sys_table::NUMBER_LIMIT;
+use sys_table::CallTable;
 
 /// A text of any characters, in quotes.
 fn quoted(alloc: Global, text: String) -> Result<String, AllocError>
@@ -147,18 +147,18 @@ impl fmt::Display for ValueObject {
     }
 }
 
-/// The members of a finding about the profile.
+/// The members of a finding about the profile, if these are the known calls.
 #[derive(Clone, Copy)]
-struct FoundMembers(Finding);
+struct FoundMembers(CallTable, Finding);
 
 impl fmt::Display for FoundMembers {
     ghost use Rattle.std.specs.Prelude.{Some};
     ghost use Rattle.profile_lint.specs.Objects.{found_members};
 
-    ghost output = { λ members. Some (found_members members.0) };
+    ghost output = { λ members. Some (found_members members.0 members.1) };
 
     fn fmt<W: fmt::Write>(&self, f: &mut fmt::Formatter<W>) -> fmt::Result {
-        match self.0 {
+        match self.1 {
             Finding::ReadOtherwise(_, call, here, there) => {
                 let call = CallMembers(call);
                 let (here, there) = (ValueObject(here), ValueObject(there));
@@ -168,7 +168,7 @@ impl fmt::Display for FoundMembers {
                 write!(f, ",{},\"other\":\"syscalls[{other}]\"", CallMembers(call))
             }
             Finding::NewerCalls(errno) => {
-                let last = NUMBER_LIMIT - 1;
+                let last = self.0.limit() - 1;
                 write!(f, ",\"above\":{last},\"errno\":{errno},\"wanted\":38")
             }
             Finding::Advised(advice) => write!(f, "{}", AdviceMembers(advice)),
@@ -178,12 +178,12 @@ impl fmt::Display for FoundMembers {
 }
 
 /// A finding about the profile.
-fn found_object(alloc: Global, found: Finding) -> Result<String, AllocError>
-    ensures { IfOk result (λ text. string_bytes text ≡ found_object found) }
+fn found_object(alloc: Global, calls: CallTable, found: Finding) -> Result<String, AllocError>
+    ensures { IfOk result (λ text. string_bytes text ≡ found_object calls found) }
 {
     let place = format!(in alloc; "{}", FoundPlace(found))?;
-    let words = format!(in alloc; "{}", FoundWords(found))?;
-    let members = format!(in alloc; "{}", FoundMembers(found))?;
+    let words = format!(in alloc; "{}", FoundWords(calls, found))?;
+    let members = format!(in alloc; "{}", FoundMembers(calls, found))?;
     let kind = kind_of_found(&found);
     finding_object(alloc, place, kind, members.as_str(), words)
 }
@@ -208,15 +208,16 @@ fn add_passed(
 /// Adds the object of a finding about the profile, if it has one.
 fn add_found(
     alloc: Global,
+    calls: CallTable,
     text: &mut String,
     item: &Finding,
     choice: Choice<'_>,
 ) -> Result<(), AllocError>
     ensures { OnOk result (string_bytes text.new
-        ≡ string_bytes text.old ++ found_line choice.entry.is_all choice.entry.allowed.now item.now) }
+        ≡ string_bytes text.old ++ found_line calls choice.entry.is_all choice.entry.allowed.now item.now) }
 {
     if is_shown(kind_of_found(item), choice) {
-        let object = found_object(alloc, *item)?;
+        let object = found_object(alloc, calls, *item)?;
         writeln!(text, "{object}")?;
     }
     Ok(())
@@ -271,15 +272,16 @@ fn add_text(
 /// Adds the objects of the findings about the profile.
 fn add_profile(
     alloc: Global,
+    calls: CallTable,
     text: &mut String,
     found: &[Finding],
     choice: Choice<'_>,
 ) -> Result<(), AllocError>
     ensures { OnOk result (string_bytes text.new ≡ string_bytes text.old
-        ++ flat_map (found_line choice.entry.is_all choice.entry.allowed.now) found.now) }
+        ++ flat_map (found_line calls choice.entry.is_all choice.entry.allowed.now) found.now) }
 {
     for finding in found {
-        add_found(alloc, text, finding, choice)?;
+        add_found(alloc, calls, text, finding, choice)?;
     }
     Ok(())
 }
@@ -288,18 +290,19 @@ fn add_profile(
 /// `{"place":"syscalls[0].names[1]","kind":"UnknownName","severity":"error","value":"ptrce","near":"ptrace",..}`.
 pub fn lint_objects(
     alloc: Global,
+    calls: CallTable,
     passed: &[Passed<'_>],
     found: &[Finding],
     choice: Choice<'_>,
     default: u32,
 ) -> Result<String, AllocError>
     ensures { IfOk result (λ text. string_bytes text
-        ≡ lint_objects choice.entry.is_all choice.entry.allowed.now default (map told passed.now) found.now) }
+        ≡ lint_objects calls choice.entry.is_all choice.entry.allowed.now default (map told passed.now) found.now) }
 {
     let mut text = String::new(alloc);
     add_text(alloc, &mut text, passed, choice)?;
     add_others(&mut text, counted(passed, Tally::Others, choice))?;
     add_newer(&mut text, counted(passed, Tally::Newer, choice), default)?;
-    add_profile(alloc, &mut text, found, choice)?;
+    add_profile(alloc, calls, &mut text, found, choice)?;
     Ok(text)
 }

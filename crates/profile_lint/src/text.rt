@@ -11,10 +11,15 @@ use crate::passed::{Holder, Passed};
 use json_tree::{list, member, text};
 use serde_json::Value;
 use std::alloc::{AllocError, Global};
+use sys_table::CallTable;
 
-/// The parts of a profile's tree that decide nothing, in order of the entries.
-pub fn passed_in<'v>(alloc: Global, tree: &'v Value) -> Result<Vec<Passed<'v>>, AllocError>
-    ensures { IfOk result (λ v. map told v.items ≡ passed_in (view tree.now)) }
+/// The parts of a profile's tree that decide nothing if these are the known calls, in order of the entries.
+pub fn passed_in<'v>(
+    alloc: Global,
+    calls: CallTable,
+    tree: &'v Value,
+) -> Result<Vec<Passed<'v>>, AllocError>
+    ensures { IfOk result (λ v. map told v.items ≡ passed_in calls (view tree.now)) }
 {
     let mut found = ignored_in(alloc, Holder::Profile, tree)?;
     if are_others(items_in(tree, "architectures")) {
@@ -22,7 +27,7 @@ pub fn passed_in<'v>(alloc: Global, tree: &'v Value) -> Result<Vec<Passed<'v>>, 
     }
     let archs = archs_in(alloc, items_in(tree, "architectures"))?;
     found.extend_from_slice(archs.as_slice())?;
-    let entries = entries_in(alloc, items_in(tree, "syscalls"))?;
+    let entries = entries_in(alloc, calls, items_in(tree, "syscalls"))?;
     found.extend_from_slice(entries.as_slice())?;
     Ok(found)
 }
@@ -104,22 +109,31 @@ fn archs_in<'v>(alloc: Global, items: &'v [Value]) -> Result<Vec<Passed<'v>>, Al
     Ok(found)
 }
 
-fn entries_in<'v>(alloc: Global, items: &'v [Value]) -> Result<Vec<Passed<'v>>, AllocError>
-    ensures { IfOk result (λ v. map told v.items ≡ entries_in (map view items.now)) }
+fn entries_in<'v>(
+    alloc: Global,
+    calls: CallTable,
+    items: &'v [Value],
+) -> Result<Vec<Passed<'v>>, AllocError>
+    ensures { IfOk result (λ v. map told v.items ≡ entries_in calls (map view items.now)) }
 {
     let mut found = Vec::new(alloc);
     for (index, item) in items.iter().enumerate() {
-        let entry = entry_at(alloc, index, item)?;
+        let entry = entry_at(alloc, calls, index, item)?;
         found.extend_from_slice(entry.as_slice())?;
     }
     Ok(found)
 }
 
-fn entry_at<'v>(alloc: Global, index: usize, item: &'v Value) -> Result<Vec<Passed<'v>>, AllocError>
-    ensures { IfOk result (λ v. map told v.items ≡ entry_at (index, view item.now)) }
+fn entry_at<'v>(
+    alloc: Global,
+    calls: CallTable,
+    index: usize,
+    item: &'v Value,
+) -> Result<Vec<Passed<'v>>, AllocError>
+    ensures { IfOk result (λ v. map told v.items ≡ entry_at calls (index, view item.now)) }
 {
     let mut found = ignored_in(alloc, Holder::Entry(index), item)?;
-    let names = names_in(alloc, index, items_in(item, "names"))?;
+    let names = names_in(alloc, calls, index, items_in(item, "names"))?;
     found.extend_from_slice(names.as_slice())?;
     let args = args_in(alloc, index, items_in(item, "args"))?;
     found.extend_from_slice(args.as_slice())?;

@@ -13,7 +13,7 @@ use action::Verdict;
 use call_data::SysCall;
 use json_place::{MAX_SHOWN, Quoted};
 use std::fmt;
-use sys_table::NUMBER_LIMIT;
+use sys_table::CallTable;
 
 /// The prefix of a member's key: nothing, `syscalls[3].`, `syscalls[3].args[1].`
 impl fmt::Display for Holder {
@@ -248,18 +248,18 @@ impl fmt::Display for FoundPlace {
     }
 }
 
-/// What is found in the profile.
+/// What is found in the profile, if these are the known calls.
 #[derive(Clone, Copy)]
-pub(crate) struct FoundWords(pub(crate) Finding);
+pub(crate) struct FoundWords(pub(crate) CallTable, pub(crate) Finding);
 
 impl fmt::Display for FoundWords {
     ghost use Rattle.std.specs.Prelude.{Some};
     ghost use Rattle.profile_lint.specs.Text.{found_words};
 
-    ghost output = { λ words. Some (found_words words.0) };
+    ghost output = { λ words. Some (found_words words.0 words.1) };
 
     fn fmt<W: fmt::Write>(&self, f: &mut fmt::Formatter<W>) -> fmt::Result {
-        match self.0 {
+        match self.1 {
             Finding::NeverDecides(_) => f.write_str("it decides no call"),
             Finding::SameWithout(_) => f.write_str("what follows decides its calls the same way"),
             Finding::NotFoundOut(_) => f.write_str("it may decide no call, or be redundant"),
@@ -282,7 +282,7 @@ impl fmt::Display for FoundWords {
                 )
             }
             Finding::NewerCalls(errno) => {
-                let last = NUMBER_LIMIT - 1;
+                let last = self.0.limit() - 1;
                 write!(
                     f,
                     "calls newer than {last} return errno {errno}, \
@@ -294,15 +294,23 @@ impl fmt::Display for FoundWords {
     }
 }
 
-/// `PLACE: KIND: WORDS`.
-impl fmt::Display for Finding {
+/// A finding about the profile as it is printed, if these are the known calls: `PLACE: KIND: WORDS`.
+#[derive(Clone, Copy, Debug)]
+pub struct ShownFinding(pub CallTable, pub Finding);
+
+impl fmt::Display for ShownFinding {
     ghost use Rattle.std.specs.Prelude.{Some};
     ghost use Rattle.profile_lint.specs.Text.{found_text};
 
-    ghost output = { λ found. Some (found_text found) };
+    ghost output = { λ shown. Some (found_text shown.0 shown.1) };
 
     fn fmt<W: fmt::Write>(&self, f: &mut fmt::Formatter<W>) -> fmt::Result {
-        let kind = kind_of_found(self);
-        write!(f, "{}: {kind}: {}", FoundPlace(*self), FoundWords(*self))
+        let kind = kind_of_found(&self.1);
+        write!(
+            f,
+            "{}: {kind}: {}",
+            FoundPlace(self.1),
+            FoundWords(self.0, self.1)
+        )
     }
 }

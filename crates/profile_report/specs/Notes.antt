@@ -4,6 +4,7 @@ use Rattle.std.specs.Prelude.{ℕ, ◌-◌, ◌==◌, Bool, true, false, if◌th
 use Rattle.std.specs.Prelude.{length, Option, Some, None}
 use Rattle.std.specs.Fmt.{decimal}
 use Rattle.profile_advice.specs.Entries as advised
+use Rattle.sys_table.specs.declared.calls.CallTable.TheVariants.{Linux5_8}
 use Rattle.profile_lint.specs.declared.finding.Finding.{Finding}
 use Rattle.profile_lint.specs.declared.finding.Finding.TheVariants as found
 use Rattle.profile_lint.specs.declared.passed.Holder.{Holder}
@@ -53,7 +54,7 @@ unfoldable pub told_line : Option ℕ → Told → List (List ℕ)
 told_line about t = if is_about (told_about t) about then told_text t ∷ [] else []
 
 unfoldable pub found_line : Option ℕ → Finding → List (List ℕ)
-found_line about f = if is_about (found_about f) about then found_text f ∷ [] else []
+found_line about f = if is_about (found_about f) about then found_text Linux5_8 f ∷ [] else []
 
 -- the lines about the text, in order
 abbrev pub told_lines : Option ℕ → List Passed → List (List ℕ)

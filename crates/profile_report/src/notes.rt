@@ -7,9 +7,10 @@ ghost use Rattle.profile_report.specs.Notes.{told_lines};
 
 use crate::escaping::Html;
 use crate::ways::first;
-use profile_lint::{Finding, Holder, Passed};
+use profile_lint::{Finding, Holder, Passed, ShownFinding};
 use std::alloc::{AllocError, Global};
 use std::fmt;
+use sys_table::CallTable;
 
 /// The first findings about an entry, or about none, and how many more there are.
 pub(crate) fn notes_about(
@@ -74,7 +75,8 @@ fn add_found(
         ≡ map string_bytes lines.old.items ++ found_line about finding.now) }
 {
     if is_about(found_about(finding), about) {
-        lines.push(format!(in alloc; "{finding}")?)?;
+        let shown = ShownFinding(CallTable::Linux5_8, *finding);
+        lines.push(format!(in alloc; "{shown}")?)?;
     }
     Ok(())
 }

@@ -6,6 +6,7 @@ use crate::template::Template;
 use oci_profile::Decision;
 use profile_text::{NamedEntry, WriteFault, is_stricter, is_taken, write_named};
 use std::alloc::{AllocError, Global};
+use sys_table::CallTable;
 
 /// A name of a template's entry that is left out of its profile.
 #[derive(Clone, Copy, Debug, PartialEq, Eq)]
@@ -18,17 +19,18 @@ pub struct LeftOut {
 
 impl Template {
     ghost use Rattle.std.specs.Prelude.{◌≡◌, IfOk, string_bytes};
-    ghost use Rattle.oci_profile.specs.Profile.{ReadsProfile};
+    ghost use Rattle.oci_profile.specs.Profile.{ReadsProfileWith};
     ghost use Rattle.profile_template.specs.Resolved.{left_out, profile_of};
 
     /// Writes the plain profile: its text reads as the profile with exactly the entries whose conditions are
     /// met, in their order, without the names that are left out.
-    pub fn write(self, alloc: Global) -> Result<String, WriteFault>
-        ensures { IfOk result (λ text. ReadsProfile (string_bytes text) (profile_of self)) }
+    pub fn write(self, alloc: Global, calls: CallTable) -> Result<String, WriteFault>
+        ensures { IfOk result (λ text. ReadsProfileWith calls (string_bytes text) (profile_of calls self)) }
     {
         let entries = met_entries(alloc, self.entries.into_vec())?;
         write_named(
             alloc,
+            calls,
             &self.default,
             &self.architectures,
             entries.as_slice(),
@@ -36,10 +38,10 @@ impl Template {
     }
 
     /// The names that are left out, in their order.
-    pub fn left_out(&self, alloc: Global) -> Result<Vec<LeftOut>, AllocError>
-        ensures { IfOk result (λ v. v.items ≡ left_out self.now) }
+    pub fn left_out(&self, alloc: Global, calls: CallTable) -> Result<Vec<LeftOut>, AllocError>
+        ensures { IfOk result (λ v. v.items ≡ left_out calls self.now) }
     {
-        left_out_of(alloc, &self.default, self.entries.as_slice())
+        left_out_of(alloc, calls, &self.default, self.entries.as_slice())
     }
 }
 
@@ -60,15 +62,16 @@ fn met_entries(
 
 fn left_out_of(
     alloc: Global,
+    calls: CallTable,
     default: &Decision,
     entries: &[Option<NamedEntry>],
 ) -> Result<Vec<LeftOut>, AllocError>
     ensures { IfOk result (λ v. v.items
-        ≡ flat_map (out_of_entry default.now) (enumerate_from 0 entries.now)) }
+        ≡ flat_map (out_of_entry calls default.now) (enumerate_from 0 entries.now)) }
 {
     let mut found = Vec::new(alloc);
     for (index, entry) in entries.iter().enumerate() {
-        let names = out_if(alloc, default, index, entry)?;
+        let names = out_if(alloc, calls, default, index, entry)?;
         found.extend_from_slice(names.as_slice())?;
     }
     Ok(found)
@@ -76,16 +79,17 @@ fn left_out_of(
 
 fn out_if(
     alloc: Global,
+    calls: CallTable,
     default: &Decision,
     index: usize,
     entry: &Option<NamedEntry>,
 ) -> Result<Vec<LeftOut>, AllocError>
-    ensures { IfOk result (λ v. v.items ≡ out_if default.now index entry.now) }
+    ensures { IfOk result (λ v. v.items ≡ out_if calls default.now index entry.now) }
 {
     match entry {
         Some(entry) => {
             let is_stricter = is_stricter(default, &entry.decision);
-            names_out(alloc, is_stricter, index, entry.names.as_slice())
+            names_out(alloc, calls, is_stricter, index, entry.names.as_slice())
         }
         None => Ok(Vec::new(alloc)),
     }
@@ -93,15 +97,16 @@ fn out_if(
 
 fn names_out(
     alloc: Global,
+    calls: CallTable,
     is_stricter: bool,
     entry: usize,
     names: &[String],
 ) -> Result<Vec<LeftOut>, AllocError>
-    ensures { IfOk result (λ v. v.items ≡ names_out is_stricter entry (map string_bytes names.now)) }
+    ensures { IfOk result (λ v. v.items ≡ names_out calls is_stricter entry (map string_bytes names.now)) }
 {
     let mut found = Vec::new(alloc);
     for (index, name) in names.iter().enumerate() {
-        if !is_taken(is_stricter, name.as_str()) {
+        if !is_taken(calls, is_stricter, name.as_str()) {
             found.push(LeftOut { entry, name: index })?;
         }
     }

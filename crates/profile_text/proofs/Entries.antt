@@ -10,7 +10,9 @@ use Rattle.serde_json.specs.View.{items_of}
 use Rattle.serde_json.proofs.OnLiterals.{serde_json_on_literals}
 use Rattle.json_tree.specs.Tree.{list, member}
 use Rattle.json_tree.specs.Reading.{Both, MayHaveField}
-use Rattle.sys_table.specs.SysTable.{name_of, number_of}
+use Rattle.sys_table.specs.SysTable.{name_of, number_in, number_of}
+use Rattle.sys_table.specs.declared.calls.CallTable.{CallTable}
+use Rattle.sys_table.specs.declared.calls.CallTable.TheVariants.{Linux5_8}
 use Rattle.oci_profile.specs.declared.decision.Decision.{Decision}
 use Rattle.oci_profile.specs.declared.profile.Entry.{Entry}
 use Rattle.oci_profile.specs.Profile.{IsCond, IsEntry, are_known, number_named, rank}
@@ -34,36 +36,36 @@ name_back : (agree : Agree) (n : ℕ) (name : Option (List ℕ)) → name_of n �
 name_back agree n None is named = absurd cc
 name_back agree n (Some name) is named = (agree name n).1 is
 
-number_back : (agree : Agree) (n : ℕ) → is_named n ≡ true → number_named (string (name_text n)) ≡ Some n
+number_back : (agree : Agree) (n : ℕ) → is_named n ≡ true → number_named Linux5_8 (string (name_text n)) ≡ Some n
 unfolding number_named
 number_back agree n named = name_back agree n (name_of n) refl named
 
 numbers_back : (agree : Agree) (ns : List ℕ) → are_named ns ≡ true
-    → ns ≡ filter_map number_named (map string (map name_text ns))
+    → ns ≡ filter_map (number_named Linux5_8) (map string (map name_text ns))
 numbers_back agree [] named = refl
 numbers_back agree (n ∷ ns) named =
     let parts = both_true (is_named n) (are_named ns) named in
     rw (number_back agree n parts.0) (ap (λ rest. n ∷ rest) (numbers_back agree ns parts.1))
 
-all_known : (agree : Agree) (ns : List ℕ) → are_named ns ≡ true → are_known (map string (map name_text ns))
+all_known : (agree : Agree) (ns : List ℕ) → are_named ns ≡ true → are_known Linux5_8 (map string (map name_text ns))
     ≡ true
 all_known agree [] named = refl
 all_known agree (n ∷ ns) named =
     let parts = both_true (is_named n) (are_named ns) named in
     rw (number_back agree n parts.0) (all_known agree ns parts.1)
 
-no_name : number_named (string []) ≡ None
-unfolding number_named number_of
+no_name : number_named Linux5_8 (string []) ≡ None
+unfolding number_named number_in
 no_name = refl
 
 pub numbers_are : (agree : Agree) (ns : List ℕ) → are_named ns ≡ true
-    → ns ≡ filter_map number_named (map string (names_of ns))
+    → ns ≡ filter_map (number_named Linux5_8) (map string (names_of ns))
 numbers_are agree [] named = rw no_name refl
 numbers_are agree (n ∷ ns) named = numbers_back agree (n ∷ ns) named
 
 pub known : (agree : Agree) (default decision : Decision) (ns : List ℕ) → are_named ns ≡ true
     → (not (eqb (length ns) 0) || leb (rank default) (rank decision)) ≡ true → rank decision < rank default
-    → are_known (map string (names_of ns)) ≡ true
+    → are_known Linux5_8 (map string (names_of ns)) ≡ true
 known agree default decision [] named lenient strict =
     absurd (let le : rank default ≤ rank decision = leb-true (rank default) (rank decision) lenient in
     omega arith)
@@ -121,13 +123,13 @@ args_back [] = refl
 args_back (d ∷ ds) = refl
 
 -- the tree of an entry that is written with these names
-pub said : (default : Decision) (names : List (List ℕ)) (entry : Entry) → FitsDecision entry.decision
+pub said : (calls : CallTable) (default : Decision) (names : List (List ℕ)) (entry : Entry) → FitsDecision entry.decision
     → AreConds entry.conds → 0 < length (map string names)
-    → entry.numbers ≡ filter_map number_named (map string names)
-    → (rank entry.decision < rank default → are_known (map string names) ≡ true)
-    → IsEntry default (entry_with (map string names) (action_name entry.decision)
+    → entry.numbers ≡ filter_map (number_named calls) (map string names)
+    → (rank entry.decision < rank default → are_known calls (map string names) ≡ true)
+    → IsEntry calls default (entry_with (map string names) (action_name entry.decision)
     (errno_of entry.decision) entry.conds) entry
-said default names entry fits conds_fit some numbers known =
+said calls default names entry fits conds_fit some numbers known =
     let args : List Data = map cond_tree entry.conds in
     let tree : Data = entry_with (map string names) (action_name entry.decision)
     (errno_of entry.decision) entry.conds in
@@ -149,16 +151,16 @@ said default names entry fits conds_fit some numbers known =
     }
 
 pub entry_is : (agree : Agree) (default : Decision) (entry : Entry) → FitsEntry entry
-    → is_writable_entry default entry ≡ true → IsEntry default (entry_tree entry) entry
+    → is_writable_entry default entry ≡ true → IsEntry Linux5_8 default (entry_tree entry) entry
 entry_is agree default entry fits writable =
     let parts = both_true (are_named entry.numbers) _ writable in
-    said default (names_of entry.numbers) entry fits.decision fits.conds (some_names entry.numbers)
+    said Linux5_8 default (names_of entry.numbers) entry fits.decision fits.conds (some_names entry.numbers)
     (numbers_are agree entry.numbers parts.0)
     (known agree default entry.decision entry.numbers parts.0 parts.1)
 
 pub entries_are : (agree : Agree) (default : Decision) (entries : List Entry)
     → AllByRecursion FitsEntry entries → list_all (is_writable_entry default) entries ≡ true
-    → Both (IsEntry default) (map entry_tree entries) entries
+    → Both (IsEntry Linux5_8 default) (map entry_tree entries) entries
 entries_are agree default [] fits writable = tt
 entries_are agree default (entry ∷ entries) fits writable =
     let parts = both_true (is_writable_entry default entry) (list_all (is_writable_entry default) entries)

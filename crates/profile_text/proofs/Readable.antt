@@ -8,6 +8,7 @@ use Rattle.serde_json.specs.Data.{Data}
 use Rattle.json_tree.specs.Reading.{Both}
 use Rattle.json_tree.specs.Tree.{text}
 use Rattle.sys_table.specs.SysTable.{number_of}
+use Rattle.sys_table.specs.declared.calls.CallTable.TheVariants.{Linux5_8}
 use Rattle.oci_profile.specs.declared.decision.Decision.{Decision}
 use Rattle.oci_profile.specs.declared.profile.Entry.{Entry}
 use Rattle.oci_profile.specs.declared.profile.Profile.{Profile}
@@ -20,27 +21,27 @@ number_is_named : (agree : Agree) (name : Option (List ℕ)) (n : ℕ) → optio
 number_is_named agree None n is = absurd cc
 number_is_named agree (Some name) n is = rw ((agree name n).0 is) refl
 
-named_by : (agree : Agree) (d : Data) (found : Option ℕ) (rest : List ℕ) → number_named d ≡ found
+named_by : (agree : Agree) (d : Data) (found : Option ℕ) (rest : List ℕ) → number_named Linux5_8 d ≡ found
     → are_named rest ≡ true → are_named (cons_option found rest) ≡ true
 unfolding number_named
 named_by agree d None rest is named = named
 named_by agree d (Some n) rest is named = rw (number_is_named agree (text d) n is) named
 
-all_named : (agree : Agree) (names : List Data) → are_named (filter_map number_named names) ≡ true
+all_named : (agree : Agree) (names : List Data) → are_named (filter_map (number_named Linux5_8) names) ≡ true
 all_named agree [] = refl
-all_named agree (d ∷ ds) = named_by agree d (number_named d) (filter_map number_named ds) refl
+all_named agree (d ∷ ds) = named_by agree d (number_named Linux5_8 d) (filter_map (number_named Linux5_8) ds) refl
     (all_named agree ds)
 
 not_none : (d : Data) (found : Option ℕ) (ds : List Data) → is_some found ≡ true
-    → not (eqb (length (cons_option found (filter_map number_named ds))) 0) ≡ true
+    → not (eqb (length (cons_option found (filter_map (number_named Linux5_8) ds))) 0) ≡ true
 not_none d None ds is = absurd cc
 not_none d (Some n) ds is = grind (arith)
 
-some_known : (names : List Data) → 0 < length names → are_known names ≡ true
-    → not (eqb (length (filter_map number_named names)) 0) ≡ true
+some_known : (names : List Data) → 0 < length names → are_known Linux5_8 names ≡ true
+    → not (eqb (length (filter_map (number_named Linux5_8) names)) 0) ≡ true
 some_known [] some known = absurd (omega arith)
-some_known (d ∷ ds) some known = not_none d (number_named d) ds
-    (both_true (is_some (number_named d)) (are_known ds) known).0
+some_known (d ∷ ds) some known = not_none d (number_named Linux5_8 d) ds
+    (both_true (is_some (number_named Linux5_8 d)) (are_known Linux5_8 ds) known).0
 
 or_left : (a b : Bool) → a ≡ true → (a || b) ≡ true
 or_left true b h = refl
@@ -55,9 +56,9 @@ and_both true b h g = g
 and_both false b h g = absurd cc
 
 entry_writable : (agree : Agree) (default : Decision) (tree : Data) (entry : Entry)
-    → IsEntry default tree entry → is_writable_entry default entry ≡ true
+    → IsEntry Linux5_8 default tree entry → is_writable_entry default entry ≡ true
 entry_writable agree default tree entry is =
-    let same : entry.numbers ≡ filter_map number_named is.names = is.numbers_are in
+    let same : entry.numbers ≡ filter_map (number_named Linux5_8) is.names = is.numbers_are in
     let named : are_named entry.numbers ≡ true = rw same (all_named agree is.names) in
     let numbers : rank entry.decision < rank default → not (eqb (length entry.numbers) 0) ≡ true = λ strict.
     rw same (some_known is.names is.some (is.known strict)) in
@@ -69,7 +70,7 @@ entry_writable agree default tree entry is =
     ])
 
 entries_writable : (agree : Agree) (default : Decision) (trees : List Data) (entries : List Entry)
-    → Both (IsEntry default) trees entries → list_all (is_writable_entry default) entries ≡ true
+    → Both (IsEntry Linux5_8 default) trees entries → list_all (is_writable_entry default) entries ≡ true
 entries_writable agree default trees [] both = refl
 entries_writable agree default [] (entry ∷ entries) both = absurd both
 entries_writable agree default (tree ∷ trees) (entry ∷ entries) both =

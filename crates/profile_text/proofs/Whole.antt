@@ -13,6 +13,7 @@ use Rattle.serde_json.specs.Written.{has_float, items_have_float}
 use Rattle.serde_json.proofs.OnLiterals.{serde_json_on_literals}
 use Rattle.json_tree.specs.Tree.{list, member, text, text_list, tree_of}
 use Rattle.json_tree.specs.Reading.{MayHaveField}
+use Rattle.sys_table.specs.declared.calls.CallTable.TheVariants.{Linux5_8}
 use Rattle.oci_profile.specs.declared.conditions.Cond.{Cond}
 use Rattle.oci_profile.specs.declared.conditions.Op.{Op}
 use Rattle.oci_profile.specs.declared.profile.Entry.{Entry}
@@ -77,7 +78,7 @@ unfolding member
 list_there tree ds is = (array (items_of ds), rw is refl, list_back ds)
 
 profile_is : (agree : Agree) (profile : Profile) → AllByRecursion FitsEntry profile.entries
-    → FitsDecision profile.default → is_writable profile ≡ true → IsProfile (profile_tree profile) profile
+    → FitsDecision profile.default → is_writable profile ≡ true → IsProfile Linux5_8 (profile_tree profile) profile
 unfolding profile_tree
 profile_is agree profile fits fits_default writable =
     let entries : List Data = map entry_tree profile.entries in
@@ -221,5 +222,5 @@ reads agree profile tree bytes is fits fits_default writable utf8 back short =
       short = short;
       tree = tree;
       is = told bytes tree utf8 (back levels);
-      says = subst (λ t. IsProfile t profile) (sym is) (profile_is agree profile fits fits_default writable);
+      says = subst (λ t. IsProfile Linux5_8 t profile) (sym is) (profile_is agree profile fits fits_default writable);
     }

@@ -7,7 +7,7 @@ use Rattle.std.proofs.lemmas.Bool.{ltb-true, ltb-false, ne_eqb}
 use Rattle.std.proofs.lemmas.Grind.{common_steps}
 use Rattle.std.proofs.lemmas.Iterator.Adapters.{position_from-zero}
 use Rattle.call_data.specs.declared.sys_call.SysCall.{SysCall}
-use Rattle.sys_table.specs.declared.table.TheConstants.{NUMBER_LIMIT}
+use Rattle.sys_table.specs.declared.table.TheConstants.{TABLE_LIMIT}
 use Rattle.oci_profile.specs.Conditions.{AreNumbers}
 use Rattle.oci_profile.specs.Entries.{AreEntries}
 use Rattle.oci_profile.specs.declared.decision.Decision.{Decision}
@@ -46,16 +46,16 @@ plain_is : (entries : List Entry) (default : Decision) (nr : ℕ) (call : SysCal
 plain_is entries default nr call none =
     plain_from entries 0 default nr call (sym (position_from-zero has_conditions entries) ∙ none)
 
-any_small : (numbers : List ℕ) (nr : ℕ) → AreNumbers numbers → NUMBER_LIMIT ≤ nr
+any_small : (numbers : List ℕ) (nr : ℕ) → AreNumbers numbers → TABLE_LIMIT ≤ nr
     → list_any (λ number. eqb number nr) numbers ≡ false
 any_small [] nr small far = refl
 any_small (number ∷ numbers) nr small far =
-    let near : number < NUMBER_LIMIT = small 0 number (omega arith) in
+    let near : number < TABLE_LIMIT = small 0 number (omega arith) in
     rw (ne_eqb number nr (λ e. absurd (omega (arith, e, near, far))))
     (any_small numbers nr (λ k d lt. small (suc k) d (omega (arith, lt))) far)
 
 -- no entry names a number beyond the table
-pub none_beyond : (entries : List Entry) (default : Decision) (nr : ℕ) → AreEntries entries → NUMBER_LIMIT ≤ nr
+pub none_beyond : (entries : List Entry) (default : Decision) (nr : ℕ) → AreEntries entries → TABLE_LIMIT ≤ nr
     → first_named entries default nr ≡ default
 unfolding names
 none_beyond [] default nr fit far = refl
@@ -64,26 +64,26 @@ none_beyond (entry ∷ entries) default nr fit far =
     (none_beyond entries default nr (λ k d lt. fit (suc k) d (omega (arith, lt))) far)
 
 all_decided : (entries : List Entry) (default : Decision) (calls : List NamedCall) (nr : ℕ) → AreEntries entries
-    → IsUpTo entries default NUMBER_LIMIT calls
+    → IsUpTo entries default TABLE_LIMIT calls
     → value_of (decision_in calls default nr) ≡ value_of (first_named entries default nr)
-all_decided entries default calls nr fit whole = elim (ltb nr NUMBER_LIMIT) as (λ b. ltb nr NUMBER_LIMIT ≡ b
+all_decided entries default calls nr fit whole = elim (ltb nr TABLE_LIMIT) as (λ b. ltb nr TABLE_LIMIT ≡ b
     → value_of (decision_in calls default nr) ≡ value_of (first_named entries default nr)) [
-      | true ↦ λ e. whole.decided nr (ltb-true nr NUMBER_LIMIT e)
-      | false ↦ λ e. let far = ltb-false nr NUMBER_LIMIT e in
-          ap value_of (beyond calls default NUMBER_LIMIT nr whole.within far
+      | true ↦ λ e. whole.decided nr (ltb-true nr TABLE_LIMIT e)
+      | false ↦ λ e. let far = ltb-false nr TABLE_LIMIT e in
+          ap value_of (beyond calls default TABLE_LIMIT nr whole.within far
           ∙ sym (none_beyond entries default nr fit far))
     ] refl
 
 -- no call is listed, so the default decides each
 pub all_by_default : (entries : List Entry) (default : Decision) (calls : List NamedCall) → AreEntries entries
-    → IsUpTo entries default NUMBER_LIMIT calls → length calls ≡ 0 → (nr : ℕ)
+    → IsUpTo entries default TABLE_LIMIT calls → length calls ≡ 0 → (nr : ℕ)
     → value_of (first_named entries default nr) ≡ value_of default
 all_by_default entries default [] fit whole none nr = sym (all_decided entries default [] nr fit whole)
 all_by_default entries default (call ∷ calls) fit whole none nr = absurd cc
 
 pub means : (profile : Profile) (calls : List NamedCall) → AreEntries profile.entries
     → position has_conditions profile.entries ≡ None
-    → IsUpTo profile.entries profile.default NUMBER_LIMIT calls → (call : SysCall)
+    → IsUpTo profile.entries profile.default TABLE_LIMIT calls → (call : SysCall)
     → call.arch ≡ 0xc000003e → call.nr < 0x40000000
     → meaning profile call ≡ value_of (decision_in calls profile.default call.nr)
 unfolding meaning chosen

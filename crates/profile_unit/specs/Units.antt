@@ -3,7 +3,7 @@
 use Rattle.std.specs.Prelude.{◌≡◌, ℕ, ◌<◌, ◌==◌, Bool, true, false, if◌then◌else◌, nat_lt, not, List, [], ◌∷◌, All}
 use Rattle.std.specs.Prelude.{find, length, option_map, Option, Some, None}
 use Rattle.std.specs.List.{list_all}
-use Rattle.sys_table.specs.declared.table.TheConstants.{NUMBER_LIMIT}
+use Rattle.sys_table.specs.declared.table.TheConstants.{TABLE_LIMIT}
 use Rattle.oci_profile.specs.declared.conditions.Cond.{Cond}
 use Rattle.oci_profile.specs.declared.decision.Decision.{Decision}
 use Rattle.oci_profile.specs.declared.decision.Decision.TheVariants.{KillProcess, Errno, Allow}
@@ -41,7 +41,7 @@ pub record Fits (rest : Decision) (calls : List NamedCall) : Type 0 where
   pub default : is_default rest ≡ true
   pub listed : list_all (λ call. is_listed rest call.decision) calls ≡ true
   pub some : 0 < length calls
-  pub of_table : All (λ call. call.nr < NUMBER_LIMIT) calls
+  pub of_table : All (λ call. call.nr < TABLE_LIMIT) calls
 
 abbrev pub is_some : List Cond → Bool
 is_some [] = false

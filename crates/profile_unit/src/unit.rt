@@ -2,7 +2,7 @@ ghost use Rattle.std.specs.Prelude.{◌≡◌, ℕ, ◌<◌, ◌==◌, Some, Err
 ghost use Rattle.std.specs.Option.{option_copied};
 ghost use Rattle.std.specs.Prelude.{position};
 ghost use Rattle.call_data.specs.declared.sys_call.SysCall.{SysCall};
-ghost use Rattle.sys_table.specs.declared.table.TheConstants.{NUMBER_LIMIT};
+ghost use Rattle.sys_table.specs.declared.table.TheConstants.{TABLE_LIMIT};
 ghost use Rattle.oci_profile.specs.Decision.{value_of};
 ghost use Rattle.oci_profile.specs.Meaning.{meaning, names};
 ghost use Rattle.profile_unit.specs.Units.{Fits, IsUpTo, decision_in, denies, first_named};
@@ -11,7 +11,7 @@ ghost use Rattle.profile_unit.specs.Units.{has_conditions, is_default, is_listed
 use crate::faults::UnitFault;
 use oci_profile::{Decision, Entry, Profile};
 use std::alloc::{AllocError, Global};
-use sys_table::NUMBER_LIMIT;
+use sys_table::TABLE_LIMIT;
 
 /// A call of the list, by its number, and its decision.
 #[derive(Clone, Copy, Debug, PartialEq, Eq)]
@@ -112,10 +112,10 @@ fn named_calls(
     entries: &[Entry],
     default: &Decision,
 ) -> Result<Vec<NamedCall>, AllocError>
-    ensures { IfOk result (λ v. IsUpTo entries.now default.now NUMBER_LIMIT v.items) }
+    ensures { IfOk result (λ v. IsUpTo entries.now default.now TABLE_LIMIT v.items) }
 {
     let mut calls = Vec::new(alloc);
-    for nr in 0..NUMBER_LIMIT as u32 {
+    for nr in 0..TABLE_LIMIT as u32 {
         let decision = first_named(entries, default, nr);
         let call = NamedCall { nr, decision };
         if differs(&call.decision, default) {

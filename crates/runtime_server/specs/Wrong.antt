@@ -7,6 +7,7 @@ use Rattle.cri_msgs.specs.declared.refusals.Refusal.TheVariants as refusal
 use Rattle.cri_msgs.specs.declared.replies.Answer.{Answer}
 use Rattle.cri_msgs.specs.declared.replies.Answer.TheVariants as answer
 use Rattle.std.specs.declared.string.String.{String}
+use Rattle.sys_table.specs.declared.calls.CallTable.TheVariants.{Linux5_8}
 use Rattle.oci_profile.specs.Profile.{ReadsProfile}
 use Rattle.oci_profile.specs.Reading.{first_fault_at}
 use Rattle.oci_profile.specs.declared.placed.ProfileFaultAt.{ProfileFaultAt}
@@ -35,7 +36,7 @@ TellsProfile path bytes None = ⊤
 TellsProfile path bytes (Some text) =
     ((profile : Profile) × ReadsProfile bytes profile × (string_bytes text ≡ shown_path path
     ++ codes ": TooLong"))
-    ⊎ ((found : ProfileFaultAt) × (first_fault_at bytes ≡ Some found)
+    ⊎ ((found : ProfileFaultAt) × (first_fault_at Linux5_8 bytes ≡ Some found)
     × ((note : List ℕ) × IsNote bytes (named.Profile found.fault) found.place note
     × (string_bytes text ≡ shown_path path ++ note)))
 

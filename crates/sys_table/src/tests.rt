@@ -1,4 +1,4 @@
-use crate::{name, number};
+use crate::{CallTable, name, number};
 use std::test::Fail;
 
 // Both ends of the table, and both sides of each gap, as syscalls(2) and asm/unistd_64.h have them.
@@ -41,6 +41,38 @@ fn names_at_the_edges(rt: HostRuntime) {
     for text in ["", "rea", "readx", "READ", "vserver", "nosuchcall"] {
         assert_eq!(rt; number(text), None, "{text}");
     }
+}
+
+// As asm/unistd_64.h of Linux 6.12 has them: the call of a gap, the calls behind 439, and names that only Linux
+// 6.12 knows.
+#[test]
+fn calls_of_linux_6_12(rt: HostRuntime) {
+    let cases = [
+        (0, Some("read")),
+        (334, Some("rseq")),
+        (335, Some("uretprobe")),
+        (336, None),
+        (423, None),
+        (439, Some("faccessat2")),
+        (440, Some("process_madvise")),
+        (441, Some("epoll_pwait2")),
+        (449, Some("futex_waitv")),
+        (452, Some("fchmodat2")),
+        (462, Some("mseal")),
+        (463, None),
+        (u32::MAX, None),
+    ];
+    for (nr, want) in cases {
+        assert_eq!(rt; CallTable::Linux6_12.name(nr), want, "{nr}");
+        if let Some(text) = want {
+            assert_eq!(rt; CallTable::Linux6_12.number(text), Some(nr), "{text}");
+        }
+    }
+    for text in ["uretprobe", "process_madvise", "mseal"] {
+        assert_eq!(rt; number(text), None, "{text}");
+    }
+    assert_eq!(rt; CallTable::Linux5_8.limit(), 440);
+    assert_eq!(rt; CallTable::Linux6_12.limit(), 463);
 }
 
 // The count of the calls, the sum of their numbers, and FNV-1a (64 bits) over a line `NUMBER NAME` for each

@@ -1,5 +1,5 @@
 use Rattle.compile.proofs.Common.{ℕ, ◌+◌, ◌*◌, ◌^◌, ◌≤◌, List, length, ap, inl, inr, arith, rules}
-use Rattle.compile.proofs.Common.{Profile, weight, NUMBER_LIMIT, Suffices, added_below, steps_at, tree_size}
+use Rattle.compile.proofs.Common.{Profile, weight, TABLE_LIMIT, Suffices, added_below, steps_at, tree_size}
 use Rattle.compile.proofs.Common.{for_each}
 use Rattle.compile.specs.Sizes.Suffices.{balanced}
 use Rattle.compile.proofs.Weights.{light_fits, levels_enough, no_heavier, all_steps, steps_all, two_times}
@@ -12,7 +12,7 @@ assemble-requires-clause-short c =
     let same = ap (λ s. tree_size profile s 0 (length s)) c.in_ok-all.ensures in
     let light : weight profile ≤ 4096 = search rules in
     light_fits profile (length c.in_ok-starts.starts.items) (tree_size profile all 0 (length all))
-    NUMBER_LIMIT (NUMBER_LIMIT + 1) c.in_ok-starts.ensures.fit c.in_ok-starts.ensures.few
+    TABLE_LIMIT (TABLE_LIMIT + 1) c.in_ok-starts.ensures.fit c.in_ok-starts.ensures.few
     (omega (arith, same, c.in_ok-starts.ensures.short)) light
 
 pub returns-clause-weighed : goal.returns-clause-weighed
@@ -22,9 +22,9 @@ returns-clause-weighed c =
     let plain : List ℕ = c.in_ok-starts.starts.items in
     let size : ℕ = tree_size profile all 0 (length all) in
     let same = ap (λ s. tree_size profile s 0 (length s)) c.in_ok-all.ensures in
-    let small : size ≤ 3 * length plain + added_below profile.entries (NUMBER_LIMIT + 1) =
+    let small : size ≤ 3 * length plain + added_below profile.entries (TABLE_LIMIT + 1) =
     omega (arith, same, c.in_ok-starts.ensures.short) in
-    no_heavier profile (length plain) size NUMBER_LIMIT (NUMBER_LIMIT + 1) (length c.in_ok-filter.filter)
+    no_heavier profile (length plain) size TABLE_LIMIT (TABLE_LIMIT + 1) (length c.in_ok-filter.filter)
     c.in_ok-starts.ensures.fit c.in_ok-starts.ensures.few small c.in_ok-filter.ensures.long
 
 pub returns-clause-means : goal.returns-clause-means

@@ -1,5 +1,6 @@
 use Rattle.std.proofs.Common.{◌≡◌, ℕ, Option, Some, None, refl, sym}
 use Rattle.sys_table.specs.SysTable as table
+use Rattle.sys_table.specs.declared.calls.CallTable.TheVariants.{Linux5_8}
 use Rattle.motchidu_c.proofs.Ascii.{name_is_text}
 use Rattle.motchidu_c.proofs.call_number.number_named.Goals as goal
 
@@ -12,4 +13,4 @@ returns-in-Err c = none (table.number_of c.args.name.now) refl
     none None e = sym e
     none (Some number) e =
         let named = (c.names_and_numbers_agree.ensures.each_way _ number).0 e in
-        absurd (c.in-Err.ensures.cases.0 (name_is_text number _ named))
+        absurd (c.in-Err.ensures.cases.0 (name_is_text Linux5_8 number _ named))

@@ -6,5 +6,5 @@ use Rattle.oci_profile.specs.Reading.{entry_at}
 use Rattle.oci_profile.proofs.reader.each_entry.Given as goal
 
 abbrev pub invariant-loop-item : goal.invariant-loop-item
-invariant-loop-item l = in_order_after (entry_at l.default) l.entries.items
-    (map view (drop l.item-index l.items)) ≡ in_order_after (entry_at l.default) [] (map view l.items)
+invariant-loop-item l = in_order_after (entry_at l.calls l.default) l.entries.items
+    (map view (drop l.item-index l.items)) ≡ in_order_after (entry_at l.calls l.default) [] (map view l.items)

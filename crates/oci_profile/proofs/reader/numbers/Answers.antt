@@ -10,10 +10,10 @@ use Rattle.oci_profile.proofs.reader.numbers.Goals as goal
 
 pub new-requires : goal.new-requires
 new-requires c =
-    let all : c.loop-name.numbers.items ≡ filter_map number_named (map view c.args.names.now) =
+    let all : c.loop-name.numbers.items ≡ filter_map (number_named c.args.calls) (map view c.args.names.now) =
     rw (
       drop_all c.loop-name.name-index c.args.names.now (omega arith),
       append-nil,
     ) at c.loop-name.invariant in
-    subst AreNumbers (sym all) (numbers_fit c.names_and_numbers_agree.ensures.small
+    subst AreNumbers (sym all) (numbers_fit c.args.calls (c.names_and_numbers_agree.ensures.in_table c.args.calls)
     (map view c.args.names.now))

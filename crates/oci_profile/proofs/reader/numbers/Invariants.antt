@@ -6,5 +6,5 @@ use Rattle.oci_profile.specs.Profile.{number_named}
 use Rattle.oci_profile.proofs.reader.numbers.Given as goal
 
 abbrev pub invariant-loop-name : goal.invariant-loop-name
-invariant-loop-name l = l.numbers.items ++ filter_map number_named (map view (drop l.name-index l.names))
-    ≡ filter_map number_named (map view l.names)
+invariant-loop-name l = l.numbers.items ++ filter_map (number_named l.calls) (map view (drop l.name-index l.names))
+    ≡ filter_map (number_named l.calls) (map view l.names)

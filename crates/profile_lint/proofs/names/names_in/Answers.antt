@@ -10,10 +10,10 @@ loop-index-preserved c =
     let more = view_more c.args.names.now c.loop-index.index c.index-names-index.result
     (omega (arith, c.loop-index-test.true)) c.index-names-index.is in
     let inv = c.loop-index.invariant in
-    let seen : AreSeen before c.as_slice.result.now = rw c.as_slice.ensures.value inv.1 in (
-      told_on (name_at c.args.entry (map view c.args.names.now)) c.args.names.now c.loop-index.index
+    let seen : AreSeen c.args.calls before c.as_slice.result.now = rw c.as_slice.ensures.value inv.1 in (
+      told_on (name_at c.args.calls c.args.entry (map view c.args.names.now)) c.args.names.now c.loop-index.index
           c.index-names-index.result c.loop-index.found.items c.tell.new.found.items c.name_at.result
-          (names_in c.args.entry (map view c.args.names.now)) (omega (arith, c.loop-index-test.true))
+          (names_in c.args.calls c.args.entry (map view c.args.names.now)) (omega (arith, c.loop-index-test.true))
           c.index-names-index.is c.in_ok-tell.ensures (c.name_at.ensures before seen) inv.0,
       rw more (c.in_ok-see.ensures before inv.1),
     )

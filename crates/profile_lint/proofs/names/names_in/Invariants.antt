@@ -9,7 +9,7 @@ use Rattle.profile_lint.proofs.names.names_in.Given as goal
 
 abbrev pub invariant-loop-index : goal.invariant-loop-index
 invariant-loop-index l = (map told l.found.items
-    ++ filter_map (name_at l.entry (map view l.names))
+    ++ filter_map (name_at l.calls l.entry (map view l.names))
     (enumerate_from l.index (map view (drop l.index l.names)))
-    ≡ filter_map (name_at l.entry (map view l.names)) (enumerate_from 0 (map view l.names)))
-    × AreSeen (take l.index (map view l.names)) l.seen.items
+    ≡ filter_map (name_at l.calls l.entry (map view l.names)) (enumerate_from 0 (map view l.names)))
+    × AreSeen l.calls (take l.index (map view l.names)) l.seen.items

@@ -6,5 +6,5 @@ use Rattle.profile_lint.proofs.objects.add_profile.Given as goal
 
 abbrev pub invariant-loop-finding : goal.invariant-loop-finding
 invariant-loop-finding l = string_bytes l.text
-    ++ flat_map (found_line l.choice.is_all l.choice.allowed.now) (drop l.finding-index l.found)
-    ≡ string_bytes l.initial.text ++ flat_map (found_line l.choice.is_all l.choice.allowed.now) l.found
+    ++ flat_map (found_line l.calls l.choice.is_all l.choice.allowed.now) (drop l.finding-index l.found)
+    ≡ string_bytes l.initial.text ++ flat_map (found_line l.calls l.choice.is_all l.choice.allowed.now) l.found

@@ -8,5 +8,5 @@ use Rattle.profile_lint.proofs.text.entries_in.Given as goal
 
 abbrev pub invariant-loop-index : goal.invariant-loop-index
 invariant-loop-index l = map told l.found.items
-    ++ flat_map entry_at (enumerate_from l.index (map view (drop l.index l.items)))
-    ≡ flat_map entry_at (enumerate_from 0 (map view l.items))
+    ++ flat_map (entry_at l.calls) (enumerate_from l.index (map view (drop l.index l.items)))
+    ≡ flat_map (entry_at l.calls) (enumerate_from 0 (map view l.items))

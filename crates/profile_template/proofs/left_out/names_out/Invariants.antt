@@ -6,6 +6,6 @@ use Rattle.profile_template.specs.Resolved.{name_out}
 use Rattle.profile_template.proofs.left_out.names_out.Given as goal
 
 abbrev pub invariant-loop-index : goal.invariant-loop-index
-invariant-loop-index l = l.found.items ++ filter_map (name_out l.is_stricter l.entry)
+invariant-loop-index l = l.found.items ++ filter_map (name_out l.calls l.is_stricter l.entry)
     (enumerate_from l.index (map string_bytes (drop l.index l.names)))
-    ≡ filter_map (name_out l.is_stricter l.entry) (enumerate_from 0 (map string_bytes l.names))
+    ≡ filter_map (name_out l.calls l.is_stricter l.entry) (enumerate_from 0 (map string_bytes l.names))

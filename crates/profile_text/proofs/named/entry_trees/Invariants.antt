@@ -9,5 +9,5 @@ use Rattle.profile_text.proofs.named.entry_trees.Given as goal
 
 abbrev pub invariant-loop-entry : goal.invariant-loop-entry
 invariant-loop-entry l = (map view l.trees.items
-    ++ filter_map (named_tree l.default) (drop l.entry-index l.entries)
-    ≡ filter_map (named_tree l.default) l.entries) × AllByRecursion FitsNamed (take l.entry-index l.entries)
+    ++ filter_map (named_tree l.calls l.default) (drop l.entry-index l.entries)
+    ≡ filter_map (named_tree l.calls l.default) l.entries) × AllByRecursion FitsNamed (take l.entry-index l.entries)

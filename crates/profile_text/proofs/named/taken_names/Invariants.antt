@@ -8,5 +8,5 @@ use Rattle.profile_text.proofs.named.taken_names.Given as goal
 
 abbrev pub invariant-loop-name : goal.invariant-loop-name
 invariant-loop-name l = map view l.trees.items
-    ++ map string (filter (is_taken l.is_stricter) (map string_bytes (drop l.name-index l.names)))
-    ≡ map string (filter (is_taken l.is_stricter) (map string_bytes l.names))
+    ++ map string (filter (is_taken l.calls l.is_stricter) (map string_bytes (drop l.name-index l.names)))
+    ≡ map string (filter (is_taken l.calls l.is_stricter) (map string_bytes l.names))
