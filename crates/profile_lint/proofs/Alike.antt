@@ -105,7 +105,7 @@ first_of_filter test (here ∷ entries) (suc place) entry default call there pas
 -- an entry without conditions that engines have decides the same calls for them
 pub bare_alike : (profile : Profile) (place : ℕ) (entry : Entry) → slice_get profile.entries place ≡ Some entry
     → is_kept_of Bare profile entry ≡ true → ReadsAlike profile place
-bare_alike profile place entry there kept call here other fits otherwise =
+bare_alike profile place entry there kept call values fits otherwise =
     let first = otherwise.decides in
     let same : first.entry ≡ entry = cc (first.there, there) in
     let theirs = decision_behind (kept_of Bare profile) (kept_of Asking profile) profile.default call.nr call
@@ -125,7 +125,7 @@ none_any (n ∷ numbers) test none = absurd cc
 pub unnamed_alike : (profile : Profile) (place : ℕ) (entry : Entry)
     → slice_get profile.entries place ≡ Some entry → length entry.numbers ≡ 0 → ReadsAlike profile place
 unfolding names
-unnamed_alike profile place entry there none call here other fits otherwise =
+unnamed_alike profile place entry there none call values fits otherwise =
     let first = otherwise.decides in
     let same : first.entry ≡ entry = cc (first.there, there) in
     let fails = none_any first.entry.numbers (λ n. n == call.nr) (ap (λ e. length e.numbers) same ∙ none) in
@@ -146,7 +146,7 @@ pub queue_alike : (profile engines : Profile) (place : ℕ) (entry : Entry)
     → engines ≡ as_engines_read profile → slice_get profile.entries place ≡ Some entry
     → MeanSame (in_queue profile engines place entry (entry ∷ [])) (in_queue profile engines place entry [])
     → ReadsAlike profile place
-queue_alike profile engines place entry is there alike call here other fits otherwise =
+queue_alike profile engines place entry is there alike call values fits otherwise =
     let first = otherwise.decides in
     let same : first.entry ≡ entry = cc (first.there, there) in
     let named : names entry call.nr ≡ true = ap (λ e. names e call.nr) (sym same) ∙ first.named in

@@ -80,7 +80,7 @@ past_reported profile finds place past = record {
   need = λ none entry there.
       let within : place < length profile.entries = slice_get_within profile.entries place entry there in
       absurd (omega arith);
-  reading = λ none call here other fits otherwise.
+  reading = λ none call values fits otherwise.
       let within : place < length profile.entries =
       slice_get_within profile.entries place otherwise.decides.entry otherwise.decides.there in
       absurd (omega arith);

@@ -32,7 +32,7 @@ IsSo profile (found.SameWithout place) = MeanSame profile (without profile place
 IsSo profile (found.NotFoundOut place) = Unit {0}
 IsSo profile (found.NotLookedAt place) = Unit {0}
 IsSo profile (found.NotCompared place) = Unit {0}
-IsSo profile (found.ReadOtherwise place call here there) = IsReadOtherwise profile place call here there
+IsSo profile (found.ReadOtherwise place call values) = IsReadOtherwise profile place call values
 IsSo profile (found.Overlap place other call) = Overlap profile place other call
 IsSo profile (found.NewerCalls errno) = newer_of profile.default ≡ Some errno
 IsSo profile (found.Advised one) = Contains (advice_of profile) one
@@ -44,7 +44,7 @@ is_on_need place (found.SameWithout at) = at == place
 is_on_need place (found.NotFoundOut at) = at == place
 is_on_need place (found.NotLookedAt from) = nat_le from place
 is_on_need place (found.NotCompared at) = false
-is_on_need place (found.ReadOtherwise at call here there) = false
+is_on_need place (found.ReadOtherwise at call values) = false
 is_on_need place (found.Overlap at other call) = false
 is_on_need place (found.NewerCalls errno) = false
 is_on_need place (found.Advised one) = false
@@ -56,7 +56,7 @@ is_on_reading place (found.SameWithout at) = false
 is_on_reading place (found.NotFoundOut at) = false
 is_on_reading place (found.NotLookedAt from) = nat_le from place
 is_on_reading place (found.NotCompared at) = at == place
-is_on_reading place (found.ReadOtherwise at call here there) = at == place
+is_on_reading place (found.ReadOtherwise at call values) = at == place
 is_on_reading place (found.Overlap at other call) = false
 is_on_reading place (found.NewerCalls errno) = false
 is_on_reading place (found.Advised one) = false
@@ -68,7 +68,7 @@ is_on_overlap place second (found.SameWithout at) = false
 is_on_overlap place second (found.NotFoundOut at) = false
 is_on_overlap place second (found.NotLookedAt from) = nat_le from place
 is_on_overlap place second (found.NotCompared at) = at == place
-is_on_overlap place second (found.ReadOtherwise at call here there) = false
+is_on_overlap place second (found.ReadOtherwise at call values) = false
 is_on_overlap place second (found.Overlap at other call) = (at == place) && (other == second)
 is_on_overlap place second (found.NewerCalls errno) = false
 is_on_overlap place second (found.Advised one) = false
@@ -79,7 +79,7 @@ is_on_newer errno (found.SameWithout at) = false
 is_on_newer errno (found.NotFoundOut at) = false
 is_on_newer errno (found.NotLookedAt from) = false
 is_on_newer errno (found.NotCompared at) = false
-is_on_newer errno (found.ReadOtherwise at call here there) = false
+is_on_newer errno (found.ReadOtherwise at call values) = false
 is_on_newer errno (found.Overlap at other call) = false
 is_on_newer errno (found.NewerCalls other) = other == errno
 is_on_newer errno (found.Advised one) = false
@@ -124,7 +124,7 @@ is_uncompared (found.SameWithout at) = false
 is_uncompared (found.NotFoundOut at) = false
 is_uncompared (found.NotLookedAt from) = false
 is_uncompared (found.NotCompared at) = true
-is_uncompared (found.ReadOtherwise at call here there) = false
+is_uncompared (found.ReadOtherwise at call values) = false
 is_uncompared (found.Overlap at other call) = false
 is_uncompared (found.NewerCalls errno) = false
 is_uncompared (found.Advised one) = false

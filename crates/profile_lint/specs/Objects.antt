@@ -13,6 +13,8 @@ use Rattle.absent_names.specs.declared.kind.AbsentName.TheVariants as absent
 use Rattle.sys_table.specs.SysTable.{limit_of}
 use Rattle.sys_table.specs.declared.calls.CallTable.{CallTable}
 use Rattle.profile_lint.specs.declared.choice.Tally.TheVariants as which
+use Rattle.call_data.specs.declared.sys_call.SysCall.{SysCall}
+use Rattle.profile_lint.specs.declared.finding.EngineValues.{EngineValues}
 use Rattle.profile_lint.specs.declared.finding.Finding.{Finding}
 use Rattle.profile_lint.specs.declared.finding.Finding.TheVariants as found
 use Rattle.profile_lint.specs.declared.kinds.FindingKind.{FindingKind}
@@ -60,14 +62,23 @@ told_members (RepeatedName entry index name) = name_members name
 abbrev pub told_object : Told → List ℕ
 told_object told = object_text (told_place told) (kind_of_told told) (told_members told) (told_words told)
 
+abbrev pub instead_members : Option ℕ → List ℕ
+instead_members None = []
+instead_members (Some value) = codes ",\"or\":" ++ value_object value
+
+-- a call that engines treat differently, and its values
+abbrev pub otherwise_members : SysCall → EngineValues → List ℕ
+otherwise_members call values = codes "," ++ (call_members call
+    ++ (codes ",\"here\":" ++ (value_object values.here ++ (codes ",\"runc\":" ++ (value_object values.there
+    ++ instead_members values.instead)))))
+
 abbrev pub found_members : CallTable → Finding → List ℕ
 found_members calls (found.NeverDecides place) = []
 found_members calls (found.SameWithout place) = []
 found_members calls (found.NotFoundOut place) = []
 found_members calls (found.NotLookedAt place) = []
 found_members calls (found.NotCompared place) = []
-found_members calls (found.ReadOtherwise place call here there) = codes "," ++ (call_members call
-    ++ (codes ",\"here\":" ++ (value_object here ++ (codes ",\"runc\":" ++ value_object there))))
+found_members calls (found.ReadOtherwise place call values) = otherwise_members call values
 found_members calls (found.Overlap place other call) = codes "," ++ (call_members call
     ++ (codes ",\"other\":\"syscalls[" ++ (decimal other ++ codes "]\"")))
 found_members calls (found.NewerCalls errno) = codes ",\"above\":" ++ (decimal (limit_of calls - 1)

@@ -15,7 +15,7 @@ use Rattle.profile_lint.specs.Entries.{before, with_entries}
 use Rattle.profile_lint.specs.Sameness.{near}
 
 abbrev pub Reads : Reading → Profile → ℕ → Type 0
-Reads (read.Differs call here there) profile place = IsReadOtherwise profile place call here there
+Reads (read.Differs call values) profile place = IsReadOtherwise profile place call values
 Reads read.Same profile place = ReadsAlike profile place
 Reads read.Unknown profile place = Unit {0}
 

@@ -111,10 +111,16 @@ found_place (found.SameWithout place) = entry_place place
 found_place (found.NotFoundOut place) = entry_place place
 found_place (found.NotLookedAt place) = entry_place place
 found_place (found.NotCompared place) = entry_place place
-found_place (found.ReadOtherwise place call here there) = entry_place place
+found_place (found.ReadOtherwise place call values) = entry_place place
 found_place (found.Overlap place other call) = entry_place place
 found_place (found.NewerCalls errno) = codes "defaultAction"
 found_place (found.Advised advice) = advice_place advice
+
+-- the value that runc may have in place of that of the order of entries
+abbrev pub instead_words : Option ℕ → List ℕ
+instead_words None = []
+instead_words (Some value) =
+    codes ", or " ++ (value_text value ++ codes ": libseccomp does not keep the order of entries")
 
 abbrev pub found_words : CallTable → Finding → List ℕ
 found_words calls (found.NeverDecides place) = codes "it decides no call"
@@ -122,8 +128,9 @@ found_words calls (found.SameWithout place) = codes "what follows decides its ca
 found_words calls (found.NotFoundOut place) = codes "it may decide no call, or be redundant"
 found_words calls (found.NotLookedAt place) = codes "from here on entries may decide no call, or be redundant"
 found_words calls (found.NotCompared place) = codes "from here on engines may read entries differently"
-found_words calls (found.ReadOtherwise place call here there) = codes "at " ++ (call_text call ++ (codes ": "
-    ++ (value_text here ++ (codes " here, " ++ (value_text there ++ codes " by runc")))))
+found_words calls (found.ReadOtherwise place call values) = codes "at " ++ (call_text call ++ (codes ": "
+    ++ (value_text values.here ++ (codes " here, " ++ (value_text values.there ++ (codes " by runc"
+    ++ instead_words values.instead))))))
 found_words calls (found.Overlap place other call) = codes "at " ++ (call_text call ++ (codes " syscalls["
     ++ (decimal other ++ codes "] decides otherwise, and libseccomp does not keep their order")))
 found_words calls (found.NewerCalls errno) = codes "calls newer than " ++ (decimal (limit_of calls - 1)

@@ -1,9 +1,10 @@
 //! Where engines read a profile differently: `specs/Engines.antt` defines how they read it.
-ghost use Rattle.std.specs.Prelude.{◌≡◌, ◌<◌, ◌++◌, [], ◌∷◌, IfOk, IsTrue, false, filter, slice_get, Some};
+ghost use Rattle.std.specs.Prelude.{◌≡◌, ◌<◌, ◌++◌, [], ◌∷◌, IfOk, IsTrue, false, filter, find, option_copied, slice_get, Some};
 ghost use Rattle.std.specs.List.{list_any};
 ghost use Rattle.explain.specs.Explained.{IsJudged, applies};
 ghost use Rattle.oci_profile.specs.Entries.{IsFit};
-ghost use Rattle.profile_lint.specs.Engines.{IsApart, ReadsAlike, as_engines_read, is_kept, is_kept_of, is_of, kept_of};
+ghost use Rattle.profile_lint.specs.Engines.{IsApart, ReadsAlike, as_engines_read, is_kept, is_kept_of, is_of, is_taken};
+ghost use Rattle.profile_lint.specs.Engines.{is_taken_instead, kept_of, value_instead};
 ghost use Rattle.profile_lint.specs.Entries.{before, with_entries};
 ghost use Rattle.profile_lint.specs.Readings.{AreAsked, OverlapsAs, OverlapsOn, Reads, in_queue};
 ghost use Rattle.profile_lint.specs.Sameness.{Says, middle_of, near};
@@ -11,6 +12,7 @@ ghost use Rattle.profile_lint.specs.declared.engines.Kind.TheVariants.{Bare};
 
 use crate::copies::{add_near, copy, shares, with_entries};
 use crate::entries::{Middle, add_middle, has_many_near};
+use crate::finding::EngineValues;
 use crate::sameness::{Sameness, compared};
 use crate::witness::likely_call;
 use call_data::{NATIVE_ARCH, SysCall, fields_fit};
@@ -30,8 +32,8 @@ pub(crate) enum Kind {
 /// How engines read an entry.
 #[derive(Clone, Copy, Debug, PartialEq, Eq)]
 pub(crate) enum Reading {
-    /// The entry decides the call. The profile's value for it is the first one, that of engines the second.
-    Differs(SysCall, u32, u32),
+    /// The entry decides the call, and engines have another value for it.
+    Differs(SysCall, EngineValues),
     /// Engines have the profile's value for each call that the entry decides.
     Same,
     /// No answer was found.
@@ -133,7 +135,7 @@ pub(crate) fn compare_reading(
     for number in entry.numbers.as_slice() {
         let call = likely_call(entry, *number);
         let found = judged(alloc, profile, engines, place, call)?;
-        if let Reading::Differs(_, _, _) = found {
+        if let Reading::Differs(_, _) = found {
             return Ok(found);
         }
     }
@@ -217,10 +219,59 @@ fn judged(
     let explanation = explain(alloc, profile, &call)?;
     match explanation.decider {
         Decider::Entry(found) if found == place && here != there => {
-            Ok(Reading::Differs(call, here, there))
+            let instead = value_instead(profile, &call, there);
+            Ok(Reading::Differs(
+                call,
+                EngineValues {
+                    here,
+                    there,
+                    instead,
+                },
+            ))
         }
         _ => Ok(Reading::Unknown),
     }
+}
+
+/// What engines may return for the call instead of this value: libseccomp keeps no order between entries with
+/// conditions.
+fn value_instead(profile: &Profile, call: &SysCall, value: u32) -> Option<u32>
+    ensures { result ≡ value_instead profile.now call.now value }
+{
+    if has_taken(Kind::Bare, profile, call) {
+        return None;
+    }
+    match taken_instead(profile, call, value) {
+        Some(entry) => Some(entry.decision.value()),
+        None => None,
+    }
+}
+
+/// Whether an entry of this kind that engines have applies to the call.
+fn has_taken(kind: Kind, profile: &Profile, call: &SysCall) -> bool
+    ensures { result ≡ list_any (is_taken kind profile.now call.now) profile.now.entries }
+{
+    profile
+        .entries
+        .as_slice()
+        .iter()
+        .any(|entry| is_taken(kind, profile, call, entry))
+}
+
+/// The first entry with conditions that applies to the call, and decides it with another value.
+fn taken_instead<'a>(profile: &'a Profile, call: &SysCall, value: u32) -> Option<&'a Entry>
+    ensures { option_copied result ≡ find (is_taken_instead profile.now call.now value) profile.now.entries }
+{
+    profile.entries.as_slice().iter().find(|entry| {
+        is_taken(Kind::Asking, profile, call, entry) && entry.decision.value() != value
+    })
+}
+
+/// Whether engines have the entry, it is of this kind, and it applies to the call.
+fn is_taken(kind: Kind, profile: &Profile, call: &SysCall, entry: &Entry) -> bool
+    ensures { result ≡ is_taken kind profile.now call.now entry.now }
+{
+    is_kept_of(kind, profile, entry) && applies(entry, call)
 }
 
 /// Whether the entries at both places overlap.

@@ -217,9 +217,7 @@ fn reading_at(place: usize, reading: Reading) -> Option<Finding>
     ensures unknown { reading ≡ of_reading.Unknown → result ≡ Some (NotCompared place) }
 {
     match reading {
-        Reading::Differs(call, here, there) => {
-            Some(Finding::ReadOtherwise(place, call, here, there))
-        }
+        Reading::Differs(call, values) => Some(Finding::ReadOtherwise(place, call, values)),
         Reading::Same => None,
         Reading::Unknown => Some(Finding::NotCompared(place)),
     }

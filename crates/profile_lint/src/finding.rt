@@ -1,6 +1,18 @@
 use call_data::SysCall;
 use profile_advice::Advice;
 
+/// The values of a call that engines treat differently.
+#[derive(Clone, Copy, Debug, PartialEq, Eq)]
+pub struct EngineValues {
+    /// The profile's value.
+    pub here: u32,
+    /// The value of the filter that engines make of the profile, if they keep the order of its entries.
+    pub there: u32,
+    /// The value that this filter may return instead, since libseccomp keeps no order between entries with
+    /// conditions.
+    pub instead: Option<u32>,
+}
+
 /// Something in a profile's entries or its default that its author may not have meant.
 #[derive(Clone, Copy, Debug, PartialEq, Eq)]
 pub enum Finding {
@@ -14,9 +26,9 @@ pub enum Finding {
     NotLookedAt(usize),
     /// It is not known whether engines read the entry at this place differently.
     NotCompared(usize),
-    /// The entry at this place decides the call. The profile's value for it is the first one; the filter that
-    /// engines make of the profile returns the second one.
-    ReadOtherwise(usize, SysCall, u32, u32),
+    /// The entry at this place decides the call, and the filter that engines make of the profile returns
+    /// another value for it.
+    ReadOtherwise(usize, SysCall, EngineValues),
     /// The entries at both places apply to the call and decide it differently, and engines don't keep their
     /// order.
     Overlap(usize, usize, SysCall),

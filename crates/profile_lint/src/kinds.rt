@@ -299,7 +299,7 @@ pub fn kind_of_found(finding: &Finding) -> FindingKind
         Finding::NotFoundOut(_) => FindingKind::NotFoundOut,
         Finding::NotLookedAt(_) => FindingKind::NotLookedAt,
         Finding::NotCompared(_) => FindingKind::NotCompared,
-        Finding::ReadOtherwise(_, _, _, _) => FindingKind::EnginesDiffer,
+        Finding::ReadOtherwise(_, _, _) => FindingKind::EnginesDiffer,
         Finding::Overlap(_, _, _) => FindingKind::Overlap,
         Finding::NewerCalls(_) => FindingKind::NewerCalls,
         Finding::Advised(advice) => kind_of_advice(*advice),

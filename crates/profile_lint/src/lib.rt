@@ -4,8 +4,8 @@
 //!
 //! `specs/Passed.antt` defines the findings about a text; `specs/Findings.antt`, `specs/Entries.antt` and
 //! `specs/Engines.antt` those about a profile; `specs/Kinds.antt` kinds and severities, `specs/Choice.antt`
-//! which findings are printed, `specs/Text.antt` the lines, and `specs/Objects.antt` the objects of JSON. An entry is judged by comparing filters, made of only the entries that share a call with
-//! it (`entries.rt`).
+//! which findings are printed, `specs/Text.antt` the lines, and `specs/Objects.antt` the objects of JSON. An
+//! entry is judged by comparing filters, made of only the entries that share a call with it (`entries.rt`).
 //!
 //! # What is proved
 //!
@@ -15,9 +15,9 @@
 //!   decision is. Without an entry reported as redundant, the profile means the same at every call. An entry
 //!   reported as needed has a call that the profile decides differently without it.
 //! - All findings are true: `findings`. An entry that engines are reported to read differently decides the
-//!   call that is shown, and the model of engines has another value there. Two entries reported to overlap
-//!   both apply to the call that is shown, and decide it differently, and no entry without conditions decides
-//!   it for engines.
+//!   call that is shown, and the model of engines has another value there. A second value is shown if the
+//!   model leaves the order of entries open. Two entries reported to overlap both apply to the call that is
+//!   shown, and decide it differently, and no entry without conditions decides it for engines.
 //! - No finding is left out: `findings`. An entry that is not reported is needed, engines read it alike, and
 //!   it overlaps with no later entry, or it is reported as not found out, not looked at or not compared.
 //! - The errno of calls newer than the table, exactly: `newer_calls`.
@@ -52,7 +52,7 @@ mod words;
 pub use choice::{Choice, grave_count, has_newer_names, is_allowed, is_bad, is_bad_kind};
 pub use entries::standing;
 pub use finder::{all_findings, findings, newer_calls, once};
-pub use finding::Finding;
+pub use finding::{EngineValues, Finding};
 pub use kinds::{FindingKind, Severity, kind_named, kind_of_found, kind_of_passed, severity_of};
 pub use lines::lint_lines;
 pub use objects::{finding_object, lint_objects};

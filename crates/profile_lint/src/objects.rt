@@ -9,7 +9,7 @@ ghost use Rattle.profile_lint.specs.Passed.{told};
 
 use crate::advised::AdviceMembers;
 use crate::choice::{Choice, Tally, counted, is_shown};
-use crate::finding::Finding;
+use crate::finding::{EngineValues, Finding};
 use crate::kinds::{FindingKind, kind_of_found, kind_of_passed, severity_of};
 use crate::lines::{NewerWords, OtherWords};
 use crate::passed::Passed;
@@ -147,6 +147,41 @@ impl fmt::Display for ValueObject {
     }
 }
 
+/// The value that runc may have in place of that of the order of entries.
+#[derive(Clone, Copy)]
+struct InsteadMembers(Option<u32>);
+
+impl fmt::Display for InsteadMembers {
+    ghost use Rattle.std.specs.Prelude.{Some};
+    ghost use Rattle.profile_lint.specs.Objects.{instead_members};
+
+    ghost output = { λ instead. Some (instead_members instead.0) };
+
+    fn fmt<W: fmt::Write>(&self, f: &mut fmt::Formatter<W>) -> fmt::Result {
+        match self.0 {
+            Some(value) => write!(f, ",\"or\":{}", ValueObject(value)),
+            None => Ok(()),
+        }
+    }
+}
+
+/// The members of a call that engines treat differently.
+#[derive(Clone, Copy)]
+struct OtherwiseMembers(SysCall, EngineValues);
+
+impl fmt::Display for OtherwiseMembers {
+    ghost use Rattle.std.specs.Prelude.{Some};
+    ghost use Rattle.profile_lint.specs.Objects.{otherwise_members};
+
+    ghost output = { λ members. Some (otherwise_members members.0 members.1) };
+
+    fn fmt<W: fmt::Write>(&self, f: &mut fmt::Formatter<W>) -> fmt::Result {
+        let (here, there) = (ValueObject(self.1.here), ValueObject(self.1.there));
+        let (call, instead) = (CallMembers(self.0), InsteadMembers(self.1.instead));
+        write!(f, ",{call},\"here\":{here},\"runc\":{there}{instead}")
+    }
+}
+
 /// The members of a finding about the profile, if these are the known calls.
 #[derive(Clone, Copy)]
 struct FoundMembers(CallTable, Finding);
@@ -159,10 +194,8 @@ impl fmt::Display for FoundMembers {
 
     fn fmt<W: fmt::Write>(&self, f: &mut fmt::Formatter<W>) -> fmt::Result {
         match self.1 {
-            Finding::ReadOtherwise(_, call, here, there) => {
-                let call = CallMembers(call);
-                let (here, there) = (ValueObject(here), ValueObject(there));
-                write!(f, ",{call},\"here\":{here},\"runc\":{there}")
+            Finding::ReadOtherwise(_, call, values) => {
+                write!(f, "{}", OtherwiseMembers(call, values))
             }
             Finding::Overlap(_, other, call) => {
                 write!(f, ",{},\"other\":\"syscalls[{other}]\"", CallMembers(call))

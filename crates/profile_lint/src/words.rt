@@ -240,10 +240,34 @@ impl fmt::Display for FoundPlace {
             | Finding::NotFoundOut(place)
             | Finding::NotLookedAt(place)
             | Finding::NotCompared(place)
-            | Finding::ReadOtherwise(place, _, _, _)
+            | Finding::ReadOtherwise(place, _, _)
             | Finding::Overlap(place, _, _) => write!(f, "syscalls[{place}]"),
             Finding::NewerCalls(_) => f.write_str("defaultAction"),
             Finding::Advised(advice) => write!(f, "{}", AdvicePlace(advice)),
+        }
+    }
+}
+
+/// The value that runc may have in place of that of the order of entries.
+#[derive(Clone, Copy)]
+struct InsteadWords(Option<u32>);
+
+impl fmt::Display for InsteadWords {
+    ghost use Rattle.std.specs.Prelude.{Some};
+    ghost use Rattle.profile_lint.specs.Text.{instead_words};
+
+    ghost output = { λ instead. Some (instead_words instead.0) };
+
+    fn fmt<W: fmt::Write>(&self, f: &mut fmt::Formatter<W>) -> fmt::Result {
+        match self.0 {
+            Some(value) => {
+                let value = Value(value);
+                write!(
+                    f,
+                    ", or {value}: libseccomp does not keep the order of entries"
+                )
+            }
+            None => Ok(()),
         }
     }
 }
@@ -269,9 +293,10 @@ impl fmt::Display for FoundWords {
             Finding::NotCompared(_) => f.write_str(
                 "from here on engines may read entries differently",
             ),
-            Finding::ReadOtherwise(_, call, here, there) => {
-                let (call, here, there) = (Words(call), Value(here), Value(there));
-                write!(f, "at {call}: {here} here, {there} by runc")
+            Finding::ReadOtherwise(_, call, values) => {
+                let (here, there) = (Value(values.here), Value(values.there));
+                let (call, instead) = (Words(call), InsteadWords(values.instead));
+                write!(f, "at {call}: {here} here, {there} by runc{instead}")
             }
             Finding::Overlap(_, other, call) => {
                 let call = Words(call);

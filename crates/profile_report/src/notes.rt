@@ -111,7 +111,7 @@ fn found_about(finding: &Finding) -> Option<usize>
         | Finding::NotFoundOut(place)
         | Finding::NotLookedAt(place)
         | Finding::NotCompared(place)
-        | Finding::ReadOtherwise(place, _, _, _)
+        | Finding::ReadOtherwise(place, _, _)
         | Finding::Overlap(place, _, _) => Some(*place),
         Finding::NewerCalls(_) => None,
         Finding::Advised(advice) => advice.entry(),

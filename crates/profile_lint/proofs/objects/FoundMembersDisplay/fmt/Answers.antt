@@ -1,0 +1,9 @@
+use Rattle.std.proofs.Common.{sym}
+use Rattle.profile_lint.proofs.objects.FoundMembersDisplay.fmt.Goals as goal
+
+pub returns-in-ReadOtherwise-clause-writes : goal.returns-in-ReadOtherwise-clause-writes
+returns-in-ReadOtherwise-clause-writes g c = rw c.in-ReadOtherwise.is c.write.ensures.writes
+
+pub returns-in-NewerCalls-clause-writes : goal.returns-in-NewerCalls-clause-writes
+returns-in-NewerCalls-clause-writes g c =
+    rw c.in-NewerCalls.is (rw (sym c.limit.ensures) c.write-in-NewerCalls.ensures.writes)
