@@ -109,7 +109,7 @@ fn call_stop(word: BadCallWord<'_>) -> Stop<'_>
 
 /// Why a word that is no version of Linux with a table ends the program.
 pub(crate) fn calls_stop(word: &str) -> Stop<'_>
-    ensures { result ≡ calls_stop word }
+    ensures { result ≡ calls_stop word.entry }
 {
     Stop::BadWord(word, WordFault::BadCalls)
 }
