@@ -11,15 +11,20 @@
 //!   `values_round_trip`.
 //! - The rank of a verdict: `rank`, `ranks_are_an_order`.
 //! - A verdict decides whether the call is performed, and which errno is returned: `performs`, `errno`.
+//! - The errnos of errno(3) by name and by number: `errno_number`, `errno_name`, `Display` of `ShownErrno`.
+//!
+//! Only tested: that errnos have the numbers of this machine.
 #![tactic(auto)]
 
 mod action;
+mod errnos;
 mod laws;
 #[cfg(test)]
 mod tests;
 mod verdict;
 
 pub use action::Action;
+pub use errnos::{ShownErrno, errno_name, errno_number};
 pub use laws::{
     constants_are_as_stated, ranks_are_an_order, values_round_trip, verdicts_round_trip,
 };

@@ -1,4 +1,7 @@
-use crate::{Action, Verdict, ranks_are_an_order, values_round_trip, verdicts_round_trip};
+use crate::{
+    Action, ShownErrno, Verdict, errno_name, errno_number, ranks_are_an_order, values_round_trip,
+    verdicts_round_trip,
+};
 use std::test::Fail;
 
 // As seccomp(2) and linux/seccomp.h have them: a value's action and data, its rank, whether the call
@@ -43,4 +46,22 @@ fn verdicts_have_values(rt: HostRuntime) {
     };
     assert_eq!(rt; verdict.value(), 0x0005_0026);
     assert_eq!(rt; verdict.action.rank(), 3);
+}
+
+// asm-generic/errno-base.h has EPERM at 1 and EAGAIN at 11. asm-generic/errno.h has EWOULDBLOCK as EAGAIN, ENOSYS
+// at 38, EHWPOISON at 133, and nothing at 41, 58 and from 134 on.
+#[test]
+fn errnos_of_the_header(rt: HostRuntime) -> Result<(), Fail> {
+    let mut told = String::new(rt.alloc());
+    for code in [0, 1, 11, 38, 41, 58, 133, 134, 4095] {
+        write!(told, "{}, ", ShownErrno(code))?;
+    }
+    let want = "0, 1 (EPERM), 11 (EAGAIN), 38 (ENOSYS), 41, 58, 133 (EHWPOISON), 134, 4095, ";
+    assert_eq!(rt; told.as_str(), want);
+    assert_eq!(rt; errno_number("ENOSYS"), Some(38));
+    assert_eq!(rt; errno_number("EWOULDBLOCK"), Some(11));
+    assert_eq!(rt; errno_number("enosys"), None);
+    assert_eq!(rt; errno_number(""), None);
+    assert_eq!(rt; errno_name(38), Some("ENOSYS"));
+    Ok(())
 }

@@ -92,12 +92,14 @@ pub fn address_of<'a>(line: &NodeagentLine<'a>) -> Address<'a>
     ensures socket { result.socket ≡ line.now.socket }
     ensures scripts { result.scripts ≡ line.now.scripts }
     ensures profiles { result.profiles ≡ line.now.profiles }
+    ensures calls { result.calls ≡ line.now.calls }
     ensures tells { result.tells ≡ told_beside line.now.verbose }
 {
     Address {
         socket: line.socket,
         scripts: line.scripts,
         profiles: line.profiles,
+        calls: line.calls,
         tells: if line.verbose {
             Tells::WrongFiles
         } else {

@@ -265,7 +265,8 @@ fn site_of<'a, B: Node + Send + Sync, R: Threads + Wait + Clock + Copy + Send + 
 ) -> Result<Site<'a, B>, AgentStop<'a>>
     requires own { begun ≡ (B.filter, B.table) }
 {
-    let recorder = match recorder_for(rt, system, "nodeagent", line.records, line.records_all) {
+    let (path, calls) = (line.records, line.calls);
+    let recorder = match recorder_for(rt, system, "nodeagent", path, calls, line.records_all) {
         Ok(recorder) => recorder,
         Err(stop) => return Err(AgentStop::Server(stop)),
     };

@@ -11,6 +11,7 @@ use runtime_server::{Engine, EngineHost};
 use std::alloc::{AllocError, Global};
 use std::sync::atomic::{AtomicU64, Ordering};
 use std::sync::{Mutex, Wait};
+use sys_table::CallTable;
 use worker_crew::{Counterpart, Peer};
 
 // How many bytes of a reply a wire has room for.
@@ -155,7 +156,7 @@ impl<'a, B: Node, R: Wait> LoopWire<'a, B, R> {
         let piece = frame.len().max(1);
         let mut wire = MemoryWire::new(alloc, frame, piece, PLACE)?;
         let mut service = self.service();
-        serve_wire(alloc, &mut wire, &mut service);
+        serve_wire(alloc, CallTable::Linux5_8, &mut wire, &mut service);
         Vec::from_slice(alloc, wire.written())
     }
 

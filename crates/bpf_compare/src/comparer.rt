@@ -9,16 +9,45 @@ use bpf_machine::sound_code_runs;
 use bpf_verify::Filter;
 use std::alloc::{AllocError, Global};
 
-/// Compares two filters on all calls of the scope, following at most `budget` instructions.
-///
-/// A path runs the first filter to its return and then the second one. At a test that may go either way for
-/// its calls it splits in two, and one part waits. The error is a failed allocation.
+/// Sees how far a comparison has come. It has no part in the result.
+pub trait Watch {
+    /// One more instruction is followed.
+    fn follow(&mut self);
+}
+
+/// Nobody watches.
+#[derive(Clone, Copy)]
+pub struct Unwatched;
+
+impl Watch for Unwatched {
+    fn follow(&mut self) {}
+}
+
+/// Compares two filters on all calls of the scope, following at most `budget` instructions. The error is a
+/// failed allocation.
 pub fn compare(
     alloc: Global,
     first: &Filter,
     second: &Filter,
     scope: Scope,
     budget: u64,
+) -> Result<Comparison, AllocError>
+    ensures { IfOk result (λ found. Says found scope first.now second.now) }
+{
+    compare_watched(alloc, first, second, scope, budget, &mut Unwatched)
+}
+
+/// Compares two filters as [`compare`] does, while somebody watches.
+///
+/// A path runs the first filter to its return and then the second one. At a test that may go either way for
+/// its calls it splits in two, and one part waits.
+pub fn compare_watched<W: Watch>(
+    alloc: Global,
+    first: &Filter,
+    second: &Filter,
+    scope: Scope,
+    budget: u64,
+    watch: &mut W,
 ) -> Result<Comparison, AllocError>
     ensures { IfOk result (λ found. Says found scope first.now second.now) }
 {
@@ -29,6 +58,7 @@ pub fn compare(
     let mut path = Path::start(alloc, scope)?;
     let mut doubt = None;
     for _ in 0..budget {
+        watch.follow();
         let ended = match path.advance(alloc, first, second, scope)? {
             Progress::Goes => continue,
             Progress::Splits(other) => {

@@ -10,9 +10,9 @@
 //! # What is proved
 //!
 //! - Same is returned only if both filters have a run, to the same value, on every call of the scope:
-//!   `compare`.
+//!   `compare`, `compare_watched`.
 //! - Differs is returned with a call of the scope and two different values, those of the runs on it:
-//!   `compare`.
+//!   `compare`, `compare_watched`.
 //!
 //! Undecided promises nothing. Only tests show that it is limited to an exceeded budget, arithmetic other
 //! than masks and an X of more than twelve open bits, and that equal code is never undecided. Only tests show
@@ -36,6 +36,6 @@ mod walk;
 mod witness;
 mod word;
 
-pub use comparer::compare;
+pub use comparer::{Unwatched, Watch, compare, compare_watched};
 pub use comparison::{Comparison, Doubt};
 pub use scope::{Calls, Scope};

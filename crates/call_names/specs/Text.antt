@@ -1,7 +1,7 @@
 -- Calls as they are shown, this project's own: docs/SEMANTICS.md, "Programs".
 use Rattle.std.specs.Prelude.{ℕ, List, Option, Some, None}
 use Rattle.std.specs.Fmt.{decimal}
-use Rattle.sys_table.specs.SysTable.{name_of}
+use Rattle.sys_table.specs.SysTable.{name_in}
 use Rattle.call_names.specs.declared.naming.Naming.{Naming}
 use Rattle.call_names.specs.declared.naming.Naming.TheVariants.{Number, Name}
 
@@ -12,4 +12,4 @@ name_or (Some name) nr = name
 
 abbrev pub call_text : Naming → ℕ → List ℕ
 call_text Number nr = decimal nr
-call_text Name nr = name_or (name_of nr) nr
+call_text (Name calls) nr = name_or (name_in calls nr) nr

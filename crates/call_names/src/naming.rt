@@ -1,14 +1,15 @@
 ghost use Rattle.std.specs.Prelude.{◌≡◌};
 
 use std::fmt;
+use sys_table::CallTable;
 
 /// How a call is shown.
 #[derive(Clone, Copy, Debug, PartialEq, Eq)]
 pub enum Naming {
     /// By its number, decimal.
     Number,
-    /// By its name, if the call table has one.
-    Name,
+    /// By its name, if it is one of these calls, else by its number.
+    Name(CallTable),
 }
 
 /// A call, as it is shown.
@@ -28,7 +29,7 @@ impl fmt::Display for CallWord {
         let nr = self.nr;
         match self.naming {
             Naming::Number => write!(f, "{nr}"),
-            Naming::Name => match sys_table::name(nr) {
+            Naming::Name(calls) => match calls.name(nr) {
                 Some(name) => write!(f, "{name}"),
                 None => write!(f, "{nr}"),
             },

@@ -8,7 +8,8 @@ use Rattle.action.specs.Verdict.{name_of as name_of_action}
 use Rattle.action.specs.declared.verdict.Verdict.{Verdict}
 use Rattle.runtime_cell.specs.declared.label.Label.{Label}
 use Rattle.runtime_cell.specs.Cell.{Cell, exit_of}
-use Rattle.sys_table.specs.SysTable.{name_of}
+use Rattle.sys_table.specs.SysTable.{name_in}
+use Rattle.sys_table.specs.declared.calls.CallTable.{CallTable}
 use Rattle.oci_profile.specs.declared.profile.Profile.{Profile}
 use Rattle.cell_records.specs.declared.tallies.CallKind.{CallKind}
 use Rattle.cell_records.specs.declared.tallies.RecordCalls.{RecordCalls}
@@ -19,9 +20,9 @@ use Rattle.cell_records.specs.Summary.{summary}
 abbrev pub quoted : List ℕ → List ℕ
 quoted text = compact_text (string text)
 
--- the name of a call in the call table, which is that of x86-64: 0xc000003e is AUDIT_ARCH_X86_64
-unfoldable pub table_name : ℕ → ℕ → Option (List ℕ)
-table_name arch nr = if arch == 0xc000003e then name_of nr else None
+-- the name of a known call, which is one of x86-64: 0xc000003e is AUDIT_ARCH_X86_64
+unfoldable pub table_name : CallTable → ℕ → ℕ → Option (List ℕ)
+table_name known arch nr = if arch == 0xc000003e then name_in known nr else None
 
 abbrev pub name_member : Option (List ℕ) → List ℕ
 name_member None = []
@@ -31,8 +32,8 @@ unfoldable pub arch_member : ℕ → List ℕ
 arch_member arch = if arch == 0xc000003e then [] else codes ",\"arch\":" ++ decimal arch
 
 -- the call
-abbrev pub call_members : CallKind → List ℕ
-call_members kind = name_member (table_name kind.arch kind.nr) ++ (codes "\"nr\":" ++ (decimal kind.nr
+abbrev pub call_members : CallTable → CallKind → List ℕ
+call_members known kind = name_member (table_name known kind.arch kind.nr) ++ (codes "\"nr\":" ++ (decimal kind.nr
     ++ arch_member kind.arch))
 
 -- the verdict's action and data
@@ -41,21 +42,21 @@ verdict_members verdict = codes "\"action\":\"" ++ (name_of_action verdict.actio
     ++ decimal verdict.ret_data))
 
 -- the call, its verdict, how often it had that verdict, and the place of the first time in the record
-abbrev pub tally_object : Tally → List ℕ
-tally_object tally =
-    codes "{" ++ (call_members tally.kind ++ (codes "," ++ (verdict_members tally.kind.verdict
+abbrev pub tally_object : CallTable → Tally → List ℕ
+tally_object known tally =
+    codes "{" ++ (call_members known tally.kind ++ (codes "," ++ (verdict_members tally.kind.verdict
     ++ (codes ",\"count\":" ++ (decimal tally.count ++ (codes ",\"first\":" ++ (decimal tally.first
     ++ codes "}")))))))
 
 -- the tallies after the first of a list
-abbrev pub other_tallies : List Tally → List ℕ
-other_tallies [] = []
-other_tallies (t ∷ ts) = codes "," ++ (tally_object t ++ other_tallies ts)
+abbrev pub other_tallies : CallTable → List Tally → List ℕ
+other_tallies known [] = []
+other_tallies known (t ∷ ts) = codes "," ++ (tally_object known t ++ other_tallies known ts)
 
 -- the tallies, separated by commas
-abbrev pub tallies_text : List Tally → List ℕ
-tallies_text [] = []
-tallies_text (t ∷ ts) = tally_object t ++ other_tallies ts
+abbrev pub tallies_text : CallTable → List Tally → List ℕ
+tallies_text known [] = []
+tallies_text known (t ∷ ts) = tally_object known t ++ other_tallies known ts
 
 abbrev pub exit_value : Option ℕ → List ℕ
 exit_value None = codes "null"
@@ -84,9 +85,9 @@ end_members cell =
     ++ profile_value cell.making.label.path (is_there cell.making.profile)))
 
 -- the record of a cell of the sandbox with this uid
-abbrev pub record_text : RecordCalls → List ℕ → Cell → List ℕ
-record_text calls uid cell =
+abbrev pub record_text : CallTable → RecordCalls → List ℕ → Cell → List ℕ
+record_text known calls uid cell =
     codes "{" ++ (container_members uid cell.making.label ++ (codes "," ++ (end_members cell
     ++ (codes ",\"performed\":" ++ (decimal (count_by (λ entry. entry.performed) cell.entries)
     ++ (codes ",\"denied\":" ++ (decimal (count_by (λ entry. not entry.performed) cell.entries)
-    ++ (codes ",\"calls\":[" ++ (tallies_text (summary calls cell.entries) ++ codes "]}")))))))))
+    ++ (codes ",\"calls\":[" ++ (tallies_text known (summary calls cell.entries) ++ codes "]}")))))))))

@@ -12,22 +12,25 @@ use runtime_cell::{Cell, Label};
 use serde_json::Value;
 use std::alloc::{AllocError, Global};
 use std::fmt;
+use sys_table::CallTable;
 
-/// The line of a cell's record, without its end of line: `uid` is that of the cell's sandbox.
+/// The line of a cell's record, without its end of line: `uid` is that of the cell's sandbox. The known calls
+/// are named.
 pub fn record_line(
     alloc: Global,
+    known: CallTable,
     uid: &str,
     cell: &Cell,
     calls: RecordCalls,
 ) -> Result<String, AllocError>
-    ensures { IfOk result (λ text. string_bytes text ≡ record_text calls uid.now cell.now) }
+    ensures { IfOk result (λ text. string_bytes text ≡ record_text known calls uid.now cell.now) }
 {
     let (container, end) = (
         container_members(alloc, uid, cell.label())?,
         end_members(alloc, cell)?,
     );
     let tallies = summary(alloc, cell.record(), calls)?;
-    let calls = tallies_text(alloc, tallies.as_slice())?;
+    let calls = tallies_text(alloc, known, tallies.as_slice())?;
     let counts = cell.counts();
     let (performed, denied) = (counts.performed, counts.denied);
     format!(in alloc;
@@ -103,17 +106,17 @@ impl fmt::Display for Exit {
 }
 
 /// The objects of tallies, separated by commas.
-fn tallies_text(alloc: Global, tallies: &[Tally]) -> Result<String, AllocError>
-    ensures { IfOk result (λ t. string_bytes t ≡ tallies_text tallies.now) }
+fn tallies_text(alloc: Global, known: CallTable, tallies: &[Tally]) -> Result<String, AllocError>
+    ensures { IfOk result (λ t. string_bytes t ≡ tallies_text known tallies.now) }
 {
     let mut text = String::new(alloc);
     let Some((first, others)) = tallies.split_first() else {
         return Ok(text);
     };
-    let first = TallyObject(*first);
+    let first = TallyObject(known, *first);
     write!(text, "{first}")?;
     for other in others {
-        let other = TallyObject(*other);
+        let other = TallyObject(known, *other);
         write!(text, ",{other}")?;
     }
     Ok(text)
@@ -121,19 +124,19 @@ fn tallies_text(alloc: Global, tallies: &[Tally]) -> Result<String, AllocError>
 
 /// A tally: `{"call":"ptrace","nr":101,"action":"ERRNO","data":1,"count":3,"first":7}`.
 #[derive(Clone, Copy)]
-struct TallyObject(Tally);
+struct TallyObject(CallTable, Tally);
 
 impl fmt::Display for TallyObject {
     ghost use Rattle.std.specs.Prelude.{Some};
     ghost use Rattle.cell_records.specs.RecordText.{tally_object};
 
-    ghost output = { λ tally. Some (tally_object tally.0) };
+    ghost output = { λ tally. Some (tally_object tally.0 tally.1) };
 
     fn fmt<W: fmt::Write>(&self, f: &mut fmt::Formatter<W>) -> fmt::Result {
-        let (count, first) = (self.0.count, self.0.first);
+        let (count, first) = (self.1.count, self.1.first);
         let (call, verdict) = (
-            CallMembers(self.0.kind),
-            VerdictMembers(self.0.kind.verdict),
+            CallMembers(self.0, self.1.kind),
+            VerdictMembers(self.1.kind.verdict),
         );
         write!(
             f,
@@ -142,19 +145,26 @@ impl fmt::Display for TallyObject {
     }
 }
 
-/// A call: `"call":"ptrace","nr":101`.
+/// A call: `"call":"ptrace","nr":101`. It has its name if it is one of these calls.
 #[derive(Clone, Copy)]
-pub struct CallMembers(pub CallKind);
+pub struct CallMembers(pub CallTable, pub CallKind);
 
 impl fmt::Display for CallMembers {
     ghost use Rattle.std.specs.Prelude.{Some};
     ghost use Rattle.cell_records.specs.RecordText.{call_members};
 
-    ghost output = { λ call. Some (call_members call.0) };
+    ghost output = { λ call. Some (call_members call.0 call.1) };
 
     fn fmt<W: fmt::Write>(&self, f: &mut fmt::Formatter<W>) -> fmt::Result {
-        let (nr, arch) = (self.0.nr, self.0.arch);
-        let (name, arch_member) = (NameMember { arch, nr }, ArchMember(arch));
+        let (nr, arch) = (self.1.nr, self.1.arch);
+        let (name, arch_member) = (
+            NameMember {
+                known: self.0,
+                arch,
+                nr,
+            },
+            ArchMember(arch),
+        );
         write!(f, "{name}\"nr\":{nr}{arch_member}")
     }
 }
@@ -175,9 +185,10 @@ impl fmt::Display for VerdictMembers {
     }
 }
 
-/// The member `call`, where the call table has the name.
+/// The member `call`, if it is one of these calls.
 #[derive(Clone, Copy)]
 struct NameMember {
+    known: CallTable,
     arch: u32,
     nr: u32,
 }
@@ -186,14 +197,14 @@ impl fmt::Display for NameMember {
     ghost use Rattle.std.specs.Prelude.{Some};
     ghost use Rattle.cell_records.specs.RecordText.{name_member, table_name};
 
-    ghost output = { λ call. Some (name_member (table_name call.arch call.nr)) };
+    ghost output = { λ call. Some (name_member (table_name call.known call.arch call.nr)) };
 
     #[tactic(auto, unfolding(crate::specs::RecordText::table_name))]
     fn fmt<W: fmt::Write>(&self, f: &mut fmt::Formatter<W>) -> fmt::Result {
         if self.arch != NATIVE_ARCH {
             return Ok(());
         }
-        match sys_table::name(self.nr) {
+        match self.known.name(self.nr) {
             Some(name) => write!(f, "\"call\":\"{name}\","),
             None => Ok(()),
         }

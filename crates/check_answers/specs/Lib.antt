@@ -1,4 +1,5 @@
 pub mod ArrowText
+pub mod CallWords
 pub mod Compared
 pub mod LineText
 pub mod ListObjects

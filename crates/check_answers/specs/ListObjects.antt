@@ -20,7 +20,8 @@ use Rattle.manifest.specs.declared.profiles.SeccompProfile.TheVariants.{RuntimeD
 use Rattle.profile_pick.specs.Choice.{choice_of}
 use Rattle.runtime_cell.specs.declared.calls.JudgedCall.{JudgedCall}
 use Rattle.runtime_cell.specs.Outcome.{Outcome}
-use Rattle.sys_table.specs.SysTable.{name_of as name_of_call}
+use Rattle.sys_table.specs.SysTable.{name_in}
+use Rattle.sys_table.specs.declared.calls.CallTable.{CallTable}
 use Rattle.check_answers.specs.LineText.{outcome_text}
 use Rattle.check_answers.specs.Texts.{lines_text}
 
@@ -32,7 +33,7 @@ name_or_number (Some name) nr = codes "\"" ++ (name ++ codes "\"")
 -- a call as a number, or by its name
 abbrev pub call_value : Naming → ℕ → List ℕ
 call_value Number nr = decimal nr
-call_value Name nr = name_or_number (name_of_call nr) nr
+call_value (Name calls) nr = name_or_number (name_in calls nr) nr
 
 -- its step's place, the call, the verdict's action and data, and whether it was performed
 abbrev pub entry_object : Naming → ℕ → JudgedCall → List ℕ
@@ -59,24 +60,24 @@ abbrev pub name_member : Option (List ℕ) → List ℕ
 name_member None = []
 name_member (Some name) = codes ",\"name\":\"" ++ (name ++ codes "\"")
 
--- the name of the number in a comparison of the call's number, if it has one
-abbrev pub comment_member : Bool → ℕ → List ℕ
-comment_member true nr = name_member (name_of_call nr)
-comment_member false nr = []
+-- the name of the number in a comparison of the call's number, if it is one of these calls
+abbrev pub comment_member : CallTable → Bool → ℕ → List ℕ
+comment_member calls true nr = name_member (name_in calls nr)
+comment_member calls false nr = []
 
-abbrev pub commented_object : Bool → ℕ → Insn → List ℕ
-commented_object is_number_test place insn =
+abbrev pub commented_object : CallTable → Bool → ℕ → Insn → List ℕ
+commented_object calls is_number_test place insn =
     codes "{\"place\":" ++ (decimal place ++ (codes ",\"instruction\":\"" ++ (text_of insn ++ (codes "\""
-    ++ (arrow_member (flow_of insn.op) place insn ++ (comment_member is_number_test insn.k ++ codes "}"))))))
+    ++ (arrow_member (flow_of insn.op) place insn ++ (comment_member calls is_number_test insn.k ++ codes "}"))))))
 
 -- an instruction, given which ones compare the call's number
-abbrev pub insn_object : List Bool → ℕ → Insn → List ℕ
-insn_object number_tests place insn =
-    commented_object (slice_index_or number_tests place false) place insn
+abbrev pub insn_object : CallTable → List Bool → ℕ → Insn → List ℕ
+insn_object calls number_tests place insn =
+    commented_object calls (slice_index_or number_tests place false) place insn
 
 -- the instructions of a file
-abbrev pub code_objects : List Bool → List Insn → List ℕ
-code_objects number_tests code = lines_text (insn_object number_tests) 0 code
+abbrev pub code_objects : CallTable → List Bool → List Insn → List ℕ
+code_objects calls number_tests code = lines_text (insn_object calls number_tests) 0 code
 
 abbrev pub profile_members : SeccompProfile → List ℕ
 profile_members RuntimeDefault = codes "\"RuntimeDefault\""

@@ -18,4 +18,4 @@ abbrev pub shown_object : Shown → List ℕ
 shown_object shown =
     codes "{\"place\":" ++ (decimal shown.place ++ (codes ",\"instruction\":\"" ++ (text_of shown.insn
     ++ (codes "\"" ++ (arrow_part shown.arrow
-    ++ (comment_member shown.comment.is_number_test shown.comment.nr ++ codes "}"))))))
+    ++ (comment_member shown.comment.calls shown.comment.is_number_test shown.comment.nr ++ codes "}"))))))

@@ -10,4 +10,4 @@ use Rattle.check_answers.specs.Texts.{comment_text}
 abbrev pub shown_text : Shown → List ℕ
 shown_text shown =
     decimal shown.place ++ codes ": " ++ text_of shown.insn ++ arrow_text shown.arrow
-    ++ comment_text shown.comment.is_number_test shown.comment.nr
+    ++ comment_text shown.comment.calls shown.comment.is_number_test shown.comment.nr

@@ -8,7 +8,8 @@ use Rattle.bpf_code.specs.declared.flow.Flow.{Flow}
 use Rattle.bpf_code.specs.declared.flow.Flow.TheVariants.{Returns, Jumps, Branches, Continues}
 use Rattle.bpf_code.specs.Flow.{flow_of}
 use Rattle.bpf_code.specs.Text.{text_of}
-use Rattle.sys_table.specs.SysTable.{name_of as name_of_call}
+use Rattle.sys_table.specs.SysTable.{name_in}
+use Rattle.sys_table.specs.declared.calls.CallTable.{CallTable}
 use Rattle.check_answers.specs.declared.judging.Judged.{Judged}
 
 -- eight hexadecimal digits, for a number below 2^32
@@ -55,18 +56,20 @@ abbrev pub comment_of : Option (List ℕ) → List ℕ
 comment_of None = []
 comment_of (Some name) = codes " ; " ++ name
 
--- after a comparison of the call's number, the name of that number, if it has one
-abbrev pub comment_text : Bool → ℕ → List ℕ
-comment_text true nr = comment_of (name_of_call nr)
-comment_text false nr = []
+-- after a comparison of the call's number, the name of that number, if it is one of these calls
+abbrev pub comment_text : CallTable → Bool → ℕ → List ℕ
+comment_text calls true nr = comment_of (name_in calls nr)
+comment_text calls false nr = []
 
-abbrev pub commented_text : Bool → ℕ → Insn → List ℕ
-commented_text is_number_test place insn = insn_text place insn ++ comment_text is_number_test insn.k
+abbrev pub commented_text : CallTable → Bool → ℕ → Insn → List ℕ
+commented_text calls is_number_test place insn =
+    insn_text place insn ++ comment_text calls is_number_test insn.k
 
 -- an instruction, given which ones compare the call's number
-abbrev pub line_text : List Bool → ℕ → Insn → List ℕ
-line_text number_tests place insn = commented_text (slice_index_or number_tests place false) place insn
+abbrev pub line_text : CallTable → List Bool → ℕ → Insn → List ℕ
+line_text calls number_tests place insn =
+    commented_text calls (slice_index_or number_tests place false) place insn
 
 -- the instructions of a file
-abbrev pub code_text : List Bool → List Insn → List ℕ
-code_text number_tests code = lines_text (line_text number_tests) 0 code
+abbrev pub code_text : CallTable → List Bool → List Insn → List ℕ
+code_text calls number_tests code = lines_text (line_text calls number_tests) 0 code

@@ -2,11 +2,13 @@
 ghost use Rattle.std.specs.Prelude.{◌≡◌, IfOk, string_bytes};
 ghost use Rattle.check_answers.specs.Compared.{reason_of, same_text};
 
+use crate::call_words::CallWords;
 use action::Verdict;
 use bpf_compare::{Calls, Doubt};
 use call_data::SysCall;
 use std::alloc::{AllocError, Global};
 use std::fmt;
+use sys_table::CallTable;
 
 /// A value that a filter returns, as it is printed: `7fff0000 ALLOW 0`.
 #[derive(Clone, Copy)]
@@ -29,6 +31,8 @@ impl fmt::Display for ShownValue {
 /// A call on which two filters return different values, and these.
 #[derive(Clone, Copy, Debug)]
 pub struct Difference {
+    /// The calls that have names.
+    pub known: CallTable,
     /// The call.
     pub call: SysCall,
     /// What the first filter returns.
@@ -37,8 +41,7 @@ pub struct Difference {
     pub second: u32,
 }
 
-/// `differ at NR ARG.. --arch A --ip I: VALUE ACTION DATA, VALUE ACTION DATA`, the call's words as `run`
-/// takes them.
+/// `differ at CALL ARG..: VALUE ACTION DATA, VALUE ACTION DATA`, the call's words as `run` takes them.
 impl fmt::Display for Difference {
     ghost use Rattle.std.specs.Prelude.{Some};
     ghost use Rattle.check_answers.specs.Compared.{difference_text};
@@ -46,14 +49,9 @@ impl fmt::Display for Difference {
     ghost output = { λ difference. Some (difference_text difference) };
 
     fn fmt<W: fmt::Write>(&self, f: &mut fmt::Formatter<W>) -> fmt::Result {
-        let (nr, args) = (self.call.nr, self.call.args);
-        let (arch, ip) = (self.call.arch, self.call.ip);
+        let call = CallWords(self.known, self.call);
         let (first, second) = (ShownValue(self.first), ShownValue(self.second));
-        write!(
-            f,
-            "differ at {nr} {} {} {} {} {} {} --arch 0x{arch:x} --ip 0x{ip:x}: {first}, {second}",
-            args[0], args[1], args[2], args[3], args[4], args[5]
-        )
+        write!(f, "differ at {call}: {first}, {second}")
     }
 }
 

@@ -15,6 +15,7 @@ use profile_pick::{Choice, pick};
 use serde_json::Value;
 use std::alloc::{AllocError, Global};
 use std::fmt;
+use sys_table::CallTable;
 
 /// A call: its number, or its name if that is wanted and there is one.
 #[derive(Clone, Copy)]
@@ -30,7 +31,7 @@ impl fmt::Display for CallValue {
         let nr = self.0.nr;
         match self.0.naming {
             Naming::Number => write!(f, "{nr}"),
-            Naming::Name => match sys_table::name(nr) {
+            Naming::Name(calls) => match calls.name(nr) {
                 Some(name) => write!(f, "\"{name}\""),
                 None => write!(f, "{nr}"),
             },
@@ -110,13 +111,13 @@ impl fmt::Display for NameMember {
     ghost use Rattle.std.specs.Prelude.{Some};
     ghost use Rattle.check_answers.specs.ListObjects.{comment_member};
 
-    ghost output = { λ comment. Some (comment_member comment.0.is_number_test comment.0.nr) };
+    ghost output = { λ comment. Some (comment_member comment.0.calls comment.0.is_number_test comment.0.nr) };
 
     fn fmt<W: fmt::Write>(&self, f: &mut fmt::Formatter<W>) -> fmt::Result {
         if !self.0.is_number_test {
             return Ok(());
         }
-        match sys_table::name(self.0.nr) {
+        match self.0.calls.name(self.0.nr) {
             Some(name) => write!(f, ",\"name\":\"{name}\""),
             None => Ok(()),
         }
@@ -143,19 +144,20 @@ impl fmt::Display for ShownObject {
     }
 }
 
-/// An object for each instruction.
+/// An object for each instruction. The names are those of these calls.
 pub fn code_objects(
     alloc: Global,
+    calls: CallTable,
     code: &[Insn],
     number_tests: &[bool],
 ) -> Result<String, AllocError>
     requires short { length code.now ≤ MAX_INSNS }
     requires as_many { length number_tests.now ≡ length code.now }
-    ensures { IfOk result (λ text. string_bytes text ≡ code_objects number_tests.now code.now) }
+    ensures { IfOk result (λ text. string_bytes text ≡ code_objects calls number_tests.now code.now) }
 {
     let mut text = String::new(alloc);
     for (place, insn) in code.iter().enumerate() {
-        let object = ShownObject(shown_at(place, *insn, number_tests[place]));
+        let object = ShownObject(shown_at(calls, place, *insn, number_tests[place]));
         writeln!(text, "{object}")?;
     }
     Ok(text)

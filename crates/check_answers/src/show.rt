@@ -10,6 +10,7 @@ ghost use Rattle.check_answers.specs.Texts.{code_text, commented_text};
 use bpf_code::{Flow, Insn};
 use std::alloc::{AllocError, Global};
 use std::fmt;
+use sys_table::CallTable;
 
 /// The targets of an instruction.
 #[derive(Clone, Copy)]
@@ -40,6 +41,7 @@ impl fmt::Display for Arrow {
 /// The name of a call that an instruction asks about, after it.
 #[derive(Clone, Copy)]
 pub(crate) struct Comment {
+    pub(crate) calls: CallTable,
     pub(crate) is_number_test: bool,
     pub(crate) nr: u32,
 }
@@ -48,13 +50,13 @@ impl fmt::Display for Comment {
     ghost use Rattle.std.specs.Prelude.{Some};
     ghost use Rattle.check_answers.specs.Texts.{comment_text};
 
-    ghost output = { λ comment. Some (comment_text comment.is_number_test comment.nr) };
+    ghost output = { λ comment. Some (comment_text comment.calls comment.is_number_test comment.nr) };
 
     fn fmt<W: fmt::Write>(&self, f: &mut fmt::Formatter<W>) -> fmt::Result {
         if !self.is_number_test {
             return Ok(());
         }
-        match sys_table::name(self.nr) {
+        match self.calls.name(self.nr) {
             Some(name) => write!(f, " ; {name}"),
             None => Ok(()),
         }
@@ -84,30 +86,36 @@ impl fmt::Display for Shown {
 }
 
 /// One line per instruction: its place, its text, after a jump its targets, and after a comparison of the
-/// call's number, marked in `number_tests`, the name of that number.
-pub fn code_lines(alloc: Global, code: &[Insn], number_tests: &[bool]) -> Result<String, AllocError>
+/// call's number, marked in `number_tests`, the name of that number, if it is one of these calls.
+pub fn code_lines(
+    alloc: Global,
+    calls: CallTable,
+    code: &[Insn],
+    number_tests: &[bool],
+) -> Result<String, AllocError>
     requires short { length code.now ≤ MAX_INSNS }
     requires as_many { length number_tests.now ≡ length code.now }
-    ensures { IfOk result (λ text. string_bytes text ≡ code_text number_tests.now code.now) }
+    ensures { IfOk result (λ text. string_bytes text ≡ code_text calls number_tests.now code.now) }
 {
     let mut text = String::new(alloc);
     for (place, insn) in code.iter().enumerate() {
-        let line = shown_at(place, *insn, number_tests[place]);
+        let line = shown_at(calls, place, *insn, number_tests[place]);
         writeln!(text, "{line}")?;
     }
     Ok(text)
 }
 
-pub(crate) fn shown_at(place: usize, insn: Insn, is_number_test: bool) -> Shown
+pub(crate) fn shown_at(calls: CallTable, place: usize, insn: Insn, is_number_test: bool) -> Shown
     requires { place < MAX_INSNS }
-    ensures text { shown_text result ≡ commented_text is_number_test place insn }
-    ensures object { shown_object result ≡ commented_object is_number_test place insn }
+    ensures text { shown_text result ≡ commented_text calls is_number_test place insn }
+    ensures object { shown_object result ≡ commented_object calls is_number_test place insn }
 {
     Shown {
         place,
         insn,
         arrow: ways_on(place, &insn),
         comment: Comment {
+            calls,
             is_number_test,
             nr: insn.k,
         },

@@ -36,11 +36,7 @@ pub fn command<'a>(alloc: Global) -> Result<Command<'a>, AllocError> {
             "budget",
             "Print how many instructions a run of a filter executes at most",
         )?)?
-        .subcommand(of_filter(
-            alloc,
-            "show",
-            "Print the instructions of a filter, sound or not",
-        )?)?
+        .subcommand(show(alloc)?)?
         .subcommand(run(alloc)?)?
         .subcommand(explain(alloc)?)?
         .subcommand(compare(alloc)?)?
@@ -95,6 +91,7 @@ fn table<'a>(alloc: Global) -> Result<Command<'a>, AllocError> {
             "OLD",
             "Print only the calls on which the profile differs from OLD",
         ))?
+        .arg(calls(alloc))?
         .arg(json(alloc))
 }
 
@@ -113,7 +110,8 @@ fn report<'a>(alloc: Global) -> Result<Command<'a>, AllocError> {
             "records",
             "FILE",
             "Add the calls that the records of containers in FILE show as denied",
-        ))
+        ))?
+        .arg(calls(alloc))
 }
 
 fn resolve<'a>(alloc: Global) -> Result<Command<'a>, AllocError> {
@@ -160,6 +158,14 @@ fn of_filter<'a>(
     Command::new(alloc, name)
         .about(about)
         .arg(given(alloc, "FILTER", "Filter file"))?
+        .arg(json(alloc))
+}
+
+fn show<'a>(alloc: Global) -> Result<Command<'a>, AllocError> {
+    Command::new(alloc, "show")
+        .about("Print the instructions of a filter, sound or not")
+        .arg(given(alloc, "FILTER", "Filter file"))?
+        .arg(calls(alloc))?
         .arg(json(alloc))
 }
 
@@ -261,7 +267,7 @@ fn play<'a>(alloc: Global) -> Result<Command<'a>, AllocError> {
                 .action(ArgAction::SetTrue)
                 .help("Print the names of calls, not their numbers"),
         )?;
-    of_pod(alloc, command)?.arg(json(alloc))
+    of_pod(alloc, command)?.arg(calls(alloc))?.arg(json(alloc))
 }
 
 /// The words of a pod that is played.
@@ -349,6 +355,7 @@ fn denied<'a>(alloc: Global) -> Result<Command<'a>, AllocError> {
             "DIR",
             "Folder of the profiles: print what of a profile denied each call",
         ))?
+        .arg(calls(alloc))?
         .arg(json(alloc))
 }
 
@@ -387,7 +394,8 @@ fn learn<'a>(alloc: Global) -> Result<Command<'a>, AllocError> {
             alloc,
             "strict",
             "Refuse the first broken line instead of leaving it out",
-        ))
+        ))?
+        .arg(calls(alloc))
 }
 
 fn write<'a>(alloc: Global) -> Result<Command<'a>, AllocError> {
@@ -399,7 +407,8 @@ fn write<'a>(alloc: Global) -> Result<Command<'a>, AllocError> {
             "systemd",
             "Print the lines of a unit of systemd, with SystemCallFilter=",
         )
-        .required(true))
+        .required(true))?
+        .arg(calls(alloc))
 }
 
 /// A word without a value.

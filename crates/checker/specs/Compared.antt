@@ -2,6 +2,7 @@
 -- own: docs/SEMANTICS.md, "Programs".
 use Rattle.std.specs.Prelude.{ℕ, Bool, true, false, ◌&&◌, if◌then◌else◌, ⊤, List, [], codes, Result, Ok, Err}
 use Rattle.std.specs.List.{list_any}
+use Rattle.sys_table.specs.declared.calls.CallTable.{CallTable}
 use Rattle.bpf_compare.specs.declared.comparison.Comparison.{Comparison}
 use Rattle.bpf_compare.specs.declared.comparison.Comparison.TheVariants.{Same, Differs, Undecided}
 use Rattle.bpf_compare.specs.declared.comparison.Doubt.TheVariants.{Budget}
@@ -10,11 +11,11 @@ use Rattle.shown_differences.specs.declared.line.Line.TheVariants as line
 use Rattle.check_stops.specs.declared.stop.Stop.{Stop}
 use Rattle.check_stops.specs.declared.stop.Stop.TheVariants as why
 
-abbrev pub told_of : Comparison → Result ⊤ Stop
-told_of Same = Ok tt
-told_of (Differs call first second) = Err
-    (why.Differ (record { call = call; first = first; second = second }))
-told_of (Undecided doubt) = Err (why.Undecided doubt)
+abbrev pub told_of : CallTable → Comparison → Result ⊤ Stop
+told_of known Same = Ok tt
+told_of known (Differs call first second) = Err
+    (why.Differ (record { known = known; call = call; first = first; second = second }))
+told_of known (Undecided doubt) = Err (why.Undecided doubt)
 
 -- how many instructions are followed at most without --budget, with --all for each part
 abbrev pub default_budget : Bool → ℕ

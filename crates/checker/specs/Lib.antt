@@ -4,5 +4,6 @@ pub mod LeavingOut
 pub mod LintText
 pub mod ManifestLint
 pub mod ProfileLines
+pub mod Progress
 pub mod Settings
 pub mod Written

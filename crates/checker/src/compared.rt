@@ -7,7 +7,7 @@ ghost use Rattle.check_words.specs.Words.{budget_in};
 ghost use Rattle.checker.specs.Compared.{budget_note, default_budget, is_beyond, lines_note, told_of};
 
 use crate::seccheck::calls_stop;
-use bpf_compare::{Calls, Comparison, Doubt, compare};
+use bpf_compare::{Calls, Comparison, Doubt, Watch, compare_watched};
 use bpf_verify::filter_of;
 use check_answers::{Difference, same_line, same_object};
 use check_stops::{Form, Output, ProfileFile, Refused, Stop, bytes_at, profile_of, refused_stop};
@@ -37,7 +37,7 @@ pub(crate) struct CompareAsked<'a> {
     pub(crate) first: &'a str,
     /// The file of the second one.
     pub(crate) second: &'a str,
-    /// The calls that profiles may name.
+    /// The calls that profiles may name, and by whose names differences are printed.
     pub(crate) known: CallTable,
     /// The calls on which they are compared.
     pub(crate) calls: Calls,
@@ -71,16 +71,19 @@ pub(crate) fn compare_asked<'a>(
 }
 
 /// The words of `table --against`. OLD comes first.
-pub(crate) fn against_asked<'a>(matches: &ArgMatches<'a>, form: Form) -> CompareAsked<'a> {
-    CompareAsked {
+pub(crate) fn against_asked<'a>(
+    matches: &ArgMatches<'a>,
+    form: Form,
+) -> Result<CompareAsked<'a>, Stop<'a>> {
+    Ok(CompareAsked {
         first: matches.get_str("against").unwrap_or(""),
         second: word_at(matches, "PROFILE"),
-        known: CallTable::Linux5_8,
+        known: known_at(matches).map_err(calls_stop)?,
         calls: Calls::Native,
         budget: PART_BUDGET,
         takes_budget: false,
         form,
-    }
+    })
 }
 
 fn default_budget(is_all: bool) -> u64
@@ -107,12 +110,13 @@ pub(crate) fn is_profile(bytes: &[u8]) -> bool
 }
 
 /// What stops the program where the filters were not found to be the same.
-pub(crate) fn same_or_stop<'a>(found: Comparison) -> Result<(), Stop<'a>>
-    ensures { result ≡ told_of found }
+pub(crate) fn same_or_stop<'a>(known: CallTable, found: Comparison) -> Result<(), Stop<'a>>
+    ensures { result ≡ told_of known found }
 {
     match found {
         Comparison::Same => Ok(()),
         Comparison::Differs(call, first, second) => Err(Stop::Differ(Difference {
+            known,
             call,
             first,
             second,
@@ -122,22 +126,24 @@ pub(crate) fn same_or_stop<'a>(found: Comparison) -> Result<(), Stop<'a>>
 }
 
 /// Whether the filters of two files are the same on these calls.
-pub(crate) fn compare_output<'a, R: rt::Files + AllocGlobal>(
+pub(crate) fn compare_output<'a, R: rt::Files + AllocGlobal, W: Watch>(
     rt: &R,
     asked: CompareAsked<'a>,
+    watch: &mut W,
 ) -> Result<Output, Stop<'a>> {
     let alloc = rt.alloc();
     let first = side_at(rt, asked.known, asked.first)?;
     let second = side_at(rt, asked.known, asked.second)?;
-    let found = compare(
+    let found = compare_watched(
         alloc,
         first.side.filter(),
         second.side.filter(),
         asked.calls.scope(),
         asked.budget,
+        watch,
     )?;
     let aside = joined(first.aside, second.aside.as_str())?;
-    let Err(stop) = same_or_stop(found) else {
+    let Err(stop) = same_or_stop(asked.known, found) else {
         return Ok(Output::with_aside(same_text(alloc, asked)?, aside));
     };
     let aside = joined(aside, budget_note(&stop))?;
@@ -171,24 +177,27 @@ pub(crate) fn budget_note(stop: &Stop<'_>) -> &'static str
 }
 
 /// Every call on which the filters of two files differ, with status 1 if there is one.
-pub(crate) fn differences_output<'a, R: rt::Files + AllocGlobal>(
+pub(crate) fn differences_output<'a, R: rt::Files + AllocGlobal, W: Watch>(
     rt: &R,
     asked: CompareAsked<'a>,
+    watch: &mut W,
 ) -> Result<Output, Stop<'a>> {
     let alloc = rt.alloc();
     let first = side_at(rt, asked.known, asked.first)?;
     let second = side_at(rt, asked.known, asked.second)?;
     let found = differences(
         alloc,
+        asked.known,
         first.side.filter(),
         second.side.filter(),
         asked.calls,
         asked.budget,
+        watch,
     )?;
     let lines = lines(alloc, &first.side, &second.side, found.as_slice())?;
     let text = match asked.form {
-        Form::Text => all_lines(alloc, asked.calls, lines.as_slice())?,
-        Form::Json => all_objects(alloc, asked.calls, lines.as_slice())?,
+        Form::Text => all_lines(alloc, asked.known, asked.calls, lines.as_slice())?,
+        Form::Json => all_objects(alloc, asked.known, asked.calls, lines.as_slice())?,
     };
     let aside = joined(first.aside, second.aside.as_str())?;
     let aside = joined(aside, lines_note(asked.takes_budget, lines.as_slice()))?;

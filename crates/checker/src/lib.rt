@@ -29,6 +29,7 @@ mod file;
 mod linting;
 mod manifests;
 mod profiles;
+mod progress;
 mod reporting;
 mod resolving;
 mod seccheck;
@@ -36,4 +37,4 @@ mod settings;
 mod written;
 
 pub use check_answers::{Judged, Outcome, judge, play};
-pub use seccheck::seccheck_run;
+pub use seccheck::{seccheck_run, seccheck_run_on};

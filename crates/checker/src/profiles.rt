@@ -28,18 +28,19 @@ pub(crate) fn explain_output<'a, R: rt::Files + AllocGlobal>(
     Ok(Output::with_aside(text, aside))
 }
 
-/// How the profile treats each call of the table.
+/// How the profile treats each of these calls.
 pub(crate) fn table_output<'a, R: rt::Files + AllocGlobal>(
     rt: &R,
+    calls: CallTable,
     path: &'a str,
     form: Form,
 ) -> Result<Output, Stop<'a>> {
     let alloc = rt.alloc();
-    let ProfileFile { profile, aside, .. } = profile_at(rt, CallTable::Linux5_8, path)?;
-    let rows = rows(alloc, &profile)?;
+    let ProfileFile { profile, aside, .. } = profile_at(rt, calls, path)?;
+    let rows = rows(alloc, calls, &profile)?;
     let text = match form {
-        Form::Text => table_lines(alloc, &profile, rows.as_slice())?,
-        Form::Json => table_objects(alloc, &profile, rows.as_slice())?,
+        Form::Text => table_lines(alloc, calls, &profile, rows.as_slice())?,
+        Form::Json => table_objects(alloc, calls, &profile, rows.as_slice())?,
     };
     Ok(Output::with_aside(text, aside))
 }

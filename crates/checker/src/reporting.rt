@@ -1,6 +1,6 @@
 //! The page of `seccheck report`.
 use crate::compared::{PART_BUDGET, side_at, side_of};
-use bpf_compare::Calls;
+use bpf_compare::{Calls, Unwatched};
 use check_stops::{Output, ProfileFile, Stop, profile_at};
 use compile::{CompileFault, compile};
 use container_answers::denied_lines;
@@ -21,6 +21,8 @@ pub(crate) struct ReportAsked<'a> {
     pub old: Option<&'a str>,
     /// The file of records whose denied calls are shown, if one is given.
     pub records: Option<&'a str>,
+    /// The known calls.
+    pub calls: CallTable,
 }
 
 /// The page of a profile. A line of the records that is none is reported on standard error, and the status is 1.
@@ -34,25 +36,25 @@ pub(crate) fn report_output<'a, R: rt::Files + AllocGlobal>(
         bytes,
         profile,
         aside: sign,
-    } = profile_at(rt, CallTable::Linux5_8, path)?;
+    } = profile_at(rt, asked.calls, path)?;
     let compared = compared_with_old(rt, asked, &bytes)?;
-    let (denied, faults) = denied(rt, asked.records)?;
-    let tree = filter_part(alloc, &profile)?;
+    let (denied, faults) = denied(rt, asked.calls, asked.records)?;
+    let tree = filter_part(alloc, asked.calls, &profile)?;
     let parts = Parts {
         changes: compared.html.as_str(),
         tree: tree.as_str(),
         denied: denied.as_str(),
     };
     let lines = compared.lines.as_slice();
-    let text = page_text(alloc, path, &bytes, &profile, lines, &parts)?;
+    let text = page_text(alloc, asked, &bytes, &profile, lines, &parts)?;
     let output = Output::with_faults(text, faults).after(compared.aside)?;
     Ok(output.after(sign)?)
 }
 
 /// The part of the page for the profile's filter. A profile that is too long for a filter has a page all the same.
-fn filter_part(alloc: Global, profile: &Profile) -> Result<String, AllocError> {
+fn filter_part(alloc: Global, calls: CallTable, profile: &Profile) -> Result<String, AllocError> {
     match compile(alloc, profile) {
-        Ok(filter) => tree_html(alloc, &filter),
+        Ok(filter) => tree_html(alloc, calls, &filter),
         Err(CompileFault::TooLong) => no_tree_html(alloc),
         Err(CompileFault::Memory) => Err(AllocError),
     }
@@ -61,7 +63,7 @@ fn filter_part(alloc: Global, profile: &Profile) -> Result<String, AllocError> {
 /// The page, with what `lint` finds.
 fn page_text(
     alloc: Global,
-    path: &str,
+    asked: ReportAsked<'_>,
     bytes: &[u8],
     profile: &Profile,
     lines: &[Line],
@@ -69,12 +71,13 @@ fn page_text(
 ) -> Result<String, AllocError> {
     // It was read before, so that memory alone can be wanting.
     let tree = json_tree::read(alloc, bytes).map_err(|_| AllocError)?;
-    let passed = passed_in(alloc, CallTable::Linux5_8, &tree)?;
+    let passed = passed_in(alloc, asked.calls, &tree)?;
     let found = once(alloc, all_findings(alloc, profile)?.as_slice())?;
     page(
         alloc,
+        asked.calls,
         STYLE,
-        path,
+        asked.profile,
         profile,
         passed.as_slice(),
         found.as_slice(),
@@ -105,22 +108,24 @@ fn compared_with_old<'a, R: rt::Files + AllocGlobal>(
             aside: String::new(alloc),
         });
     };
-    let old = side_at(rt, CallTable::Linux5_8, path)?;
+    let old = side_at(rt, asked.calls, path)?;
     let new = side_of(
         alloc,
-        CallTable::Linux5_8,
+        asked.calls,
         asked.profile,
         Vec::from_slice(alloc, bytes)?,
     )?;
     let found = differences(
         alloc,
+        asked.calls,
         old.side.filter(),
         new.side.filter(),
         Calls::Native,
         PART_BUDGET,
+        &mut Unwatched,
     )?;
     let lines = lines(alloc, &old.side, &new.side, found.as_slice())?;
-    let html = changes_html(alloc, path, lines.as_slice())?;
+    let html = changes_html(alloc, asked.calls, path, lines.as_slice())?;
     Ok(Compared {
         lines,
         html,
@@ -131,13 +136,14 @@ fn compared_with_old<'a, R: rt::Files + AllocGlobal>(
 /// The part of the page for the denied calls of a file of records, and the reports on its lines.
 fn denied<'a, R: rt::Files + AllocGlobal>(
     rt: &R,
+    calls: CallTable,
     records: Option<&'a str>,
 ) -> Result<(String, String), Stop<'a>> {
     let alloc = rt.alloc();
     let Some(path) = records else {
         return Ok((String::new(alloc), String::new(alloc)));
     };
-    let (lines, aside) = denied_lines(rt, path)?;
+    let (lines, aside) = denied_lines(rt, calls, path)?;
     let html = denials_html(alloc, lines.as_slice())?;
     Ok((html, aside))
 }

@@ -6,10 +6,12 @@ use crate::compared::{against_asked, compare_asked, compare_output, differences_
 use crate::file::is_same_file;
 use crate::linting::{beside, lint_output};
 use crate::profiles::{default_line, explain_output, table_output};
+use crate::progress::Progress;
 use crate::reporting::{ReportAsked, report_output};
 use crate::resolving::resolve_output;
 use crate::settings::{caps_of, settings_of};
 use crate::written::{file_bytes, unit_output};
+use bpf_compare::Watch;
 use bpf_verify::{Refusal, filter_of};
 use call_data::SysCall;
 use call_names::{Naming, number_tests};
@@ -34,17 +36,29 @@ use profile_learn::Wanted;
 use std::alloc::{AllocError, Global};
 use std::io::{self, Write};
 use std::rt;
+use std::time::Clock;
 use sys_table::CallTable;
 use verdict::Stack;
 
 /// The program `seccheck`. `words` are those of the command line, the program's name first. Returns the
 /// program's status: 0 done, 1 input refused, 2 command line refused, 3 file fault, 4 out of memory. Output that
 /// can't be written is a file fault.
-pub fn seccheck_run<R: rt::Files + AllocGlobal, O: Write, E: Write>(
+pub fn seccheck_run<R: rt::Files + AllocGlobal + Clock, O: Write, E: Write>(
     rt: &R,
     words: &[String],
     out: &mut O,
     err: &mut E,
+) -> u8 {
+    seccheck_run_on(rt, words, out, err, false)
+}
+
+/// The program `seccheck`. If standard error is a terminal, a long comparison prints how far it has come.
+pub fn seccheck_run_on<R: rt::Files + AllocGlobal + Clock, O: Write, E: Write>(
+    rt: &R,
+    words: &[String],
+    out: &mut O,
+    err: &mut E,
+    is_terminal: bool,
 ) -> u8 {
     let (name, matches) = match asked(rt, words) {
         Ok(asked) => asked,
@@ -55,7 +69,11 @@ pub fn seccheck_run<R: rt::Files + AllocGlobal, O: Write, E: Write>(
     } else {
         Form::Text
     };
-    let stop = match output_of(rt, name, &matches, form) {
+    let found = {
+        let mut progress = Progress::new(rt, err, is_terminal);
+        output_of(rt, name, &matches, form, &mut progress)
+    };
+    let stop = match found {
         Ok(output) => match print(&output, out) {
             Ok(()) => {
                 let _ = err.write_all(output.aside.as_bytes());
@@ -159,11 +177,12 @@ fn dashes(words: &[String]) -> usize
 }
 
 /// What the program prints if nothing stops it.
-fn output_of<'a, R: rt::Files + AllocGlobal>(
+fn output_of<'a, R: rt::Files + AllocGlobal, W: Watch>(
     rt: &R,
     name: &str,
     matches: &ArgMatches<'a>,
     form: Form,
+    watch: &mut W,
 ) -> Result<Output, Stop<'a>> {
     match name {
         "resolve" => {
@@ -188,7 +207,10 @@ fn output_of<'a, R: rt::Files + AllocGlobal>(
             let (path, out) = (word_at(matches, "PROFILE"), word_at(matches, "OUT"));
             compile_output(rt, calls, path, out, matches.get_flag("base64"), form)
         }
-        "write" => unit_output(rt, word_at(matches, "PROFILE")),
+        "write" => {
+            let calls = calls_at(matches).map_err(calls_stop)?;
+            unit_output(rt, calls, word_at(matches, "PROFILE"))
+        }
         "explain" if matches.get_str("audit").is_some() => {
             let log = matches.get_str("audit").unwrap_or("");
             let calls = calls_at(matches).map_err(calls_stop)?;
@@ -206,21 +228,25 @@ fn output_of<'a, R: rt::Files + AllocGlobal>(
             lint_output(rt, calls, path, matches.get_flag("all"), allowed, form)
         }
         "table" if matches.get_str("against").is_some() => {
-            differences_output(rt, against_asked(matches, form))
+            differences_output(rt, against_asked(matches, form)?, watch)
         }
-        "table" => table_output(rt, word_at(matches, "PROFILE"), form),
+        "table" => {
+            let calls = calls_at(matches).map_err(calls_stop)?;
+            table_output(rt, calls, word_at(matches, "PROFILE"), form)
+        }
         "report" => {
             let asked = ReportAsked {
                 profile: word_at(matches, "PROFILE"),
                 old: matches.get_str("against"),
                 records: matches.get_str("records"),
+                calls: calls_at(matches).map_err(calls_stop)?,
             };
             report_output(rt, asked)
         }
         "compare" if matches.get_flag("all") => {
-            differences_output(rt, compare_asked(matches, true, form)?)
+            differences_output(rt, compare_asked(matches, true, form)?, watch)
         }
-        "compare" => compare_output(rt, compare_asked(matches, false, form)?),
+        "compare" => compare_output(rt, compare_asked(matches, false, form)?, watch),
         "pick" => {
             let seccomp_default = matches.get_flag("seccomp-default");
             pick_output(rt, word_at(matches, "MANIFEST"), seccomp_default, form)
@@ -228,6 +254,7 @@ fn output_of<'a, R: rt::Files + AllocGlobal>(
         "play" if matches.get_str("pod").is_some() => pod_output(rt, pod_asked(matches, form)?),
         "denied" => {
             let asked = DeniedAsked {
+                calls: calls_at(matches).map_err(calls_stop)?,
                 by_call: matches.get_flag("by-call"),
                 profiles: matches.get_str("profiles"),
                 form,
@@ -236,15 +263,16 @@ fn output_of<'a, R: rt::Files + AllocGlobal>(
         }
         "learn" => {
             let files = matches.get_strs("FILE").unwrap_or(&[]);
-            learn_output(rt, files, learn_asked(matches))
+            learn_output(rt, files, learn_asked(matches)?)
         }
         _ => Ok(Output::plain(rt.alloc(), text_of(rt, name, matches, form)?)),
     }
 }
 
 /// The options of `learn`.
-fn learn_asked<'a>(matches: &ArgMatches<'a>) -> LearnAsked<'a> {
-    LearnAsked {
+fn learn_asked<'a>(matches: &ArgMatches<'a>) -> Result<LearnAsked<'a>, Stop<'a>> {
+    Ok(LearnAsked {
+        calls: calls_at(matches).map_err(calls_stop)?,
         base: matches.get_str("base"),
         default: matches.get_str("default"),
         wanted: Wanted {
@@ -252,11 +280,12 @@ fn learn_asked<'a>(matches: &ArgMatches<'a>) -> LearnAsked<'a> {
             needed: matches.get_flag("needed"),
         },
         is_strict: matches.get_flag("strict"),
-    }
+    })
 }
 
 /// The options of `play --pod`.
 fn pod_asked<'a>(matches: &ArgMatches<'a>, form: Form) -> Result<PodAsked<'a>, Stop<'a>> {
+    let calls = calls_at(matches).map_err(calls_stop)?;
     Ok(PodAsked {
         manifest: matches.get_str("pod").unwrap_or(""),
         scripts: matches.get_str("scripts").unwrap_or("."),
@@ -264,15 +293,16 @@ fn pod_asked<'a>(matches: &ArgMatches<'a>, form: Form) -> Result<PodAsked<'a>, S
         baseline: matches.get_str("baseline"),
         seccomp_default: matches.get_flag("seccomp-default"),
         attempt: attempt_at(matches).map_err(Stop::BadNumber)?,
-        naming: naming_at(matches),
+        calls,
+        naming: naming_at(calls, matches),
         form,
     })
 }
 
-/// Whether calls are printed by their names.
-fn naming_at(matches: &ArgMatches<'_>) -> Naming {
+/// Whether calls are printed by their names, if they are of these calls.
+fn naming_at(calls: CallTable, matches: &ArgMatches<'_>) -> Naming {
     if matches.get_flag("names") {
-        Naming::Name
+        Naming::Name(calls)
     } else {
         Naming::Number
     }
@@ -294,12 +324,16 @@ fn text_of<'a, R: rt::Files + AllocGlobal>(
         "default" => Ok(default_line(rt.alloc())?),
         "verify" => verify_text(rt, word_at(matches, "FILTER"), form),
         "budget" => budget_text(rt, word_at(matches, "FILTER"), form),
-        "show" => show_text(rt, word_at(matches, "FILTER"), form),
+        "show" => {
+            let calls = calls_at(matches).map_err(calls_stop)?;
+            show_text(rt, calls, word_at(matches, "FILTER"), form)
+        }
         _ => {
+            let calls = calls_at(matches).map_err(calls_stop)?;
             let attempt = attempt_at(matches).map_err(Stop::BadNumber)?;
             let filters = matches.get_strs("FILTER").unwrap_or(&[]);
-            let naming = naming_at(matches);
-            let played = played_at(rt, word_at(matches, "SCRIPT"), filters, attempt)?;
+            let naming = naming_at(calls, matches);
+            let played = played_at(rt, calls, word_at(matches, "SCRIPT"), filters, attempt)?;
             Ok(record_text(rt.alloc(), &played, naming, form)?)
         }
     }
@@ -381,9 +415,10 @@ fn verify_text<'a, R: rt::Files + AllocGlobal>(
     })
 }
 
-/// The instructions of a file that is a list of them.
+/// The instructions of a file that is a list of them, with the names of these calls.
 fn show_text<'a, R: rt::Files + AllocGlobal>(
     rt: &R,
+    calls: CallTable,
     path: &'a str,
     form: Form,
 ) -> Result<String, Stop<'a>> {
@@ -397,8 +432,8 @@ fn show_text<'a, R: rt::Files + AllocGlobal>(
     };
     let number_tests = number_tests(rt.alloc(), &code)?;
     Ok(match form {
-        Form::Text => code_lines(rt.alloc(), &code, number_tests.as_slice())?,
-        Form::Json => code_objects(rt.alloc(), &code, number_tests.as_slice())?,
+        Form::Text => code_lines(rt.alloc(), calls, &code, number_tests.as_slice())?,
+        Form::Json => code_objects(rt.alloc(), calls, &code, number_tests.as_slice())?,
     })
 }
 
@@ -417,15 +452,16 @@ fn run_text<'a, R: rt::Files + AllocGlobal>(
     })
 }
 
-/// What came of a script that is played under the filters.
+/// What came of a script that is played under the filters. It may name these calls.
 fn played_at<'a, R: rt::Files + AllocGlobal>(
     rt: &R,
+    calls: CallTable,
     path: &'a str,
     filters: &[&'a str],
     attempt: u32,
 ) -> Result<Outcome, Stop<'a>> {
     let bytes = bytes_at(rt, path)?;
-    let script = match script::read_placed(rt.alloc(), &bytes) {
+    let script = match script::read_placed_with(rt.alloc(), calls, &bytes) {
         Ok(script) => script,
         Err(found) => return Err(refused_stop(path, bytes, Refused::Script(found))),
     };

@@ -5,7 +5,7 @@ ghost use Rattle.checker.specs.Written.{file_bytes};
 use base64::engine::general_purpose::STANDARD;
 use check_stops::{Output, ProfileFile, Stop, profile_at};
 use fault_notes::ShownPath;
-use profile_unit::{UnitFault, unit_of, unit_text};
+use profile_unit::{ShownFault, UnitFault, unit_of, unit_text};
 use std::alloc::{AllocError, Global};
 use std::rt;
 use sys_table::CallTable;
@@ -29,20 +29,27 @@ pub(crate) fn file_bytes(
 /// The profile as the lines of a unit of systemd.
 pub(crate) fn unit_output<'a, R: rt::Files + AllocGlobal>(
     rt: &R,
+    calls: CallTable,
     path: &'a str,
 ) -> Result<Output, Stop<'a>> {
     let alloc = rt.alloc();
-    let ProfileFile { profile, aside, .. } = profile_at(rt, CallTable::Linux5_8, path)?;
+    let ProfileFile { profile, aside, .. } = profile_at(rt, calls, path)?;
     match unit_of(alloc, &profile) {
-        Ok(unit) => Ok(Output::with_aside(unit_text(alloc, &unit)?, aside)),
+        Ok(unit) => Ok(Output::with_aside(unit_text(alloc, calls, &unit)?, aside)),
         Err(UnitFault::Memory) => Err(Stop::Memory),
-        Err(fault) => Ok(refused(alloc, path, fault)?.after(aside)?),
+        Err(fault) => Ok(refused(alloc, calls, path, fault)?.after(aside)?),
     }
 }
 
 /// The refusal of a profile that no unit has, and beside it the reason.
-fn refused(alloc: Global, path: &str, fault: UnitFault) -> Result<Output, AllocError> {
+fn refused(
+    alloc: Global,
+    calls: CallTable,
+    path: &str,
+    fault: UnitFault,
+) -> Result<Output, AllocError> {
     let (name, path) = (fault.name(), ShownPath(path));
+    let fault = ShownFault(calls, fault);
     Ok(Output {
         text: format!(in alloc; "refused {name}\n")?,
         code: None,

@@ -10,7 +10,7 @@ use Rattle.command_line.specs.declared.fault.LineFault.TheVariants.{Memory, Unkn
 use Rattle.command_line.specs.declared.fault.Misfit.{Misfit}
 use Rattle.command_line.specs.declared.fault.Misfit.TheVariants.{WithoutRuntime, WithoutSettle, WithSettle}
 use Rattle.command_line.specs.declared.fault.Misfit.TheVariants.{WithoutPods, NothingToTell, Missing}
-use Rattle.command_line.specs.declared.fault.Misfit.TheVariants.{WithoutRecords}
+use Rattle.command_line.specs.declared.fault.Misfit.TheVariants.{WithoutRecords, BadCalls}
 
 abbrev pub misfit_text : Misfit → List ℕ
 misfit_text WithoutRuntime = codes "WithoutRuntime"
@@ -19,6 +19,7 @@ misfit_text WithSettle = codes "WithSettle"
 misfit_text WithoutPods = codes "WithoutPods"
 misfit_text NothingToTell = codes "NothingToTell"
 misfit_text WithoutRecords = codes "WithoutRecords"
+misfit_text BadCalls = codes "BadCalls"
 misfit_text Missing = codes "Missing"
 
 -- out of memory is reported as such, wherever it occurs

@@ -1,5 +1,5 @@
--- The line `nodeagent --socket PATH [--with-runtime] [--scripts DIR] [--profiles DIR] [--baseline FILTER]
--- [--seccomp-default] [--records FILE] [--records-all] [--workers N] [--settle] [--until S] [--cri N]
+-- The line `nodeagent --socket PATH [--with-runtime] [--scripts DIR] [--profiles DIR] [--calls V]
+-- [--baseline FILTER] [--seccomp-default] [--records FILE] [--records-all] [--workers N] [--settle] [--until S] [--cri N]
 -- [--history N] [--pods DIR] [--run NAME] [--state FILE] [--remove] [--reasons] [--counts] [--fail] [--watch]
 -- [--json] [--verbose] [MANIFEST]..`, this project's own: docs/SEMANTICS.md, "Programs".
 use Rattle.std.specs.Prelude.{ℕ, ◌^◌, ◌&&◌, List, Bool, not, if◌then◌else◌, codes, map, Option, Some, None}
@@ -8,7 +8,8 @@ use Rattle.clap.specs.Simple.{App, new_app, with_rule}
 use Rattle.clap.specs.Walk.{Row, first_of}
 use Rattle.command_line.specs.Arguments.{flag_rule, folder_of, has_words, is_set, is_there, option_rule}
 use Rattle.command_line.specs.Arguments.{versioned, word_of, words_of, words_rule}
-use Rattle.command_line.specs.Scriptd.{misfit_of_records, recording, serving}
+use Rattle.sys_table.specs.declared.calls.CallTable.{CallTable}
+use Rattle.command_line.specs.Scriptd.{calls_in, misfit_of_scriptd, or_else, recording, serving}
 use Rattle.command_line.specs.Words.{written_if_there, written_within}
 use Rattle.command_line.specs.declared.fault.Misfit.{Misfit}
 use Rattle.command_line.specs.declared.fault.Misfit.TheVariants.{WithoutRuntime, WithoutSettle, WithSettle}
@@ -77,6 +78,7 @@ pub record Nodeagent : Type 0 where
   pub with_runtime : Bool
   pub scripts : List ℕ
   pub profiles : List ℕ
+  pub calls : CallTable
   pub baseline : Option (List ℕ)
   pub seccomp_default : Bool
   pub records : Option (List ℕ)
@@ -102,6 +104,7 @@ nodeagent_with rows (Ok numbers) = Ok (record {
   with_runtime = is_set (codes "with-runtime") rows;
   scripts = folder_of (codes "scripts") rows;
   profiles = folder_of (codes "profiles") rows;
+  calls = calls_in rows;
   baseline = first_of (codes "baseline") rows;
   seccomp_default = is_set (codes "seccomp-default") rows;
   records = first_of (codes "records") rows;
@@ -126,7 +129,15 @@ settles rows = is_set (codes "settle") rows
 
 -- with --with-runtime a runtime is beside the agent, which reads scripts and profiles, and writes records
 abbrev pub reads_nothing : List ℕ → List Row → Bool
-reads_nothing folder rows = not (is_set (codes "with-runtime") rows) && is_there folder rows
+reads_nothing option rows = not (is_set (codes "with-runtime") rows) && is_there option rows
+
+abbrev pub misfit_of_runtime : List Row → Option (List ℕ × Misfit)
+misfit_of_runtime rows =
+    if reads_nothing (codes "scripts") rows then Some (codes "--scripts", WithoutRuntime)
+    else if reads_nothing (codes "profiles") rows then Some (codes "--profiles", WithoutRuntime)
+    else if reads_nothing (codes "calls") rows then Some (codes "--calls", WithoutRuntime)
+    else if reads_nothing (codes "records") rows then Some (codes "--records", WithoutRuntime)
+    else None
 
 -- a run that ends once its pods are over has no use for pods that come later, nor for a file of them; the
 -- file keeps the pods of a folder
@@ -160,20 +171,14 @@ misfit_of_pods rows =
     then Some (codes "MANIFEST", Missing)
     else None
 
-abbrev pub or_else : Option (List ℕ × Misfit) → Option (List ℕ × Misfit) → Option (List ℕ × Misfit)
-or_else (Some first) other = Some first
-or_else None other = other
-
 abbrev pub misfit_of_rest : List Row → Option (List ℕ × Misfit)
 misfit_of_rest rows = or_else (misfit_of_end rows) (misfit_of_pods rows)
 
 -- the first word, in the order of the line, that does not go with the others
 abbrev pub misfit_in : List Row → Option (List ℕ × Misfit)
 misfit_in rows =
-    if reads_nothing (codes "scripts") rows then Some (codes "--scripts", WithoutRuntime)
-    else if reads_nothing (codes "profiles") rows then Some (codes "--profiles", WithoutRuntime)
-    else if reads_nothing (codes "records") rows then Some (codes "--records", WithoutRuntime)
-    else or_else (misfit_of_records rows) (or_else (misfit_of_folder rows) (misfit_of_rest rows))
+    or_else (misfit_of_runtime rows) (or_else (misfit_of_scriptd rows) (or_else (misfit_of_folder rows)
+    (misfit_of_rest rows)))
 
 -- the values of a line by its matches, or the first word that is not a number in its range
 abbrev pub nodeagent_in : List Row → Result Nodeagent (List ℕ)
@@ -186,6 +191,7 @@ nodeagent_of line = record {
   with_runtime = line.with_runtime;
   scripts = line.scripts.now;
   profiles = line.profiles.now;
+  calls = line.calls;
   baseline = option_map (λ w. w.now) line.baseline;
   seccomp_default = line.seccomp_default;
   records = option_map (λ w. w.now) line.records;

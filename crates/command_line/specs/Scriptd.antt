@@ -1,19 +1,23 @@
--- The line `scriptd --socket PATH [--scripts DIR] [--profiles DIR] [--baseline FILTER] [--runners N]
--- [--records FILE] [--records-all] [--verbose]`, this project's own: docs/SEMANTICS.md, "Programs".
+-- The line `scriptd --socket PATH [--scripts DIR] [--profiles DIR] [--calls V] [--baseline FILTER]
+-- [--runners N] [--records FILE] [--records-all] [--verbose]`, this project's own: docs/SEMANTICS.md, "Programs".
 use Rattle.std.specs.Prelude.{ℕ, ◌&&◌, List, Bool, not, if◌then◌else◌, codes, Option, Some, None, Result, Ok}
-use Rattle.std.specs.Prelude.{Err, option_map}
+use Rattle.std.specs.Prelude.{Err, option_map, unwrap_or, is_some}
+use Rattle.sys_table.specs.SysTable.{table_of}
+use Rattle.sys_table.specs.declared.calls.CallTable.{CallTable}
+use Rattle.sys_table.specs.declared.calls.CallTable.TheVariants.{Linux5_8}
 use Rattle.clap.specs.Simple.{App, new_app, with_rule}
 use Rattle.clap.specs.Walk.{Row, first_of}
 use Rattle.command_line.specs.Arguments.{flag_rule, folder_of, is_set, is_there, option_rule, required_rule}
 use Rattle.command_line.specs.Arguments.{versioned, word_of}
 use Rattle.command_line.specs.declared.fault.Misfit.{Misfit}
-use Rattle.command_line.specs.declared.fault.Misfit.TheVariants.{WithoutRecords}
+use Rattle.command_line.specs.declared.fault.Misfit.TheVariants.{WithoutRecords, BadCalls}
 use Rattle.command_line.specs.Words.{written_within}
 use Rattle.command_line.specs.declared.scriptd.ScriptdLine.{ScriptdLine}
 
 -- the command line, to clap
 abbrev pub folders : App → App
-folders app = with_rule (with_rule app (option_rule (codes "scripts"))) (option_rule (codes "profiles"))
+folders app = with_rule (with_rule (with_rule app (option_rule (codes "scripts")))
+    (option_rule (codes "profiles"))) (option_rule (codes "calls"))
 
 abbrev pub serving : App → App
 serving app = with_rule (folders (with_rule app (required_rule (codes "socket"))))
@@ -29,11 +33,21 @@ stepping app = with_rule (recording (with_rule app (option_rule (codes "runners"
 unfoldable pub scriptd : App
 scriptd = stepping (serving (versioned (new_app (codes "scriptd"))))
 
+-- the calls of the version of Linux that a word names, if it has a table; without a word those of 5.8
+abbrev pub calls_named : Option (List ℕ) → Option CallTable
+calls_named None = Some Linux5_8
+calls_named (Some version) = table_of version
+
+-- the calls that scripts and profiles can name
+abbrev pub calls_in : List Row → CallTable
+calls_in rows = unwrap_or (calls_named (first_of (codes "calls") rows)) Linux5_8
+
 -- the values of a line
 pub record Scriptd : Type 0 where
   pub socket : List ℕ
   pub scripts : List ℕ
   pub profiles : List ℕ
+  pub calls : CallTable
   pub baseline : Option (List ℕ)
   -- from 1 to 64, by default 4
   pub runners : ℕ
@@ -48,6 +62,7 @@ scriptd_with rows (Ok runners) = Ok (record {
   socket = word_of (codes "socket") rows;
   scripts = folder_of (codes "scripts") rows;
   profiles = folder_of (codes "profiles") rows;
+  calls = calls_in rows;
   baseline = first_of (codes "baseline") rows;
   runners = runners;
   records = first_of (codes "records") rows;
@@ -66,12 +81,26 @@ misfit_of_records rows =
     then Some (codes "--records-all", WithoutRecords)
     else None
 
+-- only some versions of Linux have a table
+abbrev pub misfit_of_calls : List Row → Option (List ℕ × Misfit)
+misfit_of_calls rows =
+    if is_some (calls_named (first_of (codes "calls") rows)) then None else Some (codes "--calls", BadCalls)
+
+abbrev pub or_else : Option (List ℕ × Misfit) → Option (List ℕ × Misfit) → Option (List ℕ × Misfit)
+or_else (Some first) other = Some first
+or_else None other = other
+
+-- the first word, in the order of the line, that does not go with the others
+abbrev pub misfit_of_scriptd : List Row → Option (List ℕ × Misfit)
+misfit_of_scriptd rows = or_else (misfit_of_calls rows) (misfit_of_records rows)
+
 -- the borrowed texts of a line
 abbrev pub scriptd_of : ScriptdLine → Scriptd
 scriptd_of line = record {
   socket = line.socket.now;
   scripts = line.scripts.now;
   profiles = line.profiles.now;
+  calls = line.calls;
   baseline = option_map (λ w. w.now) line.baseline;
   runners = line.runners;
   records = option_map (λ w. w.now) line.records;

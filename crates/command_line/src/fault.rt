@@ -16,6 +16,8 @@ pub enum Misfit {
     NothingToTell,
     /// The option selects what records list, and the line names no file for them.
     WithoutRecords,
+    /// The word of the option is no version of Linux whose calls are known.
+    BadCalls,
     /// The line requires this word.
     Missing,
 }
@@ -35,6 +37,7 @@ impl fmt::Display for Misfit {
             Misfit::WithoutPods => f.write_str("WithoutPods"),
             Misfit::NothingToTell => f.write_str("NothingToTell"),
             Misfit::WithoutRecords => f.write_str("WithoutRecords"),
+            Misfit::BadCalls => f.write_str("BadCalls"),
             Misfit::Missing => f.write_str("Missing"),
         }
     }

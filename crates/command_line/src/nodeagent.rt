@@ -5,20 +5,24 @@ ghost use Rattle.clap.specs.Faults.{fault_of};
 ghost use Rattle.clap.specs.Simple.{app_of, matches_of};
 ghost use Rattle.clap.specs.Walk.{rows_of};
 ghost use Rattle.command_line.specs.Faults.{TellsFault};
+ghost use Rattle.command_line.specs.Scriptd.{misfit_of_scriptd, or_else};
 ghost use Rattle.command_line.specs.Words.{told};
 ghost use Rattle.command_line.specs.Nodeagent.{choosing, coming, ending, misfit_in, misfit_of_end};
 ghost use Rattle.command_line.specs.Nodeagent.{misfit_of_folder, misfit_of_pods, misfit_of_rest, naming};
-ghost use Rattle.command_line.specs.Nodeagent.{nodeagent, nodeagent_in, nodeagent_of, or_else};
+ghost use Rattle.command_line.specs.Nodeagent.{misfit_of_runtime, nodeagent, nodeagent_in, nodeagent_of};
 ghost use Rattle.command_line.specs.Nodeagent.{nodeagent_with, numbers_in, reads_nothing, running, settling};
 ghost use Rattle.command_line.specs.Nodeagent.{speaking, telling, working};
 
 use crate::arguments::{versioned, with_flag, with_option, with_words};
 use crate::fault::{LineFault, Misfit};
-use crate::matched::{folder_at, has_words, is_set, is_there, required_at, word_at, words_at};
-use crate::scriptd::{matches_in, misfit_of_records, recording, serving};
+use crate::matched::{
+    calls_at, folder_at, has_words, is_set, is_there, required_at, word_at, words_at,
+};
+use crate::scriptd::{matches_in, misfit_of_scriptd, recording, serving};
 use crate::written::{number_if_there, number_within};
 use clap::{ArgMatches, Command};
 use std::alloc::{AllocError, Global};
+use sys_table::CallTable;
 
 /// The numeric options of a line.
 #[derive(Clone, Copy, Debug)]
@@ -44,6 +48,8 @@ pub struct NodeagentLine<'a> {
     pub scripts: &'a str,
     /// The folder of the profiles.
     pub profiles: &'a str,
+    /// The calls that scripts and profiles can name.
+    pub calls: CallTable,
     /// The file of the node's own filter.
     pub baseline: Option<&'a str>,
     /// Whether a container without a seccomp profile gets RuntimeDefault.
@@ -281,17 +287,37 @@ fn telling<'a>(alloc: Global, command: Command<'a>) -> Result<Command<'a>, Alloc
 fn misfit(matches: &ArgMatches) -> Option<(&'static str, Misfit)>
     ensures { option_map (λ m. (m.0.now, m.1)) result ≡ misfit_in (rows_of (found_of matches.now)) }
 {
+    match misfit_of_runtime(matches) {
+        Some(misfit) => Some(misfit),
+        None => misfit_beside(matches),
+    }
+}
+
+fn misfit_beside(matches: &ArgMatches) -> Option<(&'static str, Misfit)>
+    ensures { option_map (λ m. (m.0.now, m.1)) result ≡ or_else
+        (misfit_of_scriptd (rows_of (found_of matches.now)))
+        (or_else (misfit_of_folder (rows_of (found_of matches.now))) (misfit_of_rest (rows_of (found_of matches.now)))) }
+{
+    match misfit_of_scriptd(matches) {
+        Some(misfit) => Some(misfit),
+        None => misfit_of_folder_and_rest(matches),
+    }
+}
+
+// The first option for a runtime in the same process, if the line does not ask for one.
+fn misfit_of_runtime(matches: &ArgMatches) -> Option<(&'static str, Misfit)>
+    ensures { option_map (λ m. (m.0.now, m.1)) result ≡ misfit_of_runtime (rows_of (found_of matches.now)) }
+{
     if reads_nothing(matches, "scripts") {
         Some(("--scripts", Misfit::WithoutRuntime))
     } else if reads_nothing(matches, "profiles") {
         Some(("--profiles", Misfit::WithoutRuntime))
+    } else if reads_nothing(matches, "calls") {
+        Some(("--calls", Misfit::WithoutRuntime))
     } else if reads_nothing(matches, "records") {
         Some(("--records", Misfit::WithoutRuntime))
     } else {
-        match misfit_of_records(matches) {
-            Some(misfit) => Some(misfit),
-            None => misfit_of_folder_and_rest(matches),
-        }
+        None
     }
 }
 
@@ -314,11 +340,11 @@ fn misfit_of_rest(matches: &ArgMatches) -> Option<(&'static str, Misfit)>
     }
 }
 
-// Whether the folder is given although no runtime would use it.
-fn reads_nothing(matches: &ArgMatches, folder: &str) -> bool
-    ensures { result ≡ reads_nothing folder.now (rows_of (found_of matches.now)) }
+// Whether the option is given although no runtime would use it.
+fn reads_nothing(matches: &ArgMatches, option: &str) -> bool
+    ensures { result ≡ reads_nothing option.now (rows_of (found_of matches.now)) }
 {
-    !is_set(matches, "with-runtime") && is_there(matches, folder)
+    !is_set(matches, "with-runtime") && is_there(matches, option)
 }
 
 fn misfit_of_folder(matches: &ArgMatches) -> Option<(&'static str, Misfit)>
@@ -395,6 +421,7 @@ fn said<'a>(
         with_runtime: is_set(matches, "with-runtime"),
         scripts: folder_at(matches, "scripts"),
         profiles: folder_at(matches, "profiles"),
+        calls: calls_at(matches),
         baseline: word_at(matches, "baseline"),
         seccomp_default: is_set(matches, "seccomp-default"),
         records: word_at(matches, "records"),

@@ -6,15 +6,16 @@ ghost use Rattle.clap.specs.Faults.{fault_of, is_simple_and_free};
 ghost use Rattle.clap.specs.Simple.{app_of, is_simple, matches_of};
 ghost use Rattle.clap.specs.Walk.{rows_of};
 ghost use Rattle.command_line.specs.Faults.{IsRefusal, TellsFault};
-ghost use Rattle.command_line.specs.Scriptd.{folders, misfit_of_records, recording, scriptd, scriptd_in};
-ghost use Rattle.command_line.specs.Scriptd.{scriptd_of, serving, stepping};
+ghost use Rattle.command_line.specs.Scriptd.{folders, misfit_of_calls, misfit_of_records, misfit_of_scriptd};
+ghost use Rattle.command_line.specs.Scriptd.{recording, scriptd, scriptd_in, scriptd_of, serving, stepping};
 
 use crate::arguments::{versioned, with_flag, with_option, with_required};
 use crate::fault::{LineFault, Misfit};
-use crate::matched::{folder_at, is_set, is_there, required_at, word_at};
+use crate::matched::{calls_at, folder_at, has_calls, is_set, is_there, required_at, word_at};
 use crate::written::number_within;
 use clap::{ArgMatches, Command};
 use std::alloc::{AllocError, Global};
+use sys_table::CallTable;
 
 /// The values on the command line of `scriptd`.
 #[derive(Clone, Copy, Debug)]
@@ -25,6 +26,8 @@ pub struct ScriptdLine<'a> {
     pub scripts: &'a str,
     /// The folder of the profiles.
     pub profiles: &'a str,
+    /// The calls that scripts and profiles can name.
+    pub calls: CallTable,
     /// The file of the node's own filter.
     pub baseline: Option<&'a str>,
     /// How many threads step the containers, from 1 to 64.
@@ -48,15 +51,15 @@ pub fn scriptd_line<'a>(
     ensures line { IfOk result (λ line. scriptd_in (matches_of scriptd (map string_bytes words.now))
         ≡ Ok (scriptd_of line)) }
     ensures fault { IfErr result (TellsFault (fault_of scriptd (map string_bytes words.now))
-        (misfit_of_records (matches_of scriptd (map string_bytes words.now)))
+        (misfit_of_scriptd (matches_of scriptd (map string_bytes words.now)))
         (scriptd_in (matches_of scriptd (map string_bytes words.now)))) }
 
     // A word that does not go with the others is refused.
-    ensures used { IfOk result (λ _. misfit_of_records (matches_of scriptd (map string_bytes words.now))
+    ensures used { IfOk result (λ _. misfit_of_scriptd (matches_of scriptd (map string_bytes words.now))
         ≡ None) }
 {
     let matches = matches_in(scriptd(alloc)?, words)?;
-    if let Some((word, why)) = misfit_of_records(&matches) {
+    if let Some((word, why)) = misfit_of_scriptd(&matches) {
         return Err(LineFault::Misfit(word, why));
     }
     match said(&matches) {
@@ -114,13 +117,33 @@ pub(crate) fn recording<'a>(alloc: Global, command: Command<'a>) -> Result<Comma
 }
 
 /// The option of records that does not go with the others.
-pub(crate) fn misfit_of_records(matches: &ArgMatches) -> Option<(&'static str, Misfit)>
+fn misfit_of_records(matches: &ArgMatches) -> Option<(&'static str, Misfit)>
     ensures { option_map (λ m. (m.0.now, m.1)) result ≡ misfit_of_records (rows_of (found_of matches.now)) }
 {
     if is_set(matches, "records-all") && !is_there(matches, "records") {
         Some(("--records-all", Misfit::WithoutRecords))
     } else {
         None
+    }
+}
+
+fn misfit_of_calls(matches: &ArgMatches) -> Option<(&'static str, Misfit)>
+    ensures { option_map (λ m. (m.0.now, m.1)) result ≡ misfit_of_calls (rows_of (found_of matches.now)) }
+{
+    if has_calls(matches) {
+        None
+    } else {
+        Some(("--calls", Misfit::BadCalls))
+    }
+}
+
+/// The first option of a program that runs containers that does not go with the others.
+pub(crate) fn misfit_of_scriptd(matches: &ArgMatches) -> Option<(&'static str, Misfit)>
+    ensures { option_map (λ m. (m.0.now, m.1)) result ≡ misfit_of_scriptd (rows_of (found_of matches.now)) }
+{
+    match misfit_of_calls(matches) {
+        Some(misfit) => Some(misfit),
+        None => misfit_of_records(matches),
     }
 }
 
@@ -149,12 +172,19 @@ fn folders<'a>(alloc: Global, command: Command<'a>) -> Result<Command<'a>, Alloc
         "DIR",
         "Folder of the containers' scripts [default: .]",
     )?;
-    with_option(
+    let command = with_option(
         alloc,
         command,
         "profiles",
         "DIR",
         "Folder of the seccomp profiles [default: .]",
+    )?;
+    with_option(
+        alloc,
+        command,
+        "calls",
+        "V",
+        "Version of Linux whose calls are known by name, 5.8 or 6.12 [default: 5.8]",
     )
 }
 
@@ -181,6 +211,7 @@ fn said<'a>(matches: &ArgMatches<'a>) -> Result<ScriptdLine<'a>, &'a str>
         socket: required_at(matches, "socket"),
         scripts: folder_at(matches, "scripts"),
         profiles: folder_at(matches, "profiles"),
+        calls: calls_at(matches),
         baseline: word_at(matches, "baseline"),
         runners,
         records: word_at(matches, "records"),

@@ -10,6 +10,7 @@ use fault_notes::ShownPath;
 use node_io::{look_at_folder, read_stream};
 use std::alloc::{AllocError, Global};
 use std::rt;
+use sys_table::CallTable;
 
 // How many bytes a file of records may have.
 const MAX_RECORDS_BYTES: u64 = 268_435_456;
@@ -17,6 +18,8 @@ const MAX_RECORDS_BYTES: u64 = 268_435_456;
 /// The options of `seccheck denied`.
 #[derive(Clone, Copy)]
 pub struct DeniedAsked<'a> {
+    /// The calls that are named, and that profiles may name.
+    pub calls: CallTable,
     /// Whether the calls are added up over all containers.
     pub by_call: bool,
     /// The folder of the profiles, if each call's deciding entry is wanted.
@@ -49,7 +52,7 @@ pub fn denied_output<'a, R: rt::Files + AllocGlobal>(
     } = found;
     let sightings = in_order(sightings)?;
     let text = if asked.by_call {
-        totals_text(alloc, sightings.as_slice(), asked.form)?
+        totals_text(alloc, sightings.as_slice(), asked)?
     } else {
         rows_text(rt, sightings.as_slice(), asked, &mut aside)?
     };
@@ -62,9 +65,10 @@ fn records_at<'a, R: rt::Files + AllocGlobal>(rt: &R, path: &'a str) -> Result<V
 }
 
 /// The denied calls of the records in a file as lines of six cells, the most denied first, and the reports on
-/// lines other than records.
+/// lines other than records. A call is named if it is one of these calls.
 pub fn denied_lines<'a, R: rt::Files + AllocGlobal>(
     rt: &R,
+    calls: CallTable,
     path: &'a str,
 ) -> Result<(Vec<Vec<String>>, String), Stop<'a>> {
     let alloc = rt.alloc();
@@ -76,16 +80,20 @@ pub fn denied_lines<'a, R: rt::Files + AllocGlobal>(
     add_file(alloc, &mut found, path, &bytes)?;
     let Found { sightings, aside } = found;
     let sightings = in_order(sightings)?;
-    Ok((lines_of(alloc, sightings.as_slice())?, aside))
+    Ok((lines_of(alloc, calls, sightings.as_slice())?, aside))
 }
 
 /// A line for each container and denied call.
-fn lines_of(alloc: Global, sightings: &[Sighting]) -> Result<Vec<Vec<String>>, AllocError> {
+fn lines_of(
+    alloc: Global,
+    calls: CallTable,
+    sightings: &[Sighting],
+) -> Result<Vec<Vec<String>>, AllocError> {
     let mut lines = Vec::new(alloc);
     for row in rows(alloc, sightings)?.as_slice() {
         // Each place is one of the sightings.
         if let Some(sighting) = sightings.get(row.place) {
-            lines.push(row_line(alloc, sighting, row.count.0)?)?;
+            lines.push(row_line(alloc, calls, sighting, row.count.0)?)?;
         }
     }
     Ok(lines)
@@ -128,20 +136,24 @@ fn add_line(
 }
 
 /// The calls, added up over all containers.
-fn totals_text(alloc: Global, sightings: &[Sighting], form: Form) -> Result<String, AllocError> {
+fn totals_text(
+    alloc: Global,
+    sightings: &[Sighting],
+    asked: DeniedAsked<'_>,
+) -> Result<String, AllocError> {
     let totals = totals(alloc, sightings)?;
-    match form {
+    match asked.form {
         Form::Text => {
             let mut lines = vec![in alloc; total_head(alloc)?]?;
             for total in totals.as_slice() {
-                lines.push(total_line(alloc, *total)?)?;
+                lines.push(total_line(alloc, asked.calls, *total)?)?;
             }
             table(alloc, lines.as_slice())
         }
         Form::Json => {
             let mut text = String::new(alloc);
             for total in totals.as_slice() {
-                text.push_str(total_object(alloc, *total)?.as_str())?;
+                text.push_str(total_object(alloc, asked.calls, *total)?.as_str())?;
             }
             Ok(text)
         }
@@ -156,13 +168,13 @@ fn rows_text<'a, R: rt::Files + AllocGlobal>(
     aside: &mut String,
 ) -> Result<String, AllocError> {
     let alloc = rt.alloc();
-    let mut used = UsedProfiles::new(alloc, asked.profiles);
+    let mut used = UsedProfiles::new(alloc, asked.calls, asked.profiles);
     let mut text = Rows::new(alloc, asked)?;
     for row in rows(alloc, sightings)?.as_slice() {
         // Each place is one of the sightings.
         if let Some(sighting) = sightings.get(row.place) {
             let by = used.deciders(rt, sighting, aside)?;
-            text.add(alloc, sighting, *row, by.as_ref())?;
+            text.add(alloc, asked.calls, sighting, *row, by.as_ref())?;
         }
     }
     text.text(alloc)
@@ -192,13 +204,14 @@ impl Rows {
     fn add(
         &mut self,
         alloc: Global,
+        calls: CallTable,
         sighting: &Sighting,
         row: Row,
         by: Option<&Vec<Decider>>,
     ) -> Result<(), AllocError> {
         match self {
             Rows::Lines(lines) => {
-                let mut line = row_line(alloc, sighting, row.count.0)?;
+                let mut line = row_line(alloc, calls, sighting, row.count.0)?;
                 if let Some(by) = by {
                     line.push(by_cell(alloc, by.as_slice())?)?;
                 }
@@ -210,7 +223,7 @@ impl Rows {
                     Some(by) => by_member(alloc, by.as_slice())?,
                     None => String::new(alloc),
                 };
-                let object = row_object(alloc, sighting, row.count.0, by.as_str())?;
+                let object = row_object(alloc, calls, sighting, row.count.0, by.as_str())?;
                 text.push_str(object.as_str())
             }
         }

@@ -32,6 +32,8 @@ pub struct PodAsked<'a> {
     pub baseline: Option<&'a str>,
     pub seccomp_default: bool,
     pub attempt: u32,
+    /// The calls that scripts and profiles may name.
+    pub calls: CallTable,
     pub naming: Naming,
     pub form: Form,
 }
@@ -168,7 +170,7 @@ fn script_of<R: rt::Files + AllocGlobal>(
     let (folder, image) = (asked.scripts, container.image.as_str());
     let path = format!(in alloc; "{folder}/{image}")?;
     let bytes = bytes_in(rt, path.as_str(), asked.form)?;
-    match script::read_placed(alloc, &bytes) {
+    match script::read_placed_with(alloc, asked.calls, &bytes) {
         Ok(script) => Ok(script),
         Err(found) => {
             let stop = refused_stop(path.as_str(), bytes, Refused::Script(found));
@@ -207,7 +209,7 @@ fn own_at<R: rt::Files + AllocGlobal>(
     let folder = asked.profiles;
     let path = format!(in alloc; "{folder}/{path}")?;
     let bytes = bytes_in(rt, path.as_str(), asked.form)?;
-    let file = match profile_of(alloc, CallTable::Linux5_8, path.as_str(), bytes) {
+    let file = match profile_of(alloc, asked.calls, path.as_str(), bytes) {
         Ok(file) => file,
         Err(stop) => return Err(ended_by(alloc, &stop, asked.form)?),
     };

@@ -20,14 +20,20 @@ struct Used {
 /// The profiles that were needed so far.
 #[derive(Drop)]
 pub(crate) struct UsedProfiles<'a> {
+    calls: CallTable,
     folder: Option<&'a str>,
     used: Vec<Used>,
 }
 
 impl<'a> UsedProfiles<'a> {
-    /// No profile was needed yet. Without a folder none will be.
-    pub(crate) fn new(alloc: Global, folder: Option<&'a str>) -> UsedProfiles<'a> {
+    /// No profile was needed yet. Without a folder none will be. Those of the folder may name these calls.
+    pub(crate) fn new(
+        alloc: Global,
+        calls: CallTable,
+        folder: Option<&'a str>,
+    ) -> UsedProfiles<'a> {
         UsedProfiles {
+            calls,
             folder,
             used: Vec::new(alloc),
         }
@@ -48,7 +54,7 @@ impl<'a> UsedProfiles<'a> {
         if self.known(name).is_none() {
             let used = Used {
                 name: String::from_str(rt.alloc(), name)?,
-                profile: profile_named(rt, folder, name, aside)?,
+                profile: profile_named(rt, self.calls, folder, name, aside)?,
             };
             self.used.push(used)?;
         }
@@ -82,12 +88,13 @@ fn denied(call: &Sighting) -> DeniedCall {
 /// The profile with this name in records. There is none where a container is unconfined.
 fn profile_named<R: rt::Files + AllocGlobal>(
     rt: &R,
+    calls: CallTable,
     folder: &str,
     name: &str,
     aside: &mut String,
 ) -> Result<Option<Profile>, AllocError> {
     match name.strip_prefix("localhost/") {
-        Some(path) => profile_in(rt, folder, path, aside),
+        Some(path) => profile_in(rt, calls, folder, path, aside),
         None if name == "runtime/default" => Ok(Some(runtime_default(rt.alloc())?)),
         None => Ok(None),
     }
@@ -96,6 +103,7 @@ fn profile_named<R: rt::Files + AllocGlobal>(
 /// The profile at a path in the folder. If it can't be read there is none, and `aside` gets the reason.
 fn profile_in<R: rt::Files + AllocGlobal>(
     rt: &R,
+    calls: CallTable,
     folder: &str,
     path: &str,
     aside: &mut String,
@@ -116,7 +124,7 @@ fn profile_in<R: rt::Files + AllocGlobal>(
             return Ok(None);
         }
     };
-    match profile_of(alloc, CallTable::Linux5_8, whole.as_str(), bytes) {
+    match profile_of(alloc, calls, whole.as_str(), bytes) {
         Ok(file) => {
             aside.push_str(file.aside.as_str())?;
             Ok(Some(file.profile))

@@ -8,10 +8,8 @@ use Rattle.node_io.specs.declared.faults.FileFault.TheVariants as fault
 use Rattle.manifest.specs.declared.profiles.SeccompProfile.{SeccompProfile}
 use Rattle.manifest.specs.declared.profiles.SeccompProfile.TheVariants.{RuntimeDefault, Localhost, Unconfined}
 use Rattle.oci_profile.specs.declared.profile.Profile.{Profile}
-use Rattle.oci_profile.specs.Profile.{ReadsProfile}
 use Rattle.oci_profile.specs.RuntimeDefault.{runtime_default}
 use Rattle.script.specs.declared.scripts.Step.{Step}
-use Rattle.script.specs.Script.{ReadsScript}
 use Rattle.cri_msgs.specs.declared.keys.ContainerMetadata.{ContainerMetadata}
 use Rattle.cri_msgs.specs.declared.refusals.Refusal.{Refusal}
 use Rattle.cri_msgs.specs.declared.refusals.Refusal.TheVariants.{Internal, Memory}
@@ -19,7 +17,7 @@ use Rattle.runtime_cell.specs.declared.label.Label.{Label}
 use Rattle.runtime_cell.specs.declared.cell.State.TheVariants.{Created}
 use Rattle.runtime_cell.specs.Cell.{Cell, FollowsScript, GivesMeaning, Making, fresh}
 use Rattle.creation.specs.declared.files.FileAnswers.{FileAnswers}
-use Rattle.creation.specs.Made.{LacksIn, LacksScript}
+use Rattle.creation.specs.Made.{FileText, IsProfileOf, IsScriptOf, LacksIn, LacksScript}
 
 abbrev pub refusal_of : FileFault → Refusal
 refusal_of fault.NotFound = Internal
@@ -27,28 +25,28 @@ refusal_of fault.TooLarge = Internal
 refusal_of fault.Failed = Internal
 refusal_of fault.Memory = Memory
 
--- the bytes of a required file; a missing result counts as a failed read
-abbrev pub bytes_in : Option (Result (List ℕ) FileFault) → Result (List ℕ) Refusal
-bytes_in None = Err Internal
-bytes_in (Some (Err f)) = Err (refusal_of f)
-bytes_in (Some (Ok bytes)) = Ok bytes
+-- the text of a required file; a missing result counts as a failed read
+abbrev pub text_in : Option (Result FileText FileFault) → Result FileText Refusal
+text_in None = Err Internal
+text_in (Some (Err f)) = Err (refusal_of f)
+text_in (Some (Ok text)) = Ok text
 
-abbrev pub IsScriptIn : Result (List ℕ) Refusal → List Step → Type 0
+abbrev pub IsScriptIn : Result FileText Refusal → List Step → Type 0
 IsScriptIn (Err refusal) script = ⊥
-IsScriptIn (Ok bytes) script = ReadsScript bytes script
+IsScriptIn (Ok text) script = IsScriptOf text script
 
-abbrev pub IsProfileIn : Result (List ℕ) Refusal → Profile → Type 0
+abbrev pub IsProfileIn : Result FileText Refusal → Profile → Type 0
 IsProfileIn (Err refusal) profile = ⊥
-IsProfileIn (Ok bytes) profile = ReadsProfile bytes profile
+IsProfileIn (Ok text) profile = IsProfileOf text profile
 
 -- the profile of a container's own, if it has one
-abbrev pub IsProfileFor : SeccompProfile → Result (List ℕ) Refusal → Option Profile → Type 0
+abbrev pub IsProfileFor : SeccompProfile → Result FileText Refusal → Option Profile → Type 0
 IsProfileFor Unconfined file profile = profile ≡ None
 IsProfileFor RuntimeDefault file profile = profile ≡ Some runtime_default
 IsProfileFor (Localhost path) file None = ⊥
 IsProfileFor (Localhost path) file (Some profile) = IsProfileIn file profile
 
-abbrev pub LacksProfile : SeccompProfile → Result (List ℕ) Refusal → Refusal → Type 0
+abbrev pub LacksProfile : SeccompProfile → Result FileText Refusal → Refusal → Type 0
 LacksProfile Unconfined file refusal = ⊥
 LacksProfile RuntimeDefault file refusal = ⊥
 LacksProfile (Localhost path) file refusal = LacksIn file refusal
@@ -87,8 +85,8 @@ pub record IsMadeFrom (baseline : Option (List Insn)) (id : ℕ) (container : Co
     (image : List ℕ) (choice : SeccompProfile)
     (files : FileAnswers) (making : Making) : Type 0 where
   pub label : making.label ≡ label_for id container image choice
-  pub script : IsScriptIn (bytes_in files.script) making.script
-  pub profile : IsProfileFor choice (bytes_in files.profile) making.profile
+  pub script : IsScriptIn (text_in files.script) making.script
+  pub profile : IsProfileFor choice (text_in files.profile) making.profile
   pub filters : HasFilters (option_to_list baseline) making.profile making.stack
 
 -- a cell that was not started, made from these, which follows its script
@@ -113,10 +111,10 @@ pub record IsCellOf (older : List (List Insn)) (script : List Step) (profile : O
 
 -- why no cell is made: the script's file comes first
 abbrev pub Lacks : SeccompProfile → FileAnswers → Refusal → Type 0
-Lacks choice files refusal = LacksScript (bytes_in files.script) refusal
-    ⊎ ((script : List Step) × IsScriptIn (bytes_in files.script) script
-    × LacksProfile choice (bytes_in files.profile) refusal)
+Lacks choice files refusal = LacksScript (text_in files.script) refusal
+    ⊎ ((script : List Step) × IsScriptIn (text_in files.script) script
+    × LacksProfile choice (text_in files.profile) refusal)
 
 -- the script's file was read
 abbrev pub WasRead : FileAnswers → Type 0
-WasRead files = (bytes : List ℕ) × (bytes_in files.script ≡ Ok bytes)
+WasRead files = (text : FileText) × (text_in files.script ≡ Ok text)

@@ -1,14 +1,13 @@
 //! What a container is made from: its files, its filters, its name.
-ghost use Rattle.std.specs.Prelude.{◌≡◌, ◌⊎◌, ◌++◌, ℕ, List, [], ◌∷◌, Ok, IfOk, IfErr, IfSome, IsSome, OnOk};
+ghost use Rattle.std.specs.Prelude.{◌≡◌, ◌⊎◌, ◌++◌, [], ◌∷◌, Ok, IfOk, IfErr, IfSome, IsSome, OnOk};
 ghost use Rattle.std.specs.Prelude.{Some, option_map, option_to_list};
-ghost use Rattle.oci_profile.specs.Profile.{ReadsProfile};
 ghost use Rattle.oci_profile.specs.RuntimeDefault.{runtime_default};
 ghost use Rattle.cri_msgs.specs.declared.refusals.Refusal.{Refusal};
 ghost use Rattle.runtime_cell.specs.Cell.{FollowsScript, GivesMeaning};
 ghost use Rattle.verdict.specs.Stack.{AllSound};
 ghost use Rattle.creation.specs.Files.{IsCellOf, IsMade, IsProfileFor, IsProfileIn, IsScriptIn, Lacks};
-ghost use Rattle.creation.specs.Files.{LacksProfile, WasRead, bytes_in, label_for, path_of, refusal_of};
-ghost use Rattle.creation.specs.Made.{LacksIn, LacksScript};
+ghost use Rattle.creation.specs.Files.{LacksProfile, WasRead, text_in, label_for, path_of, refusal_of};
+ghost use Rattle.creation.specs.Made.{FileText, IsProfileOf, LacksIn, LacksScript};
 
 use crate::files::{Contents, FileAnswer, FileAnswers};
 use crate::ready::ReadyDefault;
@@ -33,7 +32,7 @@ fn refusal_of(fault: FileFault) -> Refusal
 
 /// The contents of a required file.
 fn contents_in<T: ReadAs + Drop>(answer: FileAnswer<T>) -> Result<Contents<T>, Refusal>
-    ensures { result ≡ bytes_in answer }
+    ensures { result ≡ text_in answer }
 {
     match answer {
         None => Err(Refusal::Internal),
@@ -44,9 +43,9 @@ fn contents_in<T: ReadAs + Drop>(answer: FileAnswer<T>) -> Result<Contents<T>, R
 
 /// The script of a container.
 fn script_of(alloc: Global, answer: FileAnswer<Script>) -> Result<Script, Refusal>
-    ensures found { IfOk result (λ script. IsScriptIn (bytes_in answer) script) }
-    ensures refused { IfErr result (λ refusal. LacksScript (bytes_in answer) refusal
-        ⊎ (((bytes : List ℕ) × (bytes_in answer ≡ Ok bytes)) × (refusal ≡ Refusal.Memory))) }
+    ensures found { IfOk result (λ script. IsScriptIn (text_in answer) script) }
+    ensures refused { IfErr result (λ refusal. LacksScript (text_in answer) refusal
+        ⊎ (((text : FileText) × (text_in answer ≡ Ok text)) × (refusal ≡ Refusal.Memory))) }
 {
     match contents_in(answer) {
         Ok(contents) => contents.into_value(alloc),
@@ -61,11 +60,11 @@ fn own(
     choice: &SeccompProfile,
     answer: FileAnswer<CompiledProfile>,
 ) -> Result<Option<CompiledProfile>, Refusal>
-    ensures found { IfOk result (λ own. IsProfileFor choice.now (bytes_in answer)
+    ensures found { IfOk result (λ own. IsProfileFor choice.now (text_in answer)
         (option_map (λ b. b.profile) own)) }
     ensures means { IfOk result (λ own. IfSome own (λ b. GivesMeaning b.filter b.profile)) }
     ensures refused { IfErr result (λ refusal.
-        (refusal ≡ Refusal.Memory) ⊎ LacksProfile choice.now (bytes_in answer) refusal) }
+        (refusal ≡ Refusal.Memory) ⊎ LacksProfile choice.now (text_in answer) refusal) }
 {
     match choice {
         SeccompProfile::Unconfined => Ok(None),
@@ -89,11 +88,11 @@ fn file_own(
     alloc: Global,
     answer: FileAnswer<CompiledProfile>,
 ) -> Result<Option<CompiledProfile>, Refusal>
-    ensures found { IfOk result (λ own. IfSome own (λ b. IsProfileIn (bytes_in answer) b.profile)) }
+    ensures found { IfOk result (λ own. IfSome own (λ b. IsProfileIn (text_in answer) b.profile)) }
     ensures some { IfOk result (λ own. IsSome own) }
     ensures means { IfOk result (λ own. IfSome own (λ b. GivesMeaning b.filter b.profile)) }
     ensures refused { IfErr result (λ refusal.
-        (refusal ≡ Refusal.Memory) ⊎ LacksIn (bytes_in answer) refusal) }
+        (refusal ≡ Refusal.Memory) ⊎ LacksIn (text_in answer) refusal) }
 {
     match contents_in(answer) {
         Ok(contents) => own_of(alloc, contents),
@@ -105,7 +104,7 @@ fn own_of(
     alloc: Global,
     contents: Contents<CompiledProfile>,
 ) -> Result<Option<CompiledProfile>, Refusal>
-    ensures found { IfOk result (λ own. IfSome own (λ b. ReadsProfile contents b.profile)) }
+    ensures found { IfOk result (λ own. IfSome own (λ b. IsProfileOf contents b.profile)) }
     ensures some { IfOk result (λ own. IsSome own) }
     ensures means { IfOk result (λ own. IfSome own (λ b. GivesMeaning b.filter b.profile)) }
     ensures refused { IfErr result (λ refusal. (refusal ≡ Refusal.Memory) ⊎ LacksIn (Ok contents) refusal) }

@@ -9,11 +9,13 @@ use node_io::FileFault;
 use script::Script;
 use std::alloc::Global;
 use std::marker::Model;
+use sys_table::CallTable;
 
-/// The bytes of a file that was read. Contracts see the list. The result of reading these bytes as a script
-/// or profile may be kept with them.
+/// The bytes of a file that was read, and the calls that are known. Contracts see both. The result of reading
+/// these bytes as a script or profile may be kept with them.
 #[derive(Drop)]
 pub struct Contents<T: ReadAs + Drop> {
+    calls: CallTable,
     bytes: Vec<u8>,
     // `None` if they were not read yet.
     value: Option<Result<T, Refusal>>,
@@ -22,23 +24,25 @@ pub struct Contents<T: ReadAs + Drop> {
 }
 
 impl<T: ReadAs + Drop> Model for Contents<T> {
-    ghost use Rattle.std.specs.Prelude.{ℕ, List, IfSome};
-    ghost use Rattle.creation.specs.Made.{IsReading};
+    ghost use Rattle.std.specs.Prelude.{IfSome};
+    ghost use Rattle.creation.specs.Made.{FileText, IsReading};
 
-    ghost Value = { List ℕ };
+    ghost Value = { FileText };
 
-    ghost view = { λ c. c.bytes.items };
+    ghost view = { λ c. record { calls = c.calls; bytes = c.bytes.items } };
 
     // The value is the result of reading the bytes.
-    ghost invariant = { λ c. IfSome c.value (IsReading T.is_of T.lacks c.bytes.items) };
+    ghost invariant = { λ c. IfSome c.value
+        (IsReading T.is_of T.lacks (record { calls = c.calls; bytes = c.bytes.items })) };
 }
 
 impl<T: ReadAs + Drop> Contents<T> {
-    /// The contents with these bytes.
-    pub fn new(bytes: Vec<u8>) -> Contents<T>
-        ensures { result ≡ bytes.items }
+    /// The contents with these bytes, if these are the known calls.
+    pub fn new(calls: CallTable, bytes: Vec<u8>) -> Contents<T>
+        ensures { result ≡ record { calls = calls; bytes = bytes.items } }
     {
         Contents {
+            calls,
             bytes,
             value: None,
             is_known: false,
@@ -47,9 +51,16 @@ impl<T: ReadAs + Drop> Contents<T> {
 
     /// The bytes.
     pub fn as_slice(&self) -> &[u8]
-        ensures { result.now ≡ self.now }
+        ensures { result.now ≡ self.now.bytes }
     {
         self.bytes.as_slice()
+    }
+
+    /// The calls that are known.
+    pub fn calls(&self) -> CallTable
+        ensures { result ≡ self.now.calls }
+    {
+        self.calls
     }
 
     /// The same contents, with the result of reading them.
@@ -59,9 +70,10 @@ impl<T: ReadAs + Drop> Contents<T> {
         if self.value.is_some() {
             return self;
         }
-        let Contents { bytes, .. } = self;
-        let value = lasting_value(alloc, bytes.as_slice());
+        let Contents { calls, bytes, .. } = self;
+        let value = lasting_value(alloc, calls, bytes.as_slice());
         Contents {
+            calls,
             bytes,
             value,
             is_known: false,
@@ -76,8 +88,9 @@ impl<T: ReadAs + Drop> Contents<T> {
         let Some(value) = known else {
             return self;
         };
-        let Contents { bytes, .. } = self;
+        let Contents { calls, bytes, .. } = self;
         Contents {
+            calls,
             bytes,
             value: Some(Ok(value)),
             is_known: true,
@@ -88,7 +101,7 @@ impl<T: ReadAs + Drop> Contents<T> {
     fn new_text(&self, alloc: Global) -> Option<KeptText<T>> {
         match &self.value {
             Some(Ok(value)) if !self.is_known => {
-                KeptText::new(alloc, self.bytes.as_slice(), value)
+                KeptText::new(alloc, self.calls, self.bytes.as_slice(), value)
             }
             _ => None,
         }
@@ -99,25 +112,32 @@ impl<T: ReadAs + Drop> Contents<T> {
         ensures found { IfOk result (T.is_of self) }
         ensures refused { IfErr result (λ refusal. (refusal ≡ Refusal.Memory) ⊎ T.lacks (Ok self) refusal) }
     {
-        let Contents { bytes, value, .. } = self;
-        value_by(alloc, bytes.as_slice(), value)
+        let Contents {
+            calls,
+            bytes,
+            value,
+            ..
+        } = self;
+        value_by(alloc, calls, bytes.as_slice(), value)
     }
 }
 
 /// The value of these bytes: the kept one, else the result of reading them now.
 fn value_by<T: ReadAs + Drop>(
     alloc: Global,
+    calls: CallTable,
     bytes: &[u8],
     kept: Option<Result<T, Refusal>>,
 ) -> Result<T, Refusal>
-    requires { IfSome kept (IsReading T.is_of T.lacks bytes.now) }
-    ensures found { IfOk result (T.is_of bytes.now) }
-    ensures refused { IfErr result (λ refusal. (refusal ≡ Refusal.Memory) ⊎ T.lacks (Ok bytes.now) refusal) }
+    requires { IfSome kept (IsReading T.is_of T.lacks (record { calls = calls; bytes = bytes.now })) }
+    ensures found { IfOk result (T.is_of (record { calls = calls; bytes = bytes.now })) }
+    ensures refused { IfErr result (λ refusal. (refusal ≡ Refusal.Memory)
+        ⊎ T.lacks (Ok (record { calls = calls; bytes = bytes.now })) refusal) }
 {
     match kept {
         Some(Ok(value)) => Ok(value),
         Some(Err(refusal)) => Err(refusal),
-        None => T::read(alloc, bytes),
+        None => T::read(alloc, calls, bytes),
     }
 }
 
@@ -132,10 +152,14 @@ fn lasting(refusal: Refusal) -> Option<Refusal>
 }
 
 /// The value of these bytes, or why they have none. `None` if memory runs out.
-fn lasting_value<T: ReadAs + Drop>(alloc: Global, bytes: &[u8]) -> Option<Result<T, Refusal>>
-    ensures { IfSome result (IsReading T.is_of T.lacks bytes.now) }
+fn lasting_value<T: ReadAs + Drop>(
+    alloc: Global,
+    calls: CallTable,
+    bytes: &[u8],
+) -> Option<Result<T, Refusal>>
+    ensures { IfSome result (IsReading T.is_of T.lacks (record { calls = calls; bytes = bytes.now })) }
 {
-    match T::read(alloc, bytes) {
+    match T::read(alloc, calls, bytes) {
         Ok(value) => Some(Ok(value)),
         Err(refusal) => Some(Err(lasting(refusal)?)),
     }

@@ -6,6 +6,7 @@ use crate::texts::{CompiledProfile, ReadAs};
 use script::Script;
 use std::alloc::Global;
 use std::marker::Model;
+use sys_table::CallTable;
 
 /// The greatest number of scripts that are kept.
 pub const MAX_KEPT_SCRIPTS: usize = 64;
@@ -16,44 +17,54 @@ pub const MAX_KEPT_PROFILES: usize = 16;
 /// The memory limit of the kept scripts, and that of the kept profiles, in bytes.
 pub const MAX_KEPT_BYTES: usize = 8 << 20;
 
-// A text and its value.
+// A text, the calls that were known to its reader, and its value.
 #[derive(Drop)]
 pub(crate) struct KeptText<T: ReadAs + Drop> {
+    calls: CallTable,
     bytes: Vec<u8>,
     value: T,
 }
 
 impl<T: ReadAs + Drop> Model for KeptText<T> {
-    ghost use Rattle.std.specs.Prelude.{ℕ, List};
+    ghost use Rattle.creation.specs.Made.{FileText};
 
-    ghost Value = { List ℕ × T };
+    ghost Value = { FileText × T };
 
-    ghost view = { λ kept. (kept.bytes.items, kept.value) };
+    ghost view = { λ kept. (record { calls = kept.calls; bytes = kept.bytes.items }, kept.value) };
 
-    ghost invariant = { λ kept. T.is_of kept.bytes.items kept.value };
+    ghost invariant = { λ kept. T.is_of (record { calls = kept.calls; bytes = kept.bytes.items }) kept.value };
 }
 
 impl<T: ReadAs + Drop> KeptText<T> {
     // A copy of this text and its value. `None` if memory runs out.
-    pub(crate) fn new(alloc: Global, bytes: &[u8], value: &T) -> Option<KeptText<T>>
-        requires { T.is_of bytes.now value.now }
+    pub(crate) fn new(
+        alloc: Global,
+        calls: CallTable,
+        bytes: &[u8],
+        value: &T,
+    ) -> Option<KeptText<T>>
+        requires { T.is_of (record { calls = calls; bytes = bytes.now }) value.now }
     {
         let bytes = Vec::from_slice(alloc, bytes).ok()?;
         let value = value.share(alloc).ok()?;
-        Some(KeptText { bytes, value })
+        Some(KeptText {
+            calls,
+            bytes,
+            value,
+        })
     }
 
-    fn is_of(&self, bytes: &[u8]) -> bool
-        ensures { IsTrue result → self.now.0 ≡ bytes.now }
+    fn is_of(&self, calls: CallTable, bytes: &[u8]) -> bool
+        ensures { IsTrue result → self.now.0 ≡ record { calls = calls; bytes = bytes.now } }
     {
-        self.bytes.as_slice() == bytes
+        self.calls == calls && self.bytes.as_slice() == bytes
     }
 
-    // The value, if these bytes are the text.
-    fn value_of(&self, alloc: Global, bytes: &[u8]) -> Option<T>
-        ensures { IfSome result (T.is_of bytes.now) }
+    // The value, if these bytes are the text and these are the known calls.
+    fn value_of(&self, alloc: Global, calls: CallTable, bytes: &[u8]) -> Option<T>
+        ensures { IfSome result (T.is_of (record { calls = calls; bytes = bytes.now })) }
     {
-        if self.is_of(bytes) {
+        if self.is_of(calls, bytes) {
             self.value.share(alloc).ok()
         } else {
             None
@@ -82,11 +93,11 @@ impl<T: ReadAs + Drop> KeptList<T> {
     }
 
     // The value of these bytes, if it is known.
-    fn find(&self, alloc: Global, bytes: &[u8]) -> Option<T>
-        ensures { IfSome result (T.is_of bytes.now) }
+    fn find(&self, alloc: Global, calls: CallTable, bytes: &[u8]) -> Option<T>
+        ensures { IfSome result (T.is_of (record { calls = calls; bytes = bytes.now })) }
     {
         for text in self.texts.as_slice() {
-            if let Some(value) = text.value_of(alloc, bytes) {
+            if let Some(value) = text.value_of(alloc, calls, bytes) {
                 return Some(value);
             }
         }
@@ -99,7 +110,7 @@ impl<T: ReadAs + Drop> KeptList<T> {
     {
         match answer {
             Some(Ok(contents)) => {
-                let known = self.find(alloc, contents.as_slice());
+                let known = self.find(alloc, contents.calls(), contents.as_slice());
                 Some(Ok(contents.with_known(known)))
             }
             Some(Err(fault)) => Some(Err(fault)),
@@ -120,11 +131,17 @@ impl<T: ReadAs + Drop> KeptList<T> {
         self.texts.len() < self.most && self.size().saturating_add(size) <= MAX_KEPT_BYTES
     }
 
+    // Whether this text is kept.
+    fn has(&self, text: &KeptText<T>) -> bool {
+        let (calls, bytes) = (text.calls, text.bytes.as_slice());
+        self.texts.iter().any(|it| it.is_of(calls, bytes))
+    }
+
     // Keeps this text, and drops the oldest ones until it fits. A text that is too large, or for which memory
     // runs out, is not kept.
     fn add(&mut self, text: KeptText<T>) {
         let size = text.size();
-        if size > MAX_KEPT_BYTES || self.texts.iter().any(|it| it.is_of(text.bytes.as_slice())) {
+        if size > MAX_KEPT_BYTES || self.has(&text) {
             return;
         }
         for _ in 0..self.most {

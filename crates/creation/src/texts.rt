@@ -1,15 +1,15 @@
 //! How the texts of a container's files are read: its script, and its profile with the profile's filter.
-ghost use Rattle.std.specs.Prelude.{◌≡◌, ◌≢◌, ◌⊎◌, ◌<◌, ℕ, List, Result, Ok, Err, IfOk, IfErr};
+ghost use Rattle.std.specs.Prelude.{◌≡◌, ◌≢◌, ◌⊎◌, ◌<◌, Result, Ok, Err, IfOk, IfErr};
 ghost use Rattle.bpf_code.specs.declared.limits.TheConstants.{MAX_INSNS};
 ghost use Rattle.oci_profile.specs.declared.profile.Profile.{Profile};
 ghost use Rattle.oci_profile.specs.Meaning.{weight};
-ghost use Rattle.oci_profile.specs.Profile.{ReadsProfile};
-ghost use Rattle.script.specs.Script.{ReadsScript};
+ghost use Rattle.oci_profile.specs.Profile.{ReadsProfileWith};
+ghost use Rattle.script.specs.Script.{ReadsScriptWith};
 ghost use Rattle.script.specs.declared.faults.ScriptFault.{ScriptFault};
 ghost use Rattle.oci_profile.specs.declared.faults.ProfileFault.{ProfileFault};
 ghost use Rattle.cri_msgs.specs.declared.refusals.Refusal.{Refusal};
 ghost use Rattle.runtime_cell.specs.Cell.{GivesMeaning};
-ghost use Rattle.creation.specs.Made.{LacksIn, LacksScript};
+ghost use Rattle.creation.specs.Made.{FileText, LacksIn, LacksScript};
 
 use bpf_verify::Filter;
 use compile::{CompileFault, compile};
@@ -17,20 +17,21 @@ use cri_msgs::Refusal;
 use oci_profile::{Profile, ProfileFault};
 use script::{Script, ScriptFault};
 use std::alloc::{AllocError, Global};
+use sys_table::CallTable;
 
 /// What the text of a file can be read as.
 pub trait ReadAs {
-    // Whether these bytes are read as it.
-    ghost is_of: { List ℕ → Self → Type 0 };
+    // Whether this text is read as it.
+    ghost is_of: { FileText → Self → Type 0 };
 
-    // Why a file's bytes, or a file that could not be read, are refused.
-    ghost lacks: { Result (List ℕ) Refusal → Refusal → Type 0 };
+    // Why a file's text, or a file that could not be read, is refused.
+    ghost lacks: { Result FileText Refusal → Refusal → Type 0 };
 
-    /// Reads these bytes.
-    fn read(alloc: Global, bytes: &[u8]) -> Result<Self, Refusal>
-        ensures found { IfOk result (is_of bytes.now) }
+    /// Reads these bytes, if these are the known calls.
+    fn read(alloc: Global, calls: CallTable, bytes: &[u8]) -> Result<Self, Refusal>
+        ensures found { IfOk result (is_of (record { calls = calls; bytes = bytes.now })) }
         ensures refused { IfErr result (λ refusal.
-            (refusal ≡ Refusal.Memory) ⊎ lacks (Ok bytes.now) refusal) };
+            (refusal ≡ Refusal.Memory) ⊎ lacks (Ok (record { calls = calls; bytes = bytes.now })) refusal) };
 
     /// A second owner of the same value.
     fn share(&self, alloc: Global) -> Result<Self, AllocError>
@@ -47,15 +48,14 @@ const STEP_BYTES: usize = 160;
 const FILTER_BYTES: usize = 64 << 10;
 
 impl ReadAs for Script {
-    ghost use Rattle.script.specs.Script.{ReadsScript};
-    ghost use Rattle.creation.specs.Made.{LacksScript};
+    ghost use Rattle.creation.specs.Made.{IsScriptOf, LacksScript};
 
-    ghost is_of = { ReadsScript };
+    ghost is_of = { IsScriptOf };
 
     ghost lacks = { LacksScript };
 
-    fn read(alloc: Global, bytes: &[u8]) -> Result<Script, Refusal> {
-        script_in(alloc, bytes)
+    fn read(alloc: Global, calls: CallTable, bytes: &[u8]) -> Result<Script, Refusal> {
+        script_in(alloc, calls, bytes)
     }
 
     fn share(&self, _alloc: Global) -> Result<Script, AllocError> {
@@ -76,8 +76,8 @@ impl ReadAs for CompiledProfile {
 
     ghost lacks = { LacksIn };
 
-    fn read(alloc: Global, bytes: &[u8]) -> Result<CompiledProfile, Refusal> {
-        compiled_in(alloc, bytes)
+    fn read(alloc: Global, calls: CallTable, bytes: &[u8]) -> Result<CompiledProfile, Refusal> {
+        compiled_in(alloc, calls, bytes)
     }
 
     fn share(&self, alloc: Global) -> Result<CompiledProfile, AllocError> {
@@ -113,14 +113,14 @@ fn profile_refusal(fault: ProfileFault) -> Refusal
 }
 
 /// The script of a text.
-fn script_in(alloc: Global, bytes: &[u8]) -> Result<Script, Refusal>
-    ensures found { IfOk result (λ script. ReadsScript bytes.now script) }
-    ensures refused { IfErr result (λ refusal.
-        (refusal ≡ Refusal.Memory) ⊎ LacksScript (Ok bytes.now) refusal) }
+fn script_in(alloc: Global, calls: CallTable, bytes: &[u8]) -> Result<Script, Refusal>
+    ensures found { IfOk result (λ script. ReadsScriptWith calls bytes.now script) }
+    ensures refused { IfErr result (λ refusal. (refusal ≡ Refusal.Memory)
+        ⊎ LacksScript (Ok (record { calls = calls; bytes = bytes.now })) refusal) }
 {
-    match script::read(alloc, bytes) {
+    match script::read_placed_with(alloc, calls, bytes) {
         Ok(script) => Ok(script),
-        Err(fault) => Err(script_refusal(fault)),
+        Err(found) => Err(script_refusal(found.fault)),
     }
 }
 
@@ -157,27 +157,28 @@ pub(crate) fn compiled(alloc: Global, profile: Profile) -> Result<CompiledProfil
     }
 }
 
-fn profile_in(alloc: Global, bytes: &[u8]) -> Result<Profile, Refusal>
-    ensures found { IfOk result (λ profile. ReadsProfile bytes.now profile) }
-    ensures one { IfOk result (λ profile. (other : Profile) → ReadsProfile bytes.now other
+fn profile_in(alloc: Global, calls: CallTable, bytes: &[u8]) -> Result<Profile, Refusal>
+    ensures found { IfOk result (λ profile. ReadsProfileWith calls bytes.now profile) }
+    ensures one { IfOk result (λ profile. (other : Profile) → ReadsProfileWith calls bytes.now other
         → other ≡ profile) }
     ensures refused { IfErr result (λ refusal. (refusal ≡ Refusal.Memory)
-        ⊎ (((profile : Profile) → ReadsProfile bytes.now profile → ⊥)
+        ⊎ (((profile : Profile) → ReadsProfileWith calls bytes.now profile → ⊥)
         × (refusal ≡ Refusal.InvalidArgument))) }
 {
-    match oci_profile::read(alloc, bytes) {
+    match oci_profile::read_placed_with(alloc, calls, bytes) {
         Ok(profile) => Ok(profile),
-        Err(fault) => Err(profile_refusal(fault)),
+        Err(found) => Err(profile_refusal(found.fault)),
     }
 }
 
 /// The profile of a text, with its filter.
-fn compiled_in(alloc: Global, bytes: &[u8]) -> Result<CompiledProfile, Refusal>
-    ensures found { IfOk result (λ made. ReadsProfile bytes.now made.profile) }
+fn compiled_in(alloc: Global, calls: CallTable, bytes: &[u8]) -> Result<CompiledProfile, Refusal>
+    ensures found { IfOk result (λ made. ReadsProfileWith calls bytes.now made.profile) }
     ensures means { IfOk result (λ made. GivesMeaning made.filter made.profile) }
-    ensures refused { IfErr result (λ refusal. (refusal ≡ Refusal.Memory) ⊎ LacksIn (Ok bytes.now) refusal) }
+    ensures refused { IfErr result (λ refusal. (refusal ≡ Refusal.Memory)
+        ⊎ LacksIn (Ok (record { calls = calls; bytes = bytes.now })) refusal) }
 {
-    match profile_in(alloc, bytes) {
+    match profile_in(alloc, calls, bytes) {
         Ok(profile) => compiled(alloc, profile),
         Err(refusal) => Err(refusal),
     }

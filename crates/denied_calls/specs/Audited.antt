@@ -12,6 +12,7 @@ use Rattle.explain.specs.declared.explanation.Decider.{Decider}
 use Rattle.denied_calls.specs.declared.audited.AuditedKind.{AuditedKind}
 use Rattle.denied_calls.specs.declared.audited.AuditedRow.{AuditedRow}
 use Rattle.denied_calls.specs.Shown.{call_text}
+use Rattle.sys_table.specs.declared.calls.CallTable.{CallTable}
 
 abbrev pub kind_order : AuditedKind → AuditedKind → Ordering
 kind_order a b = ordering_then (nat_cmp a.nr b.nr)
@@ -39,12 +40,13 @@ audited_order a b = ordering_then (nat_cmp b.count.0 a.count.0) (kind_order a.ki
 abbrev pub action_text : ℕ → List ℕ
 action_text value = name_of (verdict_of value).action
 
-abbrev pub audited_cells : AuditedRow → List (List ℕ)
-audited_cells row = call_text row.kind.nr row.kind.arch ∷ action_text row.kind.value ∷ decimal row.count.0 ∷ []
+abbrev pub audited_cells : CallTable → AuditedRow → List (List ℕ)
+audited_cells calls row =
+    call_text calls row.kind.nr row.kind.arch ∷ action_text row.kind.value ∷ decimal row.count.0 ∷ []
 
 -- `by` follows the other members
-abbrev pub audited_object : AuditedRow → List ℕ → List ℕ
-audited_object row by = codes "{" ++ (call_members (record {
+abbrev pub audited_object : CallTable → AuditedRow → List ℕ → List ℕ
+audited_object calls row by = codes "{" ++ (call_members calls (record {
   nr = row.kind.nr;
   arch = row.kind.arch;
   verdict = verdict_of row.kind.value;

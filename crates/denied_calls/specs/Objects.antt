@@ -8,6 +8,7 @@ use Rattle.cell_records.specs.declared.tallies.CallKind.{CallKind}
 use Rattle.cell_records.specs.RecordText.{call_members, quoted, verdict_members}
 use Rattle.denied_calls.specs.declared.sighting.Sighting.{Sighting}
 use Rattle.denied_calls.specs.declared.totalling.Total.{Total}
+use Rattle.sys_table.specs.declared.calls.CallTable.{CallTable}
 
 abbrev pub kind_of : ℕ → ℕ → ℕ → CallKind
 kind_of nr arch value = record { nr = nr; arch = arch; verdict = verdict_of value }
@@ -20,15 +21,15 @@ abbrev pub place_members : Sighting → List ℕ
 place_members s = codes "\"attempt\":" ++ (decimal s.attempt ++ (codes ",\"first\":" ++ decimal s.first))
 
 -- `by` stands behind the other members
-abbrev pub row_object : Sighting → ℕ → List ℕ → List ℕ
-row_object s count by =
-    codes "{" ++ (container_members s ++ (codes "," ++ (call_members (kind_of s.nr s.arch s.value)
+abbrev pub row_object : CallTable → Sighting → ℕ → List ℕ → List ℕ
+row_object calls s count by =
+    codes "{" ++ (container_members s ++ (codes "," ++ (call_members calls (kind_of s.nr s.arch s.value)
     ++ (codes "," ++ (verdict_members (verdict_of s.value) ++ (codes ",\"count\":" ++ (decimal count
     ++ (codes "," ++ (place_members s ++ (by ++ codes "}\n"))))))))))
 
-abbrev pub total_object : Total → List ℕ
-total_object t =
-    codes "{" ++ (call_members (kind_of t.nr t.arch t.value) ++ (codes ","
+abbrev pub total_object : CallTable → Total → List ℕ
+total_object calls t =
+    codes "{" ++ (call_members calls (kind_of t.nr t.arch t.value) ++ (codes ","
     ++ (verdict_members (verdict_of t.value) ++ (codes ",\"count\":" ++ (decimal t.count.0
     ++ (codes ",\"containers\":" ++ (decimal t.containers ++ codes "}\n")))))))
 

@@ -12,6 +12,7 @@ use std::alloc::{AllocError, Global};
 use std::cmp::Reverse;
 use std::collections::BTreeMap;
 use std::marker::Model;
+use sys_table::CallTable;
 
 /// A call and what a filter did about it. An audit has neither the call's arguments nor the data of the
 /// filter's value.
@@ -111,12 +112,16 @@ pub fn audited_head(alloc: Global) -> Result<Vec<String>, AllocError>
     Ok(vec![in alloc; call, action, times]?)
 }
 
-/// The line of a kind of call.
-pub fn audited_line(alloc: Global, row: AuditedRow) -> Result<Vec<String>, AllocError>
-    ensures { IfOk result (λ v. map string_bytes v.items ≡ audited_cells row) }
+/// The line of a kind of call. It is named if it is one of these calls.
+pub fn audited_line(
+    alloc: Global,
+    calls: CallTable,
+    row: AuditedRow,
+) -> Result<Vec<String>, AllocError>
+    ensures { IfOk result (λ v. map string_bytes v.items ≡ audited_cells calls row) }
 {
     let (nr, arch) = (row.kind.nr, row.kind.arch);
-    let (call, action) = (CallText { nr, arch }, ActionText(row.kind.value));
+    let (call, action) = (CallText { calls, nr, arch }, ActionText(row.kind.value));
     let count = row.count.0;
     let call = format!(in alloc; "{call}")?;
     let action = format!(in alloc; "{action}")?;
@@ -124,15 +129,21 @@ pub fn audited_line(alloc: Global, row: AuditedRow) -> Result<Vec<String>, Alloc
     Ok(vec![in alloc; call, action, times]?)
 }
 
-/// The object of a kind of call. `by` follows its other members.
-pub fn audited_object(alloc: Global, row: AuditedRow, by: &str) -> Result<String, AllocError>
-    ensures { IfOk result (λ t. string_bytes t ≡ audited_object row by.now) }
+/// The object of a kind of call, with its name if it is one of these calls. `by` follows its other members.
+pub fn audited_object(
+    alloc: Global,
+    calls: CallTable,
+    row: AuditedRow,
+    by: &str,
+) -> Result<String, AllocError>
+    ensures { IfOk result (λ t. string_bytes t ≡ audited_object calls row by.now) }
 {
-    let call = CallMembers(CallKind {
+    let kind = CallKind {
         nr: row.kind.nr,
         arch: row.kind.arch,
         verdict: Verdict::of_value(row.kind.value),
-    });
+    };
+    let call = CallMembers(calls, kind);
     let (action, count) = (ActionText(row.kind.value), row.count.0);
     format!(in alloc; "{{{call},\"action\":\"{action}\",\"count\":{count}{by}}}\n")
 }

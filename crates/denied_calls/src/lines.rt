@@ -7,6 +7,7 @@ use crate::sighting::Sighting;
 use crate::totalling::Total;
 use explain::Decider;
 use std::alloc::{AllocError, Global};
+use sys_table::CallTable;
 
 /// The head of the table of containers.
 pub fn row_head(alloc: Global) -> Result<Vec<String>, AllocError>
@@ -22,12 +23,18 @@ pub fn row_head(alloc: Global) -> Result<Vec<String>, AllocError>
     Ok(vec![in alloc; pod, container, call, verdict, times, first]?)
 }
 
-/// The line of a call that a container made, this often: its first sighting says where.
-pub fn row_line(alloc: Global, sighting: &Sighting, count: usize) -> Result<Vec<String>, AllocError>
-    ensures { IfOk result (λ v. map string_bytes v.items ≡ row_cells sighting.now count) }
+/// The line of a call that a container made, this often: its first sighting says where. It is named if it is one
+/// of these calls.
+pub fn row_line(
+    alloc: Global,
+    calls: CallTable,
+    sighting: &Sighting,
+    count: usize,
+) -> Result<Vec<String>, AllocError>
+    ensures { IfOk result (λ v. map string_bytes v.items ≡ row_cells calls sighting.now count) }
 {
     let (nr, arch) = (sighting.nr, sighting.arch);
-    let (call, verdict) = (CallText { nr, arch }, VerdictText(sighting.value));
+    let (call, verdict) = (CallText { calls, nr, arch }, VerdictText(sighting.value));
     let (attempt, first) = (sighting.attempt, sighting.first);
     let pod = String::from_str(alloc, sighting.uid.as_str())?;
     let container = String::from_str(alloc, sighting.name.as_str())?;
@@ -50,12 +57,12 @@ pub fn total_head(alloc: Global) -> Result<Vec<String>, AllocError>
     Ok(vec![in alloc; call, verdict, times, containers]?)
 }
 
-/// The line of a call over all containers.
-pub fn total_line(alloc: Global, total: Total) -> Result<Vec<String>, AllocError>
-    ensures { IfOk result (λ v. map string_bytes v.items ≡ total_cells total) }
+/// The line of a call over all containers. It is named if it is one of these calls.
+pub fn total_line(alloc: Global, calls: CallTable, total: Total) -> Result<Vec<String>, AllocError>
+    ensures { IfOk result (λ v. map string_bytes v.items ≡ total_cells calls total) }
 {
     let (nr, arch) = (total.nr, total.arch);
-    let (call, verdict) = (CallText { nr, arch }, VerdictText(total.value));
+    let (call, verdict) = (CallText { calls, nr, arch }, VerdictText(total.value));
     let (count, containers) = (total.count.0, total.containers);
     let call = format!(in alloc; "{call}")?;
     let verdict = format!(in alloc; "{verdict}")?;

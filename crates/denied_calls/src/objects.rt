@@ -9,19 +9,22 @@ use action::Verdict;
 use cell_records::{CallKind, CallMembers, VerdictMembers, quoted};
 use explain::Decider;
 use std::alloc::{AllocError, Global};
+use sys_table::CallTable;
 
-/// A call that a container made, this often. `by` is what stands behind the other members.
+/// A call that a container made, this often, with its name if it is one of these calls. `by` is what stands behind
+/// the other members.
 pub fn row_object(
     alloc: Global,
+    calls: CallTable,
     sighting: &Sighting,
     count: usize,
     by: &str,
 ) -> Result<String, AllocError>
-    ensures { IfOk result (λ t. string_bytes t ≡ row_object sighting.now count by.now) }
+    ensures { IfOk result (λ t. string_bytes t ≡ row_object calls sighting.now count by.now) }
 {
     let container = container_members(alloc, sighting)?;
     let kind = kind_of(sighting.nr, sighting.arch, sighting.value);
-    let (call, verdict) = (CallMembers(kind), VerdictMembers(kind.verdict));
+    let (call, verdict) = (CallMembers(calls, kind), VerdictMembers(kind.verdict));
     let (attempt, first) = (sighting.attempt, sighting.first);
     let place = format!(in alloc; "\"attempt\":{attempt},\"first\":{first}")?;
     format!(in alloc; "{{{container},{call},{verdict},\"count\":{count},{place}{by}}}\n")
@@ -37,12 +40,12 @@ fn container_members(alloc: Global, sighting: &Sighting) -> Result<String, Alloc
     format!(in alloc; "\"uid\":{uid},\"name\":{name}")
 }
 
-/// A call over all containers.
-pub fn total_object(alloc: Global, total: Total) -> Result<String, AllocError>
-    ensures { IfOk result (λ t. string_bytes t ≡ total_object total) }
+/// A call over all containers, with its name if it is one of these calls.
+pub fn total_object(alloc: Global, calls: CallTable, total: Total) -> Result<String, AllocError>
+    ensures { IfOk result (λ t. string_bytes t ≡ total_object calls total) }
 {
     let kind = kind_of(total.nr, total.arch, total.value);
-    let (call, verdict) = (CallMembers(kind), VerdictMembers(kind.verdict));
+    let (call, verdict) = (CallMembers(calls, kind), VerdictMembers(kind.verdict));
     let (count, containers) = (total.count.0, total.containers);
     format!(in alloc; "{{{call},{verdict},\"count\":{count},\"containers\":{containers}}}\n")
 }

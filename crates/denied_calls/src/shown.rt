@@ -3,11 +3,13 @@ use action::Verdict;
 use call_data::NATIVE_ARCH;
 use call_names::{CallWord, Naming};
 use std::fmt;
+use sys_table::CallTable;
 
-/// A call: its name, or its number if the call table has no name. The number of another architecture's call
-/// has the architecture beside it: `26 --arch 1073741827`.
+/// A call: its name if it is one of these calls, else its number. The number of another architecture's call
+/// has the architecture beside it: `26 --arch 0x40000003`.
 #[derive(Clone, Copy)]
 pub(crate) struct CallText {
+    pub calls: CallTable,
     pub nr: u32,
     pub arch: u32,
 }
@@ -16,7 +18,7 @@ impl fmt::Display for CallText {
     ghost use Rattle.std.specs.Prelude.{Some};
     ghost use Rattle.denied_calls.specs.Shown.{call_text};
 
-    ghost output = { λ call. Some (call_text call.nr call.arch) };
+    ghost output = { λ call. Some (call_text call.calls call.nr call.arch) };
 
     #[tactic(auto, unfolding(crate::specs::Shown::call_text))]
     fn fmt<W: fmt::Write>(&self, f: &mut fmt::Formatter<W>) -> fmt::Result {
@@ -24,11 +26,11 @@ impl fmt::Display for CallText {
         if arch == NATIVE_ARCH {
             let word = CallWord {
                 nr,
-                naming: Naming::Name,
+                naming: Naming::Name(self.calls),
             };
             return write!(f, "{word}");
         }
-        write!(f, "{nr} --arch {arch}")
+        write!(f, "{nr} --arch 0x{arch:x}")
     }
 }
 

@@ -9,19 +9,27 @@ use Rattle.filter_differences.specs.declared.finding.Found.{Found}
 use Rattle.filter_differences.specs.declared.finding.Found.TheVariants.{Differs, Undecided}
 use Rattle.filter_differences.specs.declared.part.Part.{Part}
 use Rattle.filter_differences.specs.Parts.{IsPart, calls_of, first_of, last_of}
+use Rattle.sys_table.specs.declared.calls.CallTable.{CallTable}
 
 -- the call is not in the finding's part
-abbrev pub Misses : SysCall → Finding → Type 0
-Misses call finding = IsOf (calls_of finding.part) call → ⊥
+abbrev pub Misses : CallTable → SysCall → Finding → Type 0
+Misses known call finding = IsOf (calls_of known finding.part) call → ⊥
 
--- what was found about a part is so: a difference is one, on a call of the part
-abbrev pub IsFoundOn : List Insn → List Insn → Part → Found → Type 0
-IsFoundOn first second part (Differs call one other) =
-    IsOf (calls_of part) call × Disagree first second call one other
-IsFoundOn first second part (Undecided why) = Unit {0}
+-- what was found is so: a difference is one
+abbrev pub IsFoundOf : List Insn → List Insn → Found → Type 0
+IsFoundOf first second (Differs call one other) = Disagree first second call one other
+IsFoundOf first second (Undecided why) = Unit {0}
 
 abbrev pub IsTrue : List Insn → List Insn → Finding → Type 0
-IsTrue first second finding = IsPart finding.part × IsFoundOn first second finding.part finding.found
+IsTrue first second finding = IsFoundOf first second finding.found
+
+-- it was found on a call of the part
+abbrev pub IsFoundOn : CallTable → Part → Found → Type 0
+IsFoundOn known part (Differs call one other) = IsOf (calls_of known part) call
+IsFoundOn known part (Undecided why) = Unit {0}
+
+abbrev pub IsOfPart : CallTable → Finding → Type 0
+IsOfPart known finding = IsPart known finding.part × IsFoundOn known finding.part finding.found
 
 -- the finding's part comes before this place
 abbrev pub IsBelow : ℕ → Finding → Type 0

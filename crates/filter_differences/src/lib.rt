@@ -2,7 +2,7 @@
 //! and the numbers of asm/unistd_64.h.
 //!
 //! A part is the calls of x86-64 with one number that has a name, with numbers that have none, or with
-//! numbers above the table's, the calls of x32, or those of other architectures (`specs/Parts.antt`).
+//! numbers above those of the known calls, the calls of x32, or those of other architectures (`specs/Parts.antt`).
 //! `differences` compares the filters part by part. It returns a finding for each part on which they were not
 //! found to be the same.
 //!
@@ -10,9 +10,9 @@
 //!
 //! - Both filters return the same value on each call that is in no reported part: `differences` (complete).
 //! - A reported difference is a call of its part and two different values, those of the runs on it:
-//!   `differences` (real).
+//!   `differences` (real, parts).
 //! - The parts are reported in order, and a number that has a name is a part of its own: `differences`
-//!   (in_order, real).
+//!   (in_order, parts).
 //! - No call is in two reported parts: `parts_are_apart`.
 //!
 //! A part without an answer is reported as such. Only tests show that this is limited to the cases in which

@@ -30,19 +30,21 @@ pub fn audit_output<'a, R: rt::Files + AllocGlobal>(
         ..
     } = profile_at(rt, calls, profile)?;
     let mut audited = Audited {
+        calls,
         counts: AuditedCounts::new(alloc),
         reports: Reports::new(alloc),
     };
     add_file(rt, log, &mut audited)?;
     let Audited {
+        calls: _,
         counts,
         mut reports,
     } = audited;
     reports.add_count()?;
     let rows = counts.rows(alloc)?;
     let text = match form {
-        Form::Text => table(alloc, &profile, rows.as_slice())?,
-        Form::Json => objects(alloc, &profile, rows.as_slice())?,
+        Form::Text => table(alloc, calls, &profile, rows.as_slice())?,
+        Form::Json => objects(alloc, calls, &profile, rows.as_slice())?,
     };
     Ok(Output::with_faults(text, reports.text).after(sign)?)
 }
@@ -50,6 +52,8 @@ pub fn audit_output<'a, R: rt::Files + AllocGlobal>(
 /// The calls of an audit so far.
 #[derive(Drop)]
 struct Audited {
+    /// The known calls.
+    calls: CallTable,
     counts: AuditedCounts,
     reports: Reports,
 }
@@ -73,7 +77,7 @@ impl LineSink for Audited {
                     .add(at.path, at.number, line, LineFault::TooLong);
             }
         };
-        match audited_call(line) {
+        match audited_call(self.calls, line) {
             Ok(Some(call)) => self.counts.add(AuditedKind {
                 nr: call.nr,
                 arch: call.arch,
@@ -85,8 +89,13 @@ impl LineSink for Audited {
     }
 }
 
-/// A line for each kind of call.
-fn table(alloc: Global, profile: &Profile, rows: &[AuditedRow]) -> Result<String, AllocError> {
+/// A line for each kind of call. It is named if it is one of these calls.
+fn table(
+    alloc: Global,
+    calls: CallTable,
+    profile: &Profile,
+    rows: &[AuditedRow],
+) -> Result<String, AllocError> {
     if rows.is_empty() {
         return String::from_str(alloc, "no call was denied\n");
     }
@@ -94,7 +103,7 @@ fn table(alloc: Global, profile: &Profile, rows: &[AuditedRow]) -> Result<String
     head.push(String::from_str(alloc, "BY")?)?;
     let mut lines = vec![in alloc; head]?;
     for row in rows {
-        let mut line = audited_line(alloc, *row)?;
+        let mut line = audited_line(alloc, calls, *row)?;
         let by = deciders(alloc, profile, &denied(row))?;
         line.push(by_cell(alloc, by.as_slice())?)?;
         lines.push(line)?;
@@ -102,13 +111,19 @@ fn table(alloc: Global, profile: &Profile, rows: &[AuditedRow]) -> Result<String
     aligned(alloc, lines.as_slice())
 }
 
-/// An object for each kind of call.
-fn objects(alloc: Global, profile: &Profile, rows: &[AuditedRow]) -> Result<String, AllocError> {
+/// An object for each kind of call, with its name if it is one of these calls.
+fn objects(
+    alloc: Global,
+    calls: CallTable,
+    profile: &Profile,
+    rows: &[AuditedRow],
+) -> Result<String, AllocError> {
     let mut text = String::new(alloc);
     for row in rows {
         let by = deciders(alloc, profile, &denied(row))?;
         let by = by_member(alloc, by.as_slice())?;
-        text.push_str(audited_object(alloc, *row, by.as_str())?.as_str())?;
+        let object = audited_object(alloc, calls, *row, by.as_str())?;
+        text.push_str(object.as_str())?;
     }
     Ok(text)
 }

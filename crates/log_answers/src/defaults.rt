@@ -1,11 +1,12 @@
 //! The decision on calls that were not seen.
+use action::errno_number;
 use check_stops::WordFault;
 use command_line::number_of;
 use oci_profile::{Decision, given_errno, named_action};
 use std::alloc::{AllocError, Global};
 
 /// The decision that a word names, as `explain` prints it or by its name of OCI: `ERRNO 38`, `KILL_PROCESS`,
-/// `SCMP_ACT_ERRNO 38`. Without a number an errno is 1.
+/// `SCMP_ACT_ERRNO 38`. An errno may have its name, as `ERRNO ENOSYS`. Without a number an errno is 1.
 pub(crate) fn default_of(
     alloc: Global,
     word: &str,
@@ -29,13 +30,22 @@ pub(crate) fn default_of(
 }
 
 /// With the errno, or a tracer's message. Other decisions have 0 there.
-fn with_number(decision: Decision, number: &str) -> Result<Decision, WordFault> {
-    let number = number_of(number).ok_or(WordFault::BadAction)?;
+fn with_number(decision: Decision, word: &str) -> Result<Decision, WordFault> {
+    let is_errno = matches!(&decision, Decision::Errno(_));
+    let number = number_for(is_errno, word).ok_or(WordFault::BadAction)?;
     match decision {
         Decision::Errno(_) | Decision::Trace(_) => {
             given_errno(decision, number).map_err(|_| WordFault::BadAction)
         }
         _ if number == 0 => Ok(decision),
         _ => Err(WordFault::BadAction),
+    }
+}
+
+/// The number that a word writes. Only errnos have names.
+fn number_for(is_errno: bool, word: &str) -> Option<u64> {
+    match number_of(word) {
+        None if is_errno => errno_number(word),
+        number => number,
     }
 }

@@ -1,6 +1,6 @@
 //! The calls that were found in logs.
 ghost use Rattle.std.specs.Prelude.{◌<◌};
-ghost use Rattle.sys_table.specs.declared.table.TheConstants.{NUMBER_LIMIT};
+ghost use Rattle.sys_table.specs.declared.table.TheConstants.{TABLE_LIMIT};
 
 use crate::lines::FoundLine;
 use crate::log_file::{LineSink, Position};
@@ -9,6 +9,7 @@ use call_data::NATIVE_ARCH;
 use profile_learn::{Learned, Sighting, small_argument};
 use seen_calls::{Line, LineFault, known, read_line, record_calls};
 use std::alloc::{AllocError, Global};
+use sys_table::CallTable;
 
 /// What was learned so far.
 #[derive(Drop)]
@@ -17,6 +18,8 @@ pub(crate) struct Found {
     /// Whether there was a call.
     pub has_call: bool,
     pub reports: Reports,
+    /// The known calls.
+    pub calls: CallTable,
     /// Whether a broken line ends the work.
     pub is_strict: bool,
 }
@@ -38,11 +41,12 @@ impl LineSink for Found {
 }
 
 impl Found {
-    pub(crate) fn new(alloc: Global, is_strict: bool) -> Found {
+    pub(crate) fn new(alloc: Global, calls: CallTable, is_strict: bool) -> Found {
         Found {
             learned: Learned::new(),
             has_call: false,
             reports: Reports::new(alloc),
+            calls,
             is_strict,
         }
     }
@@ -65,7 +69,7 @@ impl Found {
             FoundLine::Whole(line) => line,
             FoundLine::TooLong(line) => return self.report(at, line, LineFault::TooLong),
         };
-        match read_line(line) {
+        match read_line(self.calls, line) {
             Ok(Line::Nothing) => Ok(()),
             Ok(Line::Call(sighting)) => {
                 self.note(sighting);
@@ -81,7 +85,7 @@ impl Found {
     }
 
     fn note(&mut self, sighting: Sighting)
-        requires { sighting.number < NUMBER_LIMIT }
+        requires { sighting.number < TABLE_LIMIT }
     {
         self.learned.note(sighting);
         self.has_call = true;
@@ -89,7 +93,7 @@ impl Found {
 
     // The line that began a call has its small argument. If no line has begun it, the value is not known.
     fn resume(&mut self, number: u32)
-        requires { number < NUMBER_LIMIT }
+        requires { number < TABLE_LIMIT }
     {
         if small_argument(number).is_none() || !self.learned.is_seen(number) {
             let value = None;
@@ -112,7 +116,7 @@ impl Found {
                 self.report(at, line, LineFault::OtherArchitecture)?;
                 continue;
             }
-            match known(call.nr) {
+            match known(self.calls, call.nr) {
                 Ok(number) => {
                     let value = None;
                     self.note(Sighting { number, value });

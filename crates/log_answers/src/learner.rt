@@ -13,6 +13,8 @@ use sys_table::CallTable;
 /// What is asked for beside the files.
 #[derive(Clone, Copy)]
 pub struct LearnAsked<'a> {
+    /// The known calls.
+    pub calls: CallTable,
     /// The profile to which the calls are added, if one is given.
     pub base: Option<&'a str>,
     /// The decision on calls that were not seen, if no profile is given.
@@ -30,7 +32,7 @@ pub fn learn_output<'a, R: rt::Files + AllocGlobal>(
 ) -> Result<Output, Stop<'a>> {
     let alloc = rt.alloc();
     let base = base_of(rt, asked)?;
-    let mut found = Found::new(alloc, asked.is_strict);
+    let mut found = Found::new(alloc, asked.calls, asked.is_strict);
     for path in paths {
         add_file(rt, path, &mut found)?;
         if found.is_refused() {
@@ -55,7 +57,7 @@ fn base_of<'a, R: rt::Files + AllocGlobal>(
 ) -> Result<Base, Stop<'a>> {
     let alloc = rt.alloc();
     if let Some(path) = asked.base {
-        let ProfileFile { profile, aside, .. } = profile_at(rt, CallTable::Linux5_8, path)?;
+        let ProfileFile { profile, aside, .. } = profile_at(rt, asked.calls, path)?;
         return Ok(Base { profile, aside });
     }
     let default = match asked.default {
@@ -97,6 +99,7 @@ fn output_of(
         learned,
         has_call,
         mut reports,
+        calls,
         is_strict: _,
     } = found;
     reports.add_count()?;
@@ -106,7 +109,7 @@ fn output_of(
     if wanted.args {
         add_unclear(&learned, &mut reports.text)?;
     }
-    match profile_line(alloc, &learned, base, wanted) {
+    match profile_line(alloc, calls, &learned, base, wanted) {
         Ok(line) => Ok(Output::with_aside(line, reports.text)),
         Err(WriteFault::Memory) => Err(AllocError),
         Err(WriteFault::NoName) => {

@@ -6,6 +6,7 @@ use explain::{Decider, Explanation, explain, explanation_lines};
 use oci_profile::{Decision, Errno, Profile, ProfileFault, ProfileFaultAt};
 use profile_text::{WriteFault, default_text, write};
 use std::alloc::{AllocError, Global};
+use sys_table::CallTable;
 use trials::{Came, Told, Trial, tried};
 
 /// Tries the call of this name, if it is one of this module's.
@@ -62,7 +63,7 @@ struct Writes {
 impl Writes {
     fn new(alloc: Global) -> Option<Writes> {
         let profile = profile(alloc)?;
-        let wanted = write(alloc, &profile).ok()?;
+        let wanted = write(alloc, CallTable::Linux5_8, &profile).ok()?;
         Some(Writes {
             alloc,
             profile,
@@ -75,7 +76,7 @@ impl Trial for Writes {
     type Answer = Result<String, WriteFault>;
 
     fn call(&mut self) -> Result<String, WriteFault> {
-        write(self.alloc, &self.profile)
+        write(self.alloc, CallTable::Linux5_8, &self.profile)
     }
 
     fn came(&mut self, answer: &Result<String, WriteFault>) -> Came {

@@ -4,6 +4,7 @@ use crate::places::is_at;
 use runtime_cell::{Cell, Did, State};
 use script::{Script, ScriptFault, ScriptFaultAt, Step};
 use std::alloc::{AllocError, Global};
+use sys_table::CallTable;
 use trials::{Came, SCRIPT, Told, Trial, tried};
 use verdict::Stack;
 
@@ -12,7 +13,7 @@ pub(crate) fn told(rt: &HostRuntime, name: &str) -> Option<Told> {
     let alloc = rt.alloc();
     match name {
         "script::read" => Some(tried(rt, Reads::new(alloc))),
-        "script::read_placed" => Some(tried(rt, Some(Places { alloc }))),
+        "script::read_placed_with" => Some(tried(rt, Some(Places { alloc }))),
         "Cell::playing" => Some(tried(rt, Plays::new(alloc))),
         "Cell::step" => Some(tried(rt, Lives::new(alloc))),
         _ => None,
@@ -46,7 +47,7 @@ fn same_step(a: &Step, b: &Step) -> bool {
     }
 }
 
-/// `script::read_placed`, of a script whose second step has a bad argument.
+/// `script::read_placed_with`, of a script whose second step has a bad argument.
 #[derive(Drop)]
 struct Places {
     alloc: Global,
@@ -58,7 +59,7 @@ impl Trial for Places {
     type Answer = Result<Script, ScriptFaultAt>;
 
     fn call(&mut self) -> Result<Script, ScriptFaultAt> {
-        script::read_placed(self.alloc, FAULTY.as_bytes())
+        script::read_placed_with(self.alloc, CallTable::Linux5_8, FAULTY.as_bytes())
     }
 
     fn came(&mut self, answer: &Result<Script, ScriptFaultAt>) -> Came {

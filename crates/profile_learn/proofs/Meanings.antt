@@ -6,7 +6,7 @@ use Rattle.std.proofs.lemmas.Bool.{eqb-true, ltb-true, ltb-false, ne_eqb}
 use Rattle.std.proofs.lemmas.Grind.{common_steps}
 use Rattle.call_data.specs.declared.sys_call.SysCall.{SysCall}
 use Rattle.sys_table.specs.SysTable.{name_of, number_of}
-use Rattle.sys_table.specs.declared.table.TheConstants.{NUMBER_LIMIT}
+use Rattle.sys_table.specs.declared.table.TheConstants.{TABLE_LIMIT}
 use Rattle.oci_profile.specs.declared.decision.Decision.{Decision}
 use Rattle.oci_profile.specs.declared.decision.Decision.TheVariants.{Allow, KillProcess}
 use Rattle.oci_profile.specs.declared.profile.Entry.{Entry}
@@ -121,14 +121,14 @@ maybe_narrow false learned rest default nr call = refl
 
 -- what the entries allow
 abbrev allows : Learned → Wanted → ℕ → List ℕ → Bool
-allows learned wanted nr args = (ltb nr NUMBER_LIMIT && takes_any learned wanted nr)
+allows learned wanted nr args = (ltb nr TABLE_LIMIT && takes_any learned wanted nr)
     || (wanted.args && hits learned nr args)
 
 entries_first : (learned : Learned) (wanted : Wanted) (rest : List Entry) (default : Decision) (nr : ℕ)
     (call : SysCall) → decision_of (learned_entries learned wanted ++ rest) default nr call
     ≡ cond (allows learned wanted nr call.args) Allow (decision_of rest default nr call)
 entries_first learned wanted rest default nr call =
-    let numbers = any_below learned wanted NUMBER_LIMIT in
+    let numbers = any_below learned wanted TABLE_LIMIT in
     let narrow = cond wanted.args (narrow_entries learned) [] in
     ap (λ es. decision_of es default nr call) (append_assoc (numbers_entries numbers) narrow rest)
     ∙ numbers_first numbers (narrow ++ rest) default nr call
@@ -282,35 +282,35 @@ abbrev pub EachWay : Type 0
 EachWay = (name : List ℕ) (number : ℕ) → (number_of name ≡ Some number) ↔ (name_of number ≡ Some name)
 
 abbrev pub AreSmall : Type 0
-AreSmall = (name : List ℕ) (number : ℕ) → number_of name ≡ Some number → number < NUMBER_LIMIT
+AreSmall = (name : List ℕ) (number : ℕ) → number_of name ≡ Some number → number < TABLE_LIMIT
 
 named_small : EachWay → AreSmall → (nr : ℕ) (name : Option (List ℕ)) → name_of nr ≡ name
-    → is_named_needed name ≡ true → nr < NUMBER_LIMIT
+    → is_named_needed name ≡ true → nr < TABLE_LIMIT
 named_small each small nr None is needed = absurd cc
 named_small each small nr (Some name) is needed = small name nr ((each name nr).1 is)
 
-needed_small : EachWay → AreSmall → (nr : ℕ) → is_needed nr ≡ true → nr < NUMBER_LIMIT
+needed_small : EachWay → AreSmall → (nr : ℕ) → is_needed nr ≡ true → nr < TABLE_LIMIT
 unfolding is_needed
 needed_small each small nr needed = named_small each small nr (name_of nr) refl needed
 
 allowed_small : EachWay → AreSmall → (learned : Learned) (history : List Sighting) (wanted : Wanted)
     (call : SysCall) → IsSummary learned history → is_allowed history wanted call ≡ true
-    → call.nr < NUMBER_LIMIT
+    → call.nr < TABLE_LIMIT
 allowed_small each small learned history wanted call is allowed =
     grind (arith, common_steps, needed_small each small call.nr, is.of_table call.nr)
 
 allows_below : (learned : Learned) (history : List Sighting) (wanted : Wanted) (call : SysCall)
-    → IsSummary learned history → ltb call.nr NUMBER_LIMIT ≡ true
+    → IsSummary learned history → ltb call.nr TABLE_LIMIT ≡ true
     → allows learned wanted call.nr call.args ≡ is_allowed history wanted call
 unfolding takes_any
 allows_below learned history wanted call is below =
-    rw (below, is.seen call.nr (ltb-true call.nr NUMBER_LIMIT below))
+    rw (below, is.seen call.nr (ltb-true call.nr TABLE_LIMIT below))
     (agrees learned history call.args wanted.args (wanted.needed && is_needed call.nr) call.nr is)
 
-hits_below : (learned : Learned) (nr : ℕ) (args : List ℕ) → ltb nr NUMBER_LIMIT ≡ false
+hits_below : (learned : Learned) (nr : ℕ) (args : List ℕ) → ltb nr TABLE_LIMIT ≡ false
     → hits learned nr args ≡ false
 hits_below learned nr args above =
-    let far : NUMBER_LIMIT ≤ nr = ltb-false nr NUMBER_LIMIT above in
+    let far : TABLE_LIMIT ≤ nr = ltb-false nr TABLE_LIMIT above in
     rw (
       ne_eqb 16 nr (λ e. absurd (omega arith)),
       ne_eqb 41 nr (λ e. absurd (omega arith)),
@@ -327,12 +327,12 @@ allows_is : EachWay → AreSmall → (learned : Learned) (history : List Sightin
     (call : SysCall) → IsSummary learned history
     → allows learned wanted call.nr call.args ≡ is_allowed history wanted call
 allows_is each small learned history wanted call is =
-    elim (ltb call.nr NUMBER_LIMIT) as (λ b. ltb call.nr NUMBER_LIMIT ≡ b
+    elim (ltb call.nr TABLE_LIMIT) as (λ b. ltb call.nr TABLE_LIMIT ≡ b
     → allows learned wanted call.nr call.args ≡ is_allowed history wanted call) [
       | true ↦ λ below. allows_below learned history wanted call is below
       | false ↦ λ above. rw (above, hits_below learned call.nr call.args above, and_false wanted.args)
           (sym (not_true (is_allowed history wanted call) (λ allowed.
-          let far = ltb-false call.nr NUMBER_LIMIT above in
+          let far = ltb-false call.nr TABLE_LIMIT above in
           let near = allowed_small each small learned history wanted call is allowed in
           absurd (omega arith))))
     ] refl

@@ -8,7 +8,7 @@ use Rattle.std.proofs.lemmas.List.Elements.{All-filter}
 use Rattle.std.proofs.lemmas.List.Folds.{list_any-append}
 use Rattle.std.proofs.lemmas.List.FromFn.{filter_of_map_range_with_len_more, get_or-range_with_len}
 use Rattle.std.proofs.lemmas.List.FromFn.{length-range_with_len}
-use Rattle.sys_table.specs.declared.table.TheConstants.{NUMBER_LIMIT, TABLE_LIMIT}
+use Rattle.sys_table.specs.declared.table.TheConstants.{TABLE_LIMIT}
 use Rattle.oci_profile.specs.Conditions.{AreNumbers}
 use Rattle.profile_learn.specs.declared.learned.Learned.{Learned}
 use Rattle.profile_learn.specs.declared.learner.Wanted.{Wanted}
@@ -41,7 +41,7 @@ pub any_left : (learned : Learned) (wanted : Wanted) (limit : ℕ) (numbers : Li
     → numbers ≡ any_below learned wanted (limit + 1)
 any_left learned wanted limit numbers so_far is = rw (any_more learned wanted limit, is, append-nil) so_far
 
-pub any_fit : (learned : Learned) (wanted : Wanted) (limit : ℕ) → limit ≤ NUMBER_LIMIT
+pub any_fit : (learned : Learned) (wanted : Wanted) (limit : ℕ) → limit ≤ TABLE_LIMIT
     → AreNumbers (any_below learned wanted limit)
 unfolding any_below
 any_fit learned wanted limit short =
@@ -69,6 +69,6 @@ among_filter p (suc limit) nr =
     ∙ above limit nr p ∙ ap (λ n. ltb nr n && p nr) (add-one limit)
 
 pub among_any : (learned : Learned) (wanted : Wanted) (nr : ℕ)
-    → is_among (any_below learned wanted NUMBER_LIMIT) nr ≡ (ltb nr NUMBER_LIMIT && takes_any learned wanted nr)
+    → is_among (any_below learned wanted TABLE_LIMIT) nr ≡ (ltb nr TABLE_LIMIT && takes_any learned wanted nr)
 unfolding any_below
-among_any learned wanted nr = among_filter (takes_any learned wanted) NUMBER_LIMIT nr
+among_any learned wanted nr = among_filter (takes_any learned wanted) TABLE_LIMIT nr

@@ -6,7 +6,7 @@ use Rattle.std.proofs.lemmas.Bool.{eqb-true, cases_eq}
 use Rattle.std.proofs.lemmas.Grind.{common_steps}
 use Rattle.std.proofs.lemmas.List.{get_or-set_same, length-replicate, length-set}
 use Rattle.std.proofs.lemmas.List.Folds.{list_any-append}
-use Rattle.sys_table.specs.declared.table.TheConstants.{NUMBER_LIMIT}
+use Rattle.sys_table.specs.declared.table.TheConstants.{TABLE_LIMIT}
 use Rattle.profile_learn.specs.declared.learned.Learned.{Learned}
 use Rattle.profile_learn.specs.declared.sighting.Sighting.{Sighting}
 use Rattle.profile_learn.specs.declared.values.Values.TheVariants.{Nothing}
@@ -21,7 +21,7 @@ none_seen : (n nr : ℕ) → slice_index_or (replicate n false) nr false ≡ fal
 none_seen n nr = grind (arith, common_steps)
 
 pub fresh : IsSummary (record {
-  seen = replicate NUMBER_LIMIT false;
+  seen = replicate TABLE_LIMIT false;
   ioctl = Nothing;
   socket = Nothing;
   fcntl = Nothing;
@@ -29,9 +29,9 @@ pub fresh : IsSummary (record {
   prctl = Nothing;
 }) []
 fresh = record {
-  whole = length-replicate NUMBER_LIMIT false;
+  whole = length-replicate TABLE_LIMIT false;
   of_table = λ nr there. absurd cc;
-  seen = λ nr lt. none_seen NUMBER_LIMIT nr;
+  seen = λ nr lt. none_seen TABLE_LIMIT nr;
   ioctl = nothing_kept 16;
   socket = nothing_kept 41;
   fcntl = nothing_kept 72;
@@ -50,7 +50,7 @@ seen_set : (seen : List Bool) (number nr : ℕ) (was : Bool) → number < length
 seen_set seen number nr was inside is =
     grind (arith, common_steps, cases_eq number nr, get_or-set_same seen number true false)
 
-pub one_more : (learned : Learned) (s : Sighting) (history : List Sighting) → s.number < NUMBER_LIMIT
+pub one_more : (learned : Learned) (s : Sighting) (history : List Sighting) → s.number < TABLE_LIMIT
     → IsSummary learned history → IsSummary (record {
       seen = slice_set learned.seen s.number true;
       ioctl = noted learned.ioctl 16 s;

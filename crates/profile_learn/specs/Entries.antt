@@ -3,7 +3,7 @@
 use Rattle.std.specs.Prelude.{ℕ, ◌==◌, Bool, false, not, ◌&&◌, ◌||◌, if◌then◌else◌, List, [], ◌∷◌, ◌++◌, map}
 use Rattle.std.specs.Prelude.{filter, slice_index_or}
 use Rattle.std.specs.List.{range_with_len}
-use Rattle.sys_table.specs.declared.table.TheConstants.{NUMBER_LIMIT}
+use Rattle.sys_table.specs.declared.table.TheConstants.{TABLE_LIMIT}
 use Rattle.oci_profile.specs.declared.conditions.Op.TheVariants.{Equal}
 use Rattle.oci_profile.specs.declared.decision.Decision.TheVariants.{Allow}
 use Rattle.oci_profile.specs.declared.profile.Entry.{Entry}
@@ -57,5 +57,5 @@ narrow_entries learned = value_entries 16 1 learned.ioctl ++ (value_entries 41 0
     ++ value_entries 157 0 learned.prctl)))
 
 abbrev pub learned_entries : Learned → Wanted → List Entry
-learned_entries learned wanted = numbers_entries (any_below learned wanted NUMBER_LIMIT)
+learned_entries learned wanted = numbers_entries (any_below learned wanted TABLE_LIMIT)
     ++ (if wanted.args then narrow_entries learned else [])

@@ -1,7 +1,7 @@
 -- What is kept of sightings, and of which sightings that is the summary.
 use Rattle.std.specs.Prelude.{◌≡◌, ℕ, ◌==◌, ◌<◌, Bool, true, false, if◌then◌else◌, List, [], ◌∷◌, length}
 use Rattle.std.specs.Prelude.{slice_index_or, Option, Some, None}
-use Rattle.sys_table.specs.declared.table.TheConstants.{NUMBER_LIMIT}
+use Rattle.sys_table.specs.declared.table.TheConstants.{TABLE_LIMIT}
 use Rattle.profile_learn.specs.declared.learned.Learned.{Learned}
 use Rattle.profile_learn.specs.declared.sighting.Sighting.{Sighting}
 use Rattle.profile_learn.specs.declared.values.Values.{Values}
@@ -85,9 +85,9 @@ IsKeptOf values nr history = IsKept values (is_unclear history nr) (values_seen 
 
 -- the summary of these sightings
 pub record IsSummary (learned : Learned) (history : List Sighting) : Type 0 where
-  pub whole : length learned.seen ≡ NUMBER_LIMIT
-  pub of_table : (nr : ℕ) → is_seen history nr ≡ true → nr < NUMBER_LIMIT
-  pub seen : (nr : ℕ) → nr < NUMBER_LIMIT → slice_index_or learned.seen nr false ≡ is_seen history nr
+  pub whole : length learned.seen ≡ TABLE_LIMIT
+  pub of_table : (nr : ℕ) → is_seen history nr ≡ true → nr < TABLE_LIMIT
+  pub seen : (nr : ℕ) → nr < TABLE_LIMIT → slice_index_or learned.seen nr false ≡ is_seen history nr
   pub ioctl : IsKeptOf learned.ioctl 16 history
   pub socket : IsKeptOf learned.socket 41 history
   pub fcntl : IsKeptOf learned.fcntl 72 history

@@ -1,5 +1,5 @@
 -- The calls that any program may need, although no trace has them: this project's own, with a reason for each
--- in docs/SEMANTICS.md, "Learned profiles".
+-- in docs/SEMANTICS.md, "Learned profiles". Linux 5.8 has each of them, so later versions have them too.
 use Rattle.std.specs.Prelude.{ℕ, List, [], ◌∷◌, codes, Bool, false, Option, Some, None}
 use Rattle.std.specs.List.{list_any}
 use Rattle.std.specs.Str.{bytes_eq}

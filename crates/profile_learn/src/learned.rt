@@ -1,5 +1,5 @@
 ghost use Rattle.std.specs.Prelude.{◌≡◌, ◌<◌, ◌++◌, ◌∷◌, [], ◌&&◌, List, is_some};
-ghost use Rattle.sys_table.specs.declared.table.TheConstants.{NUMBER_LIMIT};
+ghost use Rattle.sys_table.specs.declared.table.TheConstants.{TABLE_LIMIT};
 ghost use Rattle.profile_learn.specs.Kept.{IsSummary};
 ghost use Rattle.profile_learn.specs.Sightings.{is_seen, is_unclear};
 ghost use Rattle.profile_learn.specs.Small.{small_argument};
@@ -7,14 +7,14 @@ ghost use Rattle.profile_learn.specs.declared.sighting.Sighting.{Sighting};
 
 use crate::sighting::{FCNTL, IOCTL, PERSONALITY, PRCTL, SOCKET, Sighting};
 use crate::values::{Values, is_unclear, noted};
-use sys_table::NUMBER_LIMIT;
+use sys_table::TABLE_LIMIT;
 
 /// The summary of sightings: which calls were seen, and up to four values of each small argument. Its size
 /// does not depend on how many sightings there were.
 #[derive(Drop)]
 pub struct Learned {
     // At each number of the table, whether the call was seen.
-    pub(crate) seen: [bool; NUMBER_LIMIT],
+    pub(crate) seen: [bool; TABLE_LIMIT],
     pub(crate) ioctl: Values,
     pub(crate) socket: Values,
     pub(crate) fcntl: Values,
@@ -28,7 +28,7 @@ impl Learned {
         ensures empty { IsSummary result [] }
     {
         Learned {
-            seen: [false; NUMBER_LIMIT],
+            seen: [false; TABLE_LIMIT],
             ioctl: Values::Nothing,
             socket: Values::Nothing,
             fcntl: Values::Nothing,
@@ -39,7 +39,7 @@ impl Learned {
 
     /// Adds a sighting.
     pub fn note(&mut self, sighting: Sighting)
-        requires { sighting.number < NUMBER_LIMIT }
+        requires { sighting.number < TABLE_LIMIT }
         ensures noted { (history : List Sighting) → IsSummary self.old history
             → IsSummary self.new (history ++ sighting ∷ []) }
     {
@@ -53,7 +53,7 @@ impl Learned {
 
     /// Whether the call was seen.
     pub fn is_seen(&self, number: u32) -> bool
-        requires { number < NUMBER_LIMIT }
+        requires { number < TABLE_LIMIT }
         ensures seen { (history : List Sighting) → IsSummary self.now history
             → result ≡ is_seen history number }
     {

@@ -1,5 +1,5 @@
 ghost use Rattle.std.specs.Prelude.{◌≡◌, ◌≤◌, ◌<◌, ◌++◌, ◌∷◌, [], if◌then◌else◌, IfOk, List};
-ghost use Rattle.sys_table.specs.declared.table.TheConstants.{NUMBER_LIMIT};
+ghost use Rattle.sys_table.specs.declared.table.TheConstants.{TABLE_LIMIT};
 ghost use Rattle.call_data.specs.declared.sys_call.SysCall.{SysCall};
 ghost use Rattle.oci_profile.specs.Entries.{AreEntries, IsFit};
 ghost use Rattle.oci_profile.specs.Meaning.{meaning};
@@ -15,7 +15,7 @@ use crate::sighting::{FCNTL, IOCTL, PERSONALITY, PRCTL, SOCKET};
 use crate::values::{Values, is_few, list_of};
 use oci_profile::{Cond, Conds, Decision, Entries, Entry, Numbers, Op, Profile};
 use std::alloc::{AllocError, Global};
-use sys_table::{NUMBER_LIMIT, names_and_numbers_agree};
+use sys_table::{TABLE_LIMIT, names_and_numbers_agree};
 
 /// What a learned profile is to allow.
 #[derive(Clone, Copy, Debug, PartialEq, Eq)]
@@ -57,7 +57,7 @@ fn learned_entries(
     ensures entries { IfOk result (λ v. v.items ≡ learned_entries learned.now wanted) }
     ensures fit { IfOk result (λ v. AreEntries v.items) }
 {
-    let numbers = any_below(alloc, learned, wanted, NUMBER_LIMIT as u32)?;
+    let numbers = any_below(alloc, learned, wanted, TABLE_LIMIT as u32)?;
     let entries = numbers_entries(alloc, numbers)?;
     if wanted.args {
         with_narrow(alloc, entries, learned)
@@ -74,7 +74,7 @@ fn any_below(
     wanted: Wanted,
     limit: u32,
 ) -> Result<Numbers, AllocError>
-    requires { limit ≤ NUMBER_LIMIT }
+    requires { limit ≤ TABLE_LIMIT }
     ensures { IfOk result (λ numbers. numbers ≡ any_below learned.now wanted limit) }
 {
     let mut numbers = Vec::new(alloc);
@@ -89,7 +89,7 @@ fn any_below(
 /// Whether the call is allowed with any arguments.
 #[tactic(auto, unfolding(crate::specs::Entries::takes_any))]
 fn takes_any(learned: &Learned, wanted: Wanted, number: u32) -> bool
-    requires { number < NUMBER_LIMIT }
+    requires { number < TABLE_LIMIT }
     ensures { result ≡ takes_any learned.now wanted number }
 {
     if wanted.needed && is_needed(number) {
@@ -153,7 +153,7 @@ fn with_values(
     index: u8,
     values: Values,
 ) -> Result<Vec<Entry>, AllocError>
-    requires number { number < NUMBER_LIMIT }
+    requires number { number < TABLE_LIMIT }
     requires index { index < 6 }
     requires fit { AreEntries entries.items }
     ensures entries { IfOk result (λ v. v.items ≡ entries.items ++ value_entries number index values) }
@@ -168,7 +168,7 @@ fn with_values(
 
 /// An entry that allows a call with this value of one argument.
 fn value_entry(alloc: Global, number: u32, index: u8, value: u64) -> Result<Entry, AllocError>
-    requires number { number < NUMBER_LIMIT }
+    requires number { number < TABLE_LIMIT }
     requires index { index < 6 }
     ensures { IfOk result (λ entry. entry ≡ value_entry number index value) }
 {

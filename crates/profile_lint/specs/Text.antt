@@ -2,6 +2,7 @@
 use Rattle.std.specs.Prelude.{ℕ, ◌==◌, nat_le, not, Bool, ◌&&◌, ◌||◌, if◌then◌else◌, List, [], ◌++◌, codes}
 use Rattle.std.specs.Prelude.{length, flat_map, nat_lt, ◌-◌, Option, Some, None}
 use Rattle.std.specs.List.{list_all}
+use Rattle.action.specs.Errnos.{shown_errno}
 use Rattle.action.specs.Verdict.{verdict_of}
 use Rattle.action.specs.declared.action.Action.{Action}
 use Rattle.action.specs.declared.action.Action.TheVariants as act
@@ -135,7 +136,7 @@ found_words calls (found.Overlap place other call) = codes "at " ++ (call_text c
     ++ (decimal other ++ codes "] decides otherwise, and libseccomp does not keep their order")))
 found_words calls (found.NewerCalls errno) = codes "calls newer than " ++ (decimal (limit_of calls - 1)
     ++ (codes " return errno "
-    ++ (decimal errno ++ codes ", and programs fall back to older calls only on ENOSYS (38)")))
+    ++ (shown_errno errno ++ codes ", and programs fall back to older calls only on errno 38 (ENOSYS)")))
 found_words calls (found.Advised advice) = advice_words advice
 
 abbrev pub found_text : CallTable → Finding → List ℕ

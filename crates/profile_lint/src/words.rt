@@ -9,7 +9,7 @@ use crate::kinds::{kind_of_found, kind_of_passed};
 use crate::members::is_recased;
 use crate::passed::{Holder, Passed};
 use absent_names::{AbsentName, kind_of, suggestion};
-use action::Verdict;
+use action::{ShownErrno, Verdict};
 use call_data::SysCall;
 use json_place::{MAX_SHOWN, Quoted};
 use std::fmt;
@@ -307,11 +307,11 @@ impl fmt::Display for FoundWords {
                 )
             }
             Finding::NewerCalls(errno) => {
-                let last = self.0.limit() - 1;
+                let (last, errno) = (self.0.limit() - 1, ShownErrno(errno));
                 write!(
                     f,
                     "calls newer than {last} return errno {errno}, \
-                     and programs fall back to older calls only on ENOSYS (38)"
+                     and programs fall back to older calls only on errno 38 (ENOSYS)"
                 )
             }
             Finding::Advised(advice) => write!(f, "{}", AdviceWords(advice)),

@@ -10,6 +10,7 @@ use Rattle.shown_differences.specs.Texts.{line_text, told_text}
 use Rattle.profile_report.specs.Escaped.{html_text}
 use Rattle.profile_report.specs.Ways.{first}
 use Rattle.profile_report.specs.declared.changes.TheConstants.{SHOWN_CHANGES}
+use Rattle.sys_table.specs.declared.calls.CallTable.{CallTable}
 
 -- the calls with this number alone
 abbrev pub is_part_of : ℕ → Part → Bool
@@ -41,9 +42,10 @@ changes_at nr [] = []
 changes_at nr (line ∷ lines) = change_at nr line ++ changes_at nr lines
 
 -- a line as `table --against` prints it
-abbrev pub change_items : List Line → List ℕ
-change_items [] = []
-change_items (line ∷ lines) = codes "<li>" ++ (line_text line ++ (codes "</li>\n" ++ change_items lines))
+abbrev pub change_items : CallTable → List Line → List ℕ
+change_items calls [] = []
+change_items calls (line ∷ lines) =
+    codes "<li>" ++ (line_text calls line ++ (codes "</li>\n" ++ change_items calls lines))
 
 unfoldable pub more_changes : ℕ → List ℕ
 more_changes count = if count == 0 then [] else codes "<li>" ++ (decimal count
@@ -57,7 +59,7 @@ changes_head old count =
     ++ codes ". The first decision is the old one.</p>\n<ul>\n")))
 
 -- the differences from an old profile
-abbrev pub changes_html : List ℕ → List Line → List ℕ
-changes_html old lines =
-    changes_head old (length lines) ++ (change_items (first SHOWN_CHANGES lines)
+abbrev pub changes_html : CallTable → List ℕ → List Line → List ℕ
+changes_html calls old lines =
+    changes_head old (length lines) ++ (change_items calls (first SHOWN_CHANGES lines)
     ++ (more_changes (length lines - SHOWN_CHANGES) ++ codes "</ul></section>\n"))

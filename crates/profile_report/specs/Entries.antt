@@ -6,6 +6,7 @@ use Rattle.oci_profile.specs.declared.profile.Profile.{Profile}
 use Rattle.oci_profile.specs.Decision.{value_of}
 use Rattle.profile_lint.specs.declared.finding.Finding.{Finding}
 use Rattle.profile_lint.specs.declared.passed.Passed.{Passed}
+use Rattle.sys_table.specs.declared.calls.CallTable.{CallTable}
 use Rattle.profile_table.specs.Text.{count_text, names_text}
 use Rattle.profile_report.specs.Notes.{notes_about}
 use Rattle.profile_report.specs.Ways.{first, shown_conds}
@@ -17,8 +18,8 @@ unfoldable pub more_names : ℕ → List ℕ
 more_names count = if count == 0 then [] else codes " and " ++ (decimal count ++ codes " more")
 
 -- how many calls an entry names, and the first ones
-unfoldable pub names_html : List ℕ → List ℕ
-names_html numbers = count_text (length numbers) ++ (names_text 0 (first SHOWN_NAMES numbers)
+unfoldable pub names_html : CallTable → List ℕ → List ℕ
+names_html calls numbers = count_text (length numbers) ++ (names_text calls 0 (first SHOWN_NAMES numbers)
     ++ more_names (length numbers - SHOWN_NAMES))
 
 -- the head of an entry, and its decision
@@ -29,21 +30,21 @@ entry_head place value =
     ++ (codes "]</h3>\n<p>" ++ value_text value))))))))
 
 -- all conditions of an entry, and its calls
-unfoldable pub entry_body : Entry → List ℕ
-entry_body entry =
-    shown_conds 6 entry.conds ++ (codes "</p>\n<p>" ++ (names_html entry.numbers ++ codes "</p>\n"))
+unfoldable pub entry_body : CallTable → Entry → List ℕ
+entry_body calls entry =
+    shown_conds 6 entry.conds ++ (codes "</p>\n<p>" ++ (names_html calls entry.numbers ++ codes "</p>\n"))
 
 -- an entry, with the findings about it
-unfoldable pub entry_html : List Passed → List Finding → ℕ → Entry → List ℕ
-entry_html passed finds place entry =
-    entry_head place (value_of entry.decision) ++ (entry_body entry
-    ++ (notes_about SHOWN_NOTES (Some place) passed finds ++ codes "</section>\n"))
+unfoldable pub entry_html : CallTable → List Passed → List Finding → ℕ → Entry → List ℕ
+entry_html calls passed finds place entry =
+    entry_head place (value_of entry.decision) ++ (entry_body calls entry
+    ++ (notes_about calls SHOWN_NOTES (Some place) passed finds ++ codes "</section>\n"))
 
 -- entries from this place on
-abbrev pub entries_from : List Passed → List Finding → ℕ → List Entry → List ℕ
-entries_from passed finds place [] = []
-entries_from passed finds place (entry ∷ entries) =
-    entry_html passed finds place entry ++ entries_from passed finds (place + 1) entries
+abbrev pub entries_from : CallTable → List Passed → List Finding → ℕ → List Entry → List ℕ
+entries_from calls passed finds place [] = []
+entries_from calls passed finds place (entry ∷ entries) =
+    entry_html calls passed finds place entry ++ entries_from calls passed finds (place + 1) entries
 
 unfoldable pub default_head : ℕ → List ℕ
 default_head value =
@@ -52,17 +53,17 @@ default_head value =
     ++ codes "</p>\n<p>every call that no entry decides</p>\n")))))
 
 -- the default, with the findings that are about no entry
-unfoldable pub default_html : ℕ → List Passed → List Finding → List ℕ
-default_html value passed finds =
-    default_head value ++ (notes_about SHOWN_OTHERS None passed finds ++ codes "</section>\n")
+unfoldable pub default_html : CallTable → ℕ → List Passed → List Finding → List ℕ
+default_html calls value passed finds =
+    default_head value ++ (notes_about calls SHOWN_OTHERS None passed finds ++ codes "</section>\n")
 
 unfoldable pub more_entries : ℕ → List ℕ
 more_entries count = if count == 0 then [] else codes "<p class=\"m\">" ++ (decimal count
     ++ codes " more entries, which <code>seccheck table</code> prints</p>\n")
 
 -- the first entries, how many more there are, and the default
-unfoldable pub entries_html : Profile → List Passed → List Finding → List ℕ
-entries_html profile passed finds =
-    entries_from passed finds 0 (first SHOWN_ENTRIES profile.entries)
+unfoldable pub entries_html : CallTable → Profile → List Passed → List Finding → List ℕ
+entries_html calls profile passed finds =
+    entries_from calls passed finds 0 (first SHOWN_ENTRIES profile.entries)
     ++ (more_entries (length profile.entries - SHOWN_ENTRIES)
-    ++ default_html (value_of profile.default) passed finds)
+    ++ default_html calls (value_of profile.default) passed finds)

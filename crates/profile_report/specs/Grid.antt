@@ -5,6 +5,7 @@ use Rattle.std.specs.Fmt.{decimal}
 use Rattle.call_names.specs.declared.naming.Naming.TheVariants.{Name}
 use Rattle.call_names.specs.Text.{call_text}
 use Rattle.oci_profile.specs.declared.profile.Profile.{Profile}
+use Rattle.sys_table.specs.declared.calls.CallTable.{CallTable}
 use Rattle.profile_table.specs.declared.row.Row.{Row}
 use Rattle.shown_differences.specs.declared.line.Line.{Line}
 use Rattle.profile_report.specs.Changes.{changes_at, is_changed}
@@ -35,11 +36,11 @@ changed_mark true = codes "<i>&ne;</i>"
 changed_mark false = codes ""
 
 -- the closed cell: the letter of the action, and the name
-unfoldable pub head_html : Row → Bool → List ℕ
-head_html row is_changed =
+unfoldable pub head_html : CallTable → Row → Bool → List ℕ
+head_html calls row is_changed =
     codes "<details class=\"" ++ (letter_in row.value ++ (asked_class row.is_asked ++ (changed_class is_changed
     ++ (codes "\"><summary title=\"" ++ (asked_title row.is_asked ++ (decided_text row.value row.decider
-    ++ (codes "\"><b>" ++ (letter_in row.value ++ (codes "</b> " ++ (call_text Name row.nr
+    ++ (codes "\"><b>" ++ (letter_in row.value ++ (codes "</b> " ++ (call_text (Name calls) row.nr
     ++ (asked_mark row.is_asked ++ (changed_mark is_changed ++ codes "</summary>"))))))))))))
 
 -- the number of the call, and what decides it
@@ -50,21 +51,21 @@ body_html count profile row =
     ++ (linked_text row.value row.decider ++ codes "</p>"))))
 
 -- the whole cell: what decides, and what differs
-unfoldable pub cell_html : ℕ → Profile → List Line → Row → List ℕ
-cell_html count profile lines row =
-    head_html row (is_changed row.nr lines) ++ (body_html count profile row ++ (changes_at row.nr lines
+unfoldable pub cell_html : CallTable → ℕ → Profile → List Line → Row → List ℕ
+cell_html calls count profile lines row =
+    head_html calls row (is_changed row.nr lines) ++ (body_html count profile row ++ (changes_at row.nr lines
     ++ codes "</details>\n"))
 
 -- a cell for each row, in order
-abbrev pub cells_html : ℕ → Profile → List Line → List Row → List ℕ
-cells_html count profile lines [] = []
-cells_html count profile lines (row ∷ rows) =
-    cell_html count profile lines row ++ cells_html count profile lines rows
+abbrev pub cells_html : CallTable → ℕ → Profile → List Line → List Row → List ℕ
+cells_html calls count profile lines [] = []
+cells_html calls count profile lines (row ∷ rows) =
+    cell_html calls count profile lines row ++ cells_html calls count profile lines rows
 
 -- how many calls entries with conditions may decide
 abbrev pub asked : List Row → ℕ
 asked [] = 0
 asked (row ∷ rows) = if row.is_asked then 1 + asked rows else asked rows
 
-unfoldable pub grid_html : Profile → List Line → List Row → List ℕ
-grid_html profile lines rows = cells_html (shown_for (asked rows)) profile lines rows
+unfoldable pub grid_html : CallTable → Profile → List Line → List Row → List ℕ
+grid_html calls profile lines rows = cells_html calls (shown_for (asked rows)) profile lines rows

@@ -4,7 +4,7 @@ use Rattle.std.specs.Prelude.{ℕ, ◌-◌, ◌==◌, Bool, true, false, if◌th
 use Rattle.std.specs.Prelude.{length, Option, Some, None}
 use Rattle.std.specs.Fmt.{decimal}
 use Rattle.profile_advice.specs.Entries as advised
-use Rattle.sys_table.specs.declared.calls.CallTable.TheVariants.{Linux5_8}
+use Rattle.sys_table.specs.declared.calls.CallTable.{CallTable}
 use Rattle.profile_lint.specs.declared.finding.Finding.{Finding}
 use Rattle.profile_lint.specs.declared.finding.Finding.TheVariants as found
 use Rattle.profile_lint.specs.declared.passed.Holder.{Holder}
@@ -53,8 +53,8 @@ is_about (Some place) None = false
 unfoldable pub told_line : Option ℕ → Told → List (List ℕ)
 told_line about t = if is_about (told_about t) about then told_text t ∷ [] else []
 
-unfoldable pub found_line : Option ℕ → Finding → List (List ℕ)
-found_line about f = if is_about (found_about f) about then found_text Linux5_8 f ∷ [] else []
+unfoldable pub found_line : CallTable → Option ℕ → Finding → List (List ℕ)
+found_line calls about f = if is_about (found_about f) about then found_text calls f ∷ [] else []
 
 -- the lines about the text, in order
 abbrev pub told_lines : Option ℕ → List Passed → List (List ℕ)
@@ -62,9 +62,9 @@ told_lines about [] = []
 told_lines about (item ∷ passed) = told_line about (told item) ++ told_lines about passed
 
 -- the lines about the profile, in order
-abbrev pub found_lines : Option ℕ → List Finding → List (List ℕ)
-found_lines about [] = []
-found_lines about (finding ∷ finds) = found_line about finding ++ found_lines about finds
+abbrev pub found_lines : CallTable → Option ℕ → List Finding → List (List ℕ)
+found_lines calls about [] = []
+found_lines calls about (finding ∷ finds) = found_line calls about finding ++ found_lines calls about finds
 
 -- a finding: 160 bytes of each are shown
 abbrev pub items_html : List (List ℕ) → List ℕ
@@ -86,5 +86,6 @@ unfoldable pub notes_html : ℕ → List (List ℕ) → List ℕ
 notes_html count lines = if length lines == 0 then [] else list_html count lines
 
 -- the findings about this entry, or about none
-abbrev pub notes_about : ℕ → Option ℕ → List Passed → List Finding → List ℕ
-notes_about count about passed finds = notes_html count (told_lines about passed ++ found_lines about finds)
+abbrev pub notes_about : CallTable → ℕ → Option ℕ → List Passed → List Finding → List ℕ
+notes_about calls count about passed finds =
+    notes_html count (told_lines about passed ++ found_lines calls about finds)

@@ -5,6 +5,8 @@ use Rattle.std.specs.List.{All}
 use Rattle.oci_profile.specs.declared.profile.Profile.{Profile}
 use Rattle.profile_lint.specs.declared.finding.Finding.{Finding}
 use Rattle.profile_lint.specs.declared.passed.Passed.{Passed}
+use Rattle.sys_table.specs.SysTable.{limit_of}
+use Rattle.sys_table.specs.declared.calls.CallTable.{CallTable}
 use Rattle.profile_table.specs.Rows.{IsRowOf, named_below}
 use Rattle.profile_table.specs.declared.row.Row.{Row}
 use Rattle.shown_differences.specs.declared.line.Line.{Line}
@@ -32,39 +34,39 @@ unfoldable pub marks : List ℕ
 marks = codes "</ul>\n<p>? and a dashed edge: entries with conditions may decide first. &ne; and a frame: differs from the old profile. Open a cell for what decides.</p>\n<div class=\"g\">\n"
 
 -- the calls: how many have each action, and the grid
-unfoldable pub calls_html : Profile → List Line → List Row → List ℕ
-calls_html profile lines rows =
+unfoldable pub calls_html : CallTable → Profile → List Line → List Row → List ℕ
+calls_html calls profile lines rows =
     calls_head (length rows) (length profile.entries) ++ (tallies_html rows ++ (marks
-    ++ (grid_html profile lines rows ++ codes "</div></section>\n")))
+    ++ (grid_html calls profile lines rows ++ codes "</div></section>\n")))
 
 -- the entries
-unfoldable pub section_html : Profile → List Passed → List Finding → List ℕ
-section_html profile passed finds =
+unfoldable pub section_html : CallTable → Profile → List Passed → List Finding → List ℕ
+section_html calls profile passed finds =
     codes "<section id=\"entries\"><h2>Entries</h2>\n<div class=\"e\">\n"
-    ++ (entries_html profile passed finds ++ codes "</div></section>\n")
+    ++ (entries_html calls profile passed finds ++ codes "</div></section>\n")
 
 -- the page down to the differences
-unfoldable pub upper_part : List ℕ → List ℕ → Profile → List Line → List Row → Parts → List ℕ
-upper_part style name profile lines rows parts =
-    head_html style name ++ (calls_html profile lines rows ++ parts.changes.now)
+unfoldable pub upper_part : CallTable → List ℕ → List ℕ → Profile → List Line → List Row → Parts → List ℕ
+upper_part calls style name profile lines rows parts =
+    head_html style name ++ (calls_html calls profile lines rows ++ parts.changes.now)
 
 -- the page from the entries on
-unfoldable pub lower_part : Profile → List Passed → List Finding → Parts → List ℕ
-lower_part profile passed finds parts =
-    section_html profile passed finds ++ (parts.tree.now ++ (parts.denied.now
+unfoldable pub lower_part : CallTable → Profile → List Passed → List Finding → Parts → List ℕ
+lower_part calls profile passed finds parts =
+    section_html calls profile passed finds ++ (parts.tree.now ++ (parts.denied.now
     ++ codes "</main>\n</body>\n</html>\n"))
 
 -- the page
-abbrev pub page_html : List ℕ → List ℕ → Profile → List Passed → List Finding → List Line → List Row → Parts
-    → List ℕ
-page_html style name profile passed finds lines rows parts =
-    upper_part style name profile lines rows parts ++ lower_part profile passed finds parts
+abbrev pub page_html : CallTable → List ℕ → List ℕ → Profile → List Passed → List Finding → List Line → List Row
+    → Parts → List ℕ
+page_html calls style name profile passed finds lines rows parts =
+    upper_part calls style name profile lines rows parts ++ lower_part calls profile passed finds parts
 
--- a page of a profile: there is one cell for each call of the table, in order, and its decision is what
+-- a page of a profile: there is one cell for each of these calls, in order, and its decision is what
 -- `explain` returns for the call
-pub record IsPage (style name : List ℕ) (profile : Profile) (passed : List Passed) (finds : List Finding)
-    (lines : List Line) (parts : Parts) (page : List ℕ) : Type 0 where
+pub record IsPage (calls : CallTable) (style name : List ℕ) (profile : Profile) (passed : List Passed)
+    (finds : List Finding) (lines : List Line) (parts : Parts) (page : List ℕ) : Type 0 where
   pub rows : List Row
-  pub each : map (λ row. row.nr) rows ≡ named_below 440
-  pub real : All (IsRowOf profile) rows
-  pub is : page ≡ page_html style name profile passed finds lines rows parts
+  pub each : map (λ row. row.nr) rows ≡ named_below calls (limit_of calls)
+  pub real : All (IsRowOf calls profile) rows
+  pub is : page ≡ page_html calls style name profile passed finds lines rows parts

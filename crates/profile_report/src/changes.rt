@@ -6,9 +6,10 @@ ghost use Rattle.profile_report.specs.Changes.{is_changed, is_on, is_part_of};
 use crate::escaping::Html;
 use crate::ways::first;
 use filter_differences::Part;
-use shown_differences::Line;
+use shown_differences::{Line, LineText};
 use std::alloc::{AllocError, Global};
 use std::fmt;
+use sys_table::CallTable;
 
 /// How many differences are listed at most. Each cell shows its own in any case.
 pub const SHOWN_CHANGES: usize = 32;
@@ -91,12 +92,18 @@ impl fmt::Display for Change {
     }
 }
 
-/// The part of a page for the differences from an old profile with this name.
-pub fn changes_html(alloc: Global, old: &str, lines: &[Line]) -> Result<String, AllocError>
-    ensures { IfOk result (λ text. string_bytes text ≡ changes_html old.now lines.now) }
+/// The part of a page for the differences from an old profile with this name. Calls are named if they are of these
+/// calls.
+pub fn changes_html(
+    alloc: Global,
+    calls: CallTable,
+    old: &str,
+    lines: &[Line],
+) -> Result<String, AllocError>
+    ensures { IfOk result (λ text. string_bytes text ≡ changes_html calls old.now lines.now) }
 {
     let head = ChangesHead(old, lines.len());
-    let items = change_items(alloc, first(lines, SHOWN_CHANGES))?;
+    let items = change_items(alloc, calls, first(lines, SHOWN_CHANGES))?;
     let more = MoreChanges(lines.len().saturating_sub(SHOWN_CHANGES));
     format!(in alloc; "{head}{items}{more}</ul></section>\n")
 }
@@ -126,11 +133,12 @@ impl fmt::Display for ChangesHead<'_> {
     }
 }
 
-fn change_items(alloc: Global, lines: &[Line]) -> Result<String, AllocError>
-    ensures { IfOk result (λ text. string_bytes text ≡ change_items lines.now) }
+fn change_items(alloc: Global, calls: CallTable, lines: &[Line]) -> Result<String, AllocError>
+    ensures { IfOk result (λ text. string_bytes text ≡ change_items calls lines.now) }
 {
     let mut text = String::new(alloc);
     for line in lines {
+        let line = LineText(calls, *line);
         write!(text, "<li>{line}</li>\n")?;
     }
     Ok(text)

@@ -13,6 +13,7 @@ use profile_table::{Row, rows};
 use shown_differences::Line;
 use std::alloc::{AllocError, Global};
 use std::fmt;
+use sys_table::CallTable;
 
 /// The parts of a page that are made before it.
 #[derive(Clone, Copy)]
@@ -25,10 +26,11 @@ pub struct Parts<'a> {
     pub denied: &'a str,
 }
 
-/// The page of a profile with this name, with the findings about its text and about its entries, and the
-/// lines of the calls on which it differs from an old one.
+/// The page of a profile with this name, with a cell for each of these calls, the findings about its text and
+/// about its entries, and the lines of the calls on which it differs from an old one.
 pub fn page(
     alloc: Global,
+    calls: CallTable,
     style: &str,
     name: &str,
     profile: &Profile,
@@ -37,27 +39,37 @@ pub fn page(
     lines: &[Line],
     parts: &Parts<'_>,
 ) -> Result<String, AllocError>
-    ensures { IfOk result (λ page. IsPage style.now name.now profile.now passed.now found.now lines.now
-        parts.now (string_bytes page)) }
+    ensures { IfOk result (λ page. IsPage calls style.now name.now profile.now passed.now found.now
+        lines.now parts.now (string_bytes page)) }
 {
-    let rows = rows(alloc, profile)?;
-    let upper = upper_part(alloc, style, name, profile, lines, rows.as_slice(), parts)?;
-    with_lower_part(alloc, upper.as_str(), profile, passed, found, parts)
+    let rows = rows(alloc, calls, profile)?;
+    let upper = upper_part(
+        alloc,
+        calls,
+        style,
+        name,
+        profile,
+        lines,
+        rows.as_slice(),
+        parts,
+    )?;
+    with_lower_part(alloc, calls, upper.as_str(), profile, passed, found, parts)
 }
 
 /// The page whose upper part is this.
 fn with_lower_part(
     alloc: Global,
+    calls: CallTable,
     upper: &str,
     profile: &Profile,
     passed: &[Passed<'_>],
     found: &[Finding],
     parts: &Parts<'_>,
 ) -> Result<String, AllocError>
-    ensures { IfOk result (λ text. string_bytes text ≡ upper.now ++ lower_part profile.now passed.now found.now
-        parts.now) }
+    ensures { IfOk result (λ text. string_bytes text ≡ upper.now ++ lower_part calls profile.now passed.now
+        found.now parts.now) }
 {
-    let lower = lower_part(alloc, profile, passed, found, parts)?;
+    let lower = lower_part(alloc, calls, profile, passed, found, parts)?;
     format!(in alloc; "{upper}{lower}")
 }
 
@@ -65,6 +77,7 @@ fn with_lower_part(
 #[tactic(auto, unfolding(crate::specs::Page::upper_part))]
 fn upper_part(
     alloc: Global,
+    calls: CallTable,
     style: &str,
     name: &str,
     profile: &Profile,
@@ -72,27 +85,28 @@ fn upper_part(
     rows: &[Row],
     parts: &Parts<'_>,
 ) -> Result<String, AllocError>
-    ensures { IfOk result (λ text. string_bytes text ≡ upper_part style.now name.now profile.now lines.now
+    ensures { IfOk result (λ text. string_bytes text ≡ upper_part calls style.now name.now profile.now lines.now
         rows.now parts.now) }
 {
     let head = head_html(alloc, style, name)?;
-    let calls = calls_html(alloc, profile, lines, rows)?;
+    let cells = calls_html(alloc, calls, profile, lines, rows)?;
     let changes = parts.changes;
-    format!(in alloc; "{head}{calls}{changes}")
+    format!(in alloc; "{head}{cells}{changes}")
 }
 
 /// The page from the entries on.
 #[tactic(auto, unfolding(crate::specs::Page::lower_part))]
 fn lower_part(
     alloc: Global,
+    calls: CallTable,
     profile: &Profile,
     passed: &[Passed<'_>],
     found: &[Finding],
     parts: &Parts<'_>,
 ) -> Result<String, AllocError>
-    ensures { IfOk result (λ text. string_bytes text ≡ lower_part profile.now passed.now found.now parts.now) }
+    ensures { IfOk result (λ text. string_bytes text ≡ lower_part calls profile.now passed.now found.now parts.now) }
 {
-    let entries = section_html(alloc, profile, passed, found)?;
+    let entries = section_html(alloc, calls, profile, passed, found)?;
     let (tree, denied) = (parts.tree, parts.denied);
     format!(in alloc; "{entries}{tree}{denied}</main>\n</body>\n</html>\n")
 }
@@ -101,13 +115,14 @@ fn lower_part(
 #[tactic(auto, unfolding(crate::specs::Page::section_html))]
 fn section_html(
     alloc: Global,
+    calls: CallTable,
     profile: &Profile,
     passed: &[Passed<'_>],
     found: &[Finding],
 ) -> Result<String, AllocError>
-    ensures { IfOk result (λ text. string_bytes text ≡ section_html profile.now passed.now found.now) }
+    ensures { IfOk result (λ text. string_bytes text ≡ section_html calls profile.now passed.now found.now) }
 {
-    let entries = entries_html(alloc, profile, passed, found)?;
+    let entries = entries_html(alloc, calls, profile, passed, found)?;
     format!(in alloc;
         "<section id=\"entries\"><h2>Entries</h2>\n<div class=\"e\">\n{entries}</div></section>\n"
     )
@@ -136,16 +151,17 @@ fn head_html(alloc: Global, style: &str, name: &str) -> Result<String, AllocErro
 #[tactic(auto, unfolding(crate::specs::Page::calls_html))]
 fn calls_html(
     alloc: Global,
+    calls: CallTable,
     profile: &Profile,
     lines: &[Line],
     rows: &[Row],
 ) -> Result<String, AllocError>
-    ensures { IfOk result (λ text. string_bytes text ≡ calls_html profile.now lines.now rows.now) }
+    ensures { IfOk result (λ text. string_bytes text ≡ calls_html calls profile.now lines.now rows.now) }
 {
     let head = CallsHead(rows.len(), profile.entries.as_slice().len());
     let tallies = tallies_html(alloc, rows)?;
     let marks = marks();
-    let grid = grid_html(alloc, profile, lines, rows)?;
+    let grid = grid_html(alloc, calls, profile, lines, rows)?;
     format!(in alloc; "{head}{tallies}{marks}{grid}</div></section>\n")
 }
 

@@ -6,6 +6,7 @@ use bpf_verify::Filter;
 use call_names::{CallWord, Naming};
 use std::alloc::{AllocError, Global};
 use std::fmt;
+use sys_table::CallTable;
 
 /// How many questions one drawing has at most, so that a page of paper has room for it.
 const CHUNK: usize = 24;
@@ -23,8 +24,8 @@ const YES_AT: usize = 392;
 
 const NO_AT: usize = 526;
 
-/// The part of a page for a filter: its questions as a tree, and where each answer leads.
-pub fn tree_html(alloc: Global, filter: &Filter) -> Result<String, AllocError> {
+/// The part of a page for a filter: its questions as a tree, and where each answer leads. These calls are named.
+pub fn tree_html(alloc: Global, calls: CallTable, filter: &Filter) -> Result<String, AllocError> {
     let tree = tree_of(alloc, filter.insns())?;
     let (count, longest) = (filter.len(), filter.longest());
     let mut text = String::new(alloc);
@@ -33,7 +34,7 @@ pub fn tree_html(alloc: Global, filter: &Filter) -> Result<String, AllocError> {
         "<section id=\"filter\"><h2>Filter</h2>\n<p>Instructions: {count}. A call executes {longest} at most. \
          Each answer has its action, its data, and how many instructions lead to it.</p>\n"
     )?;
-    add_tree(&mut text, &tree)?;
+    add_tree(&mut text, calls, &tree)?;
     text.push_str("</section>\n")?;
     Ok(text)
 }
@@ -47,7 +48,7 @@ pub fn no_tree_html(alloc: Global) -> Result<String, AllocError> {
     )
 }
 
-fn add_tree(text: &mut String, tree: &Tree) -> Result<(), AllocError> {
+fn add_tree(text: &mut String, calls: CallTable, tree: &Tree) -> Result<(), AllocError> {
     if tree.questions.is_empty() {
         let only = EndWords(tree.only);
         return write!(text, "<p>Every call: {only}</p>\n");
@@ -55,7 +56,7 @@ fn add_tree(text: &mut String, tree: &Tree) -> Result<(), AllocError> {
     text.push_str(
         "<div class=\"s\" tabindex=\"0\" role=\"group\" aria-label=\"Questions of the filter\">\n",
     )?;
-    add_drawings(text, tree.questions.as_slice())?;
+    add_drawings(text, calls, tree.questions.as_slice())?;
     text.push_str("</div>\n")?;
     if tree.more > 0 {
         let more = tree.more;
@@ -68,14 +69,18 @@ fn add_tree(text: &mut String, tree: &Tree) -> Result<(), AllocError> {
 }
 
 /// Draws the questions, so many at a time.
-fn add_drawings(text: &mut String, questions: &[Question]) -> Result<(), AllocError> {
+fn add_drawings(
+    text: &mut String,
+    calls: CallTable,
+    questions: &[Question],
+) -> Result<(), AllocError> {
     for (place, question) in questions.iter().enumerate() {
         let line = place % CHUNK;
         if line == 0 {
             add_start(text, questions.len().saturating_sub(place).min(CHUNK))?;
         }
         let y = line.saturating_add(1).saturating_mul(LINE);
-        write!(text, "{}", Drawn(y, *question))?;
+        write!(text, "{}", Drawn(calls, y, *question))?;
         if line.saturating_add(1) == CHUNK || place.saturating_add(1) == questions.len() {
             text.push_str("</svg>\n")?;
         }
@@ -105,13 +110,14 @@ fn left_of(depth: usize) -> usize {
 
 /// A question whose line begins at this height, with the lines that lead to it and both answers.
 #[derive(Clone, Copy)]
-struct Drawn(usize, Question);
+struct Drawn(CallTable, usize, Question);
 
 impl fmt::Display for Drawn {
     fn fmt<W: fmt::Write>(&self, f: &mut fmt::Formatter<W>) -> fmt::Result {
-        let (y, question) = (self.0, self.1);
+        let (calls, y, question) = (self.0, self.1, self.2);
         let (x, base) = (left_of(question.depth), y.saturating_add(15));
-        let (bars, asked) = (Bars(y, question), Asked(question.held, question.insn));
+        let bars = Bars(y, question);
+        let asked = Asked(calls, question.held, question.insn);
         let (yes, no) = (
             Answer(YES_AT, y, question.yes),
             Answer(NO_AT, y, question.no),
@@ -193,12 +199,12 @@ impl fmt::Display for EndWords {
 
 /// A question in words: `nr &ge; 251 ioprio_set`.
 #[derive(Clone, Copy)]
-struct Asked(Held, Insn);
+struct Asked(CallTable, Held, Insn);
 
 impl fmt::Display for Asked {
     fn fmt<W: fmt::Write>(&self, f: &mut fmt::Formatter<W>) -> fmt::Result {
-        let (held, number) = (HeldWords(self.0), Number(self.0, self.1));
-        let test = match self.1.op {
+        let (held, number) = (HeldWords(self.1), Number(self.0, self.1, self.2));
+        let test = match self.2.op {
             Operation::JumpEqualK | Operation::JumpEqualX => "=",
             Operation::JumpGreaterK | Operation::JumpGreaterX => "&gt;",
             Operation::JumpGreaterOrEqualK | Operation::JumpGreaterOrEqualX => "&ge;",
@@ -208,14 +214,14 @@ impl fmt::Display for Asked {
     }
 }
 
-/// The number with which a question compares, with the name of a call or of an architecture.
+/// The number with which a question compares, with the name of one of these calls or of an architecture.
 #[derive(Clone, Copy)]
-struct Number(Held, Insn);
+struct Number(CallTable, Held, Insn);
 
 impl fmt::Display for Number {
     fn fmt<W: fmt::Write>(&self, f: &mut fmt::Formatter<W>) -> fmt::Result {
-        let k = self.1.k;
-        match (self.1.op, self.0) {
+        let (calls, k) = (self.0, self.2.k);
+        match (self.2.op, self.1) {
             (
                 Operation::JumpEqualX
                 | Operation::JumpGreaterX
@@ -224,8 +230,8 @@ impl fmt::Display for Number {
                 _,
             ) => f.write_str("x"),
             (_, Held::Word(4)) if k == 0xc000_003e => f.write_str("x86-64"),
-            (_, Held::Word(0)) if sys_table::name(k).is_some() => {
-                let naming = Naming::Name;
+            (_, Held::Word(0)) if calls.name(k).is_some() => {
+                let naming = Naming::Name(calls);
                 let word = CallWord { nr: k, naming };
                 write!(f, "{k} {word}")
             }

@@ -12,6 +12,7 @@ use oci_profile::{Entry, Profile};
 use profile_lint::{Finding, Passed};
 use std::alloc::{AllocError, Global};
 use std::fmt;
+use sys_table::CallTable;
 
 /// How many names of an entry are shown at most.
 pub const SHOWN_NAMES: usize = 12;
@@ -26,30 +27,32 @@ pub const SHOWN_OTHERS: usize = 8;
 #[tactic(auto, unfolding(crate::specs::Entries::entries_html))]
 pub(crate) fn entries_html(
     alloc: Global,
+    calls: CallTable,
     profile: &Profile,
     passed: &[Passed<'_>],
     found: &[Finding],
 ) -> Result<String, AllocError>
-    ensures { IfOk result (λ text. string_bytes text ≡ entries_html profile.now passed.now found.now) }
+    ensures { IfOk result (λ text. string_bytes text ≡ entries_html calls profile.now passed.now found.now) }
 {
     let entries = profile.entries.as_slice();
-    let shown = entries_from(alloc, passed, found, first(entries, SHOWN_ENTRIES))?;
+    let shown = entries_from(alloc, calls, passed, found, first(entries, SHOWN_ENTRIES))?;
     let more = MoreEntries(entries.len().saturating_sub(SHOWN_ENTRIES));
-    let default = default_html(alloc, profile.default.value(), passed, found)?;
+    let default = default_html(alloc, calls, profile.default.value(), passed, found)?;
     format!(in alloc; "{shown}{more}{default}")
 }
 
 fn entries_from(
     alloc: Global,
+    calls: CallTable,
     passed: &[Passed<'_>],
     found: &[Finding],
     entries: &[Entry],
 ) -> Result<String, AllocError>
-    ensures { IfOk result (λ text. string_bytes text ≡ entries_from passed.now found.now 0 entries.now) }
+    ensures { IfOk result (λ text. string_bytes text ≡ entries_from calls passed.now found.now 0 entries.now) }
 {
     let mut text = String::new(alloc);
     for (place, entry) in entries.iter().enumerate() {
-        let html = entry_html(alloc, passed, found, place, entry)?;
+        let html = entry_html(alloc, calls, passed, found, place, entry)?;
         text.push_str(html.as_str())?;
     }
     Ok(text)
@@ -59,26 +62,27 @@ fn entries_from(
 #[tactic(auto, unfolding(crate::specs::Entries::entry_html))]
 fn entry_html(
     alloc: Global,
+    calls: CallTable,
     passed: &[Passed<'_>],
     found: &[Finding],
     place: usize,
     entry: &Entry,
 ) -> Result<String, AllocError>
-    ensures { IfOk result (λ text. string_bytes text ≡ entry_html passed.now found.now place entry.now) }
+    ensures { IfOk result (λ text. string_bytes text ≡ entry_html calls passed.now found.now place entry.now) }
 {
     let head = EntryHead(place, entry.decision.value());
-    let body = entry_body(alloc, entry)?;
-    let notes = notes_about(alloc, SHOWN_NOTES, Some(place), passed, found)?;
+    let body = entry_body(alloc, calls, entry)?;
+    let notes = notes_about(alloc, calls, SHOWN_NOTES, Some(place), passed, found)?;
     format!(in alloc; "{head}{body}{notes}</section>\n")
 }
 
 /// All conditions of an entry, and its calls.
 #[tactic(auto, unfolding(crate::specs::Entries::entry_body))]
-fn entry_body(alloc: Global, entry: &Entry) -> Result<String, AllocError>
-    ensures { IfOk result (λ text. string_bytes text ≡ entry_body entry.now) }
+fn entry_body(alloc: Global, calls: CallTable, entry: &Entry) -> Result<String, AllocError>
+    ensures { IfOk result (λ text. string_bytes text ≡ entry_body calls entry.now) }
 {
     let conds = shown_conds(alloc, entry.conds.as_slice(), 6)?;
-    let names = names_html(alloc, entry.numbers.as_slice())?;
+    let names = names_html(alloc, calls, entry.numbers.as_slice())?;
     format!(in alloc; "{conds}</p>\n<p>{names}</p>\n")
 }
 
@@ -107,14 +111,15 @@ impl fmt::Display for EntryHead {
 #[tactic(auto, unfolding(crate::specs::Entries::default_html))]
 fn default_html(
     alloc: Global,
+    calls: CallTable,
     value: u32,
     passed: &[Passed<'_>],
     found: &[Finding],
 ) -> Result<String, AllocError>
-    ensures { IfOk result (λ text. string_bytes text ≡ default_html value passed.now found.now) }
+    ensures { IfOk result (λ text. string_bytes text ≡ default_html calls value passed.now found.now) }
 {
     let head = DefaultHead(value);
-    let notes = notes_about(alloc, SHOWN_OTHERS, None, passed, found)?;
+    let notes = notes_about(alloc, calls, SHOWN_OTHERS, None, passed, found)?;
     format!(in alloc; "{head}{notes}</section>\n")
 }
 
@@ -141,25 +146,25 @@ impl fmt::Display for DefaultHead {
 
 /// How many calls an entry names, and the first ones.
 #[tactic(auto, unfolding(crate::specs::Entries::names_html))]
-fn names_html(alloc: Global, numbers: &[u32]) -> Result<String, AllocError>
-    ensures { IfOk result (λ text. string_bytes text ≡ names_html numbers.now) }
+fn names_html(alloc: Global, calls: CallTable, numbers: &[u32]) -> Result<String, AllocError>
+    ensures { IfOk result (λ text. string_bytes text ≡ names_html calls numbers.now) }
 {
     let count = Count(numbers.len());
-    let names = names_text(alloc, first(numbers, SHOWN_NAMES))?;
+    let names = names_text(alloc, calls, first(numbers, SHOWN_NAMES))?;
     let more = MoreNames(numbers.len().saturating_sub(SHOWN_NAMES));
     format!(in alloc; "{count}{names}{more}")
 }
 
 /// `: read, write`.
-fn names_text(alloc: Global, numbers: &[u32]) -> Result<String, AllocError>
-    ensures { IfOk result (λ text. string_bytes text ≡ names_text 0 numbers.now) }
+fn names_text(alloc: Global, calls: CallTable, numbers: &[u32]) -> Result<String, AllocError>
+    ensures { IfOk result (λ text. string_bytes text ≡ names_text calls 0 numbers.now) }
 {
     let mut text = String::new(alloc);
     for (place, nr) in numbers.iter().enumerate() {
         let word = NameWord(place);
         let name = CallWord {
             nr: *nr,
-            naming: Naming::Name,
+            naming: Naming::Name(calls),
         };
         write!(text, "{word}{name}")?;
     }

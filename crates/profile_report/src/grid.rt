@@ -12,19 +12,21 @@ use profile_table::Row;
 use shown_differences::Line;
 use std::alloc::{AllocError, Global};
 use std::fmt;
+use sys_table::CallTable;
 
 /// A cell for each row, in order. A cell has the letter of the row's action and the call's name; opened, it
 /// shows what decides, and what differs according to these lines.
 #[tactic(auto, unfolding(crate::specs::Grid::grid_html))]
 pub(crate) fn grid_html(
     alloc: Global,
+    calls: CallTable,
     profile: &Profile,
     lines: &[Line],
     rows: &[Row],
 ) -> Result<String, AllocError>
-    ensures { IfOk result (λ text. string_bytes text ≡ grid_html profile.now lines.now rows.now) }
+    ensures { IfOk result (λ text. string_bytes text ≡ grid_html calls profile.now lines.now rows.now) }
 {
-    cells_html(alloc, shown_for(asked(rows)), profile, lines, rows)
+    cells_html(alloc, calls, shown_for(asked(rows)), profile, lines, rows)
 }
 
 /// How many calls entries with conditions may decide.
@@ -43,16 +45,17 @@ fn asked(rows: &[Row]) -> usize
 /// The cells of these rows, with so many entries with conditions in each.
 fn cells_html(
     alloc: Global,
+    calls: CallTable,
     count: usize,
     profile: &Profile,
     lines: &[Line],
     rows: &[Row],
 ) -> Result<String, AllocError>
-    ensures { IfOk result (λ text. string_bytes text ≡ cells_html count profile.now lines.now rows.now) }
+    ensures { IfOk result (λ text. string_bytes text ≡ cells_html calls count profile.now lines.now rows.now) }
 {
     let mut text = String::new(alloc);
     for row in rows {
-        let cell = cell_html(alloc, count, profile, lines, row)?;
+        let cell = cell_html(alloc, calls, count, profile, lines, row)?;
         text.push_str(cell.as_str())?;
     }
     Ok(text)
@@ -62,14 +65,15 @@ fn cells_html(
 #[tactic(auto, unfolding(crate::specs::Grid::cell_html))]
 fn cell_html(
     alloc: Global,
+    calls: CallTable,
     count: usize,
     profile: &Profile,
     lines: &[Line],
     row: &Row,
 ) -> Result<String, AllocError>
-    ensures { IfOk result (λ text. string_bytes text ≡ cell_html count profile.now lines.now row.now) }
+    ensures { IfOk result (λ text. string_bytes text ≡ cell_html calls count profile.now lines.now row.now) }
 {
-    let head = Head(*row, is_changed(row.nr, lines));
+    let head = Head(calls, *row, is_changed(row.nr, lines));
     let body = body_html(alloc, count, profile, row)?;
     let changes = changes_at(alloc, row.nr, lines)?;
     format!(in alloc; "{head}{body}{changes}</details>\n")
@@ -90,22 +94,22 @@ fn body_html(
     format!(in alloc; "<p>{nr}: {ways}{linked}</p>")
 }
 
-/// The closed cell of a row. Whether the call differs is marked.
+/// The closed cell of a row, with the name of one of these calls. Whether the call differs is marked.
 #[derive(Clone, Copy)]
-struct Head(Row, bool);
+struct Head(CallTable, Row, bool);
 
 impl fmt::Display for Head {
     ghost use Rattle.std.specs.Prelude.{Some};
     ghost use Rattle.profile_report.specs.Grid.{head_html};
 
-    ghost output = { λ head. Some (head_html head.0 head.1) };
+    ghost output = { λ head. Some (head_html head.0 head.1 head.2) };
 
     #[tactic(auto, unfolding(crate::specs::Grid::head_html))]
     fn fmt<W: fmt::Write>(&self, f: &mut fmt::Formatter<W>) -> fmt::Result {
-        let (row, is_changed) = (self.0, self.1);
+        let (calls, row, is_changed) = (self.0, self.1, self.2);
         let (letter, decided) = (letter_in(row.value), Decided(row.value, row.decider));
         let (asked, changed) = (asked_class(row.is_asked), changed_class(is_changed));
-        let (title, name) = (asked_title(row.is_asked), named(row.nr));
+        let (title, name) = (asked_title(row.is_asked), named(calls, row.nr));
         let (asks, changes) = (asked_mark(row.is_asked), changed_mark(is_changed));
         write!(
             f,
@@ -115,10 +119,10 @@ impl fmt::Display for Head {
     }
 }
 
-fn named(nr: u32) -> CallWord
-    ensures { result ≡ record { nr = nr; naming = Naming.Name } }
+fn named(calls: CallTable, nr: u32) -> CallWord
+    ensures { result ≡ record { nr = nr; naming = Naming.Name calls } }
 {
-    let naming = Naming::Name;
+    let naming = Naming::Name(calls);
     CallWord { nr, naming }
 }
 

@@ -8,7 +8,7 @@
 //!
 //! # What is proved
 //!
-//! - The page has one cell for each call of the table, in order. The cell has the decision of the call's row,
+//! - The page has one cell for each of the known calls, in order. The cell has the decision of the call's row,
 //!   which is what `explain` returns: `page` (by `profile_table::rows`).
 //! - The page, byte by byte, around its drawing: `page`, `changes_html`, `denials_html`, `Display` of `Html`.
 //! - No text adds markup, whatever its characters are and wherever it is cut: `texts_are_no_markup`.

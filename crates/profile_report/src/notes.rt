@@ -15,33 +15,35 @@ use sys_table::CallTable;
 /// The first findings about an entry, or about none, and how many more there are.
 pub(crate) fn notes_about(
     alloc: Global,
+    calls: CallTable,
     count: usize,
     about: Option<usize>,
     passed: &[Passed<'_>],
     found: &[Finding],
 ) -> Result<String, AllocError>
-    ensures { IfOk result (λ text. string_bytes text ≡ notes_about count about passed.now found.now) }
+    ensures { IfOk result (λ text. string_bytes text ≡ notes_about calls count about passed.now found.now) }
 {
-    let lines = lines_about(alloc, about, passed, found)?;
+    let lines = lines_about(alloc, calls, about, passed, found)?;
     notes_html(alloc, count, lines.as_slice())
 }
 
 /// The lines of the findings about an entry, or about none.
 fn lines_about(
     alloc: Global,
+    calls: CallTable,
     about: Option<usize>,
     passed: &[Passed<'_>],
     found: &[Finding],
 ) -> Result<Vec<String>, AllocError>
     ensures { IfOk result (λ lines. map string_bytes lines.items
-        ≡ told_lines about passed.now ++ found_lines about found.now) }
+        ≡ told_lines about passed.now ++ found_lines calls about found.now) }
 {
     let mut lines = Vec::new(alloc);
     for item in passed {
         add_told(alloc, &mut lines, about, item)?;
     }
     for finding in found {
-        add_found(alloc, &mut lines, about, finding)?;
+        add_found(alloc, calls, &mut lines, about, finding)?;
     }
     Ok(lines)
 }
@@ -67,15 +69,16 @@ fn add_told(
 #[tactic(auto, unfolding(crate::specs::Notes::found_line))]
 fn add_found(
     alloc: Global,
+    calls: CallTable,
     lines: &mut Vec<String>,
     about: Option<usize>,
     finding: &Finding,
 ) -> Result<(), AllocError>
     ensures { IfOk result (λ _. map string_bytes lines.new.items
-        ≡ map string_bytes lines.old.items ++ found_line about finding.now) }
+        ≡ map string_bytes lines.old.items ++ found_line calls about finding.now) }
 {
     if is_about(found_about(finding), about) {
-        let shown = ShownFinding(CallTable::Linux5_8, *finding);
+        let shown = ShownFinding(calls, *finding);
         lines.push(format!(in alloc; "{shown}")?)?;
     }
     Ok(())

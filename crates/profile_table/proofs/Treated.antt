@@ -4,6 +4,10 @@ use Rattle.std.proofs.Common.{length, refl, sym, ap, subst, arith, ◌∙◌}
 use Rattle.std.specs.Prelude.{slice_get, slice_index_or}
 use Rattle.std.proofs.lemmas.Option.{slice_get-get_or, slice_get_within}
 use Rattle.call_data.specs.declared.sys_call.SysCall.{SysCall}
+use Rattle.sys_table.specs.SysTable.{limit_of}
+use Rattle.sys_table.specs.declared.calls.CallTable.{CallTable}
+use Rattle.sys_table.specs.declared.calls.CallTable.TheVariants.{Linux5_8, Linux6_12}
+use Rattle.sys_table.specs.declared.table.TheConstants.{TABLE_LIMIT}
 use Rattle.oci_profile.specs.declared.conditions.Cond.{Cond}
 use Rattle.oci_profile.specs.declared.profile.Entry.{Entry}
 use Rattle.oci_profile.specs.declared.profile.Profile.{Profile}
@@ -39,8 +43,13 @@ holds : (entry : Entry) (call : SysCall) → length entry.conds ≡ 0 → all_ho
 unfolding all_hold
 holds entry call none = none_hold entry.conds call none
 
+-- every call is one of the table
+within_table : (calls : CallTable) (nr : ℕ) → nr < limit_of calls → nr < TABLE_LIMIT
+within_table Linux5_8 nr inside = omega (arith, inside)
+within_table Linux6_12 nr inside = inside
+
 -- an entry without conditions decides what no entry before it does
-decides_there : (profile : Profile) (nr place : ℕ) (entry : Entry) → nr < 440
+decides_there : (profile : Profile) (nr place : ℕ) (entry : Entry) → nr < TABLE_LIMIT
     → slice_get profile.entries place ≡ Some entry → names entry nr ≡ true → length entry.conds ≡ 0
     → (call : SysCall) → IsOn nr call
     → ((k : ℕ) (other : Entry) → k < place → slice_get profile.entries k ≡ Some other
@@ -62,23 +71,24 @@ decides_there profile nr place entry inside there named bare call is before = re
   value_is = refl;
 }
 
-pub entry_row : (profile : Profile) (nr place : ℕ) (entry : Entry) (is_asked : Bool) (value : ℕ) → nr < 440
-    → slice_get profile.entries place ≡ Some entry → names entry nr ≡ true → length entry.conds ≡ 0
+pub entry_row : (calls : CallTable) (profile : Profile) (nr place : ℕ) (entry : Entry) (is_asked : Bool)
+    (value : ℕ) → nr < limit_of calls → slice_get profile.entries place ≡ Some entry → names entry nr ≡ true
+    → length entry.conds ≡ 0
     → value ≡ value_of entry.decision
     → (is_asked ≡ false → NoneNames profile.entries nr place)
     → (is_asked ≡ true → HasNamed profile.entries nr place)
-    → IsRowOf profile (record {
+    → IsRowOf calls profile (record {
       nr = nr;
       is_asked = is_asked;
       decider = by.Entry place;
       value = value;
     })
-entry_row profile nr place entry is_asked value inside there named bare value_is none some =
+entry_row calls profile nr place entry is_asked value inside there named bare value_is none some =
     let decides : (call : SysCall) → IsOn nr call
     → ((k : ℕ) (other : Entry) → k < place → slice_get profile.entries k ≡ Some other
     → applies call other ≡ false) → IsDecidedBy profile call (by.Entry place) value = λ call is before.
     subst (IsDecidedBy profile call (by.Entry place)) (sym value_is)
-    (decides_there profile nr place entry inside there named bare call is before) in
+    (decides_there profile nr place entry (within_table calls nr inside) there named bare call is before) in
     record {
       inside = inside;
       placed = slice_get_within profile.entries place entry there;
@@ -95,28 +105,28 @@ entry_row profile nr place entry is_asked value inside there named bare value_is
     }
 
 -- the default decides what no entry does
-pub default_row : (profile : Profile) (nr end : ℕ) (is_asked : Bool) (value : ℕ) → nr < 440
-    → length profile.entries ≤ end → value ≡ value_of profile.default
+pub default_row : (calls : CallTable) (profile : Profile) (nr end : ℕ) (is_asked : Bool) (value : ℕ)
+    → nr < limit_of calls → length profile.entries ≤ end → value ≡ value_of profile.default
     → (is_asked ≡ false → NoneNames profile.entries nr end)
     → (is_asked ≡ true → HasNamed profile.entries nr end)
-    → IsRowOf profile (record {
+    → IsRowOf calls profile (record {
       nr = nr;
       is_asked = is_asked;
       decider = by.Default;
       value = value;
     })
-default_row profile nr end is_asked value inside whole value_is none some = record {
+default_row calls profile nr end is_asked value inside whole value_is none some = record {
   inside = inside;
   placed = tt;
   decides = λ call is before. record {
     decision = profile.default;
-    decides = ((is.0, omega (arith, is.1, inside)), (λ k other at. before k other tt at), refl);
+    decides = ((is.0, omega (arith, is.1, within_table calls nr inside)), (λ k other at. before k other tt at), refl);
     value_is = sym value_is;
   };
   alike = λ not call is. record {
     decision = profile.default;
     decides = (
-      (is.0, omega (arith, is.1, inside)),
+      (is.0, omega (arith, is.1, within_table calls nr inside)),
       (λ k other at. not_named call other nr is.1
           (none not k other (omega (arith, whole, slice_get_within profile.entries k other at)) at)),
       refl,
@@ -132,14 +142,15 @@ default_row profile nr end is_asked value inside whole value_is none some = reco
   };
 }
 
--- no number is below 0, and one more below the next number if this one has a name
-pub named_zero : named_below 0 ≡ []
+-- no call is below 0, and one more below the next number if a call has this one
+pub named_zero : (calls : CallTable) → named_below calls 0 ≡ []
 unfolding named_below
-named_zero = refl
+named_zero calls = refl
 
-pub named_more : (nr : ℕ) → named_below (nr + 1) ≡ named_below nr ++ named_at nr
+pub named_more : (calls : CallTable) (nr : ℕ)
+    → named_below calls (nr + 1) ≡ named_below calls nr ++ named_at calls nr
 unfolding named_below
-named_more nr = let e : nr + 1 ≡ suc nr = omega arith in rw e refl
+named_more calls nr = let e : nr + 1 ≡ suc nr = omega arith in rw e refl
 
 -- an item of a list that is there
 pub item_at : (entries items : List Entry) (place : ℕ) (entry : Entry) → items ≡ entries

@@ -13,6 +13,7 @@ use Rattle.oci_profile.specs.declared.profile.Entry.{Entry}
 use Rattle.oci_profile.specs.declared.profile.Profile.{Profile}
 use Rattle.oci_profile.specs.Decision.{value_of}
 use Rattle.oci_profile.specs.Meaning.{names}
+use Rattle.sys_table.specs.declared.calls.CallTable.{CallTable}
 use Rattle.profile_table.specs.declared.row.Row.{Row}
 use Rattle.profile_table.specs.Text.{cond_text, is_before, numbers_in}
 
@@ -33,10 +34,11 @@ conds_items place (cond ∷ conds) =
     comma place ++ (codes "\"" ++ (cond_text cond ++ (codes "\"" ++ conds_items (place + 1) conds)))
 
 -- names of calls from this place on
-abbrev pub names_items : ℕ → List ℕ → List ℕ
-names_items place [] = []
-names_items place (nr ∷ numbers) =
-    comma place ++ (codes "\"" ++ (call_text Name nr ++ (codes "\"" ++ names_items (place + 1) numbers)))
+abbrev pub names_items : CallTable → ℕ → List ℕ → List ℕ
+names_items calls place [] = []
+names_items calls place (nr ∷ numbers) =
+    comma place ++ (codes "\"" ++ (call_text (Name calls) nr ++ (codes "\""
+    ++ names_items calls (place + 1) numbers)))
 
 -- an entry that decides if its conditions hold
 abbrev pub way_object : ℕ → Entry → List ℕ
@@ -55,34 +57,34 @@ ways_objects row place (entry ∷ entries) =
     way_object_at row place entry ++ ways_objects row (place + 1) entries
 
 -- a call that entries with conditions may decide
-unfoldable pub asked_object : Profile → Row → List ℕ
-asked_object profile row =
-    if row.is_asked then codes "{\"call\":\"" ++ (call_text Name row.nr ++ (codes "\",\"ways\":["
+unfoldable pub asked_object : CallTable → Profile → Row → List ℕ
+asked_object calls profile row =
+    if row.is_asked then codes "{\"call\":\"" ++ (call_text (Name calls) row.nr ++ (codes "\",\"ways\":["
     ++ (ways_objects row 0 profile.entries ++ (codes "{" ++ (decided_members row.value row.decider
     ++ codes "}]}\n")))))
     else []
 
-abbrev pub asked_objects : Profile → List Row → List ℕ
-asked_objects profile [] = []
-asked_objects profile (row ∷ rows) = asked_object profile row ++ asked_objects profile rows
+abbrev pub asked_objects : CallTable → Profile → List Row → List ℕ
+asked_objects calls profile [] = []
+asked_objects calls profile (row ∷ rows) = asked_object calls profile row ++ asked_objects calls profile rows
 
 -- calls that are all decided by this, with this value: nothing if there are none
-abbrev pub group_object : ℕ → Decider → List ℕ → List ℕ
-group_object value decider [] = []
-group_object value decider (nr ∷ numbers) =
-    codes "{" ++ (decided_members value decider ++ (codes ",\"calls\":[" ++ (names_items 0 (nr ∷ numbers)
+abbrev pub group_object : CallTable → ℕ → Decider → List ℕ → List ℕ
+group_object calls value decider [] = []
+group_object calls value decider (nr ∷ numbers) =
+    codes "{" ++ (decided_members value decider ++ (codes ",\"calls\":[" ++ (names_items calls 0 (nr ∷ numbers)
     ++ codes "]}\n")))
 
 -- the groups of entries from this place on
-abbrev pub entry_objects : List Row → ℕ → List Entry → List ℕ
-entry_objects rows place [] = []
-entry_objects rows place (entry ∷ entries) =
-    group_object (value_of entry.decision) (by.Entry place) (numbers_in (by.Entry place) rows)
-    ++ entry_objects rows (place + 1) entries
+abbrev pub entry_objects : CallTable → List Row → ℕ → List Entry → List ℕ
+entry_objects calls rows place [] = []
+entry_objects calls rows place (entry ∷ entries) =
+    group_object calls (value_of entry.decision) (by.Entry place) (numbers_in (by.Entry place) rows)
+    ++ entry_objects calls rows (place + 1) entries
 
 -- an object for each line of the table
-abbrev pub table_objects : Profile → List Row → List ℕ
-table_objects profile rows =
-    entry_objects rows 0 profile.entries
-    ++ (group_object (value_of profile.default) by.Default (numbers_in by.Default rows)
-    ++ asked_objects profile rows)
+abbrev pub table_objects : CallTable → Profile → List Row → List ℕ
+table_objects calls profile rows =
+    entry_objects calls rows 0 profile.entries
+    ++ (group_object calls (value_of profile.default) by.Default (numbers_in by.Default rows)
+    ++ asked_objects calls profile rows)

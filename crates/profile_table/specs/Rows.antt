@@ -12,7 +12,8 @@ use Rattle.oci_profile.specs.Meaning.{names}
 use Rattle.explain.specs.declared.explanation.Decider.{Decider}
 use Rattle.explain.specs.declared.explanation.Decider.TheVariants as by
 use Rattle.explain.specs.Explained.{Decides, applies}
-use Rattle.sys_table.specs.SysTable.{name_of}
+use Rattle.sys_table.specs.SysTable.{limit_of, name_in}
+use Rattle.sys_table.specs.declared.calls.CallTable.{CallTable}
 use Rattle.profile_table.specs.declared.row.Row.{Row}
 
 -- a native call with this number: 0xc000003e is AUDIT_ARCH_X86_64 of linux/audit.h
@@ -48,8 +49,8 @@ pub record IsAsked (profile : Profile) (row : Row) : Type 0 where
   pub named : names entry row.nr ≡ true
 
 -- the row's decision is made if no entry before applies, and so on all calls with the number if none names it
-pub record IsRowOf (profile : Profile) (row : Row) : Type 0 where
-  pub inside : row.nr < 440
+pub record IsRowOf (calls : CallTable) (profile : Profile) (row : Row) : Type 0 where
+  pub inside : row.nr < limit_of calls
   pub placed : IsPlaced profile.entries row.decider
   pub decides : (call : SysCall) → IsOn row.nr call
       → ((place : ℕ) (entry : Entry) → IsBefore place row.decider
@@ -59,11 +60,11 @@ pub record IsRowOf (profile : Profile) (row : Row) : Type 0 where
       → IsDecidedBy profile call row.decider row.value
   pub asked : row.is_asked ≡ true → IsAsked profile row
 
--- the number, if it has a name
-unfoldable pub named_at : ℕ → List ℕ
-named_at nr = if is_some (name_of nr) then nr ∷ [] else []
+-- the number, if one of these calls has it
+unfoldable pub named_at : CallTable → ℕ → List ℕ
+named_at calls nr = if is_some (name_in calls nr) then nr ∷ [] else []
 
--- the numbers below this one that have names, in order
-unfoldable pub named_below : ℕ → List ℕ
-named_below zero = []
-named_below (suc nr) = named_below nr ++ named_at nr
+-- the numbers of these calls below this one, in order
+unfoldable pub named_below : CallTable → ℕ → List ℕ
+named_below calls zero = []
+named_below calls (suc nr) = named_below calls nr ++ named_at calls nr

@@ -16,6 +16,7 @@ use Rattle.oci_profile.specs.Meaning.{names}
 use Rattle.explain.specs.declared.explanation.Decider.{Decider}
 use Rattle.explain.specs.declared.explanation.Decider.TheVariants as by
 use Rattle.explain.specs.Text.{decider_text}
+use Rattle.sys_table.specs.declared.calls.CallTable.{CallTable}
 use Rattle.profile_table.specs.declared.row.Row.{Row}
 
 -- hexadecimal, without 0x if it is 0
@@ -74,15 +75,15 @@ ways_text row place [] = []
 ways_text row place (entry ∷ entries) = way_at row place entry ++ ways_text row (place + 1) entries
 
 -- a call that entries with conditions may decide
-unfoldable pub asked_text : Profile → Row → List ℕ
-asked_text profile row =
-    if row.is_asked then call_text Name row.nr ++ (codes ": " ++ (ways_text row 0 profile.entries
+unfoldable pub asked_text : CallTable → Profile → Row → List ℕ
+asked_text calls profile row =
+    if row.is_asked then call_text (Name calls) row.nr ++ (codes ": " ++ (ways_text row 0 profile.entries
     ++ (decided_text row.value row.decider ++ codes "\n")))
     else []
 
-abbrev pub asked_lines : Profile → List Row → List ℕ
-asked_lines profile [] = []
-asked_lines profile (row ∷ rows) = asked_text profile row ++ asked_lines profile rows
+abbrev pub asked_lines : CallTable → Profile → List Row → List ℕ
+asked_lines calls profile [] = []
+asked_lines calls profile (row ∷ rows) = asked_text calls profile row ++ asked_lines calls profile rows
 
 -- whether the row's calls are all decided by this
 abbrev pub is_same : Decider → Decider → Bool
@@ -108,30 +109,31 @@ unfoldable pub name_word : ℕ → List ℕ
 name_word place = if place == 0 then codes ": " else codes ", "
 
 -- names of calls from this place on
-abbrev pub names_text : ℕ → List ℕ → List ℕ
-names_text place [] = []
-names_text place (nr ∷ numbers) = name_word place ++ (call_text Name nr ++ names_text (place + 1) numbers)
+abbrev pub names_text : CallTable → ℕ → List ℕ → List ℕ
+names_text calls place [] = []
+names_text calls place (nr ∷ numbers) =
+    name_word place ++ (call_text (Name calls) nr ++ names_text calls (place + 1) numbers)
 
 unfoldable pub count_text : ℕ → List ℕ
 count_text count = if count == 1 then codes "1 call" else decimal count ++ codes " calls"
 
 -- calls that are all decided by this, with this value: nothing if there are none
-abbrev pub group_text : ℕ → Decider → List ℕ → List ℕ
-group_text value decider [] = []
-group_text value decider (nr ∷ numbers) =
+abbrev pub group_text : CallTable → ℕ → Decider → List ℕ → List ℕ
+group_text calls value decider [] = []
+group_text calls value decider (nr ∷ numbers) =
     decided_text value decider ++ (codes ", " ++ (count_text (length (nr ∷ numbers))
-    ++ (names_text 0 (nr ∷ numbers) ++ codes "\n")))
+    ++ (names_text calls 0 (nr ∷ numbers) ++ codes "\n")))
 
 -- the groups of entries from this place on
-abbrev pub entry_lines : List Row → ℕ → List Entry → List ℕ
-entry_lines rows place [] = []
-entry_lines rows place (entry ∷ entries) =
-    group_text (value_of entry.decision) (by.Entry place) (numbers_in (by.Entry place) rows)
-    ++ entry_lines rows (place + 1) entries
+abbrev pub entry_lines : CallTable → List Row → ℕ → List Entry → List ℕ
+entry_lines calls rows place [] = []
+entry_lines calls rows place (entry ∷ entries) =
+    group_text calls (value_of entry.decision) (by.Entry place) (numbers_in (by.Entry place) rows)
+    ++ entry_lines calls rows (place + 1) entries
 
 -- the calls that each entry decides, those that the default decides, and each call that is asked about
-abbrev pub table_text : Profile → List Row → List ℕ
-table_text profile rows =
-    entry_lines rows 0 profile.entries
-    ++ (group_text (value_of profile.default) by.Default (numbers_in by.Default rows)
-    ++ asked_lines profile rows)
+abbrev pub table_text : CallTable → Profile → List Row → List ℕ
+table_text calls profile rows =
+    entry_lines calls rows 0 profile.entries
+    ++ (group_text calls (value_of profile.default) by.Default (numbers_in by.Default rows)
+    ++ asked_lines calls profile rows)

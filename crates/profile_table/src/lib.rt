@@ -6,7 +6,7 @@
 //!
 //! # What is proved
 //!
-//! - There is one row for each call of the table, in order: `rows` (each).
+//! - There is one row for each of the known calls, in order: `rows` (each).
 //! - A row's entry, or the default, decides each call with its number if no entry with conditions applies
 //!   before, as `explain` returns it: `rows` (real).
 //! - The text and the objects of a table, byte by byte: `table_lines`, `table_objects`, `Display` of `Words`.

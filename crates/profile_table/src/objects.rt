@@ -13,63 +13,98 @@ use explain::Decider;
 use oci_profile::{Cond, Entry, Profile};
 use std::alloc::{AllocError, Global};
 use std::fmt;
+use sys_table::CallTable;
 
 /// The lines of a table as objects: `{"action":"ALLOW","data":0,"by":"syscalls[0]","calls":["read"]}`. A call
 /// that entries with conditions may decide has `{"call":"socket","ways":[..]}`.
-pub fn table_objects(alloc: Global, profile: &Profile, rows: &[Row]) -> Result<String, AllocError>
-    ensures { IfOk result (λ text. string_bytes text ≡ table_objects profile.now rows.now) }
+pub fn table_objects(
+    alloc: Global,
+    calls: CallTable,
+    profile: &Profile,
+    rows: &[Row],
+) -> Result<String, AllocError>
+    ensures { IfOk result (λ text. string_bytes text ≡ table_objects calls profile.now rows.now) }
 {
-    let groups = entry_objects(alloc, rows, profile.entries.as_slice())?;
-    let default = group(alloc, profile.default.value(), Decider::Default, rows)?;
-    let asked = asked_objects(alloc, profile, rows)?;
+    let groups = entry_objects(alloc, calls, rows, profile.entries.as_slice())?;
+    let default = group(
+        alloc,
+        calls,
+        profile.default.value(),
+        Decider::Default,
+        rows,
+    )?;
+    let asked = asked_objects(alloc, calls, profile, rows)?;
     format!(in alloc; "{groups}{default}{asked}")
 }
 
 /// An object for each entry that decides all calls with some numbers.
-fn entry_objects(alloc: Global, rows: &[Row], entries: &[Entry]) -> Result<String, AllocError>
-    ensures { IfOk result (λ text. string_bytes text ≡ entry_objects rows.now 0 entries.now) }
+fn entry_objects(
+    alloc: Global,
+    calls: CallTable,
+    rows: &[Row],
+    entries: &[Entry],
+) -> Result<String, AllocError>
+    ensures { IfOk result (λ text. string_bytes text ≡ entry_objects calls rows.now 0 entries.now) }
 {
     let mut text = String::new(alloc);
     for (place, entry) in entries.iter().enumerate() {
-        let object = group(alloc, entry.decision.value(), Decider::Entry(place), rows)?;
+        let object = group(
+            alloc,
+            calls,
+            entry.decision.value(),
+            Decider::Entry(place),
+            rows,
+        )?;
         text.push_str(object.as_str())?;
     }
     Ok(text)
 }
 
 /// The object of the calls that are all decided by this, if there are some.
-fn group(alloc: Global, value: u32, decider: Decider, rows: &[Row]) -> Result<String, AllocError>
+fn group(
+    alloc: Global,
+    calls: CallTable,
+    value: u32,
+    decider: Decider,
+    rows: &[Row],
+) -> Result<String, AllocError>
     ensures { IfOk result (λ text. string_bytes text
-        ≡ group_object value decider (numbers_in decider rows.now)) }
+        ≡ group_object calls value decider (numbers_in decider rows.now)) }
 {
     let numbers = numbers_in(alloc, decider, rows)?;
-    group_object(alloc, value, decider, numbers.as_slice())
+    group_object(alloc, calls, value, decider, numbers.as_slice())
 }
 
 /// The object of these calls, if there are some.
 fn group_object(
     alloc: Global,
+    calls: CallTable,
     value: u32,
     decider: Decider,
     numbers: &[u32],
 ) -> Result<String, AllocError>
-    ensures { IfOk result (λ text. string_bytes text ≡ group_object value decider numbers.now) }
+    ensures { IfOk result (λ text. string_bytes text ≡ group_object calls value decider numbers.now) }
 {
     if numbers.is_empty() {
         return Ok(String::new(alloc));
     }
     let members = Members(value, decider);
-    let names = names_items(alloc, numbers)?;
+    let names = names_items(alloc, calls, numbers)?;
     format!(in alloc; "{{{members},\"calls\":[{names}]}}\n")
 }
 
 /// An object for each call that entries with conditions may decide.
-fn asked_objects(alloc: Global, profile: &Profile, rows: &[Row]) -> Result<String, AllocError>
-    ensures { IfOk result (λ text. string_bytes text ≡ asked_objects profile.now rows.now) }
+fn asked_objects(
+    alloc: Global,
+    calls: CallTable,
+    profile: &Profile,
+    rows: &[Row],
+) -> Result<String, AllocError>
+    ensures { IfOk result (λ text. string_bytes text ≡ asked_objects calls profile.now rows.now) }
 {
     let mut text = String::new(alloc);
     for row in rows {
-        let object = asked_object(alloc, profile, row)?;
+        let object = asked_object(alloc, calls, profile, row)?;
         text.push_str(object.as_str())?;
     }
     Ok(text)
@@ -77,13 +112,18 @@ fn asked_objects(alloc: Global, profile: &Profile, rows: &[Row]) -> Result<Strin
 
 /// The object of a row, if entries with conditions may decide.
 #[tactic(auto, unfolding(crate::specs::Objects::asked_object))]
-fn asked_object(alloc: Global, profile: &Profile, row: &Row) -> Result<String, AllocError>
-    ensures { IfOk result (λ text. string_bytes text ≡ asked_object profile.now row.now) }
+fn asked_object(
+    alloc: Global,
+    calls: CallTable,
+    profile: &Profile,
+    row: &Row,
+) -> Result<String, AllocError>
+    ensures { IfOk result (λ text. string_bytes text ≡ asked_object calls profile.now row.now) }
 {
     if !row.is_asked {
         return Ok(String::new(alloc));
     }
-    let (call, members) = (named(row.nr), Members(row.value, row.decider));
+    let (call, members) = (named(calls, row.nr), Members(row.value, row.decider));
     let ways = ways_objects(alloc, row, profile.entries.as_slice())?;
     format!(in alloc; "{{\"call\":\"{call}\",\"ways\":[{ways}{{{members}}}]}}\n")
 }
@@ -139,12 +179,12 @@ fn conds_items(alloc: Global, conds: &[Cond]) -> Result<String, AllocError>
 }
 
 /// `"read","write"`.
-fn names_items(alloc: Global, numbers: &[u32]) -> Result<String, AllocError>
-    ensures { IfOk result (λ text. string_bytes text ≡ names_items 0 numbers.now) }
+fn names_items(alloc: Global, calls: CallTable, numbers: &[u32]) -> Result<String, AllocError>
+    ensures { IfOk result (λ text. string_bytes text ≡ names_items calls 0 numbers.now) }
 {
     let mut text = String::new(alloc);
     for (place, nr) in numbers.iter().enumerate() {
-        let (comma, name) = (Comma(place), named(*nr));
+        let (comma, name) = (Comma(place), named(calls, *nr));
         write!(text, "{comma}\"{name}\"")?;
     }
     Ok(text)

@@ -3,7 +3,7 @@ use explain::Decider;
 /// How a profile treats the calls with a number.
 #[derive(Clone, Copy, Debug)]
 pub struct Row {
-    /// The number, one of the table that has a name.
+    /// The number of a call of the table.
     pub nr: u32,
     /// Whether an entry with conditions may decide before.
     pub is_asked: bool,

@@ -12,53 +12,83 @@ use explain::Decider;
 use oci_profile::{Cond, Entry, Profile};
 use std::alloc::{AllocError, Global};
 use std::fmt;
+use sys_table::CallTable;
 
 /// The lines of a table, each with its end: `ALLOW 0 by syscalls[0], 2 calls: read, write`, and then
 /// `socket: ALLOW 0 by syscalls[1] if args[0] != 40, else ERRNO 1 by defaultAction`.
-pub fn table_lines(alloc: Global, profile: &Profile, rows: &[Row]) -> Result<String, AllocError>
-    ensures { IfOk result (λ text. string_bytes text ≡ table_text profile.now rows.now) }
+pub fn table_lines(
+    alloc: Global,
+    calls: CallTable,
+    profile: &Profile,
+    rows: &[Row],
+) -> Result<String, AllocError>
+    ensures { IfOk result (λ text. string_bytes text ≡ table_text calls profile.now rows.now) }
 {
-    let groups = entry_lines(alloc, rows, profile.entries.as_slice())?;
-    let default = group(alloc, profile.default.value(), Decider::Default, rows)?;
-    let asked = asked_lines(alloc, profile, rows)?;
+    let groups = entry_lines(alloc, calls, rows, profile.entries.as_slice())?;
+    let default = group(
+        alloc,
+        calls,
+        profile.default.value(),
+        Decider::Default,
+        rows,
+    )?;
+    let asked = asked_lines(alloc, calls, profile, rows)?;
     format!(in alloc; "{groups}{default}{asked}")
 }
 
 /// A line for each entry that decides all calls with some numbers.
-fn entry_lines(alloc: Global, rows: &[Row], entries: &[Entry]) -> Result<String, AllocError>
-    ensures { IfOk result (λ text. string_bytes text ≡ entry_lines rows.now 0 entries.now) }
+fn entry_lines(
+    alloc: Global,
+    calls: CallTable,
+    rows: &[Row],
+    entries: &[Entry],
+) -> Result<String, AllocError>
+    ensures { IfOk result (λ text. string_bytes text ≡ entry_lines calls rows.now 0 entries.now) }
 {
     let mut text = String::new(alloc);
     for (place, entry) in entries.iter().enumerate() {
-        let line = group(alloc, entry.decision.value(), Decider::Entry(place), rows)?;
+        let line = group(
+            alloc,
+            calls,
+            entry.decision.value(),
+            Decider::Entry(place),
+            rows,
+        )?;
         text.push_str(line.as_str())?;
     }
     Ok(text)
 }
 
 /// The line of the calls that are all decided by this, if there are some.
-fn group(alloc: Global, value: u32, decider: Decider, rows: &[Row]) -> Result<String, AllocError>
+fn group(
+    alloc: Global,
+    calls: CallTable,
+    value: u32,
+    decider: Decider,
+    rows: &[Row],
+) -> Result<String, AllocError>
     ensures { IfOk result (λ text. string_bytes text
-        ≡ group_text value decider (numbers_in decider rows.now)) }
+        ≡ group_text calls value decider (numbers_in decider rows.now)) }
 {
     let numbers = numbers_in(alloc, decider, rows)?;
-    group_line(alloc, value, decider, numbers.as_slice())
+    group_line(alloc, calls, value, decider, numbers.as_slice())
 }
 
 /// The line of these calls, if there are some.
 fn group_line(
     alloc: Global,
+    calls: CallTable,
     value: u32,
     decider: Decider,
     numbers: &[u32],
 ) -> Result<String, AllocError>
-    ensures { IfOk result (λ text. string_bytes text ≡ group_text value decider numbers.now) }
+    ensures { IfOk result (λ text. string_bytes text ≡ group_text calls value decider numbers.now) }
 {
     if numbers.is_empty() {
         return Ok(String::new(alloc));
     }
     let (decided, count) = (Decided(value, decider), Count(numbers.len()));
-    let names = names_text(alloc, numbers)?;
+    let names = names_text(alloc, calls, numbers)?;
     format!(in alloc; "{decided}, {count}{names}\n")
 }
 
@@ -100,12 +130,17 @@ fn is_same(one: Decider, other: Decider) -> bool
 }
 
 /// A line for each call that entries with conditions may decide.
-fn asked_lines(alloc: Global, profile: &Profile, rows: &[Row]) -> Result<String, AllocError>
-    ensures { IfOk result (λ text. string_bytes text ≡ asked_lines profile.now rows.now) }
+fn asked_lines(
+    alloc: Global,
+    calls: CallTable,
+    profile: &Profile,
+    rows: &[Row],
+) -> Result<String, AllocError>
+    ensures { IfOk result (λ text. string_bytes text ≡ asked_lines calls profile.now rows.now) }
 {
     let mut text = String::new(alloc);
     for row in rows {
-        let line = asked_line(alloc, profile, row)?;
+        let line = asked_line(alloc, calls, profile, row)?;
         text.push_str(line.as_str())?;
     }
     Ok(text)
@@ -113,13 +148,18 @@ fn asked_lines(alloc: Global, profile: &Profile, rows: &[Row]) -> Result<String,
 
 /// The line of a row, if entries with conditions may decide.
 #[tactic(auto, unfolding(crate::specs::Text::asked_text))]
-fn asked_line(alloc: Global, profile: &Profile, row: &Row) -> Result<String, AllocError>
-    ensures { IfOk result (λ text. string_bytes text ≡ asked_text profile.now row.now) }
+fn asked_line(
+    alloc: Global,
+    calls: CallTable,
+    profile: &Profile,
+    row: &Row,
+) -> Result<String, AllocError>
+    ensures { IfOk result (λ text. string_bytes text ≡ asked_text calls profile.now row.now) }
 {
     if !row.is_asked {
         return Ok(String::new(alloc));
     }
-    let (call, decided) = (named(row.nr), Decided(row.value, row.decider));
+    let (call, decided) = (named(calls, row.nr), Decided(row.value, row.decider));
     let ways = ways_text(alloc, row, profile.entries.as_slice())?;
     format!(in alloc; "{call}: {ways}{decided}\n")
 }
@@ -181,25 +221,25 @@ fn conds_text(alloc: Global, conds: &[Cond]) -> Result<String, AllocError>
 }
 
 /// `: read, write`.
-fn names_text(alloc: Global, numbers: &[u32]) -> Result<String, AllocError>
-    ensures { IfOk result (λ text. string_bytes text ≡ names_text 0 numbers.now) }
+fn names_text(alloc: Global, calls: CallTable, numbers: &[u32]) -> Result<String, AllocError>
+    ensures { IfOk result (λ text. string_bytes text ≡ names_text calls 0 numbers.now) }
 {
     let mut text = String::new(alloc);
     for (place, nr) in numbers.iter().enumerate() {
-        let (word, name) = (NameWord(place), named(*nr));
+        let (word, name) = (NameWord(place), named(calls, *nr));
         write!(text, "{word}{name}")?;
     }
     Ok(text)
 }
 
 /// The name of a call.
-pub(crate) fn named(nr: u32) -> CallWord
+pub(crate) fn named(calls: CallTable, nr: u32) -> CallWord
     ensures number { result.nr ≡ nr }
-    ensures naming { result.naming ≡ Name }
+    ensures naming { result.naming ≡ Name calls }
 {
     CallWord {
         nr,
-        naming: Naming::Name,
+        naming: Naming::Name(calls),
     }
 }
 

@@ -1,54 +1,54 @@
 ghost use Rattle.std.specs.Prelude.{◌≡◌, ◌<◌, ◌++◌, IfOk, map};
 ghost use Rattle.std.specs.List.{All};
 ghost use Rattle.std.specs.Option.{is_some};
-ghost use Rattle.sys_table.specs.SysTable.{name_of};
+ghost use Rattle.sys_table.specs.SysTable.{limit_of, name_in};
 ghost use Rattle.profile_table.specs.Rows.{IsRowOf, named_at, named_below};
 
 use crate::row::Row;
 use explain::Decider;
 use oci_profile::Profile;
 use std::alloc::{AllocError, Global};
-use sys_table::{NUMBER_LIMIT, name};
+use sys_table::CallTable;
 
-/// A row for each call of the table, in the order of their numbers.
-pub fn rows(alloc: Global, profile: &Profile) -> Result<Vec<Row>, AllocError>
-    ensures each { IfOk result (λ rows. map (λ row. row.nr) rows.items ≡ named_below 440) }
-    ensures real { IfOk result (λ rows. All (IsRowOf profile.now) rows.items) }
+/// A row for each of these calls, in the order of their numbers.
+pub fn rows(alloc: Global, calls: CallTable, profile: &Profile) -> Result<Vec<Row>, AllocError>
+    ensures each { IfOk result (λ rows. map (λ row. row.nr) rows.items ≡ named_below calls (limit_of calls)) }
+    ensures real { IfOk result (λ rows. All (IsRowOf calls profile.now) rows.items) }
 {
     let mut rows = Vec::new(alloc);
-    for nr in 0..NUMBER_LIMIT as u32 {
-        add(&mut rows, profile, nr)?;
+    for nr in 0..calls.limit() {
+        add(&mut rows, calls, profile, nr)?;
     }
     Ok(rows)
 }
 
-/// Adds the row of this number, if it has a name.
+/// Adds the row of this number, if one of these calls has it.
 #[tactic(auto, unfolding(crate::specs::Rows::named_at))]
-fn add(rows: &mut Vec<Row>, profile: &Profile, nr: u32) -> Result<(), AllocError>
-    requires { nr < 440 }
+fn add(rows: &mut Vec<Row>, calls: CallTable, profile: &Profile, nr: u32) -> Result<(), AllocError>
+    requires { nr < limit_of calls }
     ensures numbers { IfOk result (λ _. map (λ row. row.nr) rows.new.items
-        ≡ map (λ row. row.nr) rows.old.items ++ named_at nr) }
-    ensures real { IfOk result (λ _. All (IsRowOf profile.now) rows.old.items
-        → All (IsRowOf profile.now) rows.new.items) }
+        ≡ map (λ row. row.nr) rows.old.items ++ named_at calls nr) }
+    ensures real { IfOk result (λ _. All (IsRowOf calls profile.now) rows.old.items
+        → All (IsRowOf calls profile.now) rows.new.items) }
 {
-    if is_named(nr) {
-        rows.push(row(profile, nr))?;
+    if is_named(calls, nr) {
+        rows.push(row(calls, profile, nr))?;
     }
     Ok(())
 }
 
-/// Whether a call of the table has this number.
-fn is_named(nr: u32) -> bool
-    ensures { result ≡ is_some (name_of nr) }
+/// Whether one of these calls has this number.
+fn is_named(calls: CallTable, nr: u32) -> bool
+    ensures { result ≡ is_some (name_in calls nr) }
 {
-    name(nr).is_some()
+    calls.name(nr).is_some()
 }
 
 /// How the profile treats the calls with this number.
-fn row(profile: &Profile, nr: u32) -> Row
-    requires { nr < 440 }
+fn row(calls: CallTable, profile: &Profile, nr: u32) -> Row
+    requires { nr < limit_of calls }
     ensures number { result.nr ≡ nr }
-    ensures real { IsRowOf profile.now result }
+    ensures real { IsRowOf calls profile.now result }
 {
     let mut is_asked = false;
     for (place, entry) in profile.entries.as_slice().iter().enumerate() {

@@ -1,5 +1,4 @@
 pub mod Architectures
-pub mod Errnos
 pub mod Faults
 pub mod Reading
 pub mod Resolved

@@ -24,7 +24,7 @@ use Rattle.profile_template.specs.declared.settings.Settings.{Settings}
 use Rattle.profile_template.specs.declared.template.Template.{Template}
 use Rattle.profile_template.specs.declared.version.Version.{Version}
 use Rattle.profile_template.specs.Architectures.{seccomp_arch}
-use Rattle.profile_template.specs.Errnos.{errno_number}
+use Rattle.action.specs.Errnos.{errno_number}
 use Rattle.profile_template.specs.Faults.{at, fault_at, fault_here, fault_of_field, fault_of_profile}
 use Rattle.profile_template.specs.Faults.{fault_of_text, under}
 use Rattle.profile_template.specs.Settings.{is_excluded, is_included}

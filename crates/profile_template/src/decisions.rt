@@ -3,9 +3,9 @@ ghost use Rattle.serde_json.specs.View.{view};
 ghost use Rattle.oci_profile.specs.Reading.{with_given};
 ghost use Rattle.profile_template.specs.Reading.{decision_of, named_errno_of, numbered};
 
-use crate::errnos::errno_number;
 use crate::faults::TemplateFault;
 use crate::placed::{TemplateFaultAt, at};
+use action::errno_number;
 use json_place::{optional_text, optional_whole, required_text};
 use oci_profile::{Decision, ProfileFault, given_errno, named_action};
 use serde_json::Value;

@@ -13,14 +13,11 @@
 //! - Which names are left out: `left_out`.
 //! - The settings' versions and architectures: `Version::of`, `is_at_least`, `seccomp_arch`.
 //! - The text of a fault: `Display` of `TemplateFault`.
-//!
-//! Only tested: that errnos have the numbers of this machine.
 #![tactic(auto)]
 
 mod architectures;
 mod conditions;
 mod decisions;
-mod errnos;
 mod faults;
 mod left_out;
 mod names;

@@ -10,9 +10,8 @@ use Rattle.serde_json.specs.View.{items_of}
 use Rattle.serde_json.proofs.OnLiterals.{serde_json_on_literals}
 use Rattle.json_tree.specs.Tree.{list, member}
 use Rattle.json_tree.specs.Reading.{Both, MayHaveField}
-use Rattle.sys_table.specs.SysTable.{name_of, number_in, number_of}
+use Rattle.sys_table.specs.SysTable.{name_in, number_in}
 use Rattle.sys_table.specs.declared.calls.CallTable.{CallTable}
-use Rattle.sys_table.specs.declared.calls.CallTable.TheVariants.{Linux5_8}
 use Rattle.oci_profile.specs.declared.decision.Decision.{Decision}
 use Rattle.oci_profile.specs.declared.profile.Entry.{Entry}
 use Rattle.oci_profile.specs.Profile.{IsCond, IsEntry, are_known, number_named, rank}
@@ -24,56 +23,59 @@ use Rattle.profile_text.specs.Written.{names_of, whole_number, with_list, with_w
 use Rattle.profile_text.proofs.Parts.{conds_are, decides, list_back, texts_back}
 
 -- the promises of sys_table about its names and numbers
-abbrev pub Agree : Type 0
-Agree = (name : List ℕ) (number : ℕ) → (number_of name ≡ Some number) ↔ (name_of number ≡ Some name)
+abbrev pub Agree : CallTable → Type 0
+Agree calls = (name : List ℕ) (number : ℕ)
+    → (number_in calls name ≡ Some number) ↔ (name_in calls number ≡ Some name)
 
 pub both_true : (a b : Bool) → (a && b) ≡ true → (a ≡ true) × (b ≡ true)
 both_true true b h = (refl, h)
 both_true false b h = absurd cc
 
-name_back : (agree : Agree) (n : ℕ) (name : Option (List ℕ)) → name_of n ≡ name → is_some name ≡ true
-    → number_of (unwrap_or name []) ≡ Some n
-name_back agree n None is named = absurd cc
-name_back agree n (Some name) is named = (agree name n).1 is
+name_back : (calls : CallTable) (agree : Agree calls) (n : ℕ) (name : Option (List ℕ)) → name_in calls n ≡ name
+    → is_some name ≡ true → number_in calls (unwrap_or name []) ≡ Some n
+name_back calls agree n None is named = absurd cc
+name_back calls agree n (Some name) is named = (agree name n).1 is
 
-number_back : (agree : Agree) (n : ℕ) → is_named n ≡ true → number_named Linux5_8 (string (name_text n)) ≡ Some n
+number_back : (calls : CallTable) (agree : Agree calls) (n : ℕ) → is_named calls n ≡ true
+    → number_named calls (string (name_text calls n)) ≡ Some n
 unfolding number_named
-number_back agree n named = name_back agree n (name_of n) refl named
+number_back calls agree n named = name_back calls agree n (name_in calls n) refl named
 
-numbers_back : (agree : Agree) (ns : List ℕ) → are_named ns ≡ true
-    → ns ≡ filter_map (number_named Linux5_8) (map string (map name_text ns))
-numbers_back agree [] named = refl
-numbers_back agree (n ∷ ns) named =
-    let parts = both_true (is_named n) (are_named ns) named in
-    rw (number_back agree n parts.0) (ap (λ rest. n ∷ rest) (numbers_back agree ns parts.1))
+numbers_back : (calls : CallTable) (agree : Agree calls) (ns : List ℕ) → are_named calls ns ≡ true
+    → ns ≡ filter_map (number_named calls) (map string (map (name_text calls) ns))
+numbers_back calls agree [] named = refl
+numbers_back calls agree (n ∷ ns) named =
+    let parts = both_true (is_named calls n) (are_named calls ns) named in
+    rw (number_back calls agree n parts.0) (ap (λ rest. n ∷ rest) (numbers_back calls agree ns parts.1))
 
-all_known : (agree : Agree) (ns : List ℕ) → are_named ns ≡ true → are_known Linux5_8 (map string (map name_text ns))
-    ≡ true
-all_known agree [] named = refl
-all_known agree (n ∷ ns) named =
-    let parts = both_true (is_named n) (are_named ns) named in
-    rw (number_back agree n parts.0) (all_known agree ns parts.1)
+all_known : (calls : CallTable) (agree : Agree calls) (ns : List ℕ) → are_named calls ns ≡ true
+    → are_known calls (map string (map (name_text calls) ns)) ≡ true
+all_known calls agree [] named = refl
+all_known calls agree (n ∷ ns) named =
+    let parts = both_true (is_named calls n) (are_named calls ns) named in
+    rw (number_back calls agree n parts.0) (all_known calls agree ns parts.1)
 
-no_name : number_named Linux5_8 (string []) ≡ None
+no_name : (calls : CallTable) → number_named calls (string []) ≡ None
 unfolding number_named number_in
-no_name = refl
+no_name calls = refl
 
-pub numbers_are : (agree : Agree) (ns : List ℕ) → are_named ns ≡ true
-    → ns ≡ filter_map (number_named Linux5_8) (map string (names_of ns))
-numbers_are agree [] named = rw no_name refl
-numbers_are agree (n ∷ ns) named = numbers_back agree (n ∷ ns) named
+pub numbers_are : (calls : CallTable) (agree : Agree calls) (ns : List ℕ) → are_named calls ns ≡ true
+    → ns ≡ filter_map (number_named calls) (map string (names_of calls ns))
+numbers_are calls agree [] named = rw (no_name calls) refl
+numbers_are calls agree (n ∷ ns) named = numbers_back calls agree (n ∷ ns) named
 
-pub known : (agree : Agree) (default decision : Decision) (ns : List ℕ) → are_named ns ≡ true
+pub known : (calls : CallTable) (agree : Agree calls) (default decision : Decision) (ns : List ℕ)
+    → are_named calls ns ≡ true
     → (not (eqb (length ns) 0) || leb (rank default) (rank decision)) ≡ true → rank decision < rank default
-    → are_known Linux5_8 (map string (names_of ns)) ≡ true
-known agree default decision [] named lenient strict =
+    → are_known calls (map string (names_of calls ns)) ≡ true
+known calls agree default decision [] named lenient strict =
     absurd (let le : rank default ≤ rank decision = leb-true (rank default) (rank decision) lenient in
     omega arith)
-known agree default decision (n ∷ ns) named lenient strict = all_known agree (n ∷ ns) named
+known calls agree default decision (n ∷ ns) named lenient strict = all_known calls agree (n ∷ ns) named
 
-some_names : (ns : List ℕ) → 0 < length (map string (names_of ns))
-some_names [] = omega arith
-some_names (n ∷ ns) = omega arith
+some_names : (calls : CallTable) (ns : List ℕ) → 0 < length (map string (names_of calls ns))
+some_names calls [] = omega arith
+some_names calls (n ∷ ns) = omega arith
 
 -- the conditions, if there are any
 abbrev args_of : List Data → Option (List Data)
@@ -150,19 +152,21 @@ said calls default names entry fits conds_fit some numbers known =
       known = known;
     }
 
-pub entry_is : (agree : Agree) (default : Decision) (entry : Entry) → FitsEntry entry
-    → is_writable_entry default entry ≡ true → IsEntry Linux5_8 default (entry_tree entry) entry
-entry_is agree default entry fits writable =
-    let parts = both_true (are_named entry.numbers) _ writable in
-    said Linux5_8 default (names_of entry.numbers) entry fits.decision fits.conds (some_names entry.numbers)
-    (numbers_are agree entry.numbers parts.0)
-    (known agree default entry.decision entry.numbers parts.0 parts.1)
+pub entry_is : (calls : CallTable) (agree : Agree calls) (default : Decision) (entry : Entry) → FitsEntry entry
+    → is_writable_entry calls default entry ≡ true → IsEntry calls default (entry_tree calls entry) entry
+entry_is calls agree default entry fits writable =
+    let parts = both_true (are_named calls entry.numbers) _ writable in
+    said calls default (names_of calls entry.numbers) entry fits.decision fits.conds
+    (some_names calls entry.numbers) (numbers_are calls agree entry.numbers parts.0)
+    (known calls agree default entry.decision entry.numbers parts.0 parts.1)
 
-pub entries_are : (agree : Agree) (default : Decision) (entries : List Entry)
-    → AllByRecursion FitsEntry entries → list_all (is_writable_entry default) entries ≡ true
-    → Both (IsEntry Linux5_8 default) (map entry_tree entries) entries
-entries_are agree default [] fits writable = tt
-entries_are agree default (entry ∷ entries) fits writable =
-    let parts = both_true (is_writable_entry default entry) (list_all (is_writable_entry default) entries)
-    writable in
-    (entry_is agree default entry fits.0 parts.0, entries_are agree default entries fits.1 parts.1)
+pub entries_are : (calls : CallTable) (agree : Agree calls) (default : Decision) (entries : List Entry)
+    → AllByRecursion FitsEntry entries → list_all (is_writable_entry calls default) entries ≡ true
+    → Both (IsEntry calls default) (map (entry_tree calls) entries) entries
+entries_are calls agree default [] fits writable = tt
+entries_are calls agree default (entry ∷ entries) fits writable =
+    let parts = both_true (is_writable_entry calls default entry)
+    (list_all (is_writable_entry calls default) entries) writable in (
+      entry_is calls agree default entry fits.0 parts.0,
+      entries_are calls agree default entries fits.1 parts.1,
+    )

@@ -3,6 +3,7 @@ use Rattle.std.proofs.Common.{◌≡◌, ℕ, ◌+◌, ◌<◌, List, [], ◌∷
 use Rattle.std.specs.List.{AllByRecursion}
 use Rattle.std.proofs.lemmas.List.{map-append, take_more}
 use Rattle.serde_json.specs.Data.{Data, string}
+use Rattle.sys_table.specs.declared.calls.CallTable.{CallTable}
 use Rattle.profile_text.specs.Written.{name_text}
 
 all_push : {A : Type 0} (P : A → Type 0) (xs : List A) (x : A) → AllByRecursion P xs → P x
@@ -27,10 +28,10 @@ written_more see tree vs xs i x v lt is before here =
     rw (map_more tree xs i x lt is, map-append, before, here) refl
 
 -- one more name is written
-pub named_more : {V : Type 0} (see : V → Data) (vs : List V) (numbers : List ℕ) (i : ℕ) (v : V)
+pub named_more : {V : Type 0} (calls : CallTable) (see : V → Data) (vs : List V) (numbers : List ℕ) (i : ℕ) (v : V)
     → i < length numbers
-    → map see vs ≡ map string (map name_text (take i numbers))
-    → see v ≡ string (name_text (get_or numbers i 0))
-    → map see (vs ++ v ∷ []) ≡ map string (map name_text (take (i + 1) numbers))
-named_more see vs numbers i v lt before here =
+    → map see vs ≡ map string (map (name_text calls) (take i numbers))
+    → see v ≡ string (name_text calls (get_or numbers i 0))
+    → map see (vs ++ v ∷ []) ≡ map string (map (name_text calls) (take (i + 1) numbers))
+named_more calls see vs numbers i v lt before here =
     rw (take_more numbers i 0 lt, map-append, map-append, map-append, before, here) refl

@@ -13,13 +13,13 @@ use Rattle.serde_json.specs.Written.{has_float, items_have_float}
 use Rattle.serde_json.proofs.OnLiterals.{serde_json_on_literals}
 use Rattle.json_tree.specs.Tree.{list, member, text, text_list, tree_of}
 use Rattle.json_tree.specs.Reading.{MayHaveField}
-use Rattle.sys_table.specs.declared.calls.CallTable.TheVariants.{Linux5_8}
+use Rattle.sys_table.specs.declared.calls.CallTable.{CallTable}
 use Rattle.oci_profile.specs.declared.conditions.Cond.{Cond}
 use Rattle.oci_profile.specs.declared.conditions.Op.{Op}
 use Rattle.oci_profile.specs.declared.profile.Entry.{Entry}
 use Rattle.oci_profile.specs.declared.profile.Profile.{Profile}
 use Rattle.oci_profile.specs.declared.reader.TheConstants.{MAX_PROFILE_BYTES}
-use Rattle.oci_profile.specs.Profile.{IsProfile, ReadsProfile}
+use Rattle.oci_profile.specs.Profile.{IsProfile, ReadsProfileWith}
 use Rattle.profile_text.specs.Fits.{FitsDecision, FitsEntry}
 use Rattle.profile_text.specs.Writable.{is_writable}
 use Rattle.profile_text.specs.Written.{action_name, cond_tree, entry_tree, errno_of, names_of, op_name}
@@ -77,11 +77,12 @@ pub list_there : (tree : Data) (ds : List Data) → get (codes "syscalls") tree 
 unfolding member
 list_there tree ds is = (array (items_of ds), rw is refl, list_back ds)
 
-profile_is : (agree : Agree) (profile : Profile) → AllByRecursion FitsEntry profile.entries
-    → FitsDecision profile.default → is_writable profile ≡ true → IsProfile Linux5_8 (profile_tree profile) profile
+profile_is : (calls : CallTable) (agree : Agree calls) (profile : Profile) → AllByRecursion FitsEntry profile.entries
+    → FitsDecision profile.default → is_writable calls profile ≡ true
+    → IsProfile calls (profile_tree calls profile) profile
 unfolding profile_tree
-profile_is agree profile fits fits_default writable =
-    let entries : List Data = map entry_tree profile.entries in
+profile_is calls agree profile fits fits_default writable =
+    let entries : List Data = map (entry_tree calls) profile.entries in
     let tree : Data = profile_with (action_name profile.default) (errno_of profile.default) entries in
     let fields = profile_fields (action_name profile.default) (errno_of profile.default) entries in
     record {
@@ -100,7 +101,7 @@ profile_is agree profile fits fits_default writable =
       };
       syscalls = Some entries;
       there = list_there tree entries fields.list_there;
-      each = entries_are agree profile.default profile.entries fits writable;
+      each = entries_are calls agree profile.default profile.entries fits writable;
     }
 
 -- no number of it is a float
@@ -132,13 +133,14 @@ entry_no_float action None (d ∷ ds) names args_none names_none = rw (args_none
 entry_no_float action (Some e) [] names args_none names_none = rw names_none refl
 entry_no_float action (Some e) (d ∷ ds) names args_none names_none = rw (args_none, names_none) refl
 
-entries_no_float : (entries : List Entry) → items_have_float (items_of (map entry_tree entries)) ≡ false
-entries_no_float [] = refl
-entries_no_float (entry ∷ entries) =
+entries_no_float : (calls : CallTable) (entries : List Entry)
+    → items_have_float (items_of (map (entry_tree calls) entries)) ≡ false
+entries_no_float calls [] = refl
+entries_no_float calls (entry ∷ entries) =
     rw (entry_no_float (action_name entry.decision) (errno_of entry.decision) (map cond_tree entry.conds)
-    (map string (names_of entry.numbers)) (conds_no_float entry.conds)
-    (names_no_float (names_of entry.numbers)))
-    (entries_no_float entries)
+    (map string (names_of calls entry.numbers)) (conds_no_float entry.conds)
+    (names_no_float (names_of calls entry.numbers)))
+    (entries_no_float calls entries)
 
 profile_no_float : (action : List ℕ) (errno : Option ℕ) (entries : List Data)
     → items_have_float (items_of entries) ≡ false → has_float (profile_with action errno entries) ≡ false
@@ -146,10 +148,10 @@ unfolding serde_json_on_literals
 profile_no_float action None entries none = rw none refl
 profile_no_float action (Some e) entries none = rw none refl
 
-pub no_float : (profile : Profile) → has_float (profile_tree profile) ≡ false
+pub no_float : (calls : CallTable) (profile : Profile) → has_float (profile_tree calls profile) ≡ false
 unfolding profile_tree
-no_float profile = profile_no_float (action_name profile.default) (errno_of profile.default)
-    (map entry_tree profile.entries) (entries_no_float profile.entries)
+no_float calls profile = profile_no_float (action_name profile.default) (errno_of profile.default)
+    (map (entry_tree calls) profile.entries) (entries_no_float calls profile.entries)
 
 -- it does not nest deep
 cond_shallow : (index : ℕ) (op : Op) (value : ℕ) (given : Option ℕ)
@@ -183,15 +185,16 @@ entry_shallow action None (d ∷ ds) names args_low names_low = omega arith
 entry_shallow action (Some e) [] names args_low names_low = omega arith
 entry_shallow action (Some e) (d ∷ ds) names args_low names_low = omega arith
 
-entries_shallow : (entries : List Entry) → items_depth (items_of (map entry_tree entries)) ≤ 3
-entries_shallow [] = omega arith
-entries_shallow (entry ∷ entries) =
+entries_shallow : (calls : CallTable) (entries : List Entry)
+    → items_depth (items_of (map (entry_tree calls) entries)) ≤ 3
+entries_shallow calls [] = omega arith
+entries_shallow calls (entry ∷ entries) =
     omega (
       arith,
       entry_shallow (action_name entry.decision) (errno_of entry.decision) (map cond_tree entry.conds)
-          (map string (names_of entry.numbers)) (conds_shallow entry.conds)
-          (names_shallow (names_of entry.numbers)),
-      entries_shallow entries,
+          (map string (names_of calls entry.numbers)) (conds_shallow entry.conds)
+          (names_shallow (names_of calls entry.numbers)),
+      entries_shallow calls entries,
     )
 
 profile_shallow : (action : List ℕ) (errno : Option ℕ) (entries : List Data)
@@ -200,27 +203,29 @@ unfolding serde_json_on_literals
 profile_shallow action None entries low = omega arith
 profile_shallow action (Some e) entries low = omega arith
 
-shallow : (profile : Profile) → depth (profile_tree profile) ≤ max_depth
+shallow : (calls : CallTable) (profile : Profile) → depth (profile_tree calls profile) ≤ max_depth
 unfolding profile_tree
-shallow profile = omega (
+shallow calls profile = omega (
   arith,
   profile_shallow (action_name profile.default) (errno_of profile.default)
-      (map entry_tree profile.entries) (entries_shallow profile.entries),
+      (map (entry_tree calls) profile.entries) (entries_shallow calls profile.entries),
 )
 
 pub told : (bytes : List ℕ) (tree : Data) → IsUtf8 bytes → read bytes ≡ Some tree → tree_of bytes ≡ Some tree
 unfolding tree_of
 told bytes tree utf8 is = rw (is_utf8-from_IsUtf8 bytes utf8) is
 
-pub reads : (agree : Agree) (profile : Profile) (tree : Data) (bytes : List ℕ) → tree ≡ profile_tree profile
-    → AllByRecursion FitsEntry profile.entries → FitsDecision profile.default → is_writable profile ≡ true
+pub reads : (calls : CallTable) (agree : Agree calls) (profile : Profile) (tree : Data) (bytes : List ℕ)
+    → tree ≡ profile_tree calls profile
+    → AllByRecursion FitsEntry profile.entries → FitsDecision profile.default → is_writable calls profile ≡ true
     → IsUtf8 bytes → (depth tree ≤ max_depth → read bytes ≡ Some tree) → length bytes ≤ MAX_PROFILE_BYTES
-    → ReadsProfile bytes profile
-reads agree profile tree bytes is fits fits_default writable utf8 back short =
-    let levels : depth tree ≤ max_depth = rw is (shallow profile) in
+    → ReadsProfileWith calls bytes profile
+reads calls agree profile tree bytes is fits fits_default writable utf8 back short =
+    let levels : depth tree ≤ max_depth = rw is (shallow calls profile) in
     record {
       short = short;
       tree = tree;
       is = told bytes tree utf8 (back levels);
-      says = subst (λ t. IsProfile Linux5_8 t profile) (sym is) (profile_is agree profile fits fits_default writable);
+      says = subst (λ t. IsProfile calls t profile) (sym is)
+          (profile_is calls agree profile fits fits_default writable);
     }

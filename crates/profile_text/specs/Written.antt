@@ -6,7 +6,8 @@ use Rattle.std.specs.Prelude.{unwrap_or}
 use Rattle.serde_json.specs.Data.{Data, number, unsigned, string, array, object, Members, no_members, put}
 use Rattle.serde_json.specs.View.{items_of}
 use Rattle.serde_json.specs.Written.{compact_text}
-use Rattle.sys_table.specs.SysTable.{name_of}
+use Rattle.sys_table.specs.SysTable.{name_in}
+use Rattle.sys_table.specs.declared.calls.CallTable.{CallTable}
 use Rattle.oci_profile.specs.declared.conditions.Cond.{Cond}
 use Rattle.oci_profile.specs.declared.conditions.Op.{Op}
 use Rattle.oci_profile.specs.declared.conditions.Op.TheVariants.{NotEqual, Less, LessOrEqual, Equal}
@@ -67,13 +68,13 @@ errno_of Trap = None
 errno_of Allow = None
 errno_of Log = None
 
-abbrev pub name_text : ℕ → List ℕ
-name_text nr = unwrap_or (name_of nr) []
+abbrev pub name_text : CallTable → ℕ → List ℕ
+name_text calls nr = unwrap_or (name_in calls nr) []
 
 -- an entry that names no call has the empty name, which no call has
-abbrev pub names_of : List ℕ → List (List ℕ)
-names_of [] = [] ∷ []
-names_of (n ∷ ns) = map name_text (n ∷ ns)
+abbrev pub names_of : CallTable → List ℕ → List (List ℕ)
+names_of calls [] = [] ∷ []
+names_of calls (n ∷ ns) = map (name_text calls) (n ∷ ns)
 
 -- an entry with these names
 abbrev pub entry_with : List Data → List ℕ → Option ℕ → List Cond → Data
@@ -83,15 +84,16 @@ entry_with names action errno conds = object (
     put (codes "action") (string action) (
     put (codes "names") (array (items_of names)) no_members))))
 
-abbrev pub entry_tree : Entry → Data
-entry_tree entry = entry_with (map string (names_of entry.numbers)) (action_name entry.decision)
+abbrev pub entry_tree : CallTable → Entry → Data
+entry_tree calls entry = entry_with (map string (names_of calls entry.numbers)) (action_name entry.decision)
     (errno_of entry.decision) entry.conds
 
-unfoldable pub profile_tree : Profile → Data
-profile_tree profile = object (
+unfoldable pub profile_tree : CallTable → Profile → Data
+profile_tree calls profile = object (
     with_whole (codes "defaultErrnoRet") (errno_of profile.default) (
     put (codes "defaultAction") (string (action_name profile.default)) (
-    put (codes "syscalls") (array (items_of (map entry_tree profile.entries))) no_members)))
+    put (codes "syscalls") (array (items_of (map (entry_tree calls) profile.entries))) no_members)))
 
-abbrev pub profile_text : Profile → List ℕ
-profile_text profile = compact_text (profile_tree profile)
+-- the text, which names these calls
+abbrev pub profile_text : CallTable → Profile → List ℕ
+profile_text calls profile = compact_text (profile_tree calls profile)

@@ -7,6 +7,7 @@ use crate::laws::runtime_default_can_be_written;
 use crate::writer::write;
 use oci_profile::runtime_default;
 use std::alloc::{AllocError, Global};
+use sys_table::CallTable;
 
 /// The text of RuntimeDefault.
 pub fn default_text(alloc: Global) -> Result<String, AllocError>
@@ -14,7 +15,7 @@ pub fn default_text(alloc: Global) -> Result<String, AllocError>
 {
     runtime_default_can_be_written();
     let profile = runtime_default(alloc)?;
-    match write(alloc, &profile) {
+    match write(alloc, CallTable::Linux5_8, &profile) {
         Ok(text) => Ok(text),
         // It can be written, and is short.
         Err(WriteFault::NoName | WriteFault::TooLarge) => unreachable!(),

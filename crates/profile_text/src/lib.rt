@@ -7,7 +7,7 @@
 //!
 //! - The text of a profile reads as the profile, for every profile that can be written: `write` (reads,
 //!   text).
-//! - In such a profile each number has a name, and an entry that is stricter than the default has a number.
+//! - In such a profile each number is one of the known calls, and an entry that is stricter than the default has a number.
 //!   Others, and texts that are too large to be read, are reported: `write` (no_name, large).
 //! - A profile that was read can be written, and so can RuntimeDefault: `what_is_read_can_be_written`,
 //!   `runtime_default_can_be_written`. The text of RuntimeDefault: `default_text`.

@@ -10,16 +10,21 @@ use crate::object::Object;
 use oci_profile::{Cond, Decision, Entry, Op, Profile};
 use serde_json::Value;
 use std::alloc::{AllocError, Global};
+use sys_table::CallTable;
 
 // The trees of a profile's parts. Each contract also states the limits that the part's types ensure.
 
 #[tactic(auto, unfolding(crate::specs::Written::profile_tree))]
-pub(crate) fn profile_tree(alloc: Global, profile: &Profile) -> Result<Value, AllocError>
-    ensures tree { IfOk result (λ v. view v ≡ profile_tree profile.now) }
+pub(crate) fn profile_tree(
+    alloc: Global,
+    calls: CallTable,
+    profile: &Profile,
+) -> Result<Value, AllocError>
+    ensures tree { IfOk result (λ v. view v ≡ profile_tree calls profile.now) }
     ensures fit { IfOk result (λ _. AllByRecursion FitsEntry profile.now.entries) }
     ensures fit_default { IfOk result (λ _. FitsDecision profile.now.default) }
 {
-    let entries = entry_trees(alloc, profile.entries.as_slice())?;
+    let entries = entry_trees(alloc, calls, profile.entries.as_slice())?;
     Ok(head(alloc, profile.default, entries)?.done())
 }
 
@@ -42,22 +47,22 @@ pub(crate) fn head(
 }
 
 #[tactic(auto, using(crate::proofs::Loops::written_more, crate::proofs::Loops::fits_more))]
-fn entry_trees(alloc: Global, entries: &[Entry]) -> Result<Vec<Value>, AllocError>
-    ensures trees { IfOk result (λ vs. map view vs.items ≡ map entry_tree entries.now) }
+fn entry_trees(alloc: Global, calls: CallTable, entries: &[Entry]) -> Result<Vec<Value>, AllocError>
+    ensures trees { IfOk result (λ vs. map view vs.items ≡ map (entry_tree calls) entries.now) }
     ensures fit { IfOk result (λ _. AllByRecursion FitsEntry entries.now) }
 {
     let mut trees = Vec::new(alloc);
     for entry in entries {
-        trees.push(entry_tree(alloc, entry)?)?;
+        trees.push(entry_tree(alloc, calls, entry)?)?;
     }
     Ok(trees)
 }
 
-fn entry_tree(alloc: Global, entry: &Entry) -> Result<Value, AllocError>
-    ensures tree { IfOk result (λ v. view v ≡ entry_tree entry.now) }
+fn entry_tree(alloc: Global, calls: CallTable, entry: &Entry) -> Result<Value, AllocError>
+    ensures tree { IfOk result (λ v. view v ≡ entry_tree calls entry.now) }
     ensures fit { IfOk result (λ _. FitsEntry entry.now) }
 {
-    let names = name_trees(alloc, entry.numbers.as_slice())?;
+    let names = name_trees(alloc, calls, entry.numbers.as_slice())?;
     let conds = entry.conds.as_slice();
     let errno = errno_of(entry.decision);
     entry_with(alloc, names, action_name(entry.decision), errno, conds)
@@ -83,32 +88,32 @@ pub(crate) fn entry_with(
 }
 
 /// The names of an entry that names some, else the empty name, which no call has.
-fn name_trees(alloc: Global, numbers: &[u32]) -> Result<Vec<Value>, AllocError>
-    ensures { IfOk result (λ vs. map view vs.items ≡ map string (names_of numbers.now)) }
+fn name_trees(alloc: Global, calls: CallTable, numbers: &[u32]) -> Result<Vec<Value>, AllocError>
+    ensures { IfOk result (λ vs. map view vs.items ≡ map string (names_of calls numbers.now)) }
 {
     if numbers.is_empty() {
         let mut nameless = Vec::new(alloc);
         nameless.push(Value::try_from_str(alloc, "")?)?;
         return Ok(nameless);
     }
-    each_name(alloc, numbers)
+    each_name(alloc, calls, numbers)
 }
 
 #[tactic(auto, using(crate::proofs::Loops::named_more))]
-fn each_name(alloc: Global, numbers: &[u32]) -> Result<Vec<Value>, AllocError>
-    ensures { IfOk result (λ vs. map view vs.items ≡ map string (map name_text numbers.now)) }
+fn each_name(alloc: Global, calls: CallTable, numbers: &[u32]) -> Result<Vec<Value>, AllocError>
+    ensures { IfOk result (λ vs. map view vs.items ≡ map string (map (name_text calls) numbers.now)) }
 {
     let mut trees = Vec::new(alloc);
     for number in numbers {
-        trees.push(Value::try_from_str(alloc, name_text(*number))?)?;
+        trees.push(Value::try_from_str(alloc, name_text(calls, *number))?)?;
     }
     Ok(trees)
 }
 
-fn name_text(number: u32) -> &'static str
-    ensures { result.now ≡ name_text number }
+fn name_text(calls: CallTable, number: u32) -> &'static str
+    ensures { result.now ≡ name_text calls number }
 {
-    match sys_table::name(number) {
+    match calls.name(number) {
         Some(name) => name,
         None => "",
     }

@@ -4,6 +4,7 @@ ghost use Rattle.profile_unit.specs.declared.faults.UnitFault.TheVariants.{Memor
 
 use std::alloc::{AllocError, AllocFailed};
 use std::fmt;
+use sys_table::CallTable;
 
 /// Why a profile is no list of calls.
 #[derive(Clone, Copy, Debug, PartialEq, Eq)]
@@ -35,15 +36,18 @@ impl UnitFault {
     }
 }
 
-/// Where the fault is, and what a unit can have.
-impl fmt::Display for UnitFault {
+/// Where a fault is, and what a unit can have. A call is named if it is one of these calls.
+#[derive(Clone, Copy)]
+pub struct ShownFault(pub CallTable, pub UnitFault);
+
+impl fmt::Display for ShownFault {
     ghost use Rattle.std.specs.Prelude.{Some};
     ghost use Rattle.profile_unit.specs.UnitText.{fault_text};
 
-    ghost output = { λ fault. Some (fault_text fault) };
+    ghost output = { λ shown. Some (fault_text shown.0 shown.1) };
 
     fn fmt<W: fmt::Write>(&self, f: &mut fmt::Formatter<W>) -> fmt::Result {
-        match self {
+        match self.1 {
             UnitFault::Condition(place) => {
                 write!(
                     f,
@@ -58,7 +62,7 @@ impl fmt::Display for UnitFault {
             UnitFault::CallAction(nr) => write!(
                 f,
                 "{}: a unit lists allowed calls, or calls with KILL_PROCESS or an errno from 1 on",
-                sys_table::name(*nr).unwrap_or("")
+                self.0.name(nr).unwrap_or("")
             ),
             UnitFault::NoCalls => f.write_str("defaultAction decides every call"),
             UnitFault::Memory => f.write_str("Memory"),

@@ -9,7 +9,7 @@
 //! - Its actions are those that a unit can have: `unit_of` (fits).
 //! - A profile is refused for a cause: an entry with conditions, a default action or a call's action that no
 //!   list has, or no call beside the default: `unit_of` (condition, default_action, call_action, no_calls).
-//! - The lines, byte by byte: `unit_text`. The text of a fault: `Display` of `UnitFault`.
+//! - The lines, byte by byte: `unit_text`. The text of a fault: `Display` of `ShownFault`.
 //!
 //! Only tried: what systemd does with these lines (`examples/real/systemd.sh`).
 #![tactic(auto)]
@@ -18,6 +18,6 @@ mod faults;
 mod lines;
 mod unit;
 
-pub use faults::UnitFault;
+pub use faults::{ShownFault, UnitFault};
 pub use lines::unit_text;
 pub use unit::{NamedCall, Unit, unit_of};

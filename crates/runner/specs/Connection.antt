@@ -12,6 +12,7 @@ use Rattle.cri_msgs.specs.Requests.{ReadsRequest, number_of}
 use Rattle.cri_msgs.specs.Written.{reply_text}
 use Rattle.cri_frames.specs.Frames.{BeginsNone, IsBad, frame_of}
 use Rattle.cri_frames.specs.Streams.{Frame, IsFrame, stream_of}
+use Rattle.creation.specs.Made.{FileText}
 use Rattle.creation.specs.declared.files.FileAnswers.{FileAnswers}
 use Rattle.runner.specs.declared.ending.Ending.{Ending}
 use Rattle.runner.specs.declared.ending.Ending.TheVariants.{Ended, BadLength, Failed, Memory}
@@ -33,7 +34,7 @@ refusal_of text = record { id = number_of text; answer = Refused InvalidArgument
 
 -- the possible results of files for a path, and the files after it
 abbrev pub Reads : Type 0 → Type 1
-Reads F = F → Option (List ℕ) → Option (Result (List ℕ) FileFault) → F → Type 0
+Reads F = F → Option (List ℕ) → Option (Result FileText FileFault) → F → Type 0
 
 -- the possible replies of a host to a request and the results of its files, and the host after it
 abbrev pub Replies : Type 0 → Type 1

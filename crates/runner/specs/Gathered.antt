@@ -10,7 +10,9 @@ use Rattle.cri_msgs.specs.declared.calls.Call.TheVariants.{RunPodSandbox, StopPo
 use Rattle.cri_msgs.specs.declared.calls.Call.TheVariants.{CreateContainer, StartContainer, StopContainer}
 use Rattle.cri_msgs.specs.declared.calls.Call.TheVariants.{RemoveContainer, ContainerStatus, ListContainers}
 use Rattle.cri_msgs.specs.declared.calls.Call.TheVariants.{ContainerStatuses}
+use Rattle.sys_table.specs.declared.calls.CallTable.{CallTable}
 use Rattle.creation.specs.Files.{path_of}
+use Rattle.creation.specs.Made.{FileText}
 use Rattle.node_io.specs.declared.files.TheConstants.{MAX_FILE_BYTES}
 
 -- the script's file, which only CreateContainer needs
@@ -39,22 +41,22 @@ profile_path (ContainerStatus key) = None
 profile_path (ListContainers uid) = None
 profile_path (ContainerStatuses uid) = None
 
--- the result for the file at a path: its bytes, or why there are none; a failure only if the device's count
--- rose
-abbrev pub IsTold : Option Held → Type 0 → List ℕ → Result (List ℕ) FileFault → Type 0
-IsTold held rose path (Ok bytes) = Tells held path (λ found. found ≡ Some bytes)
-    × (length bytes ≤ MAX_FILE_BYTES)
-IsTold held rose path (Err NotFound) = Tells held path (λ found. found ≡ None)
-IsTold held rose path (Err TooLarge) = Tells held path (λ found.
+-- the result for the file at a path: its bytes and the calls that are known, or why there are none; a failure
+-- only if the device's count rose
+abbrev pub IsTold : CallTable → Option Held → Type 0 → List ℕ → Result FileText FileFault → Type 0
+IsTold calls held rose path (Ok text) = Tells held path (λ found. found ≡ Some text.bytes)
+    × (length text.bytes ≤ MAX_FILE_BYTES) × (text.calls ≡ calls)
+IsTold calls held rose path (Err NotFound) = Tells held path (λ found. found ≡ None)
+IsTold calls held rose path (Err TooLarge) = Tells held path (λ found.
     IsSomeAnd found (λ bytes. MAX_FILE_BYTES < length bytes))
-IsTold held rose path (Err Failed) = rose
-IsTold held rose path (Err Memory) = ⊤
+IsTold calls held rose path (Err Failed) = rose
+IsTold calls held rose path (Err Memory) = ⊤
 
 -- the files' result for a needed path, and the files after it; if no path is needed, none is read
-abbrev pub Gave : {F : Type 0} → (F → Option Held) → (F → ℕ) → F → Option (List ℕ)
-    → Option (Result (List ℕ) FileFault) → F → Type 0
-Gave held failed old None told new = (told ≡ None) × (new ≡ old)
-Gave held failed old (Some path) None new = ⊥
-Gave held failed old (Some path) (Some told) new =
-    IsTold (held old) (HasRisen (failed old) (failed new)) path told × (held new ≡ held old)
+abbrev pub Gave : {F : Type 0} → CallTable → (F → Option Held) → (F → ℕ) → F → Option (List ℕ)
+    → Option (Result FileText FileFault) → F → Type 0
+Gave calls held failed old None told new = (told ≡ None) × (new ≡ old)
+Gave calls held failed old (Some path) None new = ⊥
+Gave calls held failed old (Some path) (Some told) new =
+    IsTold calls (held old) (HasRisen (failed old) (failed new)) path told × (held new ≡ held old)
     × (failed old ≤ failed new)

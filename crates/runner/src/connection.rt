@@ -16,27 +16,29 @@ use crate::service::{Host, Service};
 use cri_frames::{Feed, FeedFault};
 use node_io::{Files, Wire};
 use std::alloc::Global;
+use sys_table::CallTable;
 
 // How many bytes are read at once.
 const PIECE: usize = 4096;
 
 /// Serves one connection to its end. Answers each frame, in order, with one frame of its version: the host's
 /// reply to the frame's request and the results of its files, or the refusal InvalidArgument for a text that
-/// is not a request. The files are read before the host is called.
+/// is not a request. The files are read before the host is called. Their readers know these calls.
 pub fn serve_wire<W: Wire, S: Files, P: Files, H: Host>(
     alloc: Global,
+    calls: CallTable,
     wire: &mut W,
     service: &mut Service<S, P, H>,
 ) -> Ending
     // What was read, the reply to each frame in it, and what was written.
-    ensures talk { Ends (Answers (Gave S.held S.failed) (Gave P.held P.failed) H.may) service.old service.new
+    ensures talk { Ends (Answers (Gave calls S.held S.failed) (Gave calls P.held P.failed) H.may) service.old service.new
         (W.input wire.old) (W.input wire.new) (W.output wire.old) (W.output wire.new) result }
 
     // A failure of the wire is reported only if it failed.
     ensures failed { result ≡ Ending.Failed → HasRisen (W.failed wire.old) (W.failed wire.new) }
     ensures counted { W.failed wire.old ≤ W.failed wire.new }
 {
-    match serve_all(alloc, wire, service) {
+    match serve_all(alloc, calls, wire, service) {
         Ok(ending) => ending,
         Err(ServeFault::Failed) => Ending::Failed,
         Err(ServeFault::Memory) => Ending::Memory,
@@ -45,14 +47,15 @@ pub fn serve_wire<W: Wire, S: Files, P: Files, H: Host>(
 
 fn serve_all<W: Wire, S: Files, P: Files, H: Host>(
     alloc: Global,
+    calls: CallTable,
     wire: &mut W,
     service: &mut Service<S, P, H>,
 ) -> Result<Ending, ServeFault>
-    ensures ending { IfOk result (Ends (Answers (Gave S.held S.failed) (Gave P.held P.failed) H.may)
+    ensures ending { IfOk result (Ends (Answers (Gave calls S.held S.failed) (Gave calls P.held P.failed) H.may)
         service.old service.new
         (W.input wire.old) (W.input wire.new) (W.output wire.old) (W.output wire.new)) }
     ensures good { IfOk result (λ ending. ending ≡ Ending.Failed → ⊥) }
-    ensures cut { OnErr result (PartTalk (Answers (Gave S.held S.failed) (Gave P.held P.failed) H.may)
+    ensures cut { OnErr result (PartTalk (Answers (Gave calls S.held S.failed) (Gave calls P.held P.failed) H.may)
         service.old service.new
         (W.input wire.old) (W.input wire.new) (W.output wire.old) (W.output wire.new)) }
     ensures failed { IfErr result (λ cut. cut ≡ ServeFault.Failed
@@ -64,7 +67,7 @@ fn serve_all<W: Wire, S: Files, P: Files, H: Host>(
         if read_piece(wire, &mut feed)? == 0 {
             return Ok(Ending::Ended);
         }
-        answer_whole(alloc, wire, service, &mut feed)?;
+        answer_whole(alloc, calls, wire, service, &mut feed)?;
         if feed.has_failed() {
             return Ok(Ending::BadLength);
         }
@@ -96,15 +99,16 @@ fn read_piece<W: Wire>(wire: &mut W, feed: &mut Feed) -> Result<usize, ServeFaul
 // Answers each whole frame in the feed.
 fn answer_whole<W: Wire, S: Files, P: Files, H: Host>(
     alloc: Global,
+    calls: CallTable,
     wire: &mut W,
     service: &mut Service<S, P, H>,
     feed: &mut Feed,
 ) -> Result<(), ServeFault>
-    ensures ok { OnOk result (Talk (Answers (Gave S.held S.failed) (Gave P.held P.failed) H.may) service.old
+    ensures ok { OnOk result (Talk (Answers (Gave calls S.held S.failed) (Gave calls P.held P.failed) H.may) service.old
         service.new
         feed.old feed.new [] (W.output wire.old) (W.output wire.new)) }
     ensures begins_none { OnOk result (BeginsNone feed.new) }
-    ensures cut { OnErr result (CutsTalk (Answers (Gave S.held S.failed) (Gave P.held P.failed) H.may)
+    ensures cut { OnErr result (CutsTalk (Answers (Gave calls S.held S.failed) (Gave calls P.held P.failed) H.may)
         service.old service.new
         feed.old (W.output wire.old) (W.output wire.new)) }
     ensures failed { IfErr result (λ cut. cut ≡ ServeFault.Failed
@@ -113,7 +117,7 @@ fn answer_whole<W: Wire, S: Files, P: Files, H: Host>(
     ensures input { Keeps (W.input wire.old) (W.input wire.new) }
 {
     while let Some((version, text)) = feed.take() {
-        answer(alloc, wire, service, version, text.as_slice())?;
+        answer(alloc, calls, wire, service, version, text.as_slice())?;
     }
     Ok(())
 }

@@ -7,7 +7,8 @@
 //! # What is proved
 //!
 //! - The files of a request are read by its own paths and no others. Their contents, or the reasons why they
-//!   were not read, are handed on: `gather` (script, profile).
+//!   were not read, are handed on, with the calls that their readers know: `gather`, `gather_with` (script,
+//!   profile).
 //! - Over a wire whose model has its bytes, each frame, in order, gets one frame of its version. It is the
 //!   host's reply to its request and to the results of its files, or InvalidArgument with its number:
 //!   `serve_wire` (talk, failed, counted), `Host::serve`, `read`, `Reader::read`.
@@ -23,9 +24,9 @@
 //!   whole round does a step. The round returns whether a cell went on: `step_round`.
 //! - A text is read as its request, by any thread: `Reader::read`.
 //! - The constants are as stated: `constants_are_as_stated`.
+//!
 //! Only tested: that a sandbox's lock delays no other sandbox, that neither a file nor a long script delays
 //! another connection, and when removed cells free their memory.
-//! connection, and when removed cells free their memory.
 #![tactic(auto)]
 
 mod answering;
@@ -46,7 +47,7 @@ mod shared;
 
 pub use connection::serve_wire;
 pub use ending::Ending;
-pub use gathering::gather;
+pub use gathering::{gather, gather_with};
 pub use laws::constants_are_as_stated;
 pub use notifier::Notifier;
 pub use reader::{LARGE_TEXT, Reader};

@@ -4,6 +4,7 @@ use runtime_core::{CompiledProfile, Contents, FileAnswer, FileAnswers};
 use script::Script;
 use std::alloc::{AllocError, Global};
 use std::test::Fail;
+use sys_table::CallTable;
 
 // A script whose text ends with this many spaces.
 fn script(alloc: Global, code: usize, spaces: usize) -> Result<Contents<Script>, AllocError> {
@@ -12,7 +13,7 @@ fn script(alloc: Global, code: usize, spaces: usize) -> Result<Contents<Script>,
     for _ in 0..spaces {
         bytes.push(b' ')?;
     }
-    Ok(Contents::new(bytes))
+    Ok(Contents::new(CallTable::Linux5_8, bytes))
 }
 
 fn profile(alloc: Global, errno: usize) -> Result<Contents<CompiledProfile>, AllocError> {
@@ -20,7 +21,7 @@ fn profile(alloc: Global, errno: usize) -> Result<Contents<CompiledProfile>, All
         "{{\"defaultAction\":\"SCMP_ACT_ERRNO\",\"defaultErrnoRet\":{errno}}}"
     )?;
     let bytes = Vec::from_slice(alloc, text.as_bytes())?;
-    Ok(Contents::new(bytes))
+    Ok(Contents::new(CallTable::Linux5_8, bytes))
 }
 
 // Prepares these results as a runtime does, and returns whether something in them was not known.

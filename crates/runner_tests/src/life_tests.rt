@@ -7,6 +7,7 @@ use std::alloc::{AllocError, Global};
 use std::marker::Brand;
 use std::sync::Wait;
 use std::test::Fail;
+use sys_table::CallTable;
 
 // The requests of a pod's life, each with its reply. A text whose `v` is 2 is in a frame of version 2.
 const LIFE: &str = r#"{"call":"RunPodSandbox","id":1,"uid":"u1","v":1}=>{"id":1,"ok":{},"v":1}
@@ -63,7 +64,7 @@ fn served<H: Host + Drop>(
 ) -> Result<(Ending, Vec<u8>), AllocError> {
     let mut service = service(alloc, host)?;
     let mut wire = wire(alloc, input, piece, failing)?;
-    let ending = serve_wire(alloc, &mut wire, &mut service);
+    let ending = serve_wire(alloc, CallTable::Linux5_8, &mut wire, &mut service);
     let written = Vec::from_slice(alloc, wire.written())?;
     Ok((ending, written))
 }

@@ -11,6 +11,7 @@ use std::sync::atomic::{AtomicBool, Ordering};
 use std::test::Fail;
 use std::thread::{Threads, join, sleep};
 use std::time::{Clock, Duration};
+use sys_table::CallTable;
 
 // The longest wait, in turns of a millisecond.
 const TURNS: u32 = 10_000;
@@ -172,7 +173,7 @@ fn creates_slowly<B: Node, R: Wait + Clock>(
         profiles,
         host: runtime.host(rt),
     };
-    let ending = serve_wire(alloc, &mut wire, &mut service);
+    let ending = serve_wire(alloc, CallTable::Linux5_8, &mut wire, &mut service);
     let Service { scripts, .. } = service;
     Ok(ending == Ending::Ended && scripts.waited)
 }
@@ -291,7 +292,7 @@ fn creates_long<B: Node, R: Wait>(
         profiles,
         host: runtime.host(rt),
     };
-    let ending = serve_wire(alloc, &mut wire, &mut service);
+    let ending = serve_wire(alloc, CallTable::Linux5_8, &mut wire, &mut service);
     answered.store(true, Ordering::SeqCst);
     Ok(ending == Ending::Ended)
 }

@@ -6,6 +6,7 @@ use node_io::{MemoryFiles, MemoryWire, StoredFile};
 use runner::{Begun, Callers, Client, Node, Service, SharedHost, SharedRuntime, serve_wire};
 use std::alloc::{AllocError, Global};
 use std::sync::Wait;
+use sys_table::CallTable;
 
 /// A runtime that threads share, with the maker of its callers.
 #[derive(Drop)]
@@ -113,6 +114,6 @@ pub(crate) fn asks<B: Node, R: Wait>(
     }
     let mut wire = wire(alloc, input.as_slice(), 20, 0)?;
     let mut service = service(alloc, runtime.host(rt))?;
-    serve_wire(alloc, &mut wire, &mut service);
+    serve_wire(alloc, CallTable::Linux5_8, &mut wire, &mut service);
     Vec::from_slice(alloc, wire.written())
 }

@@ -7,6 +7,7 @@ use Rattle.std.specs.List.{list_any}
 use Rattle.std.specs.Str.{bytes_eq}
 use Rattle.cri_msgs.specs.declared.calls.Call.{Call}
 use Rattle.cri_msgs.specs.declared.calls.Call.TheVariants.{CreateContainer}
+use Rattle.creation.specs.Made.{FileText}
 use Rattle.fault_notes.specs.Paths.{shown_path}
 use Rattle.manifest.specs.declared.profiles.SeccompProfile.TheVariants.{Localhost}
 use Rattle.node_io.specs.declared.faults.FileFault.{FileFault}
@@ -31,6 +32,6 @@ profile_line path bytes =
     if nat_lt MAX_PROFILE_BYTES (length bytes) then None else option_map (line_on path) (sign_in_text bytes)
 
 -- the profile that a request names, and the bytes of its file
-abbrev pub given_profile : Call → Option (Result (List ℕ) FileFault) → Option (List ℕ × List ℕ)
-given_profile (CreateContainer key image (Localhost path)) (Some (Ok bytes)) = Some (path, bytes)
+abbrev pub given_profile : Call → Option (Result FileText FileFault) → Option (List ℕ × List ℕ)
+given_profile (CreateContainer key image (Localhost path)) (Some (Ok text)) = Some (path, text.bytes)
 given_profile call answer = None

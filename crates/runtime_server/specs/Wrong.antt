@@ -7,8 +7,7 @@ use Rattle.cri_msgs.specs.declared.refusals.Refusal.TheVariants as refusal
 use Rattle.cri_msgs.specs.declared.replies.Answer.{Answer}
 use Rattle.cri_msgs.specs.declared.replies.Answer.TheVariants as answer
 use Rattle.std.specs.declared.string.String.{String}
-use Rattle.sys_table.specs.declared.calls.CallTable.TheVariants.{Linux5_8}
-use Rattle.oci_profile.specs.Profile.{ReadsProfile}
+use Rattle.creation.specs.Made.{FileText, IsProfileOf}
 use Rattle.oci_profile.specs.Reading.{first_fault_at}
 use Rattle.oci_profile.specs.declared.placed.ProfileFaultAt.{ProfileFaultAt}
 use Rattle.oci_profile.specs.declared.profile.Profile.{Profile}
@@ -23,21 +22,21 @@ use Rattle.runtime_server.specs.declared.diagnosis.FileKind.TheVariants as kind
 use Rattle.runtime_server.specs.declared.diagnosis.Wrong.{Wrong}
 
 -- the file's name, then the first fault of this text with its place and the value there
-abbrev pub TellsScript : {Y : Type 0} → List ℕ → List ℕ → Option (String Y) → Type 0
-TellsScript path bytes None = ⊤
-TellsScript path bytes (Some text) =
-    (found : ScriptFaultAt) × IsFirstFaultAt bytes found
-    × ((note : List ℕ) × IsNote bytes (named.Script found.fault) found.place note
+abbrev pub TellsScript : {Y : Type 0} → List ℕ → FileText → Option (String Y) → Type 0
+TellsScript path file None = ⊤
+TellsScript path file (Some text) =
+    (found : ScriptFaultAt) × IsFirstFaultAt file.calls file.bytes found
+    × ((note : List ℕ) × IsNote file.bytes (named.Script found.fault) found.place note
     × (string_bytes text ≡ shown_path path ++ note))
 
 -- the same for a profile, or that it is too heavy
-abbrev pub TellsProfile : {Y : Type 0} → List ℕ → List ℕ → Option (String Y) → Type 0
-TellsProfile path bytes None = ⊤
-TellsProfile path bytes (Some text) =
-    ((profile : Profile) × ReadsProfile bytes profile × (string_bytes text ≡ shown_path path
+abbrev pub TellsProfile : {Y : Type 0} → List ℕ → FileText → Option (String Y) → Type 0
+TellsProfile path file None = ⊤
+TellsProfile path file (Some text) =
+    ((profile : Profile) × IsProfileOf file profile × (string_bytes text ≡ shown_path path
     ++ codes ": TooLong"))
-    ⊎ ((found : ProfileFaultAt) × (first_fault_at Linux5_8 bytes ≡ Some found)
-    × ((note : List ℕ) × IsNote bytes (named.Profile found.fault) found.place note
+    ⊎ ((found : ProfileFaultAt) × (first_fault_at file.calls file.bytes ≡ Some found)
+    × ((note : List ℕ) × IsNote file.bytes (named.Profile found.fault) found.place note
     × (string_bytes text ≡ shown_path path ++ note)))
 
 abbrev pub kind_text : FileKind → List ℕ

@@ -11,7 +11,7 @@ use manifest::SeccompProfile;
 use node_io::{CausedFault, FileFault, MAX_FILE_BYTES, SystemFiles};
 use oci_profile::ProfileFault;
 use refusal_causes::{Cause, CauseText};
-use runtime_core::{CompiledProfile, FileAnswer, FileAnswers};
+use runtime_core::{CompiledProfile, Contents, FileAnswer, FileAnswers};
 use script::{Script, ScriptFault};
 use std::alloc::{AllocError, Global};
 
@@ -124,15 +124,20 @@ fn wrong_script(
     match read {
         None => Ok(None),
         Some(Err(fault)) => Ok(Some(unread(alloc, files, path, *fault)?)),
-        Some(Ok(contents)) => script_fault(alloc, path, contents.as_slice()),
+        Some(Ok(contents)) => script_fault(alloc, path, contents),
     }
 }
 
 // The first fault of a script's text, if it has one.
-fn script_fault(alloc: Global, path: &str, bytes: &[u8]) -> Result<Option<String>, AllocError>
-    ensures { IfOk result (TellsScript path.now bytes.now) }
+fn script_fault(
+    alloc: Global,
+    path: &str,
+    contents: &Contents<Script>,
+) -> Result<Option<String>, AllocError>
+    ensures { IfOk result (TellsScript path.now contents.now) }
 {
-    match script::read_placed(alloc, bytes) {
+    let (calls, bytes) = (contents.calls(), contents.as_slice());
+    match script::read_placed_with(alloc, calls, bytes) {
         Ok(_script) => Ok(None),
         Err(found) => match found.fault {
             ScriptFault::Memory => Ok(None),
@@ -157,15 +162,20 @@ fn wrong_profile(
     match read {
         None => Ok(None),
         Some(Err(fault)) => Ok(Some(unread(alloc, files, path, *fault)?)),
-        Some(Ok(contents)) => profile_fault(alloc, path, contents.as_slice()),
+        Some(Ok(contents)) => profile_fault(alloc, path, contents),
     }
 }
 
 // The first fault of a profile's text, if it has one.
-fn profile_fault(alloc: Global, path: &str, bytes: &[u8]) -> Result<Option<String>, AllocError>
-    ensures { IfOk result (TellsProfile path.now bytes.now) }
+fn profile_fault(
+    alloc: Global,
+    path: &str,
+    contents: &Contents<CompiledProfile>,
+) -> Result<Option<String>, AllocError>
+    ensures { IfOk result (TellsProfile path.now contents.now) }
 {
-    match oci_profile::read_placed(alloc, bytes) {
+    let (calls, bytes) = (contents.calls(), contents.as_slice());
+    match oci_profile::read_placed_with(alloc, calls, bytes) {
         Ok(profile) => match compile(alloc, &profile) {
             Ok(_) | Err(CompileFault::Memory) => Ok(None),
             Err(CompileFault::TooLong) => Ok(Some(behind(alloc, path, ": TooLong")?)),

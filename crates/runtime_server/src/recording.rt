@@ -16,11 +16,13 @@ use std::alloc::{AllocError, Global};
 use std::sync::{Arc, Wait};
 use std::thread::Threads;
 use std::time::Clock;
+use sys_table::CallTable;
 
 /// Takes the ended and removed cells, and has their records written. It never waits for the file.
 #[derive(Drop)]
 pub struct Recorder {
     alloc: Global,
+    known: CallTable,
     calls: RecordCalls,
     lines: Arc<Teller, Global>,
 }
@@ -47,12 +49,13 @@ impl From<AllocError> for RecordsFault {
 
 impl Recorder {
     /// Starts the thread that appends records to this file, which is created if missing. Faults of the file
-    /// are reported on standard error under the name `program`.
+    /// are reported on standard error under the name `program`. The known calls are named.
     pub fn start<R: Threads + Wait + Copy + Send + 'static>(
         rt: R,
         system: HostRuntime,
         program: &'static str,
         path: &str,
+        known: CallTable,
         calls: RecordCalls,
     ) -> Result<Recorder, RecordsFault> {
         let alloc = system.alloc();
@@ -60,6 +63,7 @@ impl Recorder {
         let lines = Teller::start(rt, system, file)?;
         Ok(Recorder {
             alloc,
+            known,
             calls,
             lines,
         })
@@ -82,7 +86,7 @@ impl Recorder {
     }
 
     fn record<R: Wait>(&self, rt: &R, uid: &str, cell: &Cell) {
-        let line = record_line(self.alloc, uid, cell, self.calls);
+        let line = record_line(self.alloc, self.known, uid, cell, self.calls);
         self.lines.tell(rt, line);
     }
 
@@ -120,18 +124,20 @@ impl Recorder {
     }
 }
 
-/// The recorder, if the command line asks for records.
+/// The recorder, if the command line asks for records. The known calls are named.
 pub fn recorder_for<'a, R: Threads + Wait + Copy + Send + 'static>(
     rt: &R,
     system: &HostRuntime,
     program: &'static str,
     path: Option<&'a str>,
+    known: CallTable,
     lists_all: bool,
 ) -> Result<Option<Recorder>, ServerStop<'a>> {
     let Some(path) = path else {
         return Ok(None);
     };
-    match Recorder::start(*rt, *system, program, path, calls_of(lists_all)) {
+    let calls = calls_of(lists_all);
+    match Recorder::start(*rt, *system, program, path, known, calls) {
         Ok(recorder) => Ok(Some(recorder)),
         Err(RecordsFault::File(fault)) => Err(file_stop(path, fault)),
         Err(RecordsFault::Memory) => Err(ServerStop::Memory),

@@ -65,7 +65,8 @@ fn run_line<'a, B: Node + Send + Sync, R: Threads + Wait + Clock + Copy + Send +
     requires { begun ≡ (B.filter, B.table) }
 {
     let teller = Teller::start(*rt, *system, Stream::Error)?;
-    let recorder = recorder_for(rt, system, "scriptd", line.records, line.records_all)?;
+    let (path, calls) = (line.records, line.calls);
+    let recorder = recorder_for(rt, system, "scriptd", path, calls, line.records_all)?;
     let reports = Reports {
         teller: Some(teller),
         recorder,
@@ -82,12 +83,14 @@ fn address_of<'a>(line: &ScriptdLine<'a>) -> Address<'a>
     ensures socket { result.socket ≡ line.now.socket }
     ensures scripts { result.scripts ≡ line.now.scripts }
     ensures profiles { result.profiles ≡ line.now.profiles }
+    ensures calls { result.calls ≡ line.now.calls }
     ensures tells { result.tells ≡ told_where line.now.verbose }
 {
     Address {
         socket: line.socket,
         scripts: line.scripts,
         profiles: line.profiles,
+        calls: line.calls,
         tells: if line.verbose {
             Tells::Each
         } else {

@@ -22,6 +22,7 @@ use std::os::unix::net::UnixStream;
 use std::sync::{Arc, Mutex, Wait};
 use std::thread::{self, Scope, Threads};
 use std::time::{Clock, Duration};
+use sys_table::CallTable;
 
 // How many milliseconds the listener pauses when no connection can be accepted, for example with too many
 // open files.
@@ -36,6 +37,8 @@ pub struct Address<'a> {
     pub scripts: &'a str,
     /// The folder of profiles.
     pub profiles: &'a str,
+    /// The calls that scripts and profiles can name.
+    pub calls: CallTable,
     /// Which of its answers are reported.
     pub tells: Tells,
 }
@@ -278,7 +281,7 @@ fn serve_stream<B: Node, R: Wait>(
 ) {
     let mut wire = StreamWire::new(stream);
     let mut service = service_for(rt, system, site, connection);
-    serve_wire(site.alloc, &mut wire, &mut service);
+    serve_wire(site.alloc, site.address.calls, &mut wire, &mut service);
 }
 
 /// Accepts connections, and serves each in a thread of its own, until the site is closed.

@@ -9,6 +9,7 @@ use script::Script;
 use std::alloc::{AllocError, Global};
 use std::process::Abort;
 use std::test::Fail;
+use sys_table::CallTable;
 
 // A runtime that is played with lines of words, and how many requests it was sent.
 //
@@ -115,7 +116,7 @@ fn answer<T: ReadAs + Drop>(alloc: Global, word: &str) -> Result<FileAnswer<T>, 
         "memory" => FileFault::Memory,
         name => {
             let text = file_text(alloc, name)?;
-            return Ok(Some(Ok(Contents::new(text.into_bytes()))));
+            return Ok(Some(Ok(Contents::new(CallTable::Linux5_8, text.into_bytes()))));
         }
     };
     Ok(Some(Err(fault)))

@@ -21,6 +21,8 @@ use Rattle.json_place.proofs.PlacedFields.{required_found, required_each_found, 
 use Rattle.json_tree.proofs.Values.{value_same, object_same, has_not}
 use Rattle.script.proofs.Attempts.{each_code_found}
 use Rattle.script.proofs.Six.{has_args}
+use Rattle.sys_table.specs.declared.calls.CallTable.{CallTable}
+use Rattle.sys_table.specs.SysTable.{number_in}
 use Rattle.script.specs.declared.faults.ScriptFault.{ScriptFault}
 use Rattle.script.specs.declared.placed.ScriptFaultAt.{ScriptFaultAt}
 use Rattle.script.specs.Faults.{at, fault_at, fault_here, fault_of_field_at, fault_of_text, fault_within}
@@ -34,8 +36,8 @@ use Rattle.script.specs.declared.fields.CallFields.{CallFields}
 use Rattle.script.specs.declared.reader.StepKind.{StepKind}
 use Rattle.script.specs.declared.reader.StepKind.TheVariants as kind
 use Rattle.script.specs.declared.install.Row.{Row}
-use Rattle.script.specs.Script.{number_of_name, code, row, rows, IsCall, HasArgs, HasArch, HasIp}
-use Rattle.script.specs.Script.{HasCallFields, Says, SpellsFilter, IsStep, IsScript, ReadsScript}
+use Rattle.script.specs.Script.{code, row, rows, IsCall, HasArgs, HasArch, HasIp}
+use Rattle.script.specs.Script.{HasCallFields, Says, SpellsFilter, IsStep, IsScript, ReadsScriptWith}
 use Rattle.script.specs.Reading.{here, items_of, code_of, codes_of, no_row, number_of, call_of}
 use Rattle.script.specs.Reading.{args_of, arch_of, ip_of, on_error_of, call_fields_of, exit_of}
 use Rattle.script.specs.Reading.{exit_by_attempt_of, rows_of, the_kind, kind_of, call_step_of, exit_step_of}
@@ -82,23 +84,23 @@ codes_found ns ms h =
     (refuse_if_ok (eqb (length ns) 0) (fault_here Missing) some.0 some.1) in
     (omega arith, all.0, all.1)
 
-number_found : (name : Option (List ℕ)) (number : Option ℕ) (nr : ℕ) → number_of name number ≡ Ok nr
-    → (number ≡ Some nr) ⊎ ((known : List ℕ) × (name ≡ Some known) × (number_of_name known ≡ Some nr))
-number_found (Some known) number nr h = inr (known, refl, or_else_ok UnknownCall (number_of_name known) nr h)
-number_found None number nr h = inl (or_else_ok WrongType number nr h)
+number_found : (calls : CallTable) (name : Option (List ℕ)) (number : Option ℕ) (nr : ℕ) → number_of calls name number ≡ Ok nr
+    → (number ≡ Some nr) ⊎ ((known : List ℕ) × (name ≡ Some known) × (number_in calls known ≡ Some nr))
+number_found calls (Some known) number nr h = inr (known, refl, or_else_ok UnknownCall (number_in calls known) nr h)
+number_found calls None number nr h = inl (or_else_ok WrongType number nr h)
 
-call_found : (tree : Data) (nr : ℕ) → call_of tree ≡ Ok nr → (named : Data)
-    × (get (codes "call") tree ≡ Some named) × IsCall named nr
+call_found : (calls : CallTable) (tree : Data) (nr : ℕ) → call_of calls tree ≡ Ok nr → (named : Data)
+    × (get (codes "call") tree ≡ Some named) × IsCall calls named nr
 unfolding call_of
-call_found tree nr h =
+call_found calls tree nr h =
     let named = bind_ok (here (required value (codes "call") tree)) _ _ h in
     let field = required_found value (codes "call") tree named.0
     (here_ok (required value (codes "call") tree) named.0 named.1) in
     let same : field.0 ≡ named.0 = value_same field.0 named.0 field.2 in (
       named.0,
       field.1 ∙ ap Some same,
-      number_found (text named.0) (word named.0) nr
-          (at_ok (codes "call") (number_of (text named.0) (word named.0)) nr named.2),
+      number_found calls (text named.0) (word named.0) nr
+          (at_ok (codes "call") (number_of calls (text named.0) (word named.0)) nr named.2),
     )
 
 args_found : (tree : Data) (args : List ℕ) → args_of tree ≡ Ok args → HasArgs tree args
@@ -198,18 +200,18 @@ whole_ok (Ok known) (Whole other) step h is =
 whole_ok (Ok known) (Installs numbers on_error) step h is = absurd cc
 whole_ok (Err fault) text step h is = absurd cc
 
-call_says : (tree : Data) (step : Step)
+call_says : (calls : CallTable) (tree : Data) (step : Step)
     → FlagsAre (has (codes "call") tree) (has (codes "exit") tree) (has (codes "exitByAttempt") tree)
     (has (codes "install") tree) kind.Call
-    → call_step_of tree ≡ Ok step → Says tree step
+    → call_step_of calls tree ≡ Ok step → Says calls tree step
 unfolding call_step_of
-call_says tree step flags h =
-    let nr = bind_ok (call_of tree) _ _ h in
+call_says calls tree step flags h =
+    let nr = bind_ok (call_of calls tree) _ _ h in
     let fields = bind_ok (call_fields_of tree) _ _ nr.2 in
-    let call = call_found tree nr.0 nr.1 in
+    let call = call_found calls tree nr.0 nr.1 in
     let is : Call (record { nr = nr.0; arch = fields.0.arch; ip = fields.0.ip; args = fields.0.args })
     fields.0.on_error ≡ step = cc in
-    subst (Says tree) is (record {
+    subst (Says calls tree) is (record {
       no_exit = has_not (codes "exit") tree flags.0;
       no_exit_by_attempt = has_not (codes "exitByAttempt") tree flags.1;
       no_install = has_not (codes "install") tree flags.2;
@@ -219,16 +221,16 @@ call_says tree step flags h =
       fields = call_fields_found tree fields.0 fields.1;
     })
 
-exit_says : (tree : Data) (step : Step)
+exit_says : (calls : CallTable) (tree : Data) (step : Step)
     → FlagsAre (has (codes "call") tree) (has (codes "exit") tree) (has (codes "exitByAttempt") tree)
     (has (codes "install") tree) kind.Exit
-    → exit_step_of tree ≡ Ok step → Says tree step
+    → exit_step_of tree ≡ Ok step → Says calls tree step
 unfolding exit_step_of
-exit_says tree step flags h =
+exit_says calls tree step flags h =
     let beside = bind_ok (call_fields_of tree) _ _ h in
     let ends = bind_ok (exit_of tree) _ _ beside.2 in
     let is : Exit ends.0 ≡ step = cc in
-    subst (Says tree) is (record {
+    subst (Says calls tree) is (record {
       no_call = has_not (codes "call") tree flags.0;
       no_exit_by_attempt = has_not (codes "exitByAttempt") tree flags.1;
       no_install = has_not (codes "install") tree flags.2;
@@ -237,19 +239,19 @@ exit_says tree step flags h =
       exit = exit_found tree ends.0 ends.1;
     })
 
-exit_by_attempt_says : (tree : Data) (step : Step)
+exit_by_attempt_says : (calls : CallTable) (tree : Data) (step : Step)
     → FlagsAre (has (codes "call") tree) (has (codes "exit") tree) (has (codes "exitByAttempt") tree)
     (has (codes "install") tree) kind.ExitByAttempt
-    → exit_by_attempt_step_of tree ≡ Ok step → Says tree step
+    → exit_by_attempt_step_of tree ≡ Ok step → Says calls tree step
 unfolding exit_by_attempt_step_of exit_by_attempt_of
-exit_by_attempt_says tree step flags h =
+exit_by_attempt_says calls tree step flags h =
     let beside = bind_ok (call_fields_of tree) _ _ h in
     let ends = bind_ok (exit_by_attempt_of tree) _ _ beside.2 in
     let given = bind_ok (here (required_each whole wholes (codes "exitByAttempt") tree)) _ _ ends.1 in
     let all = codes_found given.0 ends.0 (under_ok (Member (codes "exitByAttempt"))
     (codes_of given.0) ends.0 given.2) in
     let is : ExitByAttempt given.0 ≡ step = cc in
-    subst (Says tree) is (record {
+    subst (Says calls tree) is (record {
       no_call = has_not (codes "call") tree flags.0;
       no_exit = has_not (codes "exit") tree flags.1;
       no_install = has_not (codes "install") tree flags.2;
@@ -277,17 +279,17 @@ rows_found tree numbers h =
     items.2 in
     (field.0, field.1, rw field.2 (or_else_ok (no_row items.0) (each row items.0) numbers spelled))
 
-install_says : (tree : Data) (text : StepText) (step : Step)
+install_says : (calls : CallTable) (tree : Data) (text : StepText) (step : Step)
     → FlagsAre (has (codes "call") tree) (has (codes "exit") tree) (has (codes "exitByAttempt") tree)
     (has (codes "install") tree) kind.Install
-    → install_step_of tree ≡ Ok text → IsReadAs text step → Says tree step
+    → install_step_of tree ≡ Ok text → IsReadAs text step → Says calls tree step
 unfolding install_step_of
-install_says tree text step flags h read =
+install_says calls tree text step flags h read =
     let beside = bind_ok (call_fields_of tree) _ _ h in
     let numbers = bind_ok (rows_of tree) _ _ beside.2 in
     let same : Installs numbers.0 beside.0.on_error ≡ text = cc in
     let is = installs_same numbers.0 beside.0.on_error text step same read in
-    subst (Says tree) (sym is.2) (record {
+    subst (Says calls tree) (sym is.2) (record {
       no_call = has_not (codes "call") tree flags.0;
       no_exit = has_not (codes "exit") tree flags.1;
       no_exit_by_attempt = has_not (codes "exitByAttempt") tree flags.2;
@@ -299,37 +301,37 @@ install_says tree text step flags h read =
       spelled = is.1;
     })
 
-says_found : (tree : Data) (is : StepKind) (text : StepText) (step : Step) → kind_of tree ≡ Ok is
-    → step_of_kind is tree ≡ Ok text → IsReadAs text step → Says tree step
-says_found tree kind.Call text step alone h read =
-    call_says tree step (kind_found tree kind.Call alone) (whole_ok (call_step_of tree) text step h read)
-says_found tree kind.Exit text step alone h read =
-    exit_says tree step (kind_found tree kind.Exit alone) (whole_ok (exit_step_of tree) text step h read)
-says_found tree kind.ExitByAttempt text step alone h read =
-    exit_by_attempt_says tree step (kind_found tree kind.ExitByAttempt alone)
+says_found : (calls : CallTable) (tree : Data) (is : StepKind) (text : StepText) (step : Step) → kind_of tree ≡ Ok is
+    → step_of_kind calls is tree ≡ Ok text → IsReadAs text step → Says calls tree step
+says_found calls tree kind.Call text step alone h read =
+    call_says calls tree step (kind_found tree kind.Call alone) (whole_ok (call_step_of calls tree) text step h read)
+says_found calls tree kind.Exit text step alone h read =
+    exit_says calls tree step (kind_found tree kind.Exit alone) (whole_ok (exit_step_of tree) text step h read)
+says_found calls tree kind.ExitByAttempt text step alone h read =
+    exit_by_attempt_says calls tree step (kind_found tree kind.ExitByAttempt alone)
     (whole_ok (exit_by_attempt_step_of tree) text step h read)
-says_found tree kind.Install text step alone h read =
-    install_says tree text step (kind_found tree kind.Install alone) h read
+says_found calls tree kind.Install text step alone h read =
+    install_says calls tree text step (kind_found tree kind.Install alone) h read
 
 -- the reading of a tree, with its filter checked, is a step
-pub step_found : (item : Data) (text : StepText) (step : Step) → step_of item ≡ Ok text → IsReadAs text step
-    → IsStep item step
+pub step_found : (calls : CallTable) (item : Data) (text : StepText) (step : Step) → step_of calls item ≡ Ok text → IsReadAs text step
+    → IsStep calls item step
 unfolding step_of
-step_found item text step h read =
+step_found calls item text step h read =
     let tree = bind_ok (or_else (fault_here WrongType) (object item)) _ _ h in
     let is_object : object item ≡ Some tree.0 =
     or_else_ok (fault_here WrongType) (object item) tree.0 tree.1 in
     let same : tree.0 ≡ item = sym (object_same item tree.0 is_object) in
     let is = bind_ok (kind_of tree.0) _ _ tree.2 in (
       is_object ∙ ap Some same,
-      subst (λ t. Says t step) same
-          (says_found tree.0 is.0 text step is.1 is.2 read),
+      subst (λ t. Says calls t step) same
+          (says_found calls tree.0 is.0 text step is.1 is.2 read),
     )
 
-items_found : (whole_tree : Data) (steps : List Step) (items : List Data) → items_of whole_tree ≡ Ok items
-    → Both IsStep items steps → IsScript whole_tree steps
+items_found : (calls : CallTable) (whole_tree : Data) (steps : List Step) (items : List Data) → items_of whole_tree ≡ Ok items
+    → Both (IsStep calls) items steps → IsScript calls whole_tree steps
 unfolding items_of
-items_found whole_tree steps given all each =
+items_found calls whole_tree steps given all each =
     let tree = bind_ok (or_else (fault_here WrongType) (object whole_tree)) _ _ all in
     let is_object : object whole_tree ≡ Some tree.0 =
     or_else_ok (fault_here WrongType) (object whole_tree) tree.0 tree.1 in
@@ -346,22 +348,22 @@ items_found whole_tree steps given all each =
       there = subst (λ t. HasField list (codes "steps") t items.0) same there;
       few = ltb-false MAX_STEPS (length items.0)
           (refuse_if_ok (ltb MAX_STEPS (length items.0)) (fault_at (codes "steps") TooMany) few.0 few.1);
-      each = subst (λ ds. Both IsStep ds steps) (sym is) each;
+      each = subst (λ ds. Both (IsStep calls) ds steps) (sym is) each;
     }
 
-reading_found : (bytes : List ℕ) (steps : List Step) (items : List Data) → text_items bytes ≡ Ok items
-    → Both IsStep items steps → ReadsScript bytes steps
+reading_found : (calls : CallTable) (bytes : List ℕ) (steps : List Step) (items : List Data) → text_items bytes ≡ Ok items
+    → Both (IsStep calls) items steps → ReadsScriptWith calls bytes steps
 unfolding text_items document
-reading_found bytes steps items h each =
+reading_found calls bytes steps items h each =
     let tree = bind_ok (as_fault (λ fault. fault_here (fault_of_text fault)) (document bytes)) _ _ h in (
       tree.0,
       or_else_ok NotJson (tree_of bytes) tree.0
           (as_fault_ok (λ fault. fault_here (fault_of_text fault)) (document bytes) tree.0 tree.1),
-      items_found tree.0 steps items tree.2 each,
+      items_found calls tree.0 steps items tree.2 each,
     )
 
 -- the returned script is the text's script
-pub found : (bytes : List ℕ) (result : Result (List Step) ScriptFaultAt)
-    → GivesSteps result (text_items bytes) → IfOk result (ReadsScript bytes)
-found bytes (Ok steps) h = reading_found bytes steps h.0 h.1 h.2
-found bytes (Err fault) h = tt
+pub found : (calls : CallTable) (bytes : List ℕ) (result : Result (List Step) ScriptFaultAt)
+    → GivesSteps calls result (text_items bytes) → IfOk result (ReadsScriptWith calls bytes)
+found calls bytes (Ok steps) h = reading_found calls bytes steps h.0 h.1 h.2
+found calls bytes (Err fault) h = tt

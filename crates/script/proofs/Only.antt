@@ -18,6 +18,7 @@ use Rattle.call_data.specs.declared.sys_call.SysCall.{SysCall}
 use Rattle.script.proofs.Attempts.{each_code_only}
 use Rattle.script.proofs.Six.{args_only}
 use Rattle.script.specs.Faults.{at, under}
+use Rattle.sys_table.specs.declared.calls.CallTable.{CallTable}
 use Rattle.script.specs.declared.faults.ScriptFault.TheVariants.{BadCode}
 use Rattle.script.specs.declared.scripts.Step.{Step}
 use Rattle.script.specs.declared.scripts.Step.TheVariants.{Call, Exit, ExitByAttempt, Install}
@@ -26,7 +27,7 @@ use Rattle.script.specs.declared.fields.CallFields.{CallFields}
 use Rattle.script.specs.declared.install.Row.{Row}
 use Rattle.script.specs.declared.reader.StepKind.TheVariants as kind
 use Rattle.script.specs.Script.{code, row, rows, IsCall, HasArch, HasIp, HasCallFields, IsCallStep}
-use Rattle.script.specs.Script.{IsExitStep, IsExitByAttemptStep, IsInstallStep, IsStep, ReadsScript}
+use Rattle.script.specs.Script.{IsExitStep, IsExitByAttemptStep, IsInstallStep, IsStep, ReadsScriptWith}
 use Rattle.script.specs.Reading.{code_of, codes_of, call_of, arch_of, ip_of, on_error_of, call_fields_of}
 use Rattle.script.specs.Reading.{exit_of, exit_by_attempt_of, rows_of, kind_of, call_step_of, exit_step_of}
 use Rattle.script.specs.Reading.{exit_by_attempt_step_of, install_step_of, step_of, items_of, text_items}
@@ -56,16 +57,16 @@ unfolding codes_of
 codes_only [] some h = absurd (omega arith)
 codes_only (n ∷ ns) some h = rw (eqb-suc-zero (length ns)) (each_code_only [] (n ∷ ns) h)
 
-call_only : (tree named : Data) (nr : ℕ) → get (codes "call") tree ≡ Some named → IsCall named nr
-    → call_of tree ≡ Ok nr
+call_only : (calls : CallTable) (tree named : Data) (nr : ℕ) → get (codes "call") tree ≡ Some named → IsCall calls named nr
+    → call_of calls tree ≡ Ok nr
 unfolding call_of
-call_only tree named nr there (inl number) =
+call_only calls tree named nr there (inl number) =
     rw (
       required_only value (codes "call") tree named (named, there, word_is_value named nr number),
       word_no_text named nr number,
       number,
     ) refl
-call_only tree named nr there (inr name) =
+call_only calls tree named nr there (inr name) =
     rw (
       required_only value (codes "call") tree named (named, there, text_is_value named name.0 name.1),
       name.1,
@@ -110,18 +111,18 @@ exit_by_attempt_only tree ends h some small =
     rw (required_each_only whole wholes (codes "exitByAttempt") tree ends h)
     (ap (under (Member (codes "exitByAttempt"))) (codes_only ends some small))
 
-call_is_there : (tree named : Data) (nr : ℕ) → get (codes "call") tree ≡ Some named → IsCall named nr
+call_is_there : (calls : CallTable) (tree named : Data) (nr : ℕ) → get (codes "call") tree ≡ Some named → IsCall calls named nr
     → has (codes "call") tree ≡ true
-call_is_there tree named nr there (inl number) =
+call_is_there calls tree named nr there (inl number) =
     is_there (codes "call") tree named there (word_is_value named nr number)
-call_is_there tree named nr there (inr name) =
+call_is_there calls tree named nr there (inr name) =
     is_there (codes "call") tree named there (text_is_value named name.0 name.1)
 
-call_kind : (tree : Data) (call : SysCall) (on_error : Option ℕ) → IsCallStep tree call on_error
+call_kind : (calls : CallTable) (tree : Data) (call : SysCall) (on_error : Option ℕ) → IsCallStep calls tree call on_error
     → kind_of tree ≡ Ok kind.Call
 unfolding kind_of
-call_kind tree call on_error h = rw (
-  call_is_there tree h.named call.nr h.there h.number,
+call_kind calls tree call on_error h = rw (
+  call_is_there calls tree h.named call.nr h.there h.number,
   not_there (codes "exit") tree h.no_exit,
   not_there (codes "exitByAttempt") tree h.no_exit_by_attempt,
   not_there (codes "install") tree h.no_install,
@@ -162,10 +163,10 @@ install_kind tree filter on_error h =
       is_there (codes "install") tree h.there.0 h.there.1 (list_is_value h.there.0 items.0 items.1),
     ) refl
 
-call_step_only : (tree : Data) (call : SysCall) (on_error : Option ℕ) → IsCallStep tree call on_error
-    → call_step_of tree ≡ Ok (Call call on_error)
+call_step_only : (calls : CallTable) (tree : Data) (call : SysCall) (on_error : Option ℕ) → IsCallStep calls tree call on_error
+    → call_step_of calls tree ≡ Ok (Call call on_error)
 unfolding call_step_of
-call_step_only tree call on_error h =
+call_step_only calls tree call on_error h =
     let beside : CallFields = record {
       args = call.args;
       arch = call.arch;
@@ -173,7 +174,7 @@ call_step_only tree call on_error h =
       on_error =
           on_error;
     } in
-    rw (call_only tree h.named call.nr h.there h.number, call_fields_only tree beside h.fields) refl
+    rw (call_only calls tree h.named call.nr h.there h.number, call_fields_only tree beside h.fields) refl
 
 exit_step_only : (tree : Data) (ends : ℕ) → IsExitStep tree ends → exit_step_of tree ≡ Ok (Exit ends)
 unfolding exit_step_of
@@ -200,27 +201,27 @@ install_step_only tree filter on_error h =
     (ap (λ (e : Option ℕ). Ok (Installs h.numbers e)) (sym h.ends))
 
 -- a step of a tree is its reading, with its filter checked
-pub step_only : (item : Data) (step : Step) → IsStep item step → (text : StepText) × (step_of item ≡ Ok text)
+pub step_only : (calls : CallTable) (item : Data) (step : Step) → IsStep calls item step → (text : StepText) × (step_of calls item ≡ Ok text)
     × IsReadAs text step
 unfolding step_of
-step_only item (Call call on_error) h = (
+step_only calls item (Call call on_error) h = (
   Whole (Call call on_error),
-  rw (h.0, call_kind item call on_error h.1)
-      (ap (as_read Whole) (call_step_only item call on_error h.1)),
+  rw (h.0, call_kind calls item call on_error h.1)
+      (ap (as_read Whole) (call_step_only calls item call on_error h.1)),
   refl,
 )
-step_only item (Exit ends) h = (
+step_only calls item (Exit ends) h = (
   Whole (Exit ends),
   rw (h.0, exit_kind item ends h.1) (ap (as_read Whole) (exit_step_only item ends h.1)),
   refl,
 )
-step_only item (ExitByAttempt ends) h = (
+step_only calls item (ExitByAttempt ends) h = (
   Whole (ExitByAttempt ends),
   rw (h.0, exit_by_attempt_kind item ends h.1)
       (ap (as_read Whole) (exit_by_attempt_step_only item ends h.1)),
   refl,
 )
-step_only item (Install filter on_error) h = (
+step_only calls item (Install filter on_error) h = (
   Installs h.1.numbers on_error,
   rw (h.0, install_kind item filter on_error h.1)
       (install_step_only item filter on_error h.1),
@@ -228,10 +229,10 @@ step_only item (Install filter on_error) h = (
 )
 
 -- the items of a text's script
-pub items_only : (bytes : List ℕ) (steps : List Step) → ReadsScript bytes steps → (items : List Data)
-    × (text_items bytes ≡ Ok items) × Both IsStep items steps
+pub items_only : (calls : CallTable) (bytes : List ℕ) (steps : List Step) → ReadsScriptWith calls bytes steps → (items : List Data)
+    × (text_items bytes ≡ Ok items) × Both (IsStep calls) items steps
 unfolding text_items items_of document
-items_only bytes steps h =
+items_only calls bytes steps h =
     let s = h.2 in (
       s.items,
       rw (

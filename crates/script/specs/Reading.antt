@@ -13,6 +13,9 @@ use Rattle.json_tree.specs.Reading.{as_read, document as document_of, Both}
 use Rattle.json_place.specs.declared.fields.FieldFaultAt.{FieldFaultAt}
 use Rattle.json_place.specs.Parts.{Member}
 use Rattle.json_place.specs.Fields.{GivesAt, item_place, required, required_each, optional}
+use Rattle.sys_table.specs.SysTable.{number_in}
+use Rattle.sys_table.specs.declared.calls.CallTable.{CallTable}
+use Rattle.sys_table.specs.declared.calls.CallTable.TheVariants.{Linux5_8}
 use Rattle.script.specs.declared.faults.ScriptFault.{ScriptFault}
 use Rattle.script.specs.declared.faults.ScriptFault.TheVariants.{Missing, WrongType, UnknownCall, TooMany}
 use Rattle.script.specs.declared.faults.ScriptFault.TheVariants.{BadCode, BadFilter, Memory}
@@ -27,7 +30,7 @@ use Rattle.script.specs.declared.reader.StepKind.TheVariants as kind
 use Rattle.script.specs.declared.install.Row.{Row}
 use Rattle.script.specs.Faults.{at, fault_at, fault_here, fault_of_field_at, fault_of_item, fault_of_step}
 use Rattle.script.specs.Faults.{fault_of_text, under}
-use Rattle.script.specs.Script.{number_of_name, row, SpellsFilter, IsStep}
+use Rattle.script.specs.Script.{row, SpellsFilter, IsStep}
 
 abbrev pub here : {A : Type 0} → Result A FieldFaultAt → Result A ScriptFaultAt
 here r = as_fault fault_of_field_at r
@@ -39,15 +42,15 @@ Reads view result reading = GivesAt (λ found. found.fault) Memory view result r
 unfoldable pub code_of : ℕ → Result ℕ ScriptFault
 code_of n = if nat_le n 255 then Ok n else Err BadCode
 
--- a text is a name, and anything else must be a number
-abbrev pub number_of : Option (List ℕ) → Option ℕ → Result ℕ ScriptFault
-number_of (Some name) number = or_else UnknownCall (number_of_name name)
-number_of None number = or_else WrongType number
+-- a text is the name of a known call, and anything else must be a number
+abbrev pub number_of : CallTable → Option (List ℕ) → Option ℕ → Result ℕ ScriptFault
+number_of calls (Some name) number = or_else UnknownCall (number_in calls name)
+number_of calls None number = or_else WrongType number
 
-unfoldable pub call_of : Data → Result ℕ ScriptFaultAt
-call_of tree = do
+unfoldable pub call_of : CallTable → Data → Result ℕ ScriptFaultAt
+call_of calls tree = do
   named ← here (required value (codes "call") tree)
-  at (codes "call") (number_of (text named) (word named))
+  at (codes "call") (number_of calls (text named) (word named))
 
 -- an argument that is not given is 0
 abbrev pub given_argument : ℕ → Option Data → Result ℕ ScriptFaultAt
@@ -129,9 +132,9 @@ unfoldable pub kind_of : Data → Result StepKind ScriptFaultAt
 kind_of tree = the_kind (has (codes "call") tree) (has (codes "exit") tree) (has (codes "exitByAttempt") tree)
     (has (codes "install") tree)
 
-unfoldable pub call_step_of : Data → Result Step ScriptFaultAt
-call_step_of tree = do
-  nr ← call_of tree
+unfoldable pub call_step_of : CallTable → Data → Result Step ScriptFaultAt
+call_step_of calls tree = do
+  nr ← call_of calls tree
   fields ← call_fields_of tree
   Ok (Call (record { nr = nr; arch = fields.arch; ip = fields.ip; args = fields.args }) fields.on_error)
 
@@ -171,17 +174,17 @@ install_step_of tree = do
   numbers ← rows_of tree
   Ok (Installs numbers beside.on_error)
 
-abbrev pub step_of_kind : StepKind → Data → Result StepText ScriptFaultAt
-step_of_kind kind.Call tree = as_read Whole (call_step_of tree)
-step_of_kind kind.Exit tree = as_read Whole (exit_step_of tree)
-step_of_kind kind.ExitByAttempt tree = as_read Whole (exit_by_attempt_step_of tree)
-step_of_kind kind.Install tree = install_step_of tree
+abbrev pub step_of_kind : CallTable → StepKind → Data → Result StepText ScriptFaultAt
+step_of_kind calls kind.Call tree = as_read Whole (call_step_of calls tree)
+step_of_kind calls kind.Exit tree = as_read Whole (exit_step_of tree)
+step_of_kind calls kind.ExitByAttempt tree = as_read Whole (exit_by_attempt_step_of tree)
+step_of_kind calls kind.Install tree = install_step_of tree
 
-unfoldable pub step_of : Data → Result StepText ScriptFaultAt
-step_of item = do
+unfoldable pub step_of : CallTable → Data → Result StepText ScriptFaultAt
+step_of calls item = do
   tree ← or_else (fault_here WrongType) (object item)
   is ← kind_of tree
-  step_of_kind is tree
+  step_of_kind calls is tree
 
 -- the step, with its filter checked
 abbrev pub IsReadAs : StepText → Step → Type 0
@@ -214,28 +217,29 @@ text_items bytes = do
   items_of tree
 
 -- this one has the fault, and all before it are steps; the place begins with the index of this one
-pub record IsFirstOfSteps (items : List Data) (fault : ScriptFaultAt) : Type 0 where
+pub record IsFirstOfSteps (calls : CallTable) (items : List Data) (fault : ScriptFaultAt) : Type 0 where
   pub before : List Data
   pub item : Data
   pub behind : List Data
   pub stands : items ≡ before ++ item ∷ behind
   pub steps : List Step
-  pub each : Both IsStep before steps
+  pub each : Both (IsStep calls) before steps
   pub own : ScriptFaultAt
-  pub has : HasFault (step_of item) own
+  pub has : HasFault (step_of calls item) own
   pub is : fault ≡ fault_of_step (length before) own
 
-abbrev pub IsFirstIn : Result (List Data) ScriptFaultAt → ScriptFaultAt → Type 0
-IsFirstIn (Err found) fault = fault ≡ found
-IsFirstIn (Ok items) fault = IsFirstOfSteps items fault
+abbrev pub IsFirstIn : CallTable → Result (List Data) ScriptFaultAt → ScriptFaultAt → Type 0
+IsFirstIn calls (Err found) fault = fault ≡ found
+IsFirstIn calls (Ok items) fault = IsFirstOfSteps calls items fault
 
--- the fault of a text that is found first, and its place
-abbrev pub IsFirstFaultAt : List ℕ → ScriptFaultAt → Type 0
-IsFirstFaultAt bytes found = IsFirstIn (text_items bytes) found
+-- the fault of a text that is found first, and its place, if these are the known calls
+abbrev pub IsFirstFaultAt : CallTable → List ℕ → ScriptFaultAt → Type 0
+IsFirstFaultAt calls bytes found = IsFirstIn calls (text_items bytes) found
 
--- the first fault without its place
+-- the first fault without its place, with the calls of Linux 5.8
 abbrev pub IsFirstFault : List ℕ → ScriptFault → Type 0
-IsFirstFault bytes fault = (found : ScriptFaultAt) × IsFirstFaultAt bytes found × (found.fault ≡ fault)
+IsFirstFault bytes fault = (found : ScriptFaultAt) × IsFirstFaultAt Linux5_8 bytes found
+    × (found.fault ≡ fault)
 
 -- Only private functions cite the rest.
 
@@ -264,6 +268,7 @@ GivesStep (Ok step) reading = (text : StepText) × (reading ≡ Ok text) × IsRe
 GivesStep (Err found) reading = found.fault ≢ Memory → HasFault reading found
 
 -- the call returns the steps, memory aside
-abbrev pub GivesSteps : Result (List Step) ScriptFaultAt → Result (List Data) ScriptFaultAt → Type 0
-GivesSteps (Ok steps) reading = (items : List Data) × (reading ≡ Ok items) × Both IsStep items steps
-GivesSteps (Err found) reading = found.fault ≢ Memory → IsFirstIn reading found
+abbrev pub GivesSteps : CallTable → Result (List Step) ScriptFaultAt → Result (List Data) ScriptFaultAt → Type 0
+GivesSteps calls (Ok steps) reading = (items : List Data) × (reading ≡ Ok items)
+    × Both (IsStep calls) items steps
+GivesSteps calls (Err found) reading = found.fault ≢ Memory → IsFirstIn calls reading found

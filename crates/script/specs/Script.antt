@@ -10,7 +10,9 @@ use Rattle.json_tree.specs.Reading.{HasField, MayHaveField, Both}
 use Rattle.bpf_code.specs.declared.insn.Insn.{Insn}
 use Rattle.bpf_code.specs.Code.{Fits, Spells}
 use Rattle.bpf_verify.specs.Sound.{IsSound}
-use Rattle.sys_table.specs.SysTable.{number_of}
+use Rattle.sys_table.specs.SysTable.{number_in}
+use Rattle.sys_table.specs.declared.calls.CallTable.{CallTable}
+use Rattle.sys_table.specs.declared.calls.CallTable.TheVariants.{Linux5_8}
 use Rattle.call_data.specs.declared.sys_call.SysCall.{SysCall}
 use Rattle.script.specs.declared.scripts.Step.{Step}
 use Rattle.script.specs.declared.scripts.Step.TheVariants.{Call, Exit, ExitByAttempt, Install}
@@ -19,18 +21,14 @@ use Rattle.script.specs.declared.fields.CallFields.{CallFields}
 use Rattle.script.specs.declared.install.Row.{Row}
 use Rattle.call_data.specs.declared.sys_call.TheConstants.{NATIVE_ARCH}
 
--- the number of the call with this name in the call table
-unfoldable pub number_of_name : List ℕ → Option ℕ
-number_of_name name = number_of name
-
 -- a code: a whole number up to 255
 unfoldable pub code : Data → Option ℕ
 code tree = option_and_then (λ n. if nat_le n 255 then Some n else None) (whole tree)
 
--- a call is a number, or a name
-abbrev pub IsCall : Data → ℕ → Type 0
-IsCall found nr = (word found ≡ Some nr) ⊎ ((name : List ℕ) × (text found ≡ Some name)
-    × (number_of_name name ≡ Some nr))
+-- a call is a number, or the name of a known call
+abbrev pub IsCall : CallTable → Data → ℕ → Type 0
+IsCall calls found nr = (word found ≡ Some nr) ⊎ ((name : List ℕ) × (text found ≡ Some name)
+    × (number_in calls name ≡ Some nr))
 
 -- six arguments: the given ones, and 0 for the rest
 abbrev pub six : List ℕ → List ℕ
@@ -82,13 +80,13 @@ pub record SpellsFilter (rows : List Row) (filter : List Insn) : Type 0 where
   pub each : Both IsSpelled rows filter
   pub sound : IsSound filter
 
-pub record IsCallStep (tree : Data) (call : SysCall) (on_error : Option ℕ) : Type 0 where
+pub record IsCallStep (calls : CallTable) (tree : Data) (call : SysCall) (on_error : Option ℕ) : Type 0 where
   pub no_exit : member (codes "exit") tree ≡ None
   pub no_exit_by_attempt : member (codes "exitByAttempt") tree ≡ None
   pub no_install : member (codes "install") tree ≡ None
   pub named : Data
   pub there : get (codes "call") tree ≡ Some named
-  pub number : IsCall named call.nr
+  pub number : IsCall calls named call.nr
   pub fields : HasCallFields tree (record {
     args = call.args;
     arch = call.arch;
@@ -126,21 +124,21 @@ pub record IsInstallStep (tree : Data) (filter : List Insn) (on_error : Option �
   pub there : HasField rows (codes "install") tree numbers
   pub spelled : SpellsFilter numbers filter
 
-abbrev pub Says : Data → Step → Type 0
-Says tree (Call call on_error) = IsCallStep tree call on_error
-Says tree (Exit ends) = IsExitStep tree ends
-Says tree (ExitByAttempt ends) = IsExitByAttemptStep tree ends
-Says tree (Install filter on_error) = IsInstallStep tree filter on_error
+abbrev pub Says : CallTable → Data → Step → Type 0
+Says calls tree (Call call on_error) = IsCallStep calls tree call on_error
+Says calls tree (Exit ends) = IsExitStep tree ends
+Says calls tree (ExitByAttempt ends) = IsExitByAttemptStep tree ends
+Says calls tree (Install filter on_error) = IsInstallStep tree filter on_error
 
-abbrev pub IsStep : Data → Step → Type 0
-IsStep tree step = (object tree ≡ Some tree) × Says tree step
+abbrev pub IsStep : CallTable → Data → Step → Type 0
+IsStep calls tree step = (object tree ≡ Some tree) × Says calls tree step
 
-pub record IsScript (tree : Data) (steps : List Step) : Type 0 where
+pub record IsScript (calls : CallTable) (tree : Data) (steps : List Step) : Type 0 where
   pub an_object : object tree ≡ Some tree
   pub items : List Data
   pub there : HasField list (codes "steps") tree items
   pub few : length items ≤ MAX_STEPS
-  pub each : Both IsStep items steps
+  pub each : Both (IsStep calls) items steps
 
 -- what a step installs is sound
 abbrev pub IsSoundStep : Step → Type 0
@@ -150,6 +148,10 @@ IsSoundStep _ = Unit {0}
 abbrev pub HasSoundFilters : List Step → Type 0
 HasSoundFilters steps = AllByRecursion IsSoundStep steps
 
--- the text is this script
+-- the text is this script, if these are the known calls
+abbrev pub ReadsScriptWith : CallTable → List ℕ → List Step → Type 0
+ReadsScriptWith calls bytes steps = (tree : Data) × (tree_of bytes ≡ Some tree) × IsScript calls tree steps
+
+-- the same with the calls of Linux 5.8
 abbrev pub ReadsScript : List ℕ → List Step → Type 0
-ReadsScript bytes steps = (tree : Data) × (tree_of bytes ≡ Some tree) × IsScript tree steps
+ReadsScript = ReadsScriptWith Linux5_8

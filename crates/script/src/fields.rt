@@ -20,6 +20,7 @@ use json_place::{
 use json_tree::{text, whole, word};
 use serde_json::Value;
 use std::alloc::Global;
+use sys_table::CallTable;
 
 const MAX_ARGS: usize = 6;
 
@@ -32,20 +33,19 @@ pub(crate) struct CallFields {
     pub(crate) on_error: Option<u8>,
 }
 
-/// The number of the call in `call`, which is a name or a number.
+/// The number of the call in `call`, which is the name of a known call or a number.
 #[tactic(auto, unfolding(crate::specs::Reading::call_of))]
-pub(crate) fn call(tree: &Value) -> Result<u32, ScriptFaultAt>
-    ensures { result ≡ call_of (view tree.now) }
+pub(crate) fn call(calls: CallTable, tree: &Value) -> Result<u32, ScriptFaultAt>
+    ensures { result ≡ call_of calls (view tree.now) }
 {
-    at("call", number(required_value(tree, "call")?))
+    at("call", number(calls, required_value(tree, "call")?))
 }
 
-#[tactic(auto, unfolding(crate::specs::Script::number_of_name))]
-fn number(named: &Value) -> Result<u32, ScriptFault>
-    ensures { result ≡ number_of (kind.text (view named.now)) (kind.word (view named.now)) }
+fn number(calls: CallTable, named: &Value) -> Result<u32, ScriptFault>
+    ensures { result ≡ number_of calls (kind.text (view named.now)) (kind.word (view named.now)) }
 {
     match text(named) {
-        Some(name) => sys_table::number(name).ok_or(ScriptFault::UnknownCall),
+        Some(name) => calls.number(name).ok_or(ScriptFault::UnknownCall),
         None => word(named).ok_or(ScriptFault::WrongType),
     }
 }

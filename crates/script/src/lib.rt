@@ -5,9 +5,9 @@
 //!
 //! # What is proved
 //!
-//! - The reader accepts exactly the scripts: `read`, `read_placed` (found, only).
-//! - Others are refused with the first fault and its place, in both directions: `read`, `read_placed` (first,
-//!   told).
+//! - The reader accepts exactly the scripts: `read`, `read_placed_with` (found, only).
+//! - Others are refused with the first fault and its place, in both directions: `read`, `read_placed_with`
+//!   (first, told).
 //! - A step installs only sound filters: `Script::steps` (value, bounded, sound).
 //! - The length and the codes of a script: `len`, `is_empty`, `Codes::as_slice`.
 //! - The text of a fault: `Display` of `ScriptFault`.
@@ -24,5 +24,5 @@ mod scripts;
 pub use faults::ScriptFault;
 pub use laws::constants_are_as_stated;
 pub use placed::ScriptFaultAt;
-pub use reader::{read, read_placed};
+pub use reader::{read, read_placed_with};
 pub use scripts::{Codes, MAX_STEPS, Script, Step};

@@ -5,7 +5,7 @@ ghost use Rattle.script.specs.declared.faults.ScriptFault.{ScriptFault};
 ghost use Rattle.script.specs.declared.placed.ScriptFaultAt.{ScriptFaultAt};
 ghost use Rattle.script.specs.declared.scripts.Step.{Step};
 ghost use Rattle.script.specs.declared.scripts.TheConstants.{MAX_STEPS};
-ghost use Rattle.script.specs.Script.{IsStep, ReadsScript};
+ghost use Rattle.script.specs.Script.{IsStep, ReadsScript, ReadsScriptWith};
 ghost use Rattle.script.specs.Reading.{GivesStep, GivesSteps, IsFirstFault, IsFirstFaultAt, IsFirstOfSteps};
 ghost use Rattle.script.specs.Reading.{Reads, call_step_of, exit_by_attempt_step_of, exit_step_of};
 ghost use Rattle.script.specs.Reading.{install_step_of, items_of, kind_of, step_of, text_items};
@@ -21,6 +21,7 @@ use json_place::required_list;
 use json_tree::{has, object};
 use serde_json::Value;
 use std::alloc::Global;
+use sys_table::CallTable;
 
 #[derive(Clone, Copy)]
 pub(crate) enum StepKind {
@@ -31,7 +32,8 @@ pub(crate) enum StepKind {
 }
 
 /// The script of a text, or its first fault: of the text, then of the steps in order, and of the fields of a
-/// step in order. Unknown fields are ignored. If an allocation fails, the result is `Memory`.
+/// step in order. Unknown fields are ignored. The known calls are those of Linux 5.8. If an allocation fails,
+/// the result is `Memory`.
 pub fn read(alloc: Global, bytes: &[u8]) -> Result<Script, ScriptFault>
     // The result is the text's script.
     ensures found { IfOk result (ReadsScript bytes.now) }
@@ -45,39 +47,44 @@ pub fn read(alloc: Global, bytes: &[u8]) -> Result<Script, ScriptFault>
     ensures told { (fault : ScriptFault) → IsFirstFault bytes.now fault
         → Gives ScriptFault.Memory (λ script. script) result (Err fault) }
 {
-    Ok(read_placed(alloc, bytes)?)
+    Ok(read_placed_with(alloc, CallTable::Linux5_8, bytes)?)
 }
 
-/// Reads a script as [`read`] does, and returns the place of the first fault in the text.
-pub fn read_placed(alloc: Global, bytes: &[u8]) -> Result<Script, ScriptFaultAt>
-    ensures found { IfOk result (ReadsScript bytes.now) }
-    ensures only { (steps : List Step) → ReadsScript bytes.now steps
+/// Reads a script as [`read`] does, if these are the known calls, and returns the place of the first fault in
+/// the text.
+pub fn read_placed_with(
+    alloc: Global,
+    calls: CallTable,
+    bytes: &[u8],
+) -> Result<Script, ScriptFaultAt>
+    ensures found { IfOk result (ReadsScriptWith calls bytes.now) }
+    ensures only { (steps : List Step) → ReadsScriptWith calls bytes.now steps
         → Reads (λ script. script) result (Ok steps) }
     ensures first { IfErr result
-        (λ found. found.fault ≢ ScriptFault.Memory → IsFirstFaultAt bytes.now found) }
-    ensures told { (found : ScriptFaultAt) → IsFirstFaultAt bytes.now found
+        (λ found. found.fault ≢ ScriptFault.Memory → IsFirstFaultAt calls bytes.now found) }
+    ensures told { (found : ScriptFaultAt) → IsFirstFaultAt calls bytes.now found
         → Reads (λ script. script) result (Err found) }
 {
     written_is_read();
-    reading(alloc, bytes)
+    reading(alloc, calls, bytes)
 }
 
 #[tactic(auto, unfolding(crate::specs::Reading::text_items))]
-fn reading(alloc: Global, bytes: &[u8]) -> Result<Script, ScriptFaultAt>
-    ensures { GivesSteps result (text_items bytes.now) }
+fn reading(alloc: Global, calls: CallTable, bytes: &[u8]) -> Result<Script, ScriptFaultAt>
+    ensures { GivesSteps calls result (text_items bytes.now) }
 {
     let tree = json_tree::read(alloc, bytes)?;
-    script(alloc, &tree)
+    script(alloc, calls, &tree)
 }
 
-fn script(alloc: Global, tree: &Value) -> Result<Script, ScriptFaultAt>
-    ensures value { GivesSteps result (items_of (view tree.now)) }
+fn script(alloc: Global, calls: CallTable, tree: &Value) -> Result<Script, ScriptFaultAt>
+    ensures value { GivesSteps calls result (items_of (view tree.now)) }
 
     // A fault found before the steps are read is reported even if memory runs out.
     ensures told { (found : ScriptFaultAt) → items_of (view tree.now) ≡ Err found → result ≡ Err found }
 {
     let items = items(tree)?;
-    let steps = steps(alloc, items)?;
+    let steps = steps(alloc, calls, items)?;
     Ok(Script::new(steps)?)
 }
 
@@ -96,26 +103,26 @@ fn items(tree: &Value) -> Result<&[Value], ScriptFaultAt>
 }
 
 #[tactic(auto, using(crate::proofs::First::steps_more, crate::proofs::First::first_here))]
-fn steps(alloc: Global, items: &[Value]) -> Result<Vec<Step>, ScriptFaultAt>
-    ensures found { IfOk result (λ steps. Both IsStep (map view items.now) steps.items) }
+fn steps(alloc: Global, calls: CallTable, items: &[Value]) -> Result<Vec<Step>, ScriptFaultAt>
+    ensures found { IfOk result (λ steps. Both (IsStep calls) (map view items.now) steps.items) }
     ensures first { IfErr result (λ found. found.fault ≢ ScriptFault.Memory
-        → IsFirstOfSteps (map view items.now) found) }
+        → IsFirstOfSteps calls (map view items.now) found) }
 {
     let mut steps = Vec::new(alloc);
     for item in items {
-        let step = in_step(steps.len(), step(alloc, item))?;
+        let step = in_step(steps.len(), step(alloc, calls, item))?;
         steps.push(step)?;
     }
     Ok(steps)
 }
 
 #[tactic(auto, unfolding(crate::specs::Reading::step_of))]
-fn step(alloc: Global, item: &Value) -> Result<Step, ScriptFaultAt>
-    ensures { GivesStep result (step_of (view item.now)) }
+fn step(alloc: Global, calls: CallTable, item: &Value) -> Result<Step, ScriptFaultAt>
+    ensures { GivesStep result (step_of calls (view item.now)) }
 {
     let tree = object(item).ok_or(ScriptFaultAt::here(ScriptFault::WrongType))?;
     match kind(tree)? {
-        StepKind::Call => call_step(tree),
+        StepKind::Call => call_step(calls, tree),
         StepKind::Exit => exit_step(tree),
         StepKind::ExitByAttempt => exit_by_attempt_step(alloc, tree),
         StepKind::Install => install_step(alloc, tree),
@@ -142,10 +149,10 @@ fn kind(tree: &Value) -> Result<StepKind, ScriptFaultAt>
 }
 
 #[tactic(auto, unfolding(crate::specs::Reading::call_step_of))]
-fn call_step(tree: &Value) -> Result<Step, ScriptFaultAt>
-    ensures { as_read (λ s. s) result ≡ call_step_of (view tree.now) }
+fn call_step(calls: CallTable, tree: &Value) -> Result<Step, ScriptFaultAt>
+    ensures { as_read (λ s. s) result ≡ call_step_of calls (view tree.now) }
 {
-    let nr = call(tree)?;
+    let nr = call(calls, tree)?;
     let fields = call_fields(tree)?;
     let args = fields.args;
     let call = SysCall {

@@ -1,10 +1,10 @@
 //! Inspects seccomp filters, and runs them: see `seccheck --help`.
 #![tactic(auto)]
 
-use checker::seccheck_run;
+use checker::seccheck_run_on;
 use host_io::open_closed;
 use std::env;
-use std::io::{self, ErrorKind};
+use std::io::{self, ErrorKind, IsTerminal};
 use std::process::ExitCode;
 
 fn main(rt: HostRuntime) -> ExitCode {
@@ -12,7 +12,11 @@ fn main(rt: HostRuntime) -> ExitCode {
         return ExitCode::from(3);
     }
     let status = match words(&rt) {
-        Ok(words) => seccheck_run(&rt, &words, &mut io::writer(&rt), &mut rt.stderr()),
+        Ok(words) => {
+            let mut err = rt.stderr();
+            let is_terminal = err.is_terminal();
+            seccheck_run_on(&rt, &words, &mut io::writer(&rt), &mut err, is_terminal)
+        }
         // A process always has its arguments: either there is no memory to copy them, or one is not UTF-8.
         Err(error) => {
             let (why, status) = match error.kind() {

@@ -1,7 +1,7 @@
 //! Lines of the kernel's audit on calls that a seccomp filter did not allow, as auditd and the kernel's log
 //! have them.
 ghost use Rattle.std.specs.Prelude.{IfOk, IfSome};
-ghost use Rattle.seen_calls.specs.Lines.{IsOfTable};
+ghost use Rattle.seen_calls.specs.Lines.{IsOfTable, IsSmall};
 
 use crate::faults::LineFault;
 use crate::line::Line;
@@ -9,6 +9,7 @@ use crate::names::known;
 use crate::words::{decimal, hexadecimal, number_of};
 use call_data::NATIVE_ARCH;
 use profile_learn::Sighting;
+use sys_table::CallTable;
 
 /// A call that a filter did not allow.
 #[derive(Clone, Copy, Debug, PartialEq, Eq)]
@@ -21,17 +22,17 @@ pub struct AuditedCall {
     pub value: u32,
 }
 
-/// The call of a line of an audit, or none if the line is another one.
-pub fn audited_call(line: &[u8]) -> Result<Option<AuditedCall>, LineFault> {
+/// The call of a line of an audit, or none if the line is another one. These calls are known.
+pub fn audited_call(calls: CallTable, line: &[u8]) -> Result<Option<AuditedCall>, LineFault> {
     match call_fields(line) {
-        Some(fields) => Ok(Some(call_of(fields)?)),
+        Some(fields) => Ok(Some(call_of(calls, fields)?)),
         None => Ok(None),
     }
 }
 
-fn call_of(fields: &[u8]) -> Result<AuditedCall, LineFault> {
+fn call_of(calls: CallTable, fields: &[u8]) -> Result<AuditedCall, LineFault> {
     let (arch, number) = call_numbers(fields)?;
-    let nr = u32::try_from(number).map_err(|_| LineFault::UnknownCall)?;
+    let nr = u32::try_from(number).map_err(|_| LineFault::UnknownCall(calls))?;
     let arch = u32::try_from(arch).map_err(|_| LineFault::NotACall)?;
     let code = field(fields, b"code=").and_then(number_of);
     let value = code.ok_or(LineFault::NotACall)?;
@@ -40,12 +41,13 @@ fn call_of(fields: &[u8]) -> Result<AuditedCall, LineFault> {
 }
 
 /// What a line of an audit has. None if the line is none of an audit.
-pub(crate) fn audit_line(line: &[u8]) -> Option<Result<Line, LineFault>>
-    ensures of_table { IfSome result (λ read. IfOk read IsOfTable) }
+pub(crate) fn audit_line(calls: CallTable, line: &[u8]) -> Option<Result<Line, LineFault>>
+    ensures of_table { IfSome result (λ read. IfOk read (IsOfTable calls)) }
+    ensures small { IfSome result (λ read. IfOk read IsSmall) }
 {
     audit_fields(line)?;
     match call_fields(line) {
-        Some(fields) => Some(learned_call(fields)),
+        Some(fields) => Some(learned_call(calls, fields)),
         None => Some(Ok(Line::Nothing)),
     }
 }
@@ -75,15 +77,19 @@ fn audit_fields(line: &[u8]) -> Option<&[u8]> {
     None
 }
 
-/// The call of these fields, if it is one of this architecture's table.
-fn learned_call(fields: &[u8]) -> Result<Line, LineFault>
-    ensures of_table { IfOk result IsOfTable }
+/// The call of these fields, if it is of this architecture and known.
+fn learned_call(calls: CallTable, fields: &[u8]) -> Result<Line, LineFault>
+    ensures of_table { IfOk result (IsOfTable calls) }
+    ensures small { IfOk result IsSmall }
 {
     let (arch, number) = call_numbers(fields)?;
     if arch != u64::from(NATIVE_ARCH) {
         return Err(LineFault::OtherArchitecture);
     }
-    let number = known(u32::try_from(number).map_err(|_| LineFault::UnknownCall)?)?;
+    let number = known(
+        calls,
+        u32::try_from(number).map_err(|_| LineFault::UnknownCall(calls))?,
+    )?;
     let value = None;
     Ok(Line::Call(Sighting { number, value }))
 }

@@ -5,6 +5,7 @@ ghost use Rattle.seen_calls.specs.declared.faults.LineFault.TheVariants.{Memory}
 use json_tree::{FieldFault, TextFault};
 use std::alloc::{AllocError, AllocFailed};
 use std::fmt;
+use sys_table::CallTable;
 use thiserror::Error;
 
 /// Why a line is left out.
@@ -14,8 +15,8 @@ pub enum LineFault {
     NotACall,
     /// Its call is of another architecture.
     OtherArchitecture,
-    /// The table has no such call.
-    UnknownCall,
+    /// It is none of the known calls, which are these.
+    UnknownCall(CallTable),
     /// It has more bytes than a line may have.
     TooLong,
     /// It begins as a record does, and is not JSON.
@@ -35,7 +36,7 @@ impl LineFault {
         match self {
             LineFault::NotACall => "NotACall",
             LineFault::OtherArchitecture => "OtherArchitecture",
-            LineFault::UnknownCall => "UnknownCall",
+            LineFault::UnknownCall(_) => "UnknownCall",
             LineFault::TooLong => "TooLong",
             LineFault::NotJson => "NotJson",
             LineFault::Missing => "Missing",
@@ -59,7 +60,10 @@ impl fmt::Display for LineFault {
                 f.write_str(" (not a whole line of strace, an audit, a record or a name)")
             }
             LineFault::OtherArchitecture => f.write_str(" (only calls of x86-64 are learned)"),
-            LineFault::UnknownCall => f.write_str(" (the newest known call is 439)"),
+            LineFault::UnknownCall(calls) => {
+                let newest = calls.limit().saturating_sub(1);
+                write!(f, " (the newest known call is {newest})")
+            }
             LineFault::TooLong => f.write_str(" (a line has at most 1,048,576 bytes)"),
             _ => Ok(()),
         }

@@ -6,8 +6,8 @@
 //!
 //! # What is proved
 //!
-//! - A call that is read, or resumed, has a number of the table: `read_line` (of_table).
-//! - A number is known exactly if the table has a call with it: `known` (value, small).
+//! - A call that is read, or resumed, has a number below the end of the known calls: `read_line` (of_table).
+//! - A number is known exactly if one of the known calls has it: `known` (value, within).
 //! - The calls of a record are read in order, performed or denied, or the first fault is reported:
 //!   `record_calls`.
 //! - The name and the text of each fault: `LineFault::name`, `Display` of `LineFault`.

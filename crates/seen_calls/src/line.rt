@@ -1,11 +1,12 @@
 ghost use Rattle.std.specs.Prelude.{IfOk};
-ghost use Rattle.seen_calls.specs.Lines.{IsOfTable};
+ghost use Rattle.seen_calls.specs.Lines.{IsOfTable, IsSmall};
 
 use crate::audit::audit_line;
 use crate::faults::LineFault;
 use crate::names::{name_of, number_printed};
 use crate::strace::strace_line;
 use profile_learn::Sighting;
+use sys_table::CallTable;
 
 /// What a line of a log has.
 #[derive(Clone, Copy, Debug, PartialEq, Eq)]
@@ -20,9 +21,10 @@ pub enum Line {
     Record,
 }
 
-/// Reads a line, without its end.
-pub fn read_line(line: &[u8]) -> Result<Line, LineFault>
-    ensures of_table { IfOk result IsOfTable }
+/// Reads a line, without its end. These calls are known.
+pub fn read_line(calls: CallTable, line: &[u8]) -> Result<Line, LineFault>
+    ensures of_table { IfOk result (IsOfTable calls) }
+    ensures small { IfOk result IsSmall }
 {
     let line = line.trim_ascii();
     match line {
@@ -31,19 +33,20 @@ pub fn read_line(line: &[u8]) -> Result<Line, LineFault>
         _ => {}
     }
     if name_of(line).len() == line.len() {
-        return named_line(line);
+        return named_line(calls, line);
     }
-    match audit_line(line) {
+    match audit_line(calls, line) {
         Some(read) => read,
-        None => strace_line(line),
+        None => strace_line(calls, line),
     }
 }
 
 /// The line of a list of names.
-fn named_line(name: &[u8]) -> Result<Line, LineFault>
-    ensures of_table { IfOk result IsOfTable }
+fn named_line(calls: CallTable, name: &[u8]) -> Result<Line, LineFault>
+    ensures of_table { IfOk result (IsOfTable calls) }
+    ensures small { IfOk result IsSmall }
 {
-    let number = number_printed(name)?;
+    let number = number_printed(calls, name)?;
     let value = None;
     Ok(Line::Call(Sighting { number, value }))
 }

@@ -1,46 +1,52 @@
 ghost use Rattle.std.specs.Prelude.{◌≡◌, ◌<◌, IfOk};
-ghost use Rattle.sys_table.specs.SysTable.{number_of};
-ghost use Rattle.sys_table.specs.declared.table.TheConstants.{NUMBER_LIMIT};
+ghost use Rattle.sys_table.specs.SysTable.{limit_of, number_in};
+ghost use Rattle.sys_table.specs.declared.table.TheConstants.{TABLE_LIMIT};
 ghost use Rattle.seen_calls.specs.Lines.{in_table, known};
 
 use crate::faults::LineFault;
 use crate::words::hexadecimal;
-use sys_table::names_and_numbers_agree;
+use sys_table::{CallTable, names_and_numbers_agree};
 
-/// The number, if the table has a call with it.
-pub fn known(number: u32) -> Result<u32, LineFault>
-    ensures value { result ≡ known number }
-    ensures small { IfOk result (λ n. n < NUMBER_LIMIT) }
+/// The number, if one of these calls has it.
+pub fn known(calls: CallTable, number: u32) -> Result<u32, LineFault>
+    ensures value { result ≡ known calls number }
+    ensures within { IfOk result (λ n. n < limit_of calls) }
+    ensures small { IfOk result (λ n. n < TABLE_LIMIT) }
 {
     names_and_numbers_agree();
-    match sys_table::name(number) {
+    match calls.name(number) {
         Some(_) => Ok(number),
-        None => Err(LineFault::UnknownCall),
+        None => Err(LineFault::UnknownCall(calls)),
     }
 }
 
 /// The number of the call with this name.
-pub(crate) fn number_named(name: &str) -> Result<u32, LineFault>
-    ensures value { result ≡ in_table (number_of name.now) }
-    ensures small { IfOk result (λ n. n < NUMBER_LIMIT) }
+pub(crate) fn number_named(calls: CallTable, name: &str) -> Result<u32, LineFault>
+    ensures value { result ≡ in_table calls (number_in calls name.now) }
+    ensures within { IfOk result (λ n. n < limit_of calls) }
+    ensures small { IfOk result (λ n. n < TABLE_LIMIT) }
 {
     names_and_numbers_agree();
-    match sys_table::number(name) {
+    match calls.number(name) {
         Some(number) => Ok(number),
-        None => Err(LineFault::UnknownCall),
+        None => Err(LineFault::UnknownCall(calls)),
     }
 }
 
 /// The number of the call that strace prints so: by its name, or as `syscall_0x1b9` if strace has no name.
-pub(crate) fn number_printed(name: &[u8]) -> Result<u32, LineFault>
-    ensures small { IfOk result (λ n. n < NUMBER_LIMIT) }
+pub(crate) fn number_printed(calls: CallTable, name: &[u8]) -> Result<u32, LineFault>
+    ensures within { IfOk result (λ n. n < limit_of calls) }
+    ensures small { IfOk result (λ n. n < TABLE_LIMIT) }
 {
     if let Some(digits) = name.strip_prefix(b"syscall_0x") {
         let number = hexadecimal(digits).ok_or(LineFault::NotACall)?;
-        return known(u32::try_from(number).map_err(|_| LineFault::UnknownCall)?);
+        return known(
+            calls,
+            u32::try_from(number).map_err(|_| LineFault::UnknownCall(calls))?,
+        );
     }
     match std::str::from_utf8(name) {
-        Ok(name) => number_named(name),
+        Ok(name) => number_named(calls, name),
         Err(_) => Err(LineFault::NotACall),
     }
 }

@@ -1,19 +1,22 @@
 //! Lines of `strace`, whatever of a process, a time, an address and a number stands before the call.
-ghost use Rattle.std.specs.Prelude.{IfOk};
-ghost use Rattle.seen_calls.specs.Lines.{IsOfTable};
+ghost use Rattle.std.specs.Prelude.{◌≡◌, IfOk};
+ghost use Rattle.seen_calls.specs.Lines.{IsOfTable, IsSmall};
+ghost use Rattle.seen_calls.specs.declared.line.Line.TheVariants.{Nothing};
 
 use crate::arguments::argument;
 use crate::faults::LineFault;
 use crate::line::Line;
 use crate::names::{name_of, number_printed};
 use profile_learn::{Sighting, small_argument};
+use sys_table::CallTable;
 
 // How many brackets may stand before a call: a process, an address, a number and a time since the last call.
 const MAX_FRONTS: usize = 8;
 
 /// What a line of strace has.
-pub(crate) fn strace_line(line: &[u8]) -> Result<Line, LineFault>
-    ensures of_table { IfOk result IsOfTable }
+pub(crate) fn strace_line(calls: CallTable, line: &[u8]) -> Result<Line, LineFault>
+    ensures of_table { IfOk result (IsOfTable calls) }
+    ensures small { IfOk result IsSmall }
 {
     if line.starts_with(b"strace: ") || line.starts_with(b"[ Process ") {
         return own_line(line);
@@ -23,14 +26,14 @@ pub(crate) fn strace_line(line: &[u8]) -> Result<Line, LineFault>
         return Ok(Line::Nothing);
     }
     match rest.strip_prefix(b"<... ") {
-        Some(resumed) => resumed_line(resumed),
-        None => call_line(rest),
+        Some(resumed) => resumed_line(calls, resumed),
+        None => call_line(calls, rest),
     }
 }
 
 /// A line of strace's own. After one on another mode, the names are those of another table.
 fn own_line(line: &[u8]) -> Result<Line, LineFault>
-    ensures of_table { IfOk result IsOfTable }
+    ensures { IfOk result (λ line. line ≡ Nothing) }
 {
     if has(line, b" runs in ") && !has(line, b" runs in 64 bit mode") {
         Err(LineFault::OtherArchitecture)
@@ -93,13 +96,14 @@ fn is_of_bracket(byte: u8) -> bool {
 }
 
 /// `ioctl(1, TCGETS, {..}) = 0`, or the beginning of a call whose rest another line has.
-fn call_line(line: &[u8]) -> Result<Line, LineFault>
-    ensures of_table { IfOk result IsOfTable }
+fn call_line(calls: CallTable, line: &[u8]) -> Result<Line, LineFault>
+    ensures of_table { IfOk result (IsOfTable calls) }
+    ensures small { IfOk result IsSmall }
 {
     let name = name_of(line);
     match line.strip_prefix(name) {
         Some([b'(', arguments @ ..]) if !name.is_empty() && is_whole(arguments) => {
-            let number = number_printed(name)?;
+            let number = number_printed(calls, name)?;
             let value = small_argument(number).and_then(|index| argument(arguments, index));
             Ok(Line::Call(Sighting { number, value }))
         }
@@ -108,13 +112,14 @@ fn call_line(line: &[u8]) -> Result<Line, LineFault>
 }
 
 /// `read resumed>"abc", 3) = 3`.
-fn resumed_line(line: &[u8]) -> Result<Line, LineFault>
-    ensures of_table { IfOk result IsOfTable }
+fn resumed_line(calls: CallTable, line: &[u8]) -> Result<Line, LineFault>
+    ensures of_table { IfOk result (IsOfTable calls) }
+    ensures small { IfOk result IsSmall }
 {
     let name = name_of(line);
     let rest = line.strip_prefix(name).unwrap_or(line);
     match rest.strip_prefix(b" resumed>") {
-        Some(rest) if is_whole(rest) => Ok(Line::Resumed(number_printed(name)?)),
+        Some(rest) if is_whole(rest) => Ok(Line::Resumed(number_printed(calls, name)?)),
         _ => Err(LineFault::NotACall),
     }
 }

@@ -13,6 +13,7 @@ use Rattle.shown_differences.specs.declared.line.Line.{Line}
 use Rattle.shown_differences.specs.declared.line.Line.TheVariants.{Differs, Undecided}
 use Rattle.shown_differences.specs.declared.line.Told.{Told}
 use Rattle.shown_differences.specs.Texts.{part_text}
+use Rattle.sys_table.specs.declared.calls.CallTable.{CallTable}
 
 -- a value, its action and data, and what of a profile decides
 abbrev pub decided_object : Option Decider → ℕ → List ℕ
@@ -34,20 +35,20 @@ call_members call =
     ++ (codes "," ++ (arg_text call.args 4 ++ (codes "," ++ (arg_text call.args 5
     ++ (codes "],\"arch\":" ++ (decimal call.arch ++ (codes ",\"ip\":" ++ decimal call.ip))))))))))))))))
 
-abbrev pub line_object : Line → List ℕ
-line_object (Differs part call one other) =
-    codes "{\"answer\":\"differ\",\"calls\":\"" ++ (part_text part ++ (codes "\"," ++ (call_members call
+abbrev pub line_object : CallTable → Line → List ℕ
+line_object known (Differs part call one other) =
+    codes "{\"answer\":\"differ\",\"calls\":\"" ++ (part_text known part ++ (codes "\"," ++ (call_members call
     ++ (codes ",\"first\":" ++ (told_object one ++ (codes ",\"second\":" ++ (told_object other
     ++ codes "}")))))))
-line_object (Undecided part why) =
-    codes "{\"answer\":\"undecided\",\"calls\":\"" ++ (part_text part ++ (codes "\",\"reason\":\""
+line_object known (Undecided part why) =
+    codes "{\"answer\":\"undecided\",\"calls\":\"" ++ (part_text known part ++ (codes "\",\"reason\":\""
     ++ (reason_of why ++ codes "\"}")))
 
-abbrev pub lines_objects : List Line → List ℕ
-lines_objects [] = []
-lines_objects (line ∷ lines) = line_object line ++ (codes "\n" ++ lines_objects lines)
+abbrev pub lines_objects : CallTable → List Line → List ℕ
+lines_objects known [] = []
+lines_objects known (line ∷ lines) = line_object known line ++ (codes "\n" ++ lines_objects known lines)
 
 -- the answer: an object for each line, or that there is none
-abbrev pub answer_objects : Calls → List Line → List ℕ
-answer_objects calls [] = same_object calls
-answer_objects calls (line ∷ lines) = lines_objects (line ∷ lines)
+abbrev pub answer_objects : CallTable → Calls → List Line → List ℕ
+answer_objects known calls [] = same_object calls
+answer_objects known calls (line ∷ lines) = lines_objects known (line ∷ lines)

@@ -10,8 +10,8 @@
 //! - A profile's filter returns on every call what the profile means: `Compiled::new`.
 //! - Each finding has its line, in order. The part of a profile in it is the one that decides the call, with
 //!   the printed value: `lines`.
-//! - The text and the objects of lines, byte by byte: `all_lines`, `all_objects`, `Display` of `Line`,
-//!   `LineObject`, `PartName`, `CallWords`, `Told`.
+//! - The text and the objects of lines, byte by byte: `all_lines`, `all_objects`, `Display` of `LineText`,
+//!   `LineObject`, `PartName`, `Told`.
 #![tactic(auto)]
 
 mod line;
@@ -24,4 +24,4 @@ pub use line::{Line, Told};
 pub use objects::{LineObject, all_objects};
 pub use sides::{Compiled, Side};
 pub use telling::lines;
-pub use texts::{CallWords, PartName, all_lines};
+pub use texts::{LineText, PartName, all_lines};

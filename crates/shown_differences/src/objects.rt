@@ -10,6 +10,7 @@ use call_data::SysCall;
 use check_answers::{ValueObject, reason, same_object};
 use std::alloc::{AllocError, Global};
 use std::fmt;
+use sys_table::CallTable;
 
 /// What a filter returns: `{"value":327681,"action":"ERRNO","data":1}`, with `"by"` for a profile.
 #[derive(Clone, Copy)]
@@ -58,20 +59,20 @@ impl fmt::Display for CallMembers {
     }
 }
 
-/// A line as an object.
+/// A line as an object, with the names of these calls.
 #[derive(Clone, Copy)]
-pub struct LineObject(pub Line);
+pub struct LineObject(pub CallTable, pub Line);
 
 impl fmt::Display for LineObject {
     ghost use Rattle.std.specs.Prelude.{Some};
     ghost use Rattle.shown_differences.specs.Objects.{line_object};
 
-    ghost output = { λ line. Some (line_object line.0) };
+    ghost output = { λ line. Some (line_object line.0 line.1) };
 
     fn fmt<W: fmt::Write>(&self, f: &mut fmt::Formatter<W>) -> fmt::Result {
-        match self.0 {
+        match self.1 {
             Line::Differs(part, call, one, other) => {
-                let (name, members) = (PartName(part), CallMembers(call));
+                let (name, members) = (PartName(self.0, part), CallMembers(call));
                 let (first, second) = (ToldObject(one), ToldObject(other));
                 write!(
                     f,
@@ -80,7 +81,7 @@ impl fmt::Display for LineObject {
                 )
             }
             Line::Undecided(part, doubt) => {
-                let (name, why) = (PartName(part), reason(doubt));
+                let (name, why) = (PartName(self.0, part), reason(doubt));
                 write!(
                     f,
                     "{{\"answer\":\"undecided\",\"calls\":\"{name}\",\"reason\":\"{why}\"}}"
@@ -90,23 +91,29 @@ impl fmt::Display for LineObject {
     }
 }
 
-/// An object for each line, or that both filters are the same on these calls if there is no line.
-pub fn all_objects(alloc: Global, calls: Calls, lines: &[Line]) -> Result<String, AllocError>
-    ensures { IfOk result (λ text. string_bytes text ≡ answer_objects calls lines.now) }
+/// An object for each line, with the names of the known calls, or that both filters are the same on these calls
+/// if there is no line.
+pub fn all_objects(
+    alloc: Global,
+    known: CallTable,
+    calls: Calls,
+    lines: &[Line],
+) -> Result<String, AllocError>
+    ensures { IfOk result (λ text. string_bytes text ≡ answer_objects known calls lines.now) }
 {
     if lines.is_empty() {
         return same_object(alloc, calls);
     }
-    joined(alloc, lines)
+    joined(alloc, known, lines)
 }
 
 /// The objects, each with the end of its line.
-fn joined(alloc: Global, lines: &[Line]) -> Result<String, AllocError>
-    ensures { IfOk result (λ text. string_bytes text ≡ lines_objects lines.now) }
+fn joined(alloc: Global, known: CallTable, lines: &[Line]) -> Result<String, AllocError>
+    ensures { IfOk result (λ text. string_bytes text ≡ lines_objects known lines.now) }
 {
     let mut text = String::new(alloc);
     for line in lines {
-        let object = LineObject(*line);
+        let object = LineObject(known, *line);
         writeln!(text, "{object}")?;
     }
     Ok(text)

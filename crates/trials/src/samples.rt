@@ -1,6 +1,7 @@
 //! The script and the profile that trials share.
 use runtime_core::{Contents, FileAnswers, ReadAs};
 use std::alloc::Global;
+use sys_table::CallTable;
 
 /// A script with a step of each kind.
 pub const SCRIPT: &str =
@@ -18,7 +19,8 @@ pub const PROFILE: &str =
 "valueTwo":0,"op":"SCMP_CMP_MASKED_EQ"},{"index":1,"value":9,"op":"SCMP_CMP_GT"}]}]}"#;
 
 fn contents<T: ReadAs + Drop>(alloc: Global, text: &str) -> Option<Contents<T>> {
-    Some(Contents::new(Vec::from_slice(alloc, text.as_bytes()).ok()?))
+    let bytes = Vec::from_slice(alloc, text.as_bytes()).ok()?;
+    Some(Contents::new(CallTable::Linux5_8, bytes))
 }
 
 /// The results of reading the files of any request.

@@ -3,6 +3,7 @@ use manifest::{DescendingPath, Pod, PodFault, SeccompProfile};
 use node_io::FileFault;
 use runtime_core::{Contents, FileAnswers, ReadAs};
 use std::alloc::{AllocError, Global};
+use sys_table::CallTable;
 
 // The files by their paths: scripts, and profiles.
 const FILES: [(&str, &str); 8] = [
@@ -43,7 +44,7 @@ fn file_at<T: ReadAs + Drop>(
     for (name, text) in FILES {
         if path.as_str() == name {
             let text = String::from_str(alloc, text)?;
-            return Ok(Ok(Contents::new(text.into_bytes())));
+            return Ok(Ok(Contents::new(CallTable::Linux5_8, text.into_bytes())));
         }
     }
     Ok(Err(FileFault::NotFound))

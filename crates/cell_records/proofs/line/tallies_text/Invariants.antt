@@ -4,5 +4,5 @@ use Rattle.cell_records.specs.RecordText.{other_tallies, tallies_text}
 use Rattle.cell_records.proofs.line.tallies_text.Given as goal
 
 abbrev pub invariant-loop-other : goal.invariant-loop-other
-invariant-loop-other l = string_bytes l.text ++ other_tallies (drop l.other-index l.others)
-    ≡ tallies_text l.tallies
+invariant-loop-other l = string_bytes l.text ++ other_tallies l.known (drop l.other-index l.others)
+    ≡ tallies_text l.known l.tallies

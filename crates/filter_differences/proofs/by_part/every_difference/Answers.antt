@@ -4,7 +4,7 @@ use Rattle.call_data.specs.declared.sys_call.TheConstants.{NATIVE_ARCH}
 use Rattle.filter_differences.proofs.by_part.every_difference.Goals as goal
 
 pub returns-clause-complete : goal.returns-clause-complete
-returns-clause-complete c = λ call is misses.
+returns-clause-complete g c = λ call is misses.
     let without = c.in_ok-add-2.ensures.kept call misses in
     elim (cases_eq call.arch NATIVE_ARCH) [
       | inl native ↦ elim (cases_lt call.nr 0x40000000) [

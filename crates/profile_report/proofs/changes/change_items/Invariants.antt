@@ -5,4 +5,5 @@ use Rattle.profile_report.specs.Changes.{change_items}
 use Rattle.profile_report.proofs.changes.change_items.Given as goal
 
 abbrev pub invariant-loop-line : goal.invariant-loop-line
-invariant-loop-line l = string_bytes l.text ++ change_items (drop l.line-index l.lines) ≡ change_items l.lines
+invariant-loop-line l = string_bytes l.text ++ change_items l.calls (drop l.line-index l.lines)
+    ≡ change_items l.calls l.lines

@@ -5,5 +5,5 @@ use Rattle.profile_table.specs.Text.{names_text}
 use Rattle.profile_report.proofs.entries.names_text.Given as goal
 
 abbrev pub invariant-loop-place : goal.invariant-loop-place
-invariant-loop-place l = string_bytes l.text ++ names_text l.place (drop l.place l.numbers)
-    ≡ names_text 0 l.numbers
+invariant-loop-place l = string_bytes l.text ++ names_text l.calls l.place (drop l.place l.numbers)
+    ≡ names_text l.calls 0 l.numbers

@@ -5,5 +5,6 @@ use Rattle.profile_report.specs.Grid.{cells_html}
 use Rattle.profile_report.proofs.grid.cells_html.Given as goal
 
 abbrev pub invariant-loop-row : goal.invariant-loop-row
-invariant-loop-row l = string_bytes l.text ++ cells_html l.count l.profile l.lines (drop l.row-index l.rows)
-    ≡ cells_html l.count l.profile l.lines l.rows
+invariant-loop-row l = string_bytes l.text
+    ++ cells_html l.calls l.count l.profile l.lines (drop l.row-index l.rows)
+    ≡ cells_html l.calls l.count l.profile l.lines l.rows

@@ -10,5 +10,5 @@ invariant-loop-item l = map string_bytes l.lines.items ++ told_lines l.about (dr
 
 abbrev pub invariant-loop-finding : goal.invariant-loop-finding
 invariant-loop-finding l = map string_bytes l.lines.items
-    ++ found_lines l.about (drop l.finding-index l.found)
-    ≡ told_lines l.about l.passed ++ found_lines l.about l.found
+    ++ found_lines l.calls l.about (drop l.finding-index l.found)
+    ≡ told_lines l.about l.passed ++ found_lines l.calls l.about l.found

@@ -5,5 +5,5 @@ use Rattle.profile_table.specs.Objects.{entry_objects}
 use Rattle.profile_table.proofs.objects.entry_objects.Given as goal
 
 abbrev pub invariant-loop-place : goal.invariant-loop-place
-invariant-loop-place l = string_bytes l.text ++ entry_objects l.rows l.place (drop l.place l.entries)
-    ≡ entry_objects l.rows 0 l.entries
+invariant-loop-place l = string_bytes l.text ++ entry_objects l.calls l.rows l.place (drop l.place l.entries)
+    ≡ entry_objects l.calls l.rows 0 l.entries

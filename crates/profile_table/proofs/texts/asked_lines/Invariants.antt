@@ -5,5 +5,5 @@ use Rattle.profile_table.specs.Text.{asked_lines}
 use Rattle.profile_table.proofs.texts.asked_lines.Given as goal
 
 abbrev pub invariant-loop-row : goal.invariant-loop-row
-invariant-loop-row l = string_bytes l.text ++ asked_lines l.profile (drop l.row-index l.rows)
-    ≡ asked_lines l.profile l.rows
+invariant-loop-row l = string_bytes l.text ++ asked_lines l.calls l.profile (drop l.row-index l.rows)
+    ≡ asked_lines l.calls l.profile l.rows

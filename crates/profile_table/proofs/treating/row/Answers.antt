@@ -4,7 +4,7 @@ use Rattle.profile_table.proofs.treating.row.Goals as goal
 
 pub returns-then-is_empty-clause-real : goal.returns-then-is_empty-clause-real
 returns-then-is_empty-clause-real c =
-    entry_row c.args.profile.now c.args.nr c.loop-place.place c.entry-item.result c.loop-place.is_asked
+    entry_row c.args.calls c.args.profile.now c.args.nr c.loop-place.place c.entry-item.result c.loop-place.is_asked
     c.value.result c.requires
     (item_at _ _ c.loop-place.place c.entry-item.result c.as_slice-entry-items.ensures.value
     c.loop-place-test.true (search rules)) (search rules) (search rules) c.value.ensures
@@ -25,6 +25,6 @@ loop-place-preserved c = (
 
 pub returns-clause-real : goal.returns-clause-real
 returns-clause-real c =
-    default_row c.args.profile.now c.args.nr c.loop-place.place c.loop-place.is_asked c.value-2.result
+    default_row c.args.calls c.args.profile.now c.args.nr c.loop-place.place c.loop-place.is_asked c.value-2.result
     c.requires (omega (arith, c.loop-place-test.false, ap length c.as_slice-entry-items.ensures.value)) c.value-2.ensures
     c.loop-place.invariant.0 c.loop-place.invariant.1

@@ -6,4 +6,5 @@ use Rattle.profile_text.specs.Written.{name_text}
 use Rattle.profile_text.proofs.trees.each_name.Given as goal
 
 abbrev pub invariant-loop-number : goal.invariant-loop-number
-invariant-loop-number l = map view l.trees.items ≡ map string (map name_text (take l.number-index l.numbers))
+invariant-loop-number l = map view l.trees.items ≡ map string (map (name_text l.calls)
+    (take l.number-index l.numbers))

@@ -7,5 +7,5 @@ use Rattle.profile_text.specs.Written.{entry_tree}
 use Rattle.profile_text.proofs.trees.entry_trees.Given as goal
 
 abbrev pub invariant-loop-entry : goal.invariant-loop-entry
-invariant-loop-entry l = (map view l.trees.items ≡ map entry_tree (take l.entry-index l.entries))
+invariant-loop-entry l = (map view l.trees.items ≡ map (entry_tree l.calls) (take l.entry-index l.entries))
     × AllByRecursion FitsEntry (take l.entry-index l.entries)

@@ -1,5 +1,5 @@
 -- A text that was not read though there was memory is no request, and is reported with its number.
-use Rattle.std.proofs.Common.{◌≡◌, ◌≢◌, ℕ, Result, Ok, Err, inr, refl, ap}
+use Rattle.std.proofs.Common.{◌≡◌, ◌≢◌, ℕ, Result, Ok, Err, inr, refl, ap, ◌∙◌}
 use Rattle.cri_msgs.specs.declared.calls.Request.{Request}
 use Rattle.cri_msgs.specs.declared.faults.MessageFault.{MessageFault}
 use Rattle.cri_msgs.specs.declared.faults.MessageFault.TheVariants.{NoMessage, Memory}
@@ -29,6 +29,6 @@ returns-in-Err-NoMessage-clause-reply g c =
     told_number at.field-0 at.id (number_of c.args.text.now) at.field-0-is at.ensures.refused in
     inr (
       λ request says. none_read at.field-0 at.id request at.field-0-is (at.ensures.only request says),
-      ap (λ (id : ℕ). record { id = id; answer = Refused InvalidArgument }) same,
+      ap (λ (id : ℕ). record { id = id; answer = Refused InvalidArgument }) (at.id-is ∙ same),
       refl {a = c.args.service.now},
     )

@@ -10,8 +10,8 @@ use Rattle.runner.proofs.connection.serve_all.Given as goal
 abbrev pub invariant-loop : goal.invariant-loop
 invariant-loop g l = record {
   talk : (came : List ℕ) × Consumes (g.W.Wire.input l.fn.wire) (g.W.Wire.input l.wire) came
-      × Talk (Answers (Gave g.S.Files.held g.S.Files.failed)
-      (Gave g.P.Files.held g.P.Files.failed) g.H.Host.may) l.fn.service l.service
+      × Talk (Answers (Gave l.fn.calls g.S.Files.held g.S.Files.failed)
+      (Gave l.fn.calls g.P.Files.held g.P.Files.failed) g.H.Host.may) l.fn.service l.service
       came l.feed [] (g.W.Wire.output l.fn.wire) (g.W.Wire.output l.wire);
   begins_none : BeginsNone l.feed;
   good : HasBadRest l.feed → ⊥;

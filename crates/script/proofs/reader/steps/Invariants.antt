@@ -6,4 +6,4 @@ use Rattle.script.specs.Script.{IsStep}
 use Rattle.script.proofs.reader.steps.Given as goal
 
 abbrev pub invariant-loop-item : goal.invariant-loop-item
-invariant-loop-item l = Both IsStep (map view (take l.item-index l.items)) l.steps.items
+invariant-loop-item l = Both (IsStep l.calls) (map view (take l.item-index l.items)) l.steps.items

@@ -5,5 +5,5 @@ use Rattle.shown_differences.specs.Objects.{lines_objects}
 use Rattle.shown_differences.proofs.objects.joined.Given as goal
 
 abbrev pub invariant-loop-line : goal.invariant-loop-line
-invariant-loop-line l = string_bytes l.text ++ lines_objects (drop l.line-index l.lines)
-    ≡ lines_objects l.lines
+invariant-loop-line l = string_bytes l.text ++ lines_objects l.known (drop l.line-index l.lines)
+    ≡ lines_objects l.known l.lines

@@ -5,5 +5,5 @@ use Rattle.shown_differences.specs.Texts.{lines_text}
 use Rattle.shown_differences.proofs.texts.joined.Given as goal
 
 abbrev pub invariant-loop-line : goal.invariant-loop-line
-invariant-loop-line l = string_bytes l.text ++ lines_text (drop l.line-index l.lines)
-    ≡ lines_text l.lines
+invariant-loop-line l = string_bytes l.text ++ lines_text l.known (drop l.line-index l.lines)
+    ≡ lines_text l.known l.lines

@@ -1,7 +1,7 @@
 use Rattle.std.proofs.Common.{◌≡◌, ◌<◌, ◌+◌, true, ap, refl, subst, inl, inr, arith}
 use Rattle.cri_msgs.specs.declared.replies.Answer.TheVariants.{Container}
 use Rattle.runtime_cell.specs.declared.label.Label.{Label}
-use Rattle.creation.specs.Files.{IsMade, bytes_in}
+use Rattle.creation.specs.Files.{IsMade, text_in}
 use Rattle.registry.proofs.PlacedParts.{placed_part, unplaced_part}
 use Rattle.registry.proofs.Placing.{placed_keeps, placed_spares, unplaced_keeps, unplaced_spares}
 use Rattle.registry.proofs.ScriptRead.{was_read}
@@ -9,7 +9,7 @@ use Rattle.registry.proofs.registry.Registry.make.Goals as goal
 
 pub returns-then-self-clause-row : goal.returns-then-self-clause-row
 returns-then-self-clause-row c = inr (inl (
-  was_read (bytes_in c.args.files.script) c.in-Ok.cell.making c.in-Ok.ensures.made.from.script,
+  was_read (text_in c.args.files.script) c.in-Ok.cell.making c.in-Ok.ensures.made.from.script,
   (refl, refl),
 ))
 
@@ -45,7 +45,7 @@ returns-in-Ok-settle-clause-keeps c =
 
 pub returns-in-Err-settle-clause-row : goal.returns-in-Err-settle-clause-row
 returns-in-Err-settle-clause-row c = inr (inl (
-  was_read (bytes_in c.args.files.script) c.in-Ok.cell.making c.in-Ok.ensures.made.from.script,
+  was_read (text_in c.args.files.script) c.in-Ok.cell.making c.in-Ok.ensures.made.from.script,
   (
     refl,
     unplaced_part c.args.self.now c.settle.new.self c.args.key.uid c.args.cells.now c.settle.new.cells

@@ -1,9 +1,9 @@
 use Rattle.std.proofs.Common.{sym, ap, ◌∙◌}
 use Rattle.std.specs.Prelude.{position}
 use Rattle.std.specs.Str.{bytes_eq}
-use Rattle.profile_template.specs.Errnos.{place_of}
-use Rattle.profile_template.proofs.Views.{position_of_map}
-use Rattle.profile_template.proofs.errnos.place_of.Goals as goal
+use Rattle.action.specs.Errnos.{place_of}
+use Rattle.action.proofs.Places.{position_of_map}
+use Rattle.action.proofs.errnos.place_of.Goals as goal
 
 pub returns : goal.returns
 unfolding place_of
