@@ -1,4 +1,4 @@
-# `make` alone says what there is and how long it takes; tools/help.sh has the text.
+# `make` alone prints the targets and how long each takes; tools/help.sh has the text.
 
 PREFIX ?= /usr/local
 PROGRAMS := seccheck scriptd scriptctl nodeagent
@@ -55,14 +55,17 @@ copy:
 	  install -D -m 755 crates/$$program/out/$$program $(DESTDIR)$(PREFIX)/bin/$$program; \
 	  install -D -m 644 man/$$program.1 $(DESTDIR)$(PREFIX)/share/man/man1/$$program.1; \
 	done
-	@tools/pack_library.sh crates/motchidu_c/out/libmotchidu_c.a out/install $(PREFIX)
-	install -D -m 644 out/install/libmotchidu.a $(DESTDIR)$(PREFIX)/lib/libmotchidu.a
-	install -D -m 755 out/install/libmotchidu.so.0 $(DESTDIR)$(PREFIX)/lib/libmotchidu.so.0
-	ln -sf libmotchidu.so.0 $(DESTDIR)$(PREFIX)/lib/libmotchidu.so
-	install -D -m 644 out/install/motchidu.pc $(DESTDIR)$(PREFIX)/lib/pkgconfig/motchidu.pc
-	install -D -m 644 out/install/motchidu.h $(DESTDIR)$(PREFIX)/include/motchidu.h
-	install -D -m 644 man/motchidu.3 $(DESTDIR)$(PREFIX)/share/man/man3/motchidu.3
+	@tools/pack_library.sh crates/motchidu_c/out/libmotchidu_c.a out/install $(PREFIX) > /dev/null
+	@install -D -m 644 out/install/libmotchidu.a $(DESTDIR)$(PREFIX)/lib/libmotchidu.a
+	@install -D -m 755 out/install/libmotchidu.so.0 $(DESTDIR)$(PREFIX)/lib/libmotchidu.so.0
+	@ln -sf libmotchidu.so.0 $(DESTDIR)$(PREFIX)/lib/libmotchidu.so
+	@install -D -m 644 out/install/motchidu.pc $(DESTDIR)$(PREFIX)/lib/pkgconfig/motchidu.pc
+	@install -D -m 644 out/install/motchidu.h $(DESTDIR)$(PREFIX)/include/motchidu.h
+	@install -D -m 644 man/motchidu.3 $(DESTDIR)$(PREFIX)/share/man/man3/motchidu.3
 	@tools/completions.py $(DESTDIR)$(PREFIX)
+	@echo 'copy: installed $(PROGRAMS) in $(DESTDIR)$(PREFIX)/bin, libmotchidu in' \
+	  '$(DESTDIR)$(PREFIX)/lib, motchidu.h in $(DESTDIR)$(PREFIX)/include, and the manual pages and' \
+	  'completions in $(DESTDIR)$(PREFIX)/share'
 
 # Removes what make copy and make try install.
 uninstall:
@@ -72,8 +75,8 @@ uninstall:
 	  $(addprefix $(DESTDIR)$(PREFIX)/,lib/libmotchidu.a lib/libmotchidu.so.0 lib/libmotchidu.so \
 	  lib/pkgconfig/motchidu.pc include/motchidu.h share/man/man3/motchidu.3)
 
-# Says so and goes on where the machine has no libpcap, no libseccomp or no gVisor. The plain interpreter is assembled
-# so that its jumps keep within 32 bytes, or its speed would hang on where the link puts it.
+# Prints a line and goes on if the machine has no libpcap, no libseccomp or no gVisor. The plain interpreter
+# is assembled so that its jumps keep within 32 bytes, or its speed would depend on where the link puts it.
 bench: lib
 	@mkdir -p out/bench
 	@$(CC) $(BENCH_FLAGS) -Wa,-mbranches-within-32B-boundaries -c bench/plain.c -o out/bench/plain.o
@@ -99,7 +102,7 @@ bench: lib
 	@tools/bench_node.py
 	@tools/bench_settle.py
 
-# What the running kernel does with drawn profiles, beside what the library says of COUNT calls.
+# Compares what the running kernel does with drawn profiles and what the library returns, on COUNT calls.
 kernel: lib
 	@mkdir -p out/bench
 	@$(CC) $(BENCH_FLAGS) -Iout/c bench/kernel.c out/c/libmotchidu.a -o out/bench/kernel

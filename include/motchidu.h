@@ -6,12 +6,12 @@
  *
  * A profile is the JSON text of the linux.seccomp object of the OCI runtime specification 1.1. A filter is
  * the bytes of its struct sock_filter (linux/filter.h), 8 each, numbers little-endian: an array of these as
- * it is in memory on x86-64. A call is the 64 bytes of a struct seccomp_data (linux/seccomp.h), likewise.
+ * it is in memory on x86-64. A call is the 64 bytes of a struct seccomp_data (linux/seccomp.h) in memory.
  * docs/SEMANTICS.md of the project has each rule.
  *
  * What the functions return and write is proved, against the clauses of crates/motchidu_c that these
- * comments restate. No proof sees the caller, who has to ensure the following: each pointer points to as
- * much memory as its length says, which may be read, and written if it is an output; an output overlaps with
+ * comments restate. No proof sees the caller, who has to ensure the following: each pointer points to
+ * memory of the passed length, which may be read, and written if it is an output; an output overlaps with
  * nothing else that is passed; no other thread writes to what is passed before the function returns. An
  * array of length 0 may be NULL, and so may `at`; no other pointer may.
  *
@@ -21,14 +21,13 @@
  * does not end with a zero byte or a line's end.
  *
  * The functions take memory with malloc while they run, and release it with free; these two are C's own, or
- * keep C's promises. All but motchidu_call_number and motchidu_call_name take memory, and may return
+ * keep C's promises. All but the four that look up names and numbers of calls take memory, and may return
  * MOTCHIDU_MEMORY. They keep nothing between two calls, and may run in many threads at once, but not in a
  * signal handler, nor in the forked child of a process with threads.
  *
- * Those that read JSON, which are motchidu_compile, motchidu_compile_at, motchidu_compile_with,
- * motchidu_explain and motchidu_resolve, need 128 KiB of stack, because a text may have 127 nested objects:
- * motchidu_compile took 119 KiB for these, and 26 KiB for profiles as engines write them, and the other four
- * take as much. The others need 24 KiB (12 motchidu_verify, 17 motchidu_longest, 9 motchidu_run_all, 15
+ * Those that read JSON, which compile, explain and resolve, need 128 KiB of stack, because a text may have 127
+ * nested objects: motchidu_compile took 119 KiB for these, and 26 KiB for profiles as engines write them, and
+ * the others take as much. The others need 24 KiB (12 motchidu_verify, 17 motchidu_longest, 9 motchidu_run_all, 15
  * motchidu_compare).
  *
  * Link with -lmotchidu. The library is for x86-64, as of x86-64-v2.
@@ -52,8 +51,8 @@ extern "C" {
  * first fault in that order is returned. P marks those that have a place in a filter. Those from
  * MOTCHIDU_LENGTH to MOTCHIDU_UNSTORED are about filters, those from MOTCHIDU_NOT_JSON to MOTCHIDU_TOO_HEAVY
  * about profiles and templates. Only motchidu_compare returns those from MOTCHIDU_SAME to
- * MOTCHIDU_ARITHMETIC, which are about two filters, only motchidu_resolve the three after them, and only
- * motchidu_compile_with the last one. */
+ * MOTCHIDU_ARITHMETIC, which are about two filters, only motchidu_resolve and motchidu_resolve_with the three
+ * after them, and only functions that get a version of Linux the last one. */
 enum motchidu_status {
     MOTCHIDU_ACCEPTED = 0,        /* done; of a filter: it is sound, and may be run on any call */
     MOTCHIDU_LENGTH = 1,          /* its length is not a multiple of 8 */
@@ -67,7 +66,7 @@ enum motchidu_status {
     MOTCHIDU_ZERO_DIVISOR = 9,    /* P: a division by the constant 0 */
     MOTCHIDU_NO_FINAL_RETURN = 10, /* the last instruction is not a return */
     MOTCHIDU_UNSTORED = 11,       /* P: a load of a scratch word that some walk to it did not store */
-    MOTCHIDU_MEMORY = 12,         /* there was no memory; this says nothing about what was passed */
+    MOTCHIDU_MEMORY = 12,         /* memory ran out; what was passed may have faults or none */
     MOTCHIDU_LENGTHS = 13,        /* the lengths of calls, values and steps don't agree; the filter was
                                      not checked. Only motchidu_run_all returns this */
     MOTCHIDU_NOT_JSON = 14,       /* the text is not JSON */
@@ -122,12 +121,27 @@ enum motchidu_version {
 enum motchidu_status motchidu_call_name(uint32_t number, char *name, size_t name_len, size_t *length);
 
 /*
+ * Finds the name of a call as motchidu_call_name does, among the calls of the version of Linux that calls
+ * names, one of enum motchidu_version. With any other number the answer is MOTCHIDU_UNKNOWN_VERSION, and
+ * nothing is written.
+ */
+enum motchidu_status motchidu_call_name_with(uint32_t calls, uint32_t number,
+                                             char *name, size_t name_len, size_t *length);
+
+/*
  * Finds the number of the call of x86-64 with this name, of name_len bytes, such as 0 for read.
  *
  * With MOTCHIDU_ACCEPTED *number becomes the number. With MOTCHIDU_UNKNOWN_CALL no call of Linux 5.8 has the
  * name, and nothing is written.
  */
 enum motchidu_status motchidu_call_number(const void *name, size_t name_len, uint32_t *number);
+
+/*
+ * Finds the number of a call as motchidu_call_number does, among the calls of the version of Linux that calls
+ * names. With any other number of a version the answer is MOTCHIDU_UNKNOWN_VERSION, and nothing is written.
+ */
+enum motchidu_status motchidu_call_number_with(uint32_t calls, const void *name, size_t name_len,
+                                               uint32_t *number);
 
 /*
  * Checks two filters, of first_len and of second_len bytes, and compares them on every call, or, with native,
@@ -150,12 +164,12 @@ enum motchidu_status motchidu_compare(const void *first, size_t first_len,
                                       void *call, uint32_t values[2]);
 
 /*
- * Compiles the profile of profile_len bytes to a sound filter, whose value on every call is what the
- * profile says of the call.
+ * Compiles the profile of profile_len bytes to a sound filter. On every call the filter returns the value of
+ * the profile's decision.
  *
  * With MOTCHIDU_ACCEPTED the filter is the first *length of the filter_len bytes at filter, and the others
- * are unchanged; 32,768 bytes are room for any filter. With MOTCHIDU_NO_ROOM *length is how many bytes the
- * filter takes, and nothing else is written. With any other answer *length is unchanged as well.
+ * are unchanged; 32,768 bytes are room for any filter. With MOTCHIDU_NO_ROOM *length is the number of bytes
+ * of the filter, and nothing else is written. With any other answer *length is unchanged as well.
  */
 enum motchidu_status motchidu_compile(const void *profile, size_t profile_len,
                                       void *filter, size_t filter_len, size_t *length);
@@ -187,7 +201,7 @@ enum motchidu_status motchidu_compile_with(uint32_t calls, const void *profile, 
                                            char *place, size_t place_len, size_t *place_length);
 
 /*
- * Writes the text of RuntimeDefault, the profile that a container gets where its manifest says so. It is the
+ * Writes the text of RuntimeDefault, the profile of a container whose manifest asks for it. The text is the
  * line that seccheck default prints, without its end.
  *
  * With MOTCHIDU_ACCEPTED the text is the first *length of the text_len bytes at text; 8,192 bytes are room
@@ -206,6 +220,24 @@ enum motchidu_status motchidu_default(char *text, size_t text_len, size_t *lengt
  */
 enum motchidu_status motchidu_explain(const void *profile, size_t profile_len, const void *call,
                                       uint32_t *decider, size_t *entry, uint32_t *value);
+
+/*
+ * Finds what decides a call as motchidu_explain_with does: the call of x86-64 with this name, of name_len bytes,
+ * and these arguments, made at address 0. With MOTCHIDU_UNKNOWN_CALL for a name that no call of the version has,
+ * the profile is not read, and nothing is written.
+ */
+enum motchidu_status motchidu_explain_name(uint32_t calls, const void *profile, size_t profile_len,
+                                           const void *name, size_t name_len, const uint64_t args[6],
+                                           uint32_t *decider, size_t *entry, uint32_t *value);
+
+/*
+ * Finds what decides a call as motchidu_explain does, under a profile that is read with the calls of the
+ * version of Linux that calls names, as by motchidu_compile_with. With any other number the answer is
+ * MOTCHIDU_UNKNOWN_VERSION, and nothing is written.
+ */
+enum motchidu_status motchidu_explain_with(uint32_t calls, const void *profile, size_t profile_len,
+                                           const void *call, uint32_t *decider, size_t *entry,
+                                           uint32_t *value);
 
 /*
  * Checks the filter of filter_len bytes as motchidu_verify does, with the same answers. With
@@ -232,6 +264,15 @@ enum motchidu_status motchidu_longest(const void *filter, size_t filter_len,
 enum motchidu_status motchidu_resolve(const void *template_text, size_t template_len,
                                       uint64_t caps, uint32_t kernel_major, uint32_t kernel_minor,
                                       char *text, size_t text_len, size_t *length);
+
+/*
+ * Resolves a template as motchidu_resolve does, with the calls of the version of Linux that calls names: names
+ * of calls that this version does not have are left out. Read the text with the calls of the same version.
+ * With any other number the answer is MOTCHIDU_UNKNOWN_VERSION, and nothing is written.
+ */
+enum motchidu_status motchidu_resolve_with(uint32_t calls, const void *template_text, size_t template_len,
+                                           uint64_t caps, uint32_t kernel_major, uint32_t kernel_minor,
+                                           char *text, size_t text_len, size_t *length);
 
 /*
  * Checks the filter of filter_len bytes.

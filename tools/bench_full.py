@@ -72,7 +72,7 @@ def fill(client, uid, cells):
 
 
 def milliseconds(work, rounds):
-    """How long each of so many rounds takes, or of as many as begin within SECONDS."""
+    """The time of each of these rounds, or of those that begin within SECONDS."""
     took, begun = [], time.monotonic()
     while len(took) < rounds and time.monotonic() < begun + SECONDS:
         start = time.monotonic()

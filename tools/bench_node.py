@@ -46,7 +46,7 @@ def write(path, value):
 
 
 def scripts(folder):
-    """A script that fails each time, and scripts that do so up to so many times."""
+    """A script that fails each time, and scripts that fail up to this number of times."""
     calls = [{"call": "getpid"}, {"call": "write"}]
     write(f"{folder}/fails.s", {"steps": [*calls, {"exit": 1}]})
     for times in range(DELAYS):
@@ -64,7 +64,7 @@ def pod(at, is_put_off):
 
 
 def memory_of(pid):
-    """What a process holds now, in KiB; 0 if it has ended."""
+    """The memory of a process now, in KiB; 0 if it has ended."""
     with open(f"/proc/{pid}/status", encoding="utf-8") as it:
         held = re.search(r"^VmRSS:\s+(\d+)", it.read(), re.M)
     return int(held[1]) if held else 0
@@ -124,7 +124,7 @@ class Node:
 
 
 def watched(node, step):
-    """Looks at a node until its agent ends, after a step of the caller's, which gives the moment."""
+    """Looks at a node until its agent ends, after each step of the caller's, which returns the moment."""
     looks = [node.look(0)]
     try:
         while node.agent.poll() is None:
@@ -185,7 +185,7 @@ class Share:
 
 
 def shares(looks, end):
-    """The tenths of the time. A tenth ends with the first look behind its last moment, if there is one."""
+    """The tenths of the time. A tenth ends with the first look after its last moment, if there is one."""
     ends, at = [looks[0]], 0
     for tenth in range(1, TENTHS):
         while at + 1 < len(looks) and looks[at].moment < end * tenth / TENTHS:

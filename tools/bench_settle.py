@@ -63,7 +63,7 @@ def settled(programs, folder, names):
 
 
 def taken(programs, count):
-    """What the agent takes for a container of so many pods, in microseconds."""
+    """The microseconds that the agent takes for each container, with this number of pods."""
     with tempfile.TemporaryDirectory(prefix="motchidu-bench-") as folder:
         return 1e6 * settled(programs, folder, manifests(folder, count)) / (count * CONTAINERS)
 

@@ -1,22 +1,21 @@
 #!/usr/bin/env python3
-"""build.py CRATE..: proves and builds the crates with these names and all that they stand on, and says which
+"""build.py CRATE..: proves and builds the crates with these names and all that they use, and prints which
 of how many is under way."""
 import os
-import subprocess
 import sys
 
 sys.dont_write_bytecode = True
-from side_by_side import ROOT, build_libraries, crates_of, is_program
+from side_by_side import ROOT, build_libraries, crates_of, is_program, run
 
 
 def program(name):
-    """Whether the program is proved and built; it is run to print its help, after which it ends with another
-    status than 0."""
+    """Proves and builds the program by rt run, which also runs it: the program prints its help, and ends with
+    another status than 0. Returns what was printed, and whether the program is there."""
     made = f"{ROOT}/crates/{name}/out/{name}"
     if os.path.exists(made):
         os.remove(made)
-    subprocess.run(["rt", "run", "--", "--help"], cwd=f"{ROOT}/crates/{name}", stdin=subprocess.DEVNULL)
-    return os.access(made, os.X_OK)
+    _, printed = run(["rt", "run", "--", "--help"], f"{ROOT}/crates/{name}")
+    return printed, os.access(made, os.X_OK)
 
 
 def main():
@@ -27,9 +26,11 @@ def main():
     programs = [name for name in names if is_program(name)]
     for place, name in enumerate(programs, 1):
         print(f"install: {name}, {place} of {len(programs)} programs", flush=True)
-        if not program(name):
-            print(f"install: {name} is not built", flush=True)
+        printed, is_built = program(name)
+        if not is_built:
+            print(f"{printed}install: {name} IS NOT BUILT; rt run printed the lines above", flush=True)
             return 1
+        print(f"install: {name} is proved and built", flush=True)
     return 0
 
 

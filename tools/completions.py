@@ -15,13 +15,13 @@ FILES, FOLDERS = {"PATH", "FILE", "FILTER"}, {"DIR"}
 
 
 def section(text, title):
-    """The entries of a section of --help: their words, and what is said of them."""
+    """The entries of a section of --help: their words and their descriptions."""
     body = re.search(rf"^{title}:\n((?:  .*\n|\n(?=  ))*)", text, re.M)
     return re.findall(r"^  +(\S.*?)(?:  +(\S.*))?$", body.group(1), re.M) if body else []
 
 
 class Line:
-    """The options of a command line, each with its value's name, None for a flag, and what is said of it."""
+    """The options of a command line, each with its value's name, None for a flag, and its description."""
 
     def __init__(self, program, *command):
         ran = subprocess.run([program, *command, "--help"], capture_output=True, text=True)

@@ -1,7 +1,7 @@
 #!/usr/bin/env python3
-"""make demo: programs compiled with checks at run time in place of proofs. A small one gives a first verdict. Then
-come the commands of a user and their answers: seccheck over a profile, filters and scripts, and nodeagent, which
-settles two pods over a socket and looks after a folder of pods.
+"""make demo: programs compiled with checks at run time in place of proofs. A small one prints a first
+verdict. Then come the commands of a user and their answers: seccheck over a profile, filters and scripts, and
+nodeagent, which settles two pods over a socket and looks after a folder of pods.
 """
 import os
 import shutil

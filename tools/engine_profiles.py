@@ -45,7 +45,7 @@ def number(text):
 
 
 def block(text):
-    """What stands between the first brace and the one that closes it."""
+    """The text between the first brace and the one that closes it."""
     depth, begun = 0, text.index("{")
     for at, letter in enumerate(text[begun:], begun):
         depth += (letter == "{") - (letter == "}")

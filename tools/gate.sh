@@ -1,7 +1,7 @@
 #!/bin/bash
 # What make test runs: the gate (rt ci), the examples in C over the library, and the cases of tests/ with
-# README and the manual pages over what would be installed. Each says what it counted; the last lines say once
-# more what failed, with the end of what its check or its tests printed, and the sum of all.
+# README and the manual pages over what would be installed. Each prints its counts; the last lines repeat what
+# failed, with the end of what its check or its tests printed, and the sum of all.
 set -u
 cd "$(dirname "$0")/.."
 said=$(mktemp)
@@ -13,7 +13,7 @@ reasons='/^== / { count = 0 } { lines[count++] = substr($0, 1, 300) }
   / NOT PROVED$| FAILED$/ { for (at = count > 10 ? count - 10 : 0; at < count; at++) print lines[at]; count = 0 }'
 
 # Runs a command whose last line is `N passed, M failed`, and adds that line to the sums. A command that
-# fails, or that says nothing, has one failure at least.
+# fails, or that prints no such line, has one failure at least.
 part() { # NAME COMMAND..
   local name=$1 status passed failed told
   shift
@@ -34,10 +34,11 @@ c_examples() {
     tools/c_examples.sh
 }
 
+echo "rt ci proves every crate from nothing, with its tests and its must-fail edits. It prints:"
 part "rt ci" tools/gate_times.py out/gate_times rt ci
 part "C examples" c_examples
 part "cases" tests/run
-# In one line, so that it stands near the end of what a log keeps.
+# In one line, so that a log keeps it near its end.
 columns='NR > 1 && NF == 5 { printf "%s %s %s %s; ", $1, $2, $3, $4 }'
 echo "processor seconds of proofs, tests, edits: $(tools/gate_times.py out/gate_times | awk "$columns")"
 echo -n "$failures"

@@ -1,5 +1,5 @@
 #!/usr/bin/env python3
-"""gate_times.py FILE COMMAND..: runs the command, says which crate of how many is under way, and writes to
+"""gate_times.py FILE COMMAND..: runs the command, prints which crate of how many is under way, and writes to
 FILE the processor seconds that the prover spent below it, crate by crate: on the crate, on its tests, and on
 its must-fail edits. gate_times.py FILE: prints that table. A process is seen once a second, so its last
 second is lost.

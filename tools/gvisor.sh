@@ -1,8 +1,8 @@
 #!/bin/bash
 # Builds the benchmarks' compiler by gVisor, and prints what a C compiler needs to link it: gvisor.sh FOLDER
 # [ROOT]. Go (1.22 or later) and gVisor come from Debian 13's packages golang-go and golang-gvisor-gvisor-dev,
-# whose files lie below the root, or /. Older packages have gVisor without its optimiser. Where they are not
-# there, a line on standard error says so.
+# whose files lie below the root, or /. Older packages have gVisor without its optimiser. If the
+# packages are missing, it prints a line on standard error.
 set -e
 cd "$(dirname "$0")/.."
 folder=$1 root=$(cd "${2:-/}" && pwd)

@@ -1,11 +1,11 @@
 #!/bin/bash
 # Makes of the crate's archive a static and a shared library that a C program links with nothing else, and
-# puts them beside the header and a pkg-config file: pack_library.sh ARCHIVE FOLDER [PREFIX]. PREFIX is
-# where the pkg-config file says they are, the folder itself if it is left out.
+# puts them beside the header and a pkg-config file: pack_library.sh ARCHIVE FOLDER [PREFIX]. The
+# pkg-config file names PREFIX as their place, or the folder itself if PREFIX is left out.
 #
 # A crate that takes memory calls the toolchain's few lines over malloc, realloc and free, which go along.
-# Functions begin at multiples of 64 bytes, so that the speed of the machine's loop does not hang on where
-# a link happens to put it. Both libraries show the functions of the header alone.
+# Functions begin at multiples of 64 bytes, so that the speed of the machine's loop does not depend on
+# where a link happens to put it. Both libraries show the functions of the header alone.
 #
 # All tools are the toolchain's: its clang is LLVM's objcopy too, when it is called by that name.
 set -e
@@ -27,7 +27,7 @@ echo 'SECTIONS { .text : SUBALIGN(64) { *(.text .text.*) } }' > "$parts/layout"
 "$parts/llvm-objcopy" --wildcard --keep-global-symbol='motchidu_*' "$parts/motchidu.o"
 version=$(sed -n -E 's/^#define MOTCHIDU_VERSION "(.*)"$/\1/p' include/motchidu.h)
 name=libmotchidu.so.${version%%.*}
-# The shared library names C's, whose malloc and free it calls, where a compiler says where that is.
+# The shared library names C's, whose malloc and free it calls, if a compiler prints the path of C's.
 libc=$("${CC:-cc}" -print-file-name=libc.so.6 2> /dev/null || true)
 [ -f "$libc" ] || libc=
 rm -f "$folder"/libmotchidu.*

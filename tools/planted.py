@@ -17,7 +17,7 @@ from side_by_side import ROOT, build_libraries, crates_of, run, run_all, timed
 
 
 def copy_into(folder):
-    """The files that git knows, and the proved libraries that stand beside them."""
+    """The files that git knows, and the proved libraries beside them."""
     listed = subprocess.run(["git", "ls-files", "-z"], cwd=ROOT, stdout=subprocess.PIPE, check=True).stdout
     for name in filter(None, listed.decode().split("\0")):
         if os.path.exists(f"{ROOT}/{name}"):
@@ -31,7 +31,7 @@ def copy_into(folder):
 
 
 def edits_of(folder, name):
-    """How many wrong bodies the crate has, all of which are put where rt looks for them."""
+    """Puts all wrong bodies of the crate where rt looks for them, and returns their number."""
     here, there = f"{folder}/crates/{name}/planted", f"{folder}/crates/{name}/must-fail"
     if os.path.isdir(here):
         os.makedirs(there, exist_ok=True)

@@ -19,5 +19,6 @@ done
 words+=(--antt-project "$kit/rattle/logic/antt-project.json" --logic-built "$kit/logic_built" --links "$name="
   --jobs 4 --crate-type staticlib --toolchain "$kit/toolchain" --backend llvm)
 mkdir -p "$name/out"
+echo "The library for C is built over the proved crates. The last line that rattle prints:"
 cd "$name"
 "$kit/bin/rattle" build "${words[@]}" -o "out/lib$name.a" | tail -1

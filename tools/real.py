@@ -1,8 +1,8 @@
 #!/usr/bin/env python3
-"""real.py: runs the scripts of examples/real/, each of which holds a real program to a filter or a profile, and
-the commands of docs/REAL.md. seccheck is crates/seccheck/out/seccheck, or that
-in the folder BIN; the library for C is that of out/c, or the one that pkg-config knows. What this machine can't run
-is left out, and the last lines say why. Status 0 if all that could run passed.
+"""real.py: runs the scripts of examples/real/, each of which runs a real program under a filter or a profile,
+and the commands of docs/REAL.md. seccheck is crates/seccheck/out/seccheck, or that in the folder BIN; the
+library for C is that of out/c, or the one that pkg-config knows. What this machine can't run is left out, and
+the last lines say why. Status 0 if all that could run passed.
 """
 import os
 import re

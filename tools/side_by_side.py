@@ -11,7 +11,7 @@ ROOM = 4_000_000_000  # what a check may take
 
 
 def crates_of(root=ROOT):
-    """Each crate of crates.txt, lowest first, with those of the repository that it stands on."""
+    """Each crate of crates.txt, lowest first, with those of the repository that it uses."""
     lines = {}
     with open(f"{root}/crates.txt", encoding="utf-8") as it:
         for line in it:
@@ -32,7 +32,7 @@ def crates_of(root=ROOT):
 
 
 def with_below(crates, names):
-    """The crates with these names and all that they stand on, lowest first."""
+    """The crates with these names and all that they use, lowest first."""
     wanted = set(names)
     for name in reversed(crates):
         if name in wanted:
@@ -65,8 +65,8 @@ def run(words, folder, env=None):
 
 
 def run_all(what, tasks):
-    """Runs tasks, each a name, the names of those that it waits for, and a call; gives what each call gave,
-    and None where one that a task waits for gave something false."""
+    """Runs tasks, each a name, the names of those that it waits for, and a call. Returns the result of each
+    call, and None for a task that waits for one whose result is false."""
     given, running, began = {}, {}, 0
     left = {name: (after, call) for name, after, call in tasks}
     with ThreadPoolExecutor(lanes()) as pool:
@@ -94,8 +94,8 @@ def timed(start):
 
 
 def build_libraries(what, root, crates, names):
-    """Proves and builds the libraries with these names and those that they stand on; what is built and has
-    not changed is taken. Tells whether all is well."""
+    """Proves and builds the libraries with these names and those that they use, except for those that are
+    built and have not changed. Returns whether all are proved."""
     libraries = [name for name in with_below(crates, names) if not is_program(name, root)]
 
     def build(name):

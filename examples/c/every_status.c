@@ -16,8 +16,8 @@ enum { NOWHERE = 4711 };
 void rattle_alloc(void);
 void rattle_alloc(void) {}
 
-/* The linker puts this in the place of malloc, to see what the library says where there is no memory: so many
- * requests are served, or with ALL each. */
+/* The linker puts this in the place of malloc, to see what the library returns if memory runs out: it serves
+ * this number of requests, or with ALL each. */
 enum { ALL = -1 };
 static int served = ALL;
 void *__real_malloc(size_t size);
@@ -71,7 +71,7 @@ static uint32_t verify(const void *code, size_t len, size_t *at) {
     return motchidu_verify(code, len, at);
 }
 
-/* Runs a filter on two empty calls, where these lengths are told, and says whether anything was written. */
+/* Runs a filter on two empty calls, with these lengths passed, and checks whether anything was written. */
 static void expect_run(const char *name, const void *code, size_t len, size_t calls_len, size_t steps_len,
                        uint32_t want) {
     static const struct seccomp_data calls[2];
@@ -114,7 +114,7 @@ static const struct {
     {"{\"defaultAction\":\"SCMP_ACT_NOTIFY\"}", MOTCHIDU_NOTIFY, "defaultAction"},
 };
 
-/* Compiles a profile with this much room, and says whether room and length are as the answer has it. */
+/* Compiles a profile with this much room, and checks that room and length are right for the answer. */
 static void expect_compiled(const char *name, const char *text, size_t text_len, size_t room, uint32_t want,
                             size_t want_length) {
     static uint8_t filter[64];
@@ -214,7 +214,7 @@ static uint32_t returned(const struct code *filter, const struct seccomp_data *c
     return value;
 }
 
-/* Compares two filters, and says whether what was written is as the answer has it. */
+/* Compares two filters, and checks that what was written is right for the answer. */
 static void expect_compared(const char *name, const struct code *first, const struct code *second,
                             bool native, uint64_t budget, uint32_t want) {
     struct seccomp_data call, before;
@@ -273,7 +273,7 @@ static void expect_pairs_without_memory(void) {
     served = ALL;
 }
 
-/* Compiles a profile with room for this much of the place, and says whether the place is as it should be. */
+/* Compiles a profile with room for this much of the place, and checks that the place is as it should be. */
 static void expect_placed(const char *text, size_t room, uint32_t want, const char *want_place) {
     static uint8_t filter[64];
     char place[32];
@@ -384,7 +384,7 @@ static void expect_default(void) {
     expect("is a profile", status, 0, MOTCHIDU_ACCEPTED, 0);
 }
 
-/* Three entries, of which the second has a condition. */
+/* Three entries; the second has a condition. */
 static const char explained[] =
     "{\"defaultAction\":\"SCMP_ACT_ERRNO\",\"defaultErrnoRet\":38,\"syscalls\":["
     "{\"names\":[\"read\"],\"action\":\"SCMP_ACT_ALLOW\"},"
@@ -527,7 +527,7 @@ static void expect_capabilities(void) {
     }
 }
 
-/* Returns the status of a function, and says whether anything was written where there was no memory. */
+/* Returns the status of a function, and checks that nothing was written if memory ran out. */
 static uint32_t kept(const char *name, uint32_t status, size_t length, const char *text) {
     if (status == MOTCHIDU_MEMORY && (length != NOWHERE || text[0] != '#')) {
         printf("%s: something was written\n", name);
@@ -605,6 +605,146 @@ static void expect_versions(void) {
     served = ALL;
 }
 
+/* Finds a call by its name or its number among those of a version, and checks the answer and what was
+ * written. */
+static void expect_call_of(uint32_t version, const char *name, uint32_t want, uint32_t want_number) {
+    uint32_t number = NOWHERE;
+    uint32_t status = motchidu_call_number_with(version, name, strlen(name), &number);
+    expect(name, status, number, want, want_number);
+}
+
+static void expect_name_of(uint32_t version, uint32_t number, uint32_t want, const char *want_name) {
+    char name[32], row[32];
+    size_t length = NOWHERE;
+    memset(name, '#', sizeof name);
+    snprintf(row, sizeof row, "call %u of version %u", number, version);
+    uint32_t status = motchidu_call_name_with(version, number, name, sizeof name, &length);
+    expect_text(row, status, want, name, sizeof name, length, want_name);
+}
+
+/* The last calls of each version: asm/unistd_64.h. */
+static void expect_calls_of_versions(void) {
+    expect_call_of(MOTCHIDU_LINUX_5_8, "faccessat2", MOTCHIDU_ACCEPTED, 439);
+    expect_call_of(MOTCHIDU_LINUX_5_8, "mseal", MOTCHIDU_UNKNOWN_CALL, NOWHERE);
+    expect_call_of(MOTCHIDU_LINUX_6_12, "faccessat2", MOTCHIDU_ACCEPTED, 439);
+    expect_call_of(MOTCHIDU_LINUX_6_12, "mseal", MOTCHIDU_ACCEPTED, 462);
+    expect_call_of(MOTCHIDU_LINUX_6_12, "setxattrat", MOTCHIDU_UNKNOWN_CALL, NOWHERE);
+    expect_call_of(2, "read", MOTCHIDU_UNKNOWN_VERSION, NOWHERE);
+    expect_name_of(MOTCHIDU_LINUX_5_8, 439, MOTCHIDU_ACCEPTED, "faccessat2");
+    expect_name_of(MOTCHIDU_LINUX_5_8, 462, MOTCHIDU_UNKNOWN_CALL, NULL);
+    expect_name_of(MOTCHIDU_LINUX_6_12, 439, MOTCHIDU_ACCEPTED, "faccessat2");
+    expect_name_of(MOTCHIDU_LINUX_6_12, 462, MOTCHIDU_ACCEPTED, "mseal");
+    expect_name_of(MOTCHIDU_LINUX_6_12, 463, MOTCHIDU_UNKNOWN_CALL, NULL);
+    expect_name_of(2, 0, MOTCHIDU_UNKNOWN_VERSION, NULL);
+    char name[4];
+    size_t length = NOWHERE;
+    uint32_t status = motchidu_call_name_with(MOTCHIDU_LINUX_6_12, 462, name, sizeof name, &length);
+    expect("no room for mseal", status, length, MOTCHIDU_NO_ROOM, 5);
+}
+
+/* An entry that allows a call which only Linux 6.12 has, and one that traps it. */
+static const char allows_late[] =
+    "{\"defaultAction\":\"SCMP_ACT_ERRNO\",\"defaultErrnoRet\":38,"
+    "\"syscalls\":[{\"names\":[\"mseal\"],\"action\":\"SCMP_ACT_ALLOW\"}]}";
+static const char traps_late[] = ENTRY("\"names\":[\"mseal\"],\"action\":\"SCMP_ACT_TRAP\"");
+
+static void expect_explained_by(uint32_t version, const char *text, uint32_t want, uint32_t want_decider,
+                                size_t want_entry, uint32_t want_value) {
+    struct seccomp_data call = {.nr = 462, .arch = AUDIT_ARCH_X86_64};
+    uint32_t decider = NOWHERE, value = NOWHERE;
+    size_t entry = NOWHERE;
+    char row[32];
+    snprintf(row, sizeof row, "explained by %u", version);
+    uint32_t status = motchidu_explain_with(version, text, strlen(text), &call, &decider, &entry, &value);
+    expect(row, status, entry, want, want_entry);
+    expect(row, decider, 0, want_decider, 0);
+    expect(row, value, 0, want_value, 0);
+}
+
+/* The same for the call of a name, with its first argument. */
+static void expect_explained_name(uint32_t version, const char *name, uint64_t arg, uint32_t want,
+                                  uint32_t want_decider, size_t want_entry, uint32_t want_value) {
+    const uint64_t args[6] = {arg};
+    uint32_t decider = NOWHERE, value = NOWHERE;
+    size_t entry = NOWHERE;
+    uint32_t status = motchidu_explain_name(version, explained, strlen(explained), name, strlen(name), args,
+                                            &decider, &entry, &value);
+    expect(name, status, entry, want, want_entry);
+    expect(name, decider, 0, want_decider, 0);
+    expect(name, value, 0, want_value, 0);
+}
+
+static void expect_explained_names(void) {
+    const uint32_t newest = MOTCHIDU_LINUX_6_12;
+    expect_explained_name(newest, "read", 0, MOTCHIDU_ACCEPTED, MOTCHIDU_BY_ENTRY, 0, SECCOMP_RET_ALLOW);
+    expect_explained_name(newest, "socket", 9, MOTCHIDU_ACCEPTED, MOTCHIDU_BY_ENTRY, 1, SECCOMP_RET_ALLOW);
+    expect_explained_name(newest, "socket", 8, MOTCHIDU_ACCEPTED, MOTCHIDU_BY_ENTRY, 2, SECCOMP_RET_TRAP);
+    expect_explained_name(newest, "mseal", 0, MOTCHIDU_ACCEPTED, MOTCHIDU_BY_DEFAULT, NOWHERE,
+                          SECCOMP_RET_ERRNO | 38);
+    expect_explained_name(MOTCHIDU_LINUX_5_8, "mseal", 0, MOTCHIDU_UNKNOWN_CALL, NOWHERE, NOWHERE, NOWHERE);
+    expect_explained_name(newest, "mseel", 0, MOTCHIDU_UNKNOWN_CALL, NOWHERE, NOWHERE, NOWHERE);
+    expect_explained_name(2, "read", 0, MOTCHIDU_UNKNOWN_VERSION, NOWHERE, NOWHERE, NOWHERE);
+    served = 0;
+    expect_explained_name(newest, "read", 0, MOTCHIDU_MEMORY, NOWHERE, NOWHERE, NOWHERE);
+    expect_explained_name(newest, "mseel", 0, MOTCHIDU_UNKNOWN_CALL, NOWHERE, NOWHERE, NOWHERE);
+    served = ALL;
+}
+
+static void expect_explained_by_versions(void) {
+    expect_explained_by(MOTCHIDU_LINUX_5_8, allows_late, MOTCHIDU_ACCEPTED, MOTCHIDU_BY_DEFAULT, NOWHERE,
+                        SECCOMP_RET_ERRNO | 38);
+    expect_explained_by(MOTCHIDU_LINUX_6_12, allows_late, MOTCHIDU_ACCEPTED, MOTCHIDU_BY_ENTRY, 0,
+                        SECCOMP_RET_ALLOW);
+    expect_explained_by(MOTCHIDU_LINUX_5_8, traps_late, MOTCHIDU_UNKNOWN_CALL, NOWHERE, NOWHERE, NOWHERE);
+    expect_explained_by(MOTCHIDU_LINUX_6_12, traps_late, MOTCHIDU_ACCEPTED, MOTCHIDU_BY_ENTRY, 0,
+                        SECCOMP_RET_TRAP);
+    served = 0;
+    expect_explained_by(MOTCHIDU_LINUX_6_12, traps_late, MOTCHIDU_MEMORY, NOWHERE, NOWHERE, NOWHERE);
+    expect_explained_by(2, traps_late, MOTCHIDU_UNKNOWN_VERSION, NOWHERE, NOWHERE, NOWHERE);
+    served = ALL;
+}
+
+/* Resolves a template that traps the call, and checks the names that are left. */
+static void expect_resolved_by(uint32_t version, uint32_t want, const char *want_text) {
+    static char text[256];
+    char row[32];
+    size_t length = NOWHERE;
+    memset(text, '#', sizeof text);
+    snprintf(row, sizeof row, "resolved by %u", version);
+    uint32_t status = motchidu_resolve_with(version, traps_late, strlen(traps_late), 0, 6, 12, text,
+                                            sizeof text, &length);
+    expect_text(row, status, want, text, sizeof text, length, want_text);
+}
+
+static void expect_resolved_by_versions(void) {
+    expect_resolved_by(MOTCHIDU_LINUX_5_8, MOTCHIDU_ACCEPTED,
+                       "{\"defaultAction\":\"SCMP_ACT_ALLOW\",\"syscalls\":[]}");
+    expect_resolved_by(MOTCHIDU_LINUX_6_12, MOTCHIDU_ACCEPTED,
+                       "{\"defaultAction\":\"SCMP_ACT_ALLOW\",\"syscalls\":["
+                       "{\"action\":\"SCMP_ACT_TRAP\",\"names\":[\"mseal\"]}]}");
+    served = 0;
+    expect_resolved_by(MOTCHIDU_LINUX_6_12, MOTCHIDU_MEMORY, NULL);
+    expect_resolved_by(2, MOTCHIDU_UNKNOWN_VERSION, NULL);
+    served = ALL;
+}
+
+static uint32_t resolve_late(void) {
+    char text[256] = "#";
+    size_t length = NOWHERE;
+    uint32_t status = motchidu_resolve_with(MOTCHIDU_LINUX_6_12, traps_late, strlen(traps_late), 0, 6, 12, text,
+                                            sizeof text, &length);
+    return kept("resolve_with", status, length, text);
+}
+
+static uint32_t explain_late(void) {
+    static const struct seccomp_data call = {.nr = 462, .arch = AUDIT_ARCH_X86_64};
+    uint32_t decider = NOWHERE, value = NOWHERE;
+    size_t entry = NOWHERE;
+    uint32_t status = motchidu_explain_with(MOTCHIDU_LINUX_6_12, traps_late, strlen(traps_late), &call, &decider,
+                                            &entry, &value);
+    return kept("explain_with", status, decider == NOWHERE && value == NOWHERE ? entry : 0, "#");
+}
+
 static uint32_t compile_late(void) {
     static const char text[] = ENTRY("\"names\":[\"futex_waitv\",1],\"action\":\"SCMP_ACT_TRAP\"");
     static uint8_t filter[64];
@@ -651,6 +791,8 @@ static void expect_texts_without_memory(void) {
     expect_in_turn("explain", explain_call, MOTCHIDU_ACCEPTED);
     expect_in_turn("compile_at", compile_faulty, MOTCHIDU_WRONG_TYPE);
     expect_in_turn("compile_with", compile_late, MOTCHIDU_WRONG_TYPE);
+    expect_in_turn("resolve_with", resolve_late, MOTCHIDU_ACCEPTED);
+    expect_in_turn("explain_with", explain_late, MOTCHIDU_ACCEPTED);
 }
 
 /* In the order of their numbers. */
@@ -694,6 +836,10 @@ int main(void) {
     expect_templates();
     expect_capabilities();
     expect_versions();
+    expect_calls_of_versions();
+    expect_explained_by_versions();
+    expect_explained_names();
+    expect_resolved_by_versions();
     expect_too_large();
     expect_texts_without_memory();
     expect_pairs();

@@ -1,8 +1,6 @@
 /* Prints what decides calls under a profile, by their names, without arguments: explain PROFILE NAME..
  * A PROFILE of - is RuntimeDefault. */
 #include <inttypes.h>
-#include <linux/audit.h>
-#include <linux/seccomp.h>
 #include <motchidu.h>
 #include <stdio.h>
 #include <string.h>
@@ -35,15 +33,15 @@ static void print_refusal(size_t length) {
 }
 
 static enum motchidu_status explain(size_t length, const char *name) {
+    static const uint64_t args[6];
     uint32_t number, decider, value;
     size_t entry = 0;
-    enum motchidu_status status = motchidu_call_number(name, strlen(name), &number);
-    if (status != MOTCHIDU_ACCEPTED) {
+    if (motchidu_call_number(name, strlen(name), &number) != MOTCHIDU_ACCEPTED) {
         printf("%s: no such call\n", name);
-        return status;
+        return MOTCHIDU_UNKNOWN_CALL;
     }
-    struct seccomp_data call = {.nr = (int)number, .arch = AUDIT_ARCH_X86_64};
-    status = motchidu_explain(text, length, &call, &decider, &entry, &value);
+    enum motchidu_status status = motchidu_explain_name(MOTCHIDU_LINUX_5_8, text, length, name, strlen(name), args,
+                                                        &decider, &entry, &value);
     if (status != MOTCHIDU_ACCEPTED)
         print_refusal(length);
     else if (decider == MOTCHIDU_BY_ENTRY)

@@ -19,8 +19,8 @@ static void expect(const char *name, uint32_t found, uint32_t want) {
     wrong++;
 }
 
-/* A profile with as many objects in one another as a JSON text may have, or one more. In the innermost stands
- * a number, whose digits may be more than a float has. */
+/* A profile with as many objects in one another as a JSON text may have, or one more. The innermost
+ * object has a number, whose digits may be more than a float has. */
 static const char *nested(int depth, const char *number) {
     static char text[2048];
     strcpy(text, "{\"defaultAction\":\"SCMP_ACT_ALLOW\",\"more\":");

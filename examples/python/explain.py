@@ -14,7 +14,7 @@ def read(path):
 
 
 def told(profile, name):
-    found = library.explain(profile, motchidu.call(library.call_number(name)))
+    found = library.explain_name(profile, name)
     decider = f"syscalls[{found.entry}]" if found.decider == motchidu.ENTRY else "defaultAction"
     return f"{name}: {found.value:08x} by {decider}"
 
@@ -32,6 +32,12 @@ print("i386:", library.explain(profile, i386).decider == motchidu.ARCHITECTURE)
 print("x32:", library.explain(profile, x32).decider == motchidu.X32)
 print("calls 83 and 4711:", library.call_name(83), library.call_name(4711))
 print("mkdri:", library.call_number("mkdri"))
+for version in (motchidu.LINUX_5_8, motchidu.LINUX_6_12):
+    print("futex_waitv and 462:", library.call_number("futex_waitv", version), library.call_name(462, version))
+try:
+    library.call_name(0, 2)
+except motchidu.Refused as refused:
+    print("a third version:", refused)
 for caps, kernel in ((0, motchidu.NEWEST), (SYS_ADMIN, motchidu.NEWEST), (0, (4, 7))):
     resolved = json.loads(library.resolve(template, caps, kernel))
     print("resolved:", *(name for entry in resolved["syscalls"] for name in entry["names"]))

@@ -1,10 +1,11 @@
-"""The library for C as a Python module: compile a profile, explain what it decides, run and compare filters.
+"""The library for C as a Python module: compile and explain profiles; verify, run and compare filters.
 
     import motchidu
     library = motchidu.Library("libmotchidu.so")
     profile = open("profile.json", "rb").read()
     judged = library.compile(profile)
     judged.run(motchidu.call(83))                          # (value, steps)
+    library.verify(open("filter.bpf", "rb").read())        # None, or Refused with the first fault
     library.explain(profile, motchidu.call(library.call_number("mkdir")))
 
 A status of the library that is not an answer is raised as Refused, with its name and, if it has one, its
@@ -34,17 +35,17 @@ LINUX_5_8, LINUX_6_12 = range(2)
 
 _BYTES, _SIZE, _WORDS = ctypes.c_char_p, ctypes.c_size_t, ctypes.POINTER(ctypes.c_uint32)
 _WORD, _MASK, _PLACE = ctypes.c_uint32, ctypes.c_uint64, ctypes.POINTER(ctypes.c_size_t)
+_MASKS = ctypes.POINTER(ctypes.c_uint64)
 _ARGUMENTS = {
-    "motchidu_call_name": [_WORD, _BYTES, _SIZE, _PLACE],
-    "motchidu_call_number": [_BYTES, _SIZE, _WORDS],
+    "motchidu_call_name_with": [_WORD, _WORD, _BYTES, _SIZE, _PLACE],
+    "motchidu_call_number_with": [_WORD, _BYTES, _SIZE, _WORDS],
     "motchidu_compare": [_BYTES, _SIZE, _BYTES, _SIZE, ctypes.c_bool, ctypes.c_uint64, _BYTES, _WORDS],
-    "motchidu_compile": [_BYTES, _SIZE, _BYTES, _SIZE, _PLACE],
-    "motchidu_compile_at": [_BYTES, _SIZE, _BYTES, _SIZE, _PLACE, _BYTES, _SIZE, _PLACE],
     "motchidu_compile_with": [_WORD, _BYTES, _SIZE, _BYTES, _SIZE, _PLACE, _BYTES, _SIZE, _PLACE],
     "motchidu_default": [_BYTES, _SIZE, _PLACE],
-    "motchidu_explain": [_BYTES, _SIZE, _BYTES, _WORDS, _PLACE, _WORDS],
+    "motchidu_explain_name": [_WORD, _BYTES, _SIZE, _BYTES, _SIZE, _MASKS, _WORDS, _PLACE, _WORDS],
+    "motchidu_explain_with": [_WORD, _BYTES, _SIZE, _BYTES, _WORDS, _PLACE, _WORDS],
     "motchidu_longest": [_BYTES, _SIZE, _WORDS, _PLACE],
-    "motchidu_resolve": [_BYTES, _SIZE, _MASK, _WORD, _WORD, _BYTES, _SIZE, _PLACE],
+    "motchidu_resolve_with": [_WORD, _BYTES, _SIZE, _MASK, _WORD, _WORD, _BYTES, _SIZE, _PLACE],
     "motchidu_run_all": [_BYTES, _SIZE, _BYTES, _SIZE, _WORDS, _SIZE, _WORDS, _SIZE],
     "motchidu_verify": [_BYTES, _SIZE, _PLACE],
 }
@@ -93,36 +94,62 @@ class Library:
             raise Refused(status, place.raw[: place_length.value].decode() or None)
         return Filter(self, code.raw[: length.value])
 
-    def explain(self, profile, one):
+    def explain(self, profile, one, calls=LINUX_5_8):
         """What decides a call under a profile, and the value that its filter returns."""
         decider, entry, value = ctypes.c_uint32(), ctypes.c_size_t(), ctypes.c_uint32()
-        status = self._library.motchidu_explain(profile, len(profile), one, decider, entry, value)
+        status = self._library.motchidu_explain_with(
+            calls, profile, len(profile), one, decider, entry, value)
+        return self._explanation(status, decider, entry, value)
+
+    def explain_name(self, profile, name, *arguments, calls=LINUX_5_8):
+        """What decides the call of x86-64 with this name and these arguments, and the value."""
+        decider, entry, value = ctypes.c_uint32(), ctypes.c_size_t(), ctypes.c_uint32()
+        name, six = name.encode(), (ctypes.c_uint64 * 6)(*arguments)
+        status = self._library.motchidu_explain_name(
+            calls, profile, len(profile), name, len(name), six, decider, entry, value)
+        return self._explanation(status, decider, entry, value)
+
+    @staticmethod
+    def _explanation(status, decider, entry, value):
         if status != ACCEPTED:
             raise Refused(status)
         index = entry.value if decider.value == ENTRY else None
         return Explanation(decider.value, index, value.value)
 
     def default(self):
-        """The bytes of RuntimeDefault, the profile that a container gets where its manifest says so."""
+        """The bytes of RuntimeDefault, the profile of a container whose manifest asks for it."""
         return self._text(self._library.motchidu_default, MAX_PROFILE)
 
-    def resolve(self, template, caps=0, kernel=NEWEST):
+    def resolve(self, template, caps=0, kernel=NEWEST, calls=LINUX_5_8):
         """The profile that a container engine's template is. Bit n of caps is capability n."""
         return self._text(
-            self._library.motchidu_resolve, MAX_PROFILE, template, len(template), caps, *kernel)
+            self._library.motchidu_resolve_with, MAX_PROFILE, calls, template, len(template), caps, *kernel)
 
-    def call_number(self, name):
+    def call_number(self, name, calls=LINUX_5_8):
         """The number of the call with this name, or None."""
         number, name = ctypes.c_uint32(), name.encode()
-        status = self._library.motchidu_call_number(name, len(name), number)
-        return None if status == UNKNOWN_CALL else number.value
+        status = self._library.motchidu_call_number_with(calls, name, len(name), number)
+        if status == UNKNOWN_CALL:
+            return None
+        if status != ACCEPTED:
+            raise Refused(status)
+        return number.value
 
-    def call_name(self, number):
+    def call_name(self, number, calls=LINUX_5_8):
         """The name of the call with this number, or None."""
         try:
-            return self._text(self._library.motchidu_call_name, 32, number).decode()
-        except Refused:
+            return self._text(self._library.motchidu_call_name_with, 32, calls, number).decode()
+        except Refused as refused:
+            if refused.status != NAMES[UNKNOWN_CALL]:
+                raise
             return None
+
+    def verify(self, code):
+        """Returns None if the filter of these bytes is sound; else raises Refused with its first fault."""
+        place = ctypes.c_size_t()
+        status = self._library.motchidu_verify(code, len(code), place)
+        if status != ACCEPTED:
+            raise Refused(status, place.value if NAMES[status] in PLACED else None)
 
     def filter(self, code):
         """The filter of these bytes, if it is sound."""
@@ -133,11 +160,8 @@ class Filter:
     """A sound filter."""
 
     def __init__(self, library, code):
+        library.verify(code)
         self._library, self.code = library._library, code
-        place = ctypes.c_size_t()
-        status = self._library.motchidu_verify(code, len(code), place)
-        if status != ACCEPTED:
-            raise Refused(status, place.value if NAMES[status] in PLACED else None)
 
     def longest(self):
         """The largest number of instructions on any way through the filter."""
@@ -158,6 +182,7 @@ class Filter:
         return list(zip(values, steps))
 
     def run(self, one):
+        """For one call the value that the filter returns, and the number of steps."""
         return self.run_all([one])[0]
 
     def compare(self, other, native=False, budget=100_000_000):

@@ -2,7 +2,7 @@
 # Sourced by the scripts of this folder, which need seccheck on the path. Each calls `learned`, which makes the
 # profile of mkdir from traces, and defines `confined NAME`, which runs mkdir under the filter or the profile
 # $room/NAME.*. It ends with `both`.
-# Status 0: both runs ended as the profiles say. 1: one did not. 77: this machine can't run the script.
+# Status 0: both runs ended as the profiles decide. 1: one did not. 77: this machine can't run the script.
 set -eu
 export LC_ALL=C # messages in English
 here=$(cd "$(dirname "$0")" && pwd)

@@ -1,7 +1,7 @@
 #!/bin/sh
-# A program in C, examples/c/confine.c, holds its child to the filter of its learned profile, by the library for C,
-# and then to that of the same profile without getpid. pkg-config has to know the library, as after `make install`
-# with README's lines of `export`.
+# A program in C, examples/c/confine.c, runs its child under the filter of its learned profile, by the library
+# for C, and then under that of the same profile without getpid. pkg-config has to know the library, as after
+# `make install` with README's lines of `export`.
 . "$(dirname "$0")/common.sh"
 needs "${CC:-cc}" gcc
 needs pkg-config pkg-config

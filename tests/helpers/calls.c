@@ -2,11 +2,12 @@
  * file or a socket to the file that the variable CALLS names, and its answer.
  *
  * FAIL_OPEN=FILE has each open of this path fail with the number OPEN_ERROR. FAIL_ACCEPT=N lets the first N
- * calls of accept4 fail for want of descriptors, FAIL_THREAD=N the N-th and each later call that starts a
+ * calls of accept4 fail as if descriptors ran out, FAIL_THREAD=N the N-th and each later call that starts a
  * thread, or with FAIL_THREADS=M these M. SLOW_UNLINK=N has each unlink wait for N seconds first, SLOW_COPY=N
- * the third copy of a descriptor. TAKEN=1 has a file come to stand where a link is to be made. LOCK_AFTER=FILE
- * has the first lock wait until FILE is gone, seven seconds at most, and a second more. SLOW_WAKE=N lets a
- * thread that gave a lock back to one that waits for it rest for N microseconds. */
+ * the third copy of a descriptor. TAKEN=1 creates a file at the place where a link is about to be made.
+ * LOCK_AFTER=FILE has the first lock wait until FILE is gone, seven seconds at most, and a second more.
+ * SLOW_WAKE=N lets a thread rest for N microseconds after it released a lock that another thread waits for.
+ */
 #define _GNU_SOURCE
 #include <dlfcn.h>
 #include <errno.h>

@@ -1,7 +1,7 @@
-/* Built as a shared library and preloaded, it lets calls of a program fail once, with the errno that is asked
- * for: FAULT=NAME:N:ERRNO lets the N-th call of this name fail, counted from 1, and FAULT=NAME:N+:ERRNO that
- * and each later one. ERRNO is a name of the table below, or a number. Several faults are joined by commas,
- * each with a count of its own.
+/* Built as a shared library and preloaded, it lets calls of a program fail once, with a chosen
+ * errno: FAULT=NAME:N:ERRNO lets the N-th call of this name fail, counted from 1, and FAULT=NAME:N+:ERRNO
+ * that and each later one. ERRNO is a name of the table below, or a number. Several faults are joined by
+ * commas, each with a count of its own.
  *
  *   NAME        calls
  *   getdents64  getdents64
@@ -84,7 +84,7 @@ static int error_of(const char *word)
   return atoi(word);
 }
 
-/* The path that this one stands for, without links; of a file that is not there, where it would be. */
+/* The path without links of the file at this path; of a missing file, the path that it would have. */
 static int place_of(const char *path, char *found)
 {
   char folder[PATH_MAX], whole[PATH_MAX];

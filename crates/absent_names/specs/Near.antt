@@ -2,8 +2,8 @@
 use Rattle.std.specs.Prelude.{ℕ, zero, suc, ◌==◌, nat_le, Bool, true, false, ◌&&◌, ◌||◌, if◌then◌else◌}
 use Rattle.std.specs.Str.{bytes_eq}
 use Rattle.std.specs.Prelude.{List, [], ◌∷◌, length, Option, Some, None}
-use Rattle.sys_table.specs.SysTable.{name_of}
-use Rattle.sys_table.specs.declared.table.TheConstants.{NUMBER_LIMIT}
+use Rattle.sys_table.specs.SysTable.{limit_of, name_in}
+use Rattle.sys_table.specs.declared.calls.CallTable.{CallTable}
 
 -- whether at most one byte has to be left out, added or replaced to make the one of the other
 abbrev pub is_within_one : List ℕ → List ℕ → Bool
@@ -28,19 +28,19 @@ abbrev pub first_of : Bool → List ℕ → Option (List ℕ) → Option (List �
 first_of once name None later = later
 first_of once name (Some call) later = if is_like once name call then Some call else later
 
--- the first call like the name, among so many numbers from this one on
-abbrev pub first_from : Bool → List ℕ → ℕ → ℕ → Option (List ℕ)
-first_from once name number zero = None
-first_from once name number (suc count) =
-    first_of once name (name_of number) (first_from once name (suc number) count)
+-- the first of these calls that is like the name, among so many numbers from this one on
+abbrev pub first_from : CallTable → Bool → List ℕ → ℕ → ℕ → Option (List ℕ)
+first_from calls once name number zero = None
+first_from calls once name number (suc count) =
+    first_of once name (name_in calls number) (first_from calls once name (suc number) count)
 
-abbrev pub first : Bool → List ℕ → Option (List ℕ)
-first once name = first_from once name 0 NUMBER_LIMIT
+abbrev pub first : CallTable → Bool → List ℕ → Option (List ℕ)
+first calls once name = first_from calls once name 0 (limit_of calls)
 
 abbrev pub or_else : Option (List ℕ) → Option (List ℕ) → Option (List ℕ)
 or_else None second = second
 or_else (Some first) second = Some first
 
--- the call that the name was probably meant to be
-unfoldable pub suggestion : List ℕ → Option (List ℕ)
-suggestion name = or_else (first true name) (first false name)
+-- the one of these calls that the name was probably meant to be
+unfoldable pub suggestion : CallTable → List ℕ → Option (List ℕ)
+suggestion calls name = or_else (first calls true name) (first calls false name)

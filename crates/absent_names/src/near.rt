@@ -1,9 +1,10 @@
 ghost use Rattle.std.specs.Prelude.{◌≡◌, ◌≤◌, ◌+◌, List, Some, ℕ, is_some, true};
 ghost use Rattle.std.specs.Option.{option_copied};
-ghost use Rattle.sys_table.specs.SysTable.{number_of};
+ghost use Rattle.sys_table.specs.SysTable.{limit_of, number_in};
+ghost use Rattle.sys_table.specs.declared.calls.CallTable.{CallTable};
 ghost use Rattle.absent_names.specs.Near.{first_from, is_like, is_within_one, is_within_two, suggestion};
 
-use sys_table::{NUMBER_LIMIT, names_and_numbers_agree};
+use sys_table::{CallTable, names_and_numbers_agree};
 
 /// Whether at most one byte has to be left out, added or replaced to make the one of the other.
 fn is_within_one(name: &[u8], call: &[u8]) -> bool
@@ -50,34 +51,41 @@ fn is_like(once: bool, name: &[u8], call: &[u8]) -> bool
     }
 }
 
-/// The first call like the name, among so many numbers from this one on.
-fn first_from(once: bool, name: &str, number: u32, count: u32) -> Option<&'static str>
-    requires { number + count ≤ NUMBER_LIMIT }
-    ensures { option_copied result ≡ first_from once name.now number count }
+/// The first of these calls that is like the name, among so many numbers from this one on.
+fn first_from(
+    calls: CallTable,
+    once: bool,
+    name: &str,
+    number: u32,
+    count: u32,
+) -> Option<&'static str>
+    requires { number + count ≤ limit_of calls }
+    ensures { option_copied result ≡ first_from calls once name.now number count }
 {
     if count == 0 {
         return None;
     }
-    match sys_table::name(number) {
+    match calls.name(number) {
         Some(call) if is_like(once, name.as_bytes(), call.as_bytes()) => Some(call),
-        _ => first_from(once, name, number + 1, count - 1),
+        _ => first_from(calls, once, name, number + 1, count - 1),
     }
 }
 
-/// The call of the table that the name was probably meant to be.
+/// The one of these calls that the name was probably meant to be.
 #[tactic(auto, unfolding(crate::specs::Near::suggestion))]
-pub fn suggestion(name: &str) -> Option<&'static str>
-    ensures { option_copied result ≡ suggestion name.now }
+pub fn suggestion(calls: CallTable, name: &str) -> Option<&'static str>
+    ensures { option_copied result ≡ suggestion calls name.now }
 {
-    match first_from(true, name, 0, NUMBER_LIMIT as u32) {
+    match first_from(calls, true, name, 0, calls.limit()) {
         Some(call) => Some(call),
-        None => first_from(false, name, 0, NUMBER_LIMIT as u32),
+        None => first_from(calls, false, name, 0, calls.limit()),
     }
 }
 
-/// A suggested name is that of a call of the table.
+/// A suggested name is that of one of the calls.
 pub fn suggestions_are_calls()
-    ensures { (name call : List ℕ) → suggestion name ≡ Some call → is_some (number_of call) ≡ true }
+    ensures { (calls : CallTable) (name call : List ℕ) → suggestion calls name ≡ Some call
+        → is_some (number_in calls call) ≡ true }
 {
     names_and_numbers_agree();
 }

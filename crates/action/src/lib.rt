@@ -11,6 +11,8 @@
 //!   `values_round_trip`.
 //! - The rank of a verdict: `rank`, `ranks_are_an_order`.
 //! - A verdict decides whether the call is performed, and which errno is returned: `performs`, `errno`.
+//! - The printed forms of verdicts and values: `Display` of `Verdict`, `ValueText`,
+//!   `ValueMembers` and `ValueObject`.
 //! - The errnos of errno(3) by name and by number: `errno_number`, `errno_name`, `Display` of `ShownErrno`.
 //!
 //! Only tested: that errnos have the numbers of this machine.
@@ -19,6 +21,7 @@
 mod action;
 mod errnos;
 mod laws;
+mod shown;
 #[cfg(test)]
 mod tests;
 mod verdict;
@@ -28,4 +31,5 @@ pub use errnos::{ShownErrno, errno_name, errno_number};
 pub use laws::{
     constants_are_as_stated, ranks_are_an_order, values_round_trip, verdicts_round_trip,
 };
+pub use shown::{ValueMembers, ValueObject, ValueText};
 pub use verdict::{ENOSYS, MAX_ERRNO, Verdict};

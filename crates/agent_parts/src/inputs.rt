@@ -1,18 +1,19 @@
 //! The manifests that the command line names, and those of a folder.
 
-ghost use Rattle.std.specs.Prelude.{IfErr, IfOk};
+ghost use Rattle.std.specs.Prelude.{IfErr, IfOk, string_bytes};
 ghost use Rattle.manifest.specs.Pod.{ReadsPod};
-ghost use Rattle.agent_parts.specs.Stops.{IsOfText};
+ghost use Rattle.agent_parts.specs.Stops.{IsManifestNote, IsOfText};
 
 use crate::advice::advice_lines;
 use crate::stops::AgentStop;
 use fault_notes::manifest_note;
-use manifest::{Pod, PodFault};
+use manifest::{Pod, PodFault, PodFaultAt};
 use pod_folder::{gives_uid, uid_for};
 use runtime_server::bytes_at;
 use runtime_stops::ServerStop;
-use std::alloc::Global;
+use std::alloc::{AllocError, Global};
 use std::rt;
+use wrong_files::{HintAfter, Wanted, hint_of_text};
 
 /// The pod of a manifest's bytes.
 pub fn pod_of<'a>(alloc: Global, path: &'a str, bytes: &[u8]) -> Result<Pod, AgentStop<'a>>
@@ -23,9 +24,18 @@ pub fn pod_of<'a>(alloc: Global, path: &'a str, bytes: &[u8]) -> Result<Pod, Age
         Ok(pod) => Ok(pod),
         Err(found) => match found.fault {
             PodFault::Memory => Err(AgentStop::Server(ServerStop::Memory)),
-            _ => Err(AgentStop::Text(path, manifest_note(alloc, bytes, &found)?)),
+            _ => Err(AgentStop::Text(path, note_on(alloc, bytes, &found)?)),
         },
     }
+}
+
+/// The note on a refused manifest, with a hint if the bytes seem to be another file.
+fn note_on(alloc: Global, bytes: &[u8], found: &PodFaultAt) -> Result<String, AllocError>
+    ensures { IfOk result (λ note. IsManifestNote bytes.now found.now (string_bytes note)) }
+{
+    let note = manifest_note(alloc, bytes, found)?;
+    let hint = hint_of_text(alloc, bytes, Wanted::Manifest)?;
+    format!(in alloc; "{}{}", note.as_str(), HintAfter(hint))
 }
 
 /// A pod of a manifest that the command line names.

@@ -1,5 +1,5 @@
-//! The file in which an agent keeps the uids of the pods that it must not leave behind in the runtime. It is
-//! written before a pod is admitted.
+//! The file in which an agent keeps the uids of the pods that it has to remove from the runtime. The agent
+//! writes it before it admits a pod.
 ghost use Rattle.std.specs.Prelude.{◌≡◌, ◌++◌, ◌∷◌, [], IfOk, None, OnErr, OnOk, Option, List, ℕ, ◌<◌};
 ghost use Rattle.std.specs.Prelude.{vec_len, vec_capacity};
 ghost use Rattle.std.specs.String.{string_bytes};

@@ -104,7 +104,7 @@ fn add_loss(
     Ok(())
 }
 
-/// The line that reports whether the runtime behind a socket can be reached, if there is one.
+/// The line that reports whether the runtime at a socket can be reached, if the report has a line.
 pub fn reach_line(
     alloc: Global,
     socket: &str,

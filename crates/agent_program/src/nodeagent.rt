@@ -22,7 +22,7 @@ use std::thread::Threads;
 use std::time::{Clock, Duration, SystemTime, UNIX_EPOCH};
 use worker_crew::Shared;
 
-/// The program `nodeagent`: runs pods in the containers of a runtime behind a socket. `words` is the command
+/// The program `nodeagent`: runs pods in the containers of a runtime, over a socket. `words` is the command
 /// line, with the program's name first. Returns the exit status: 0 done, 1 input refused, 2 command line
 /// refused, 3 file or socket fault, 4 out of memory or of history, 5 the last moment was reached. Writes the
 /// table of the pods to `out`, and the reason for the end to `err`.

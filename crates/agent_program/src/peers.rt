@@ -51,8 +51,8 @@ fn not_entered(why: NoPlace) -> Why {
     }
 }
 
-/// The runtime behind the socket at a path. Each call has a connection of its own. Each borrow has its own
-/// lifetime, as they come from different places.
+/// The runtime that listens on the socket at a path. Each call has its own connection. Each borrow has its
+/// own lifetime, as they come from different places.
 #[derive(Drop)]
 pub(crate) struct SocketPeer<'r, 'p, 'c, 'a, R: Wait> {
     pub(crate) rt: &'r R,

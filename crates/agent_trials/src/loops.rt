@@ -51,12 +51,12 @@ impl<B: Node> Loop<B> {
         }
     }
 
-    /// The n-th read or write from the start, of whichever wire, fails once and moves nothing.
+    /// Makes the n-th read or write from the start fail once, on any wire. It moves nothing.
     pub(crate) fn fail_call(&self, n: u64) {
         self.failing.store(n, Ordering::SeqCst);
     }
 
-    /// Every n-th read or write, of whichever wire, fails and moves nothing.
+    /// Makes every n-th read or write fail, on any wire. It moves nothing.
     pub(crate) fn fail_every(&self, n: u64) {
         self.every.store(n, Ordering::SeqCst);
     }

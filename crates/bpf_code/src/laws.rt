@@ -18,7 +18,7 @@ pub fn written_is_read()
         → bytes_of_code code ≡ bytes_of_code other → code ≡ other }
 {}
 
-/// The numbers of an instruction fit their fields, as its type says.
+/// The numbers of an instruction fit their fields, as its type ensures.
 pub fn numbers_fit(insn: Insn)
     ensures { Fits insn }
 {

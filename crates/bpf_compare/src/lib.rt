@@ -1,11 +1,11 @@
 //! Compares two seccomp filters on every call, or on every native one: classic BPF over a call's data,
 //! seccomp(2).
 //!
-//! `specs/Agree.antt` defines what a result says about two filters. `compare` follows paths through both,
-//! each for a set of calls (`path.rt`, `walk.rt`, `step.rt`), of which it knows bounds and bits word by word
-//! (`known.rt`, `range.rt`, `question.rt`, `bounded.rt`). If that is not enough, it learns one bit of the
-//! calls at a time (`asking.rt`), so only arithmetic, an X that may be many numbers and the budget leave a
-//! result undecided.
+//! `specs/Agree.antt` defines the meaning of a result for two filters. `compare` follows paths through both,
+//! each for a set of calls (`path.rt`, `walk.rt`, `step.rt`). It knows bounds and bits of each word of these
+//! calls (`known.rt`, `range.rt`, `question.rt`, `bounded.rt`). If that is not enough, it learns one bit of
+//! the calls at a time (`asking.rt`). So only arithmetic, an X that may be many numbers and the budget leave
+//! a result undecided.
 //!
 //! # What is proved
 //!

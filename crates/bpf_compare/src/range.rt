@@ -52,14 +52,16 @@ impl Range {
         }
     }
 
-    /// The same numbers, if there is one, with bounds and known bits that narrow each other.
+    /// The same numbers, with bounds and known bits that narrow each other. None only if there are no
+    /// numbers.
     fn settled(self) -> Option<Range>
         ensures { (n : ℕ) → IsIn self n → IsSomeAnd result (λ range. IsIn range n) }
     {
         self.within_bits()?.with_shared_bits()?.within_bits()
     }
 
-    /// The same numbers, if there is one: none is below the known bits, or above these with all others set.
+    /// The same numbers, with bounds that the known bits allow: at least these bits, and at most these with
+    /// all others set. None only if there are no numbers.
     fn within_bits(self) -> Option<Range>
         ensures { (n : ℕ) → IsIn self n → IsSomeAnd result (λ range. IsIn range n) }
     {
@@ -73,7 +75,8 @@ impl Range {
         }
     }
 
-    /// The same numbers, if there is one: all have the bits that both bounds share.
+    /// The same numbers, with the bits that both bounds share as known bits. None only if there are no
+    /// numbers.
     fn with_shared_bits(self) -> Option<Range>
         ensures { (n : ℕ) → IsIn self n → IsSomeAnd result (λ range. IsIn range n) }
     {

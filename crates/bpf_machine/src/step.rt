@@ -47,8 +47,9 @@ impl Registers {
 
 /// The result of an instruction.
 ///
-/// A jump says only which of its numbers applies. So the result of a test is a branch in the machine's loop,
-/// which the processor predicts; if it were a number to look up, the loop would wait for the load.
+/// The result of a jump is only which of its numbers applies. So the result of a test is a branch in the
+/// machine's loop, which the processor predicts; if it were a number to look up, the loop would wait for the
+/// load.
 pub(crate) enum After {
     /// Goes on to the next instruction, with these numbers in A and X.
     Goes(u32, u32),

@@ -10,7 +10,7 @@ pub fn constants_are_as_stated()
     ensures native_arch { NATIVE_ARCH ≡ 62 + 0x8000_0000 + 0x4000_0000 }
 {}
 
-/// Each number of a call fits its field, as its type says.
+/// Each number of a call fits its field, as its type ensures.
 pub fn fields_fit(call: SysCall)
     ensures { IsCall call }
 {

@@ -1,3 +1,4 @@
 pub mod Marks
 pub mod Tests
 pub mod Text
+pub mod Words

@@ -1,13 +1,13 @@
 -- The output of comparing two filters, this project's own: docs/SEMANTICS.md, "Programs".
-use Rattle.std.specs.Prelude.{ℕ, List, ◌++◌, codes, slice_index}
+use Rattle.std.specs.Prelude.{ℕ, List, ◌++◌, codes}
 use Rattle.std.specs.Fmt.{decimal}
 use Rattle.action.specs.Verdict.{name_of, verdict_of}
 use Rattle.bpf_compare.specs.declared.comparison.Doubt.{Doubt}
 use Rattle.bpf_compare.specs.declared.comparison.Doubt.TheVariants.{Budget, Arithmetic}
 use Rattle.bpf_compare.specs.declared.scope.Calls.{Calls}
 use Rattle.bpf_compare.specs.declared.scope.Calls.TheVariants.{Every, Native}
+use Rattle.call_names.specs.Words.{words_text}
 use Rattle.check_answers.specs.declared.compared.Difference.{Difference}
-use Rattle.check_answers.specs.CallWords.{words_text}
 use Rattle.check_answers.specs.Texts.{eight_digits}
 
 -- a value, its action and data
@@ -15,10 +15,6 @@ abbrev pub value_text : ℕ → List ℕ
 value_text value =
     eight_digits value ++ (codes " " ++ (name_of (verdict_of value).action
     ++ (codes " " ++ decimal (verdict_of value).ret_data)))
-
--- an argument of an object
-abbrev pub arg_text : List ℕ → ℕ → List ℕ
-arg_text args at = decimal (slice_index args at)
 
 -- the call, in the words in which `run` takes it, and both values
 abbrev pub difference_text : Difference → List ℕ

@@ -1,5 +1,4 @@
 pub mod ArrowText
-pub mod CallWords
 pub mod Compared
 pub mod LineText
 pub mod ListObjects

@@ -2,10 +2,11 @@
 -- text of these has a byte that JSON would escape.
 use Rattle.std.specs.Prelude.{ℕ, List, ◌++◌, codes}
 use Rattle.std.specs.Fmt.{decimal}
-use Rattle.action.specs.Verdict.{name_of, verdict_of}
+use Rattle.action.specs.Shown.{value_object}
+use Rattle.action.specs.Verdict.{name_of}
 use Rattle.bpf_compare.specs.declared.scope.Calls.{Calls}
 use Rattle.bpf_compare.specs.declared.scope.Calls.TheVariants.{Every, Native}
-use Rattle.check_answers.specs.Compared.{arg_text}
+use Rattle.call_names.specs.Words.{call_members}
 use Rattle.check_answers.specs.declared.compared.Difference.{Difference}
 use Rattle.check_answers.specs.declared.judging.Judged.{Judged}
 
@@ -32,19 +33,8 @@ abbrev pub same_object : Calls → List ℕ
 same_object Every = codes "{\"answer\":\"same\",\"calls\":\"every\"}\n"
 same_object Native = codes "{\"answer\":\"same\",\"calls\":\"native\"}\n"
 
--- a value, its action and data
-abbrev pub value_object : ℕ → List ℕ
-value_object value =
-    codes "{\"value\":" ++ (decimal value ++ (codes ",\"action\":\"" ++ (name_of (verdict_of value).action
-    ++ (codes "\",\"data\":" ++ (decimal (verdict_of value).ret_data ++ codes "}")))))
-
 -- the call, and both values
 abbrev pub difference_object : Difference → List ℕ
 difference_object d =
-    codes "{\"answer\":\"differ\",\"call\":" ++ (decimal d.call.nr
-    ++ (codes ",\"args\":[" ++ (arg_text d.call.args 0 ++ (codes "," ++ (arg_text d.call.args 1
-    ++ (codes "," ++ (arg_text d.call.args 2 ++ (codes "," ++ (arg_text d.call.args 3
-    ++ (codes "," ++ (arg_text d.call.args 4 ++ (codes "," ++ (arg_text d.call.args 5
-    ++ (codes "],\"arch\":" ++ (decimal d.call.arch ++ (codes ",\"ip\":" ++ (decimal d.call.ip
-    ++ (codes ",\"first\":" ++ (value_object d.first ++ (codes ",\"second\":" ++ (value_object d.second
-    ++ codes "}\n")))))))))))))))))))))
+    codes "{\"answer\":\"differ\"," ++ (call_members d.call ++ (codes ",\"first\":" ++ (value_object d.first
+    ++ (codes ",\"second\":" ++ (value_object d.second ++ codes "}\n")))))

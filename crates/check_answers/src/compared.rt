@@ -2,10 +2,10 @@
 ghost use Rattle.std.specs.Prelude.{◌≡◌, IfOk, string_bytes};
 ghost use Rattle.check_answers.specs.Compared.{reason_of, same_text};
 
-use crate::call_words::CallWords;
 use action::Verdict;
 use bpf_compare::{Calls, Doubt};
 use call_data::SysCall;
+use call_names::CallWords;
 use std::alloc::{AllocError, Global};
 use std::fmt;
 use sys_table::CallTable;

@@ -10,14 +10,13 @@
 //! - A played script has its outcome: every judged call, performed or not, and the code: `play`,
 //!   `Outcome::entries`, `code`.
 //! - The text of what is judged, shown, compared, played and picked, byte by byte: `Display` of `Judged`,
-//!   `CallWords`, `Difference`, `ShownValue`, `reason`, `same_line`, `accepted_line`, `compiled_line`, `longest_line`,
+//!   `Difference`, `ShownValue`, `reason`, `same_line`, `accepted_line`, `compiled_line`, `longest_line`,
 //!   `judged_line`, `code_lines`, `outcome_lines`, `picked_lines`.
-//! - Its JSON objects, byte by byte: `Display` of `DifferenceObject`, `ValueObject`, `accepted_object`,
+//! - Its JSON objects, byte by byte: `Display` of `DifferenceObject`, `accepted_object`,
 //!   `compiled_object`, `longest_object`, `judged_object`, `same_object`, `record_objects`, `code_objects`,
 //!   `picked_objects`.
 #![tactic(auto)]
 
-mod call_words;
 mod compared;
 mod judging;
 mod line;
@@ -28,14 +27,12 @@ mod playing;
 mod pod_play;
 mod show;
 
-pub use call_words::CallWords;
 pub use compared::{Difference, ShownValue, reason, same_line};
 pub use judging::{Judged, judge};
 pub use line::{accepted_line, compiled_line, judged_line, longest_line, outcome_lines};
 pub use list_objects::{code_objects, picked_objects, record_objects};
 pub use objects::{
-    DifferenceObject, ValueObject, accepted_object, compiled_object, judged_object, longest_object,
-    same_object,
+    DifferenceObject, accepted_object, compiled_object, judged_object, longest_object, same_object,
 };
 pub use picked::picked_lines;
 pub use playing::{Outcome, play};

@@ -6,8 +6,9 @@ ghost use Rattle.check_answers.specs.Objects.{same_object};
 
 use crate::compared::Difference;
 use crate::judging::Judged;
-use action::Verdict;
+use action::ValueObject;
 use bpf_compare::Calls;
+use call_names::CallMembers;
 use std::alloc::{AllocError, Global};
 use std::fmt;
 
@@ -54,27 +55,6 @@ pub fn same_object(alloc: Global, calls: Calls) -> Result<String, AllocError>
     format!(in alloc; "{{\"answer\":\"same\",\"calls\":\"{calls}\"}}\n")
 }
 
-/// A value that a filter returns: `{"value":2147418112,"action":"ALLOW","data":0}`.
-#[derive(Clone, Copy)]
-pub struct ValueObject(pub u32);
-
-impl fmt::Display for ValueObject {
-    ghost use Rattle.std.specs.Prelude.{Some};
-    ghost use Rattle.check_answers.specs.Objects.{value_object};
-
-    ghost output = { λ value. Some (value_object value.0) };
-
-    fn fmt<W: fmt::Write>(&self, f: &mut fmt::Formatter<W>) -> fmt::Result {
-        let value = self.0;
-        let verdict = Verdict::of_value(value);
-        let (action, ret_data) = (verdict.action, verdict.ret_data);
-        write!(
-            f,
-            "{{\"value\":{value},\"action\":\"{action}\",\"data\":{ret_data}}}"
-        )
-    }
-}
-
 /// The call on which two filters return different values, and these, with the end of the line.
 #[derive(Clone, Copy)]
 pub struct DifferenceObject(pub Difference);
@@ -86,14 +66,11 @@ impl fmt::Display for DifferenceObject {
     ghost output = { λ difference. Some (difference_object difference.0) };
 
     fn fmt<W: fmt::Write>(&self, f: &mut fmt::Formatter<W>) -> fmt::Result {
-        let (nr, args) = (self.0.call.nr, self.0.call.args);
-        let (arch, ip) = (self.0.call.arch, self.0.call.ip);
+        let call = CallMembers(self.0.call);
         let (first, second) = (ValueObject(self.0.first), ValueObject(self.0.second));
         writeln!(
             f,
-            "{{\"answer\":\"differ\",\"call\":{nr},\"args\":[{},{},{},{},{},{}],\
-             \"arch\":{arch},\"ip\":{ip},\"first\":{first},\"second\":{second}}}",
-            args[0], args[1], args[2], args[3], args[4], args[5]
+            "{{\"answer\":\"differ\",{call},\"first\":{first},\"second\":{second}}}"
         )
     }
 }

@@ -4,6 +4,7 @@ use Rattle.std.specs.Prelude.{ℕ, ◌==◌, nat_le, Bool, false, ◌&&◌, ◌|
 use Rattle.std.specs.Prelude.{codes, Option, Some, None}
 use Rattle.std.specs.Fmt.{decimal}
 use Rattle.std.specs.List.{list_any}
+use Rattle.sys_table.specs.declared.calls.CallTable.{CallTable}
 use Rattle.absent_names.specs.Kinds.{kind_of}
 use Rattle.absent_names.specs.Near.{suggestion}
 use Rattle.absent_names.specs.declared.kind.AbsentName.{AbsentName}
@@ -32,13 +33,13 @@ abbrev pub near_fault : List ℕ → Option (List ℕ) → List ℕ
 near_fault word None = unknown_fault word
 near_fault word (Some call) = codes "BadNumber (no call of that name; near: " ++ (call ++ codes ")")
 
-abbrev pub absent_fault : List ℕ → AbsentName → List ℕ
-absent_fault word (absent.Newer number) = codes "BadNumber (call " ++ (decimal number
+abbrev pub absent_fault : CallTable → List ℕ → AbsentName → List ℕ
+absent_fault known word (absent.Newer number) = codes "BadNumber (call " ++ (decimal number
     ++ codes ", newer than the table: give the number)")
-absent_fault word absent.NotImplemented = codes "BadNumber (not implemented on x86-64)"
-absent_fault word absent.OtherArchitecture = codes "BadNumber (a call of other architectures)"
-absent_fault word absent.Unknown = near_fault word (suggestion word)
+absent_fault known word absent.NotImplemented = codes "BadNumber (not implemented on x86-64)"
+absent_fault known word absent.OtherArchitecture = codes "BadNumber (a call of other architectures)"
+absent_fault known word absent.Unknown = near_fault word (suggestion known word)
 
-unfoldable pub call_fault : List ℕ → List ℕ
-call_fault word = if is_file word then codes "BadNumber (a file? it comes first)"
-    else absent_fault word (kind_of word)
+unfoldable pub call_fault : CallTable → List ℕ → List ℕ
+call_fault known word = if is_file word then codes "BadNumber (a file? it comes first)"
+    else absent_fault known word (kind_of word)

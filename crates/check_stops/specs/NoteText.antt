@@ -13,7 +13,7 @@ use Rattle.verdict.specs.FaultText.{fault_text as stack_fault_text}
 use Rattle.fault_notes.specs.Notes.{IsNote}
 use Rattle.fault_notes.specs.Paths.{shown_path}
 use Rattle.fault_notes.specs.declared.named.Named.TheVariants as named
-use Rattle.wrong_files.specs.HintText.{hint_text}
+use Rattle.wrong_files.specs.HintText.{hint_after}
 use Rattle.wrong_files.specs.Hints.{IsHint, filter_hints, hints_for}
 use Rattle.wrong_files.specs.declared.hint.Hint.{Hint}
 use Rattle.wrong_files.specs.declared.hint.Wanted.TheVariants as wanted
@@ -54,11 +54,6 @@ refusal_spot _ = Whole
 abbrev pub spot_text : Spot → List ℕ
 spot_text Whole = []
 spot_text (At place) = codes ": " ++ decimal place
-
--- the hint on what the file seems to be, if there is one
-abbrev pub hint_after : Option Hint → List ℕ
-hint_after None = []
-hint_after (Some hint) = codes " " ++ hint_text hint
 
 -- the instruction there, if there is one
 abbrev pub insn_after : Option Insn → List ℕ

@@ -20,8 +20,8 @@ stop_text (Differ difference) = Some (difference_text difference ++ codes "\n")
 stop_text (Undecided doubt) = Some (codes "undecided: " ++ reason_of doubt ++ codes "\n")
 stop_text (CommandLine error) = None
 stop_text (BadNumber word) = Some (codes "seccheck: " ++ shown_path word.now ++ codes ": BadNumber\n")
-stop_text (BadCall word) = Some (codes "seccheck: " ++ shown_path word.now ++ codes ": "
-    ++ call_fault word.now ++ codes "\n")
+stop_text (BadCall known word) = Some (codes "seccheck: " ++ shown_path word.now ++ codes ": "
+    ++ call_fault known word.now ++ codes "\n")
 stop_text (BadWord word fault) = Some (codes "seccheck: " ++ shown_path word.now ++ codes ": "
     ++ word_fault_text fault ++ codes "\n")
 stop_text (File path caused) = Some (codes "seccheck: " ++ shown_path path.now ++ codes ": "

@@ -4,23 +4,24 @@ ghost use Rattle.check_stops.specs.CallFaults.{begins_name, is_file, is_file_byt
 
 use absent_names::{AbsentName, kind_of, suggestion};
 use std::fmt;
+use sys_table::CallTable;
 
-/// The fault's name of a word that is no call, and what the word is, if it is no number.
+/// The fault's name of a word that is none of these calls, and what the word is, if it is no number.
 #[derive(Clone, Copy)]
-pub(crate) struct CallFault<'a>(pub(crate) &'a str);
+pub(crate) struct CallFault<'a>(pub(crate) CallTable, pub(crate) &'a str);
 
 impl fmt::Display for CallFault<'_> {
     ghost use Rattle.std.specs.Prelude.{Some};
     ghost use Rattle.check_stops.specs.CallFaults.{call_fault};
 
-    ghost output = { λ fault. Some (call_fault fault.0.now) };
+    ghost output = { λ fault. Some (call_fault fault.0 fault.1.now) };
 
     #[tactic(auto, unfolding(crate::specs::CallFaults::call_fault))]
     fn fmt<W: fmt::Write>(&self, f: &mut fmt::Formatter<W>) -> fmt::Result {
-        if is_file(self.0) {
+        if is_file(self.1) {
             return f.write_str("BadNumber (a file? it comes first)");
         }
-        match kind_of(self.0) {
+        match kind_of(self.1) {
             AbsentName::Newer(number) => write!(
                 f,
                 "BadNumber (call {number}, newer than the table: give the number)"
@@ -29,15 +30,15 @@ impl fmt::Display for CallFault<'_> {
             AbsentName::OtherArchitecture => f.write_str(
                 "BadNumber (a call of other architectures)",
             ),
-            AbsentName::Unknown => match suggestion(self.0) {
+            AbsentName::Unknown => match suggestion(self.0, self.1) {
                 Some(call) => write!(f, "BadNumber (no call of that name; near: {call})"),
-                None => f.write_str(unknown_fault(self.0)),
+                None => f.write_str(unknown_fault(self.1)),
             },
         }
     }
 }
 
-/// What is printed of a word that no call is like.
+/// The fault of a word that is like no name of a call.
 fn unknown_fault(word: &str) -> &'static str
     ensures { result.now ≡ unknown_fault word.now }
 {

@@ -12,7 +12,7 @@ use fault_notes::{ShownPath, manifest_note, profile_note, script_note, template_
 use std::alloc::{AllocError, Global};
 use std::fmt;
 use std::io::Write;
-use wrong_files::{Hint, Wanted, hint_of_filter, hint_of_text};
+use wrong_files::{Hint, HintAfter, Wanted, hint_of_filter, hint_of_text};
 
 /// A place in a filter.
 #[derive(Clone, Copy)]
@@ -22,10 +22,6 @@ pub(crate) enum Spot {
     /// The instruction at this place, from 0.
     At(usize),
 }
-
-/// A hint after a line's text, if there is one.
-#[derive(Clone, Copy)]
-pub(crate) struct HintAfter(Option<Hint>);
 
 /// An instruction after a line's text, if there is one.
 #[derive(Clone, Copy)]
@@ -63,20 +59,6 @@ impl fmt::Display for ShortLine<'_, '_> {
     fn fmt<W: fmt::Write>(&self, f: &mut fmt::Formatter<W>) -> fmt::Result {
         let (path, fault) = (ShownPath(self.0.path), self.0.refused.fault());
         writeln!(f, "seccheck: {path}: {fault}")
-    }
-}
-
-impl fmt::Display for HintAfter {
-    ghost use Rattle.std.specs.Prelude.{Some};
-    ghost use Rattle.check_stops.specs.NoteText.{hint_after};
-
-    ghost output = { λ after. Some (hint_after after.0) };
-
-    fn fmt<W: fmt::Write>(&self, f: &mut fmt::Formatter<W>) -> fmt::Result {
-        match self.0 {
-            Some(hint) => write!(f, " {hint}"),
-            None => Ok(()),
-        }
     }
 }
 

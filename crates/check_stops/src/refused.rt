@@ -122,7 +122,7 @@ impl fmt::Display for FaultName<'_> {
     }
 }
 
-/// The fault's name, for scripts and stacks behind what is refused.
+/// The fault's name, after the word `script` or `filter` if a script, a stack or a filter of one is refused.
 impl fmt::Display for Refused {
     ghost use Rattle.std.specs.Prelude.{Some};
     ghost use Rattle.check_stops.specs.Refused.{refused_text};

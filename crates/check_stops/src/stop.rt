@@ -9,6 +9,7 @@ use fault_notes::ShownPath;
 use node_io::{Cause, CausedFault, FileFault};
 use std::alloc::{AllocError, AllocFailed};
 use std::fmt;
+use sys_table::CallTable;
 
 /// Why a program ends before its work is done.
 #[derive(Debug, Drop)]
@@ -23,9 +24,9 @@ pub enum Stop<'a> {
     CommandLine(clap::Error),
     /// A word of the command line is no number of its range.
     BadNumber(&'a str),
-    /// A word of the command line is no call: neither a number nor a name.
-    BadCall(&'a str),
-    /// A word of the command line is none of those that may stand there.
+    /// A word of the command line is none of these calls: neither a number nor a name.
+    BadCall(CallTable, &'a str),
+    /// A word of the command line is none of those allowed at its place.
     BadWord(&'a str, WordFault),
     /// A file can't be read or written.
     File(&'a str, CausedFault),
@@ -47,7 +48,8 @@ impl Stop<'_> {
     {
         match self {
             Stop::Refused(_) | Stop::Differ(_) | Stop::Undecided(_) => 1,
-            Stop::CommandLine(_) | Stop::BadNumber(_) | Stop::BadCall(_) | Stop::BadWord(_, _) => 2,
+            Stop::CommandLine(_) | Stop::BadNumber(_) | Stop::BadCall(_, _) | Stop::BadWord(_, _) =>
+                2,
             Stop::File(_, _) | Stop::SameFile(_) | Stop::Unwritten(_) => 3,
             Stop::Memory => 4,
         }
@@ -78,8 +80,9 @@ impl fmt::Display for Stop<'_> {
             Stop::Undecided(doubt) => writeln!(f, "undecided: {}", reason(*doubt)),
             Stop::CommandLine(error) => write!(f, "{error}"),
             Stop::BadNumber(word) => writeln!(f, "seccheck: {}: BadNumber", ShownPath(word)),
-            Stop::BadCall(word) => {
-                writeln!(f, "seccheck: {}: {}", ShownPath(word), CallFault(word))
+            Stop::BadCall(known, word) => {
+                let fault = CallFault(*known, word);
+                writeln!(f, "seccheck: {}: {fault}", ShownPath(word))
             }
             Stop::BadWord(word, fault) => writeln!(f, "seccheck: {}: {fault}", ShownPath(word)),
             Stop::File(path, fault) => writeln!(f, "seccheck: {}: {fault}", ShownPath(path)),

@@ -494,6 +494,6 @@ pub fn budget_at<'a>(default: u64, matches: &ArgMatches<'a>) -> Result<u64, &'a 
 pub fn word_at<'a>(matches: &ArgMatches<'a>, id: &str) -> &'a str
     ensures { result.now ≡ word_in id.now (found_of matches.now) }
 {
-    // clap gives a required argument a value.
+    // clap ensures that a required argument has a value.
     matches.get_str(id).unwrap_or("")
 }

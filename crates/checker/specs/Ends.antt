@@ -3,6 +3,7 @@
 use Rattle.std.specs.Prelude.{ℕ, Bool, true, false, List, codes, count_by, if◌then◌else◌, nat_lt}
 use Rattle.std.specs.Borrow.{Bor}
 use Rattle.std.specs.Str.{bytes_eq}
+use Rattle.sys_table.specs.declared.calls.CallTable.{CallTable}
 use Rattle.node_io.specs.declared.causes.Cause.TheVariants.{Gone}
 use Rattle.check_stops.specs.declared.stop.Stop.{Stop}
 use Rattle.check_stops.specs.declared.bad_words.WordFault.TheVariants.{BadCalls, NoArch}
@@ -15,10 +16,10 @@ abbrev pub is_silent : Stop → Bool
 is_silent (Unwritten Gone) = true
 is_silent stop = false
 
-abbrev pub call_stop : BadCallWord → Stop
-call_stop (of.Call word) = BadCall word
-call_stop (of.Arch word) = BadWord word NoArch
-call_stop (of.Number word) = BadNumber word
+abbrev pub call_stop : CallTable → BadCallWord → Stop
+call_stop known (of.Call word) = BadCall known word
+call_stop known (of.Arch word) = BadWord word NoArch
+call_stop known (of.Number word) = BadNumber word
 
 abbrev pub calls_stop : Bor (List ℕ) → Stop
 calls_stop word = BadWord word BadCalls

@@ -23,11 +23,11 @@ use sys_table::CallTable;
 /// The budget of `compare` in instructions, if the command line has none. It takes seconds.
 const BUDGET: u64 = 100_000_000;
 
-/// The budget of each part of `--all` in instructions, if the command line has none. The parts are about 350,
-/// so they take about as many as [`BUDGET`] together.
+/// The budget of each part of `--all` in instructions, if the command line has none. There are about 350
+/// parts, so together they take at most about [`BUDGET`] instructions.
 pub(crate) const PART_BUDGET: u64 = 300_000;
 
-/// What is said on standard error if more instructions would have to be followed.
+/// The line on standard error if the comparison would have to follow more instructions.
 const BUDGET_NOTE: &str = "seccheck: the budget is used up; --budget N follows more instructions\n";
 
 /// The words of `compare`, or of `table --against`.
@@ -166,7 +166,7 @@ fn joined(first: String, second: &str) -> Result<String, AllocError>
     Ok(text)
 }
 
-/// What is said on standard error beside this answer.
+/// The text on standard error for this answer.
 pub(crate) fn budget_note(stop: &Stop<'_>) -> &'static str
     ensures { result.now ≡ budget_note stop.now }
 {
@@ -204,7 +204,7 @@ pub(crate) fn differences_output<'a, R: rt::Files + AllocGlobal, W: Watch>(
     Ok(output_of(text, aside, lines.as_slice()))
 }
 
-/// What is said on standard error beside these lines.
+/// The text on standard error for these lines.
 fn lines_note(takes_budget: bool, lines: &[Line]) -> &'static str
     ensures { result.now ≡ lines_note takes_budget lines.now }
 {

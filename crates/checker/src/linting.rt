@@ -9,8 +9,8 @@ use check_stops::{
 };
 use fault_notes::ShownPath;
 use profile_lint::{
-    Choice, FindingKind, all_findings, grave_count, has_newer_names, is_bad, kind_named,
-    lint_lines, lint_objects, newer_calls, once, passed_in,
+    Choice, FindingKind, add_kinds, all_findings, grave_count, has_newer_names, is_bad, lint_lines,
+    lint_objects, newer_calls, once, passed_in,
 };
 use std::alloc::{AllocError, Global};
 use std::rt;
@@ -21,9 +21,8 @@ use wrong_files::{Hint, Wanted, hint_of_text};
 fn kinds_of<'a>(alloc: Global, words: &[&'a str]) -> Result<Vec<FindingKind>, Stop<'a>> {
     let mut kinds = Vec::new(alloc);
     for word in words {
-        match kind_named(word) {
-            Some(kind) => kinds.push(kind)?,
-            None => return Err(Stop::BadWord(*word, WordFault::BadKind)),
+        if !add_kinds(&mut kinds, word)? {
+            return Err(Stop::BadWord(*word, WordFault::BadKind));
         }
     }
     Ok(kinds)
@@ -78,7 +77,7 @@ fn manifest_lint<'a>(
     if let Err(found) = manifest::read_placed(alloc, &bytes) {
         return Err(refused_stop(path, bytes, Refused::Manifest(found)));
     }
-    // It was read before, so that memory alone can be wanting.
+    // The bytes were read before, so that this fails only if memory runs out.
     let tree = json_tree::read(alloc, &bytes).map_err(|_| AllocError)?;
     Ok(manifest_output(alloc, &tree, allowed, form)?)
 }
@@ -96,7 +95,7 @@ fn profile_output<'a>(
         profile,
         aside,
     } = file;
-    // It was read before, so that memory alone can be wanting.
+    // The bytes were read before, so that this fails only if memory runs out.
     let tree = json_tree::read(alloc, &bytes).map_err(|_| AllocError)?;
     let passed = passed_in(alloc, calls, &tree)?;
     let found = once(alloc, all_findings(alloc, &profile)?.as_slice())?;
@@ -121,8 +120,8 @@ fn graded(alloc: Global, text: String, is_bad: bool) -> Output {
     }
 }
 
-/// What is printed beside the filter of the profile in this file: that it is a template, if it is one, and how
-/// many warnings and errors its text has, and its default.
+/// The text on standard error for the compiled profile in this file: that it is a template, if it is one, and
+/// how many warnings and errors its text has, and its default.
 pub(crate) fn beside(
     alloc: Global,
     calls: CallTable,
@@ -134,7 +133,7 @@ pub(crate) fn beside(
         profile,
         mut aside,
     } = file;
-    // It was read before, so that memory alone can be wanting.
+    // The bytes were read before, so that this fails only if memory runs out.
     let tree = json_tree::read(alloc, &bytes).map_err(|_| AllocError)?;
     let passed = passed_in(alloc, calls, &tree)?;
     let others = [
@@ -146,7 +145,7 @@ pub(crate) fn beside(
     Ok(aside)
 }
 
-/// So many findings, and one more for each of these that is.
+/// This number of findings, plus one for each of these that is true.
 fn count_of(count: usize, others: [bool; 2]) -> usize {
     let mut sum = count;
     for is in others {
@@ -157,7 +156,7 @@ fn count_of(count: usize, others: [bool; 2]) -> usize {
     sum
 }
 
-/// The line that is printed of so many findings, if there are some.
+/// The line on this number of findings, if there are any.
 fn count_line(alloc: Global, path: &str, count: usize) -> Result<String, AllocError>
     ensures { IfOk result (λ text. string_bytes text ≡ count_text path.now count) }
 {

@@ -1,4 +1,4 @@
-//! What is said of a profile itself.
+//! The answers about one profile: what decides a call, the decisions on all calls, RuntimeDefault's line.
 ghost use Rattle.std.specs.Prelude.{IfOk, string_bytes};
 ghost use Rattle.checker.specs.ProfileLines.{IsDefaultLine};
 

@@ -69,7 +69,7 @@ fn page_text(
     lines: &[Line],
     parts: &Parts<'_>,
 ) -> Result<String, AllocError> {
-    // It was read before, so that memory alone can be wanting.
+    // The bytes were read before, so that this fails only if memory runs out.
     let tree = json_tree::read(alloc, bytes).map_err(|_| AllocError)?;
     let passed = passed_in(alloc, asked.calls, &tree)?;
     let found = once(alloc, all_findings(alloc, profile)?.as_slice())?;

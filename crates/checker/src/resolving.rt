@@ -15,7 +15,7 @@ use std::alloc::{AllocError, Global};
 use std::rt;
 use sys_table::CallTable;
 
-/// The plain profile of the template in a file, and beside it the names that it is written without.
+/// The plain profile of the template in a file, and on standard error the names that it is written without.
 pub(crate) fn resolve_output<'a, R: rt::Files + AllocGlobal>(
     rt: &R,
     calls: CallTable,
@@ -75,7 +75,7 @@ fn aside(
     if left_out.is_empty() {
         return Ok(lines);
     }
-    // It was read before, so that memory alone can be wanting.
+    // The bytes were read before, so that this fails only if memory runs out.
     let tree = json_tree::read(alloc, bytes).map_err(|_| AllocError)?;
     for name in &left_out {
         let place = place_of(&tree, *name);

@@ -115,11 +115,11 @@ fn report<E: Write>(stop: &Stop, err: &mut E) -> u8 {
 }
 
 /// Why a word of a call ends the program.
-fn call_stop(word: BadCallWord<'_>) -> Stop<'_>
-    ensures { result ≡ call_stop word.entry }
+fn call_stop(known: CallTable, word: BadCallWord<'_>) -> Stop<'_>
+    ensures { result ≡ call_stop known word.entry }
 {
     match word {
-        BadCallWord::Call(word) => Stop::BadCall(word),
+        BadCallWord::Call(word) => Stop::BadCall(known, word),
         BadCallWord::Arch(word) => Stop::BadWord(word, WordFault::NoArch),
         BadCallWord::Number(word) => Stop::BadNumber(word),
     }
@@ -218,7 +218,7 @@ fn output_of<'a, R: rt::Files + AllocGlobal, W: Watch>(
         }
         "explain" => {
             let calls = calls_at(matches).map_err(calls_stop)?;
-            let call = call_at(calls, matches).map_err(call_stop)?;
+            let call = call_at(calls, matches).map_err(|word| call_stop(calls, word))?;
             explain_output(rt, calls, word_at(matches, "PROFILE"), call, form)
         }
         "lint" => {
@@ -308,7 +308,7 @@ fn naming_at(calls: CallTable, matches: &ArgMatches<'_>) -> Naming {
     }
 }
 
-/// What a command prints that tells nothing beside it.
+/// The text of a command that prints nothing on standard error.
 fn text_of<'a, R: rt::Files + AllocGlobal>(
     rt: &R,
     name: &str,
@@ -318,7 +318,7 @@ fn text_of<'a, R: rt::Files + AllocGlobal>(
     match name {
         "run" => {
             let calls = calls_at(matches).map_err(calls_stop)?;
-            let call = call_at(calls, matches).map_err(call_stop)?;
+            let call = call_at(calls, matches).map_err(|word| call_stop(calls, word))?;
             run_text(rt, word_at(matches, "FILTER"), call, form)
         }
         "default" => Ok(default_line(rt.alloc())?),
@@ -437,7 +437,7 @@ fn show_text<'a, R: rt::Files + AllocGlobal>(
     })
 }
 
-/// What the filter says of the call.
+/// The value that the filter returns on the call, and the steps of its run.
 fn run_text<'a, R: rt::Files + AllocGlobal>(
     rt: &R,
     path: &'a str,
@@ -452,7 +452,7 @@ fn run_text<'a, R: rt::Files + AllocGlobal>(
     })
 }
 
-/// What came of a script that is played under the filters. It may name these calls.
+/// The result of a script that is played under the filters. It may name these calls.
 fn played_at<'a, R: rt::Files + AllocGlobal>(
     rt: &R,
     calls: CallTable,
@@ -482,7 +482,7 @@ fn record_text(
     }
 }
 
-/// The profile of each container of a pod, and beside it what of the manifest has no effect.
+/// The profile of each container of a pod, and on standard error the parts of the manifest without effect.
 fn pick_output<'a, R: rt::Files + AllocGlobal>(
     rt: &R,
     path: &'a str,

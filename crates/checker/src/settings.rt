@@ -88,7 +88,7 @@ fn head_at(word: &str, dot: usize) -> &str
     word.split_at(end_of_digits(word.as_bytes(), dot + 1)).0
 }
 
-/// Where the digits from this place on end. Another ASCII character stands before them.
+/// The place at which the digits from this place on end. Another ASCII character precedes them.
 fn end_of_digits(bytes: &[u8], from: usize) -> usize
     requires within { from ≤ length bytes.now }
     requires ascii { slice_index bytes.now (from - 1) < 128 }

@@ -41,7 +41,7 @@ pub(crate) fn unit_output<'a, R: rt::Files + AllocGlobal>(
     }
 }
 
-/// The refusal of a profile that no unit has, and beside it the reason.
+/// The refusal of a profile that no unit has, and on standard error the reason.
 fn refused(
     alloc: Global,
     calls: CallTable,

@@ -1,7 +1,6 @@
 -- Calls and verdicts as a person reads them, this project's own: docs/SEMANTICS.md, "Programs".
 use Rattle.std.specs.Prelude.{ℕ, ◌==◌, if◌then◌else◌, false, List, ◌++◌, codes}
 use Rattle.std.specs.Fmt.{decimal, digits}
-use Rattle.action.specs.Verdict.{name_of, verdict_of}
 use Rattle.call_names.specs.Text.{call_text as word_text}
 use Rattle.call_names.specs.declared.naming.Naming.TheVariants.{Name}
 use Rattle.sys_table.specs.declared.calls.CallTable.{CallTable}
@@ -10,6 +9,3 @@ use Rattle.sys_table.specs.declared.calls.CallTable.{CallTable}
 unfoldable pub call_text : CallTable → ℕ → ℕ → List ℕ
 call_text calls nr arch = if arch == 0xc000003e then word_text (Name calls) nr
     else decimal nr ++ (codes " --arch 0x" ++ digits 16 false arch)
-
-abbrev pub verdict_text : ℕ → List ℕ
-verdict_text value = name_of (verdict_of value).action ++ (codes " " ++ decimal (verdict_of value).ret_data)

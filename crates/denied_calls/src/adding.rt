@@ -24,7 +24,7 @@ pub fn rows(alloc: Global, sightings: &[Sighting]) -> Result<Vec<Row>, AllocErro
     // Each once, with the sum of what its sightings count.
     ensures each { IfOk result (λ v. IsPermutation (rows sightings.now) v.items) }
 
-    // By count, and then as the sightings stand.
+    // By count, and then in the order of the sightings.
     ensures sorted { IfOk result (λ v. IsSortedBy (λ a b. is_lt (row_order a b)) v.items) }
 {
     let mut rows = each_row(alloc, sightings)?;

@@ -28,7 +28,7 @@ pub struct DeniedCall {
 }
 
 /// The entries of the profile that name the call with this verdict, or else its default, the architecture or
-/// the bit of x32, if that gives this verdict. None if another filter denied the call.
+/// the bit of x32, if that has this verdict. None if another filter denied the call.
 pub fn deciders(
     alloc: Global,
     profile: &Profile,

@@ -2,9 +2,10 @@
 ghost use Rattle.std.specs.Prelude.{◌≡◌, [], ◌∷◌, IfOk, codes, map, string_bytes};
 ghost use Rattle.denied_calls.specs.Lines.{by_text, others_text, row_cells, total_cells};
 
-use crate::shown::{CallText, VerdictText};
+use crate::shown::CallText;
 use crate::sighting::Sighting;
 use crate::totalling::Total;
+use action::ValueText;
 use explain::Decider;
 use std::alloc::{AllocError, Global};
 use sys_table::CallTable;
@@ -23,8 +24,8 @@ pub fn row_head(alloc: Global) -> Result<Vec<String>, AllocError>
     Ok(vec![in alloc; pod, container, call, verdict, times, first]?)
 }
 
-/// The line of a call that a container made, this often: its first sighting says where. It is named if it is one
-/// of these calls.
+/// The line of a denied call of a container: its verdict, its count, and the place of its first sighting. The
+/// call is named if it is one of these calls.
 pub fn row_line(
     alloc: Global,
     calls: CallTable,
@@ -34,7 +35,7 @@ pub fn row_line(
     ensures { IfOk result (λ v. map string_bytes v.items ≡ row_cells calls sighting.now count) }
 {
     let (nr, arch) = (sighting.nr, sighting.arch);
-    let (call, verdict) = (CallText { calls, nr, arch }, VerdictText(sighting.value));
+    let (call, verdict) = (CallText { calls, nr, arch }, ValueText(sighting.value));
     let (attempt, first) = (sighting.attempt, sighting.first);
     let pod = String::from_str(alloc, sighting.uid.as_str())?;
     let container = String::from_str(alloc, sighting.name.as_str())?;
@@ -62,7 +63,7 @@ pub fn total_line(alloc: Global, calls: CallTable, total: Total) -> Result<Vec<S
     ensures { IfOk result (λ v. map string_bytes v.items ≡ total_cells calls total) }
 {
     let (nr, arch) = (total.nr, total.arch);
-    let (call, verdict) = (CallText { calls, nr, arch }, VerdictText(total.value));
+    let (call, verdict) = (CallText { calls, nr, arch }, ValueText(total.value));
     let (count, containers) = (total.count.0, total.containers);
     let call = format!(in alloc; "{call}")?;
     let verdict = format!(in alloc; "{verdict}")?;

@@ -11,8 +11,8 @@ use explain::Decider;
 use std::alloc::{AllocError, Global};
 use sys_table::CallTable;
 
-/// A call that a container made, this often, with its name if it is one of these calls. `by` is what stands behind
-/// the other members.
+/// The object of a denied call of a container, with its count, and with its name if it is one of these calls.
+/// `by` follows the other members.
 pub fn row_object(
     alloc: Global,
     calls: CallTable,
@@ -60,7 +60,7 @@ fn kind_of(nr: u32, arch: u32, value: u32) -> CallKind
     }
 }
 
-/// The member that says what of a profile denied a call: `,"by":["syscalls[1]","syscalls[3]"]`.
+/// The member that names the parts of a profile that denied a call: `,"by":["syscalls[1]","syscalls[3]"]`.
 pub fn by_member(alloc: Global, deciders: &[Decider]) -> Result<String, AllocError>
     ensures { IfOk result (λ t. string_bytes t ≡ by_member deciders.now) }
 {

@@ -34,23 +34,6 @@ impl fmt::Display for CallText {
     }
 }
 
-/// The verdict of a filter's value: `ERRNO 1`.
-#[derive(Clone, Copy)]
-pub(crate) struct VerdictText(pub u32);
-
-impl fmt::Display for VerdictText {
-    ghost use Rattle.std.specs.Prelude.{Some};
-    ghost use Rattle.denied_calls.specs.Shown.{verdict_text};
-
-    ghost output = { λ value. Some (verdict_text value.0) };
-
-    fn fmt<W: fmt::Write>(&self, f: &mut fmt::Formatter<W>) -> fmt::Result {
-        let verdict = Verdict::of_value(self.0);
-        let (action, ret_data) = (verdict.action, verdict.ret_data);
-        write!(f, "{action} {ret_data}")
-    }
-}
-
 /// The action of a filter's value: `ERRNO`.
 #[derive(Clone, Copy)]
 pub(crate) struct ActionText(pub u32);

@@ -2,11 +2,10 @@
 -- No text of it has a byte that JSON would escape.
 use Rattle.std.specs.Prelude.{ℕ, List, [], ◌∷◌, ◌++◌, codes}
 use Rattle.std.specs.Fmt.{decimal}
-use Rattle.action.specs.Verdict.{name_of}
+use Rattle.action.specs.Verdict.{name_of, verdict_of}
 use Rattle.oci_profile.specs.declared.conditions.Op.{Op}
 use Rattle.oci_profile.specs.declared.conditions.Op.TheVariants.{MaskedEqual}
-use Rattle.oci_profile.specs.declared.decision.Decision.{Decision}
-use Rattle.oci_profile.specs.Decision.{verdict_of}
+use Rattle.oci_profile.specs.Decision.{value_of}
 use Rattle.explain.specs.declared.explanation.Decider.{Decider}
 use Rattle.explain.specs.declared.explanation.Explanation.{Explanation}
 use Rattle.explain.specs.declared.explanation.PassedOver.{PassedOver}
@@ -26,12 +25,11 @@ passed_object passed =
     ++ (op_text passed.cond.op ++ (codes "\",\"value\":" ++ (decimal passed.cond.value
     ++ (masked_member passed.cond.op passed.cond.value_two ++ codes "}"))))))))))
 
--- the action and its data, and what decides: a line
-abbrev pub decided_object : Decision → Decider → List ℕ
-decided_object decision decider =
-    codes "{\"action\":\"" ++ (name_of (verdict_of decision).action ++ (codes "\",\"data\":"
-    ++ (decimal (verdict_of decision).ret_data ++ (codes ",\"by\":\"" ++ (decider_text decider
-    ++ codes "\"}\n")))))
+-- a value's action and data, and what decides
+abbrev pub decided_members : ℕ → Decider → List ℕ
+decided_members value decider =
+    codes "\"action\":\"" ++ (name_of (verdict_of value).action ++ (codes "\",\"data\":"
+    ++ (decimal (verdict_of value).ret_data ++ (codes ",\"by\":\"" ++ (decider_text decider ++ codes "\"")))))
 
 -- one line per entry
 abbrev pub passed_objects : List PassedOver → List ℕ
@@ -39,4 +37,5 @@ passed_objects [] = []
 passed_objects (passed ∷ others) = passed_object passed ++ (codes "\n" ++ passed_objects others)
 
 abbrev pub explanation_objects : Explanation → List ℕ
-explanation_objects e = passed_objects e.passed.items ++ decided_object e.decision e.decider
+explanation_objects e = passed_objects e.passed.items ++ (codes "{"
+    ++ (decided_members (value_of e.decision) e.decider ++ codes "}\n"))

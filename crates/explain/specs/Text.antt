@@ -1,12 +1,12 @@
 -- The printed lines of an explanation, this project's own: docs/SEMANTICS.md, "Programs".
 use Rattle.std.specs.Prelude.{ℕ, List, [], ◌∷◌, ◌++◌, codes}
 use Rattle.std.specs.Fmt.{decimal}
-use Rattle.action.specs.Verdict.{name_of}
+use Rattle.action.specs.Shown.{value_text}
+use Rattle.call_names.specs.Words.{argument_text}
 use Rattle.oci_profile.specs.declared.conditions.Op.{Op}
 use Rattle.oci_profile.specs.declared.conditions.Op.TheVariants.{NotEqual, Less, LessOrEqual, Equal}
 use Rattle.oci_profile.specs.declared.conditions.Op.TheVariants.{GreaterOrEqual, Greater, MaskedEqual}
-use Rattle.oci_profile.specs.declared.decision.Decision.{Decision}
-use Rattle.oci_profile.specs.Decision.{verdict_of}
+use Rattle.oci_profile.specs.Decision.{value_of}
 use Rattle.explain.specs.declared.explanation.Decider.{Decider}
 use Rattle.explain.specs.declared.explanation.Decider.TheVariants.{Architecture, X32Bit, Entry, Default}
 use Rattle.explain.specs.declared.explanation.Explanation.{Explanation}
@@ -23,7 +23,7 @@ op_text MaskedEqual = codes "MASKED_EQ"
 
 -- the value after the mask
 abbrev pub masked_text : Op → ℕ → List ℕ
-masked_text MaskedEqual two = codes " " ++ decimal two
+masked_text MaskedEqual two = codes " " ++ argument_text two
 masked_text _ two = []
 
 -- an entry's place, the argument that was compared, and what its condition wants
@@ -31,8 +31,8 @@ abbrev pub passed_text : PassedOver → List ℕ
 passed_text passed =
     codes "not syscalls[" ++ (decimal passed.place
     ++ (codes "]: args[" ++ (decimal passed.cond.index ++ (codes "] is "
-    ++ (decimal passed.argument ++ (codes ", wanted "
-    ++ (op_text passed.cond.op ++ (codes " " ++ (decimal passed.cond.value
+    ++ (argument_text passed.argument ++ (codes ", wanted "
+    ++ (op_text passed.cond.op ++ (codes " " ++ (argument_text passed.cond.value
     ++ masked_text passed.cond.op passed.cond.value_two)))))))))
 
 abbrev pub decider_text : Decider → List ℕ
@@ -41,11 +41,9 @@ decider_text X32Bit = codes "the x32 bit"
 decider_text (Entry place) = codes "syscalls[" ++ (decimal place ++ codes "]")
 decider_text Default = codes "defaultAction"
 
--- the action and its data, and what decides
-abbrev pub decided_text : Decision → Decider → List ℕ
-decided_text decision decider =
-    name_of (verdict_of decision).action ++
-    (codes " " ++ (decimal (verdict_of decision).ret_data ++ (codes " by " ++ decider_text decider)))
+-- a value's action and data, and what decides
+abbrev pub decided_text : ℕ → Decider → List ℕ
+decided_text value decider = value_text value ++ (codes " by " ++ decider_text decider)
 
 -- one line per entry
 abbrev pub passed_lines : List PassedOver → List ℕ
@@ -53,4 +51,4 @@ passed_lines [] = []
 passed_lines (passed ∷ others) = passed_text passed ++ (codes "\n" ++ passed_lines others)
 
 abbrev pub explanation_text : Explanation → List ℕ
-explanation_text e = passed_lines e.passed.items ++ (decided_text e.decision e.decider ++ codes "\n")
+explanation_text e = passed_lines e.passed.items ++ (decided_text (value_of e.decision) e.decider ++ codes "\n")

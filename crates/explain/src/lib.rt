@@ -13,7 +13,7 @@
 //! - Each earlier entry that names the number is listed, in order, with its first condition that fails:
 //!   `explain` (passed).
 //! - The lines and objects that are printed: `explanation_lines`, `explanation_objects`, `Display` of
-//!   `PassedOver`, `Decider`.
+//!   `PassedOver`, `Decider`, `Decided`, `DecidedMembers`.
 #![tactic(auto)]
 
 mod conditions;
@@ -25,5 +25,5 @@ mod objects;
 pub use conditions::applies;
 pub use explainer::explain;
 pub use explanation::{Decider, Explanation, PassedOver};
-pub use lines::explanation_lines;
-pub use objects::explanation_objects;
+pub use lines::{Decided, explanation_lines};
+pub use objects::{DecidedMembers, explanation_objects};

@@ -2,11 +2,13 @@ ghost use Rattle.std.specs.Prelude.{◌≡◌, IfOk, string_bytes};
 ghost use Rattle.explain.specs.Text.{explanation_text, op_text};
 
 use crate::explanation::{Decider, Explanation, PassedOver};
+use action::ValueText;
+use call_names::Argument;
 use oci_profile::Op;
 use std::alloc::{AllocError, Global};
 use std::fmt;
 
-/// `not syscalls[1]: args[0] is 5, wanted GE 9`, and for a mask `wanted MASKED_EQ VALUE VALUETWO`.
+/// `not syscalls[1]: args[0] is 5, wanted GE 9`, and for a mask `wanted MASKED_EQ 0x7e020000 0`.
 impl fmt::Display for PassedOver {
     ghost use Rattle.std.specs.Prelude.{Some};
     ghost use Rattle.explain.specs.Text.{passed_text};
@@ -14,15 +16,15 @@ impl fmt::Display for PassedOver {
     ghost output = { λ passed. Some (passed_text passed) };
 
     fn fmt<W: fmt::Write>(&self, f: &mut fmt::Formatter<W>) -> fmt::Result {
-        let (place, argument) = (self.place, self.argument);
-        let (index, value) = (self.cond.index, self.cond.value);
+        let (place, argument) = (self.place, Argument(self.argument));
+        let (index, value) = (self.cond.index, Argument(self.cond.value));
         let op = op_text(self.cond.op);
         write!(
             f,
             "not syscalls[{place}]: args[{index}] is {argument}, wanted {op} {value}"
         )?;
         match self.cond.op {
-            Op::MaskedEqual => write!(f, " {}", self.cond.value_two),
+            Op::MaskedEqual => write!(f, " {}", Argument(self.cond.value_two)),
             _ => Ok(()),
         }
     }
@@ -60,6 +62,22 @@ impl fmt::Display for Decider {
     }
 }
 
+/// A value's action and data, and what decides: `ERRNO 13 by syscalls[3]`.
+#[derive(Clone, Copy, Debug)]
+pub struct Decided(pub u32, pub Decider);
+
+impl fmt::Display for Decided {
+    ghost use Rattle.std.specs.Prelude.{Some};
+    ghost use Rattle.explain.specs.Text.{decided_text};
+
+    ghost output = { λ decided. Some (decided_text decided.0 decided.1) };
+
+    fn fmt<W: fmt::Write>(&self, f: &mut fmt::Formatter<W>) -> fmt::Result {
+        let (value, decider) = (ValueText(self.0), self.1);
+        write!(f, "{value} by {decider}")
+    }
+}
+
 /// A line for each entry that is passed over, and one for what decides: `ERRNO 13 by syscalls[3]`.
 pub fn explanation_lines(alloc: Global, explanation: &Explanation) -> Result<String, AllocError>
     ensures { IfOk result (λ text. string_bytes text ≡ explanation_text explanation.now) }
@@ -68,9 +86,7 @@ pub fn explanation_lines(alloc: Global, explanation: &Explanation) -> Result<Str
     for passed in explanation.passed.as_slice() {
         writeln!(text, "{passed}")?;
     }
-    let verdict = explanation.decision.verdict();
-    let (action, ret_data) = (verdict.action, verdict.ret_data);
-    let decider = explanation.decider;
-    writeln!(text, "{action} {ret_data} by {decider}")?;
+    let decided = Decided(explanation.decision.value(), explanation.decider);
+    writeln!(text, "{decided}")?;
     Ok(text)
 }

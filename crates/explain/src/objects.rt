@@ -1,8 +1,9 @@
 ghost use Rattle.std.specs.Prelude.{◌≡◌, IfOk, string_bytes};
 ghost use Rattle.explain.specs.Objects.{explanation_objects};
 
-use crate::explanation::{Explanation, PassedOver};
+use crate::explanation::{Decider, Explanation, PassedOver};
 use crate::lines::op_text;
+use action::Verdict;
 use oci_profile::{Cond, Op};
 use std::alloc::{AllocError, Global};
 use std::fmt;
@@ -48,6 +49,27 @@ impl fmt::Display for Object {
     }
 }
 
+/// A value's action and data, and what decides, as members: `"action":"ERRNO","data":13,"by":"syscalls[3]"`.
+#[derive(Clone, Copy, Debug)]
+pub struct DecidedMembers(pub u32, pub Decider);
+
+impl fmt::Display for DecidedMembers {
+    ghost use Rattle.std.specs.Prelude.{Some};
+    ghost use Rattle.explain.specs.Objects.{decided_members};
+
+    ghost output = { λ members. Some (decided_members members.0 members.1) };
+
+    fn fmt<W: fmt::Write>(&self, f: &mut fmt::Formatter<W>) -> fmt::Result {
+        let verdict = Verdict::of_value(self.0);
+        let (action, ret_data) = (verdict.action, verdict.ret_data);
+        let decider = self.1;
+        write!(
+            f,
+            "\"action\":\"{action}\",\"data\":{ret_data},\"by\":\"{decider}\""
+        )
+    }
+}
+
 /// The content of [`explanation_lines`](crate::explanation_lines), as one JSON object (RFC 8259) per line:
 /// `{"action":"ERRNO","data":13,"by":"syscalls[3]"}`.
 pub fn explanation_objects(alloc: Global, explanation: &Explanation) -> Result<String, AllocError>
@@ -58,12 +80,7 @@ pub fn explanation_objects(alloc: Global, explanation: &Explanation) -> Result<S
         let object = Object(*passed);
         writeln!(text, "{object}")?;
     }
-    let verdict = explanation.decision.verdict();
-    let (action, ret_data) = (verdict.action, verdict.ret_data);
-    let decider = explanation.decider;
-    writeln!(
-        text,
-        "{{\"action\":\"{action}\",\"data\":{ret_data},\"by\":\"{decider}\"}}"
-    )?;
+    let decided = DecidedMembers(explanation.decision.value(), explanation.decider);
+    writeln!(text, "{{{decided}}}")?;
     Ok(text)
 }

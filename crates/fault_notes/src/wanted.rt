@@ -7,17 +7,27 @@ use oci_profile::ProfileFault;
 use profile_template::TemplateFault;
 use script::ScriptFault;
 
-/// What was wanted where a fault is: a type, or the rule for a name. Empty if the fault's own name says it.
+/// What was wanted at a fault's place: a type, or the rule for a name. Empty if the fault's name states it.
 pub(crate) fn wanted_at(fault: Named, place: &Place) -> &'static str {
     match fault {
-        Named::Profile(ProfileFault::WrongType) => type_at(place),
-        Named::Template(TemplateFault::Profile(ProfileFault::WrongType)) => type_at(place),
+        Named::Profile(fault) => wanted_in_profile(fault, place),
+        Named::Template(TemplateFault::Profile(fault)) => wanted_in_profile(fault, place),
         Named::Template(TemplateFault::BadKernel) => "two numbers, as 4.8",
         Named::Manifest(PodFault::WrongType) => type_at(place),
         Named::Manifest(PodFault::BadName) => rule_at(place),
+        Named::Manifest(PodFault::BadProfile) => profile_at(place),
         Named::Script(ScriptFault::WrongType) => script_type_at(place),
         Named::Script(ScriptFault::Missing) => missing_in_script(place),
         Named::Script(ScriptFault::BadCode) => "0 to 255",
+        _ => "",
+    }
+}
+
+fn wanted_in_profile(fault: ProfileFault, place: &Place) -> &'static str {
+    match fault {
+        ProfileFault::WrongType => type_at(place),
+        ProfileFault::UnknownAction => "an action such as SCMP_ACT_ERRNO",
+        ProfileFault::UnknownOp => "an operator such as SCMP_CMP_EQ",
         _ => "",
     }
 }
@@ -75,6 +85,13 @@ fn rule_at(place: &Place) -> &'static str {
         Some(Step::Member(key)) if place.steps().len() == 2 => rule_of_pod(key),
         Some(Step::Member(key)) => rule_of_container(key),
         _ => "",
+    }
+}
+
+fn profile_at(place: &Place) -> &'static str {
+    match step_from_end(place, 0) {
+        Some(Step::Member("type")) => "RuntimeDefault, Localhost or Unconfined",
+        _ => "a path below the folder, for Localhost alone",
     }
 }
 

@@ -11,8 +11,8 @@ use std::{fs, rt};
 pub(crate) const LINKS: u32 = 40;
 
 /// Writes a file of the system completely, or leaves it as it was. If the path is a symbolic link, that is
-/// the file to which it leads. A replaced file keeps its permissions; a new one gets those that the process
-/// gives to new files. A device or a pipe is written directly, since it has no contents to lose.
+/// the file to which it leads. A replaced file keeps its permissions. A new file gets those that the
+/// umask of the process allows. A device or a pipe is written directly, since it has no contents to lose.
 pub fn replace<R: rt::Files + AllocGlobal>(
     rt: &R,
     path: &str,

@@ -14,7 +14,7 @@ const STREAMS: u32 = 3;
 /// number. It is opened for reading: a read of standard input ends at once, and a write to standard output or
 /// error still fails, as if it were closed. Call this before any other file is opened.
 pub fn open_closed<R: rt::Files<File = File>>(rt: &R) -> io::Result<()> {
-    // The system gives the lowest number that is free.
+    // The system returns the lowest free number.
     for _ in 0..=STREAMS {
         let file = OpenOptions::new().read(true).open(rt, "/dev/null")?;
         if file.as_raw_fd() > LAST_STREAM {

@@ -33,7 +33,7 @@ impl<'a, R: rt::Files> SystemDisk<'a, R> {
         if let Some(like) = &self.like {
             let own = file.metadata()?;
             if own.uid() != like.uid() || own.gid() != like.gid() {
-                // Only root may give files away. A link put there meanwhile is not followed.
+                // Only root may change a file's owner. A link put there meanwhile is not followed.
                 let _ = lchown(self.rt, path, Some(like.uid()), Some(like.gid()));
             }
             file.set_permissions(like.permissions())?;

@@ -10,7 +10,7 @@ use std::alloc::{AllocError, Global};
 use std::rt;
 use sys_table::CallTable;
 
-/// What is asked for beside the files.
+/// What the command line asks for, without its files.
 #[derive(Clone, Copy)]
 pub struct LearnAsked<'a> {
     /// The known calls.

@@ -68,7 +68,7 @@ impl Model for Containers {
 }
 
 impl Containers {
-    /// The containers of a list, the first `inits` of which are init containers.
+    /// The containers of a list, whose first `inits` are init containers.
     pub fn new(list: Vec<Container>, inits: usize) -> Containers
         requires { AreContainers list.items inits }
         ensures { result ≡ record { all = list.items; inits = inits } }

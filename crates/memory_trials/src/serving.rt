@@ -18,7 +18,7 @@ pub(crate) fn told(rt: &HostRuntime, name: &str, text: &str) -> Option<Told> {
     }
 }
 
-/// What a runtime was asked before: `u1` has two containers, of which one was started, and had a third one;
+/// The requests before the tried one: `u1` has two containers, one of them started, and had a third one;
 /// `u2` was stopped, and `u3` removed.
 const BEFORE: &str = r#"{"call":"RunPodSandbox","id":1,"uid":"u1","v":2}
 {"attempt":0,"call":"CreateContainer","id":2,"image":"a","name":"a","profile":{"type":"Unconfined"},"uid":"u1","v":2}

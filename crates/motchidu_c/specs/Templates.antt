@@ -4,8 +4,8 @@
 use Rattle.std.specs.Prelude.{◌≡◌, ℕ, ◌/◌, ◌%◌, ◌^◌, ◌==◌, List, codes, filter_map, map, if◌then◌else◌}
 use Rattle.std.specs.Prelude.{Option, Some, None, Ok, Err}
 use Rattle.std.specs.List.{enumerate_from}
-use Rattle.oci_profile.specs.Profile.{ReadsProfile}
-use Rattle.sys_table.specs.declared.calls.CallTable.TheVariants.{Linux5_8}
+use Rattle.oci_profile.specs.Profile.{ReadsProfileWith}
+use Rattle.sys_table.specs.declared.calls.CallTable.{CallTable}
 use Rattle.profile_template.specs.Reading.{reading_of}
 use Rattle.profile_template.specs.Resolved.{profile_of}
 use Rattle.profile_template.specs.declared.placed.TemplateFaultAt.{TemplateFaultAt}
@@ -34,11 +34,12 @@ pub record AreSettings (settings : Settings) (caps major minor : ℕ) : Type 0 w
   pub arch_is : settings.arch.now ≡ codes "amd64"
   pub kernel_is : settings.kernel ≡ Some (record { major = major; minor = minor })
 
--- the bytes are a template under these settings, and the text reads as its plain profile
-pub record ReadsTemplate (settings : Settings) (bytes text : List ℕ) : Type 0 where
+-- the bytes are a template under these settings, and the text reads as its plain profile if these are the
+-- known calls
+pub record ReadsTemplate (known : CallTable) (settings : Settings) (bytes text : List ℕ) : Type 0 where
   pub template : Template
   pub reads : reading_of settings bytes ≡ Ok template
-  pub written : ReadsProfile text (profile_of Linux5_8 template)
+  pub written : ReadsProfileWith known text (profile_of known template)
 
 -- the answer for bytes that are not resolved under these settings: the first fault, or, for a template, that
 -- its plain profile has too many bytes
@@ -49,10 +50,10 @@ pub data IsUnresolved (settings : Settings) (bytes : List ℕ) (status : Status)
       → status ≡ TooLarge → IsUnresolved settings bytes status
 
 -- the text is the plain profile under the settings that these numbers encode
-pub record IsResolved (bytes text : List ℕ) (caps major minor : ℕ) : Type 0 where
+pub record IsResolved (known : CallTable) (bytes text : List ℕ) (caps major minor : ℕ) : Type 0 where
   pub settings : Settings
   pub are_settings : AreSettings settings caps major minor
-  pub reads : ReadsTemplate settings bytes text
+  pub reads : ReadsTemplate known settings bytes text
 
 -- under these settings there is none, and this status is why
 pub record HasNoProfile (bytes : List ℕ) (status : Status) (caps major minor : ℕ) : Type 0 where

@@ -17,8 +17,8 @@ ghost use Rattle.motchidu_c.specs.Versions.{calls_of};
 
 use crate::compiling_at::compiled_at;
 use crate::status::Status;
+use crate::versions::calls_of;
 use std::alloc::Global;
-use sys_table::CallTable;
 
 /// Compiles a profile as `motchidu_compile_at` does. The known calls are those of a version of Linux, which
 /// `calls` names.
@@ -73,16 +73,5 @@ pub extern "C" fn motchidu_compile_with(
             compiled_at(alloc, known, profile, filter, len, place, place_len).number()
         }
         None => Status::UnknownVersion.number(),
-    }
-}
-
-/// The calls of the version of Linux with this number, as in `enum motchidu_version` of the header.
-fn calls_of(version: u32) -> Option<CallTable>
-    ensures { result ≡ calls_of version }
-{
-    match version {
-        0 => Some(CallTable::Linux5_8),
-        1 => Some(CallTable::Linux6_12),
-        _ => None,
     }
 }

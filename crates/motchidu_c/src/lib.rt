@@ -16,8 +16,9 @@
 //!   any case: `motchidu_compile_at`: placed. No place is written for a profile, or if memory runs out:
 //!   place_kept, place_len_kept, memory_place, memory_place_len.
 //! - The same with the calls of the version of Linux that a number names: `motchidu_compile_with`. A number
-//!   is UnknownVersion exactly if it names no version, and nothing is written then: version, kept, len_kept, version_place,
-//!   version_place_len.
+//!   is UnknownVersion exactly if it names no version, and nothing is written then: version, kept, len_kept,
+//!   version_place, version_place_len. Likewise for what follows: `motchidu_explain_with`,
+//!   `motchidu_explain_name`, which finds the call by its name, `motchidu_resolve_with`, `motchidu_call_number_with`, `motchidu_call_name_with`.
 //! - What decides a call under a profile is another architecture, the bit of x32, the first entry that names
 //!   the call and whose conditions all hold, or the default; the value is the decision's, and the profile's
 //!   on the call: `motchidu_explain`: explained. Refusals are those of a profile, and write nothing: first,
@@ -55,20 +56,23 @@ mod compiling_at;
 mod compiling_with;
 mod default_profile;
 mod explaining;
+mod explaining_name;
 mod exports;
 mod refusal;
 mod resolving;
 mod room;
 mod status;
+mod versions;
 
-pub use call_name::motchidu_call_name;
-pub use call_number::motchidu_call_number;
+pub use call_name::{motchidu_call_name, motchidu_call_name_with};
+pub use call_number::{motchidu_call_number, motchidu_call_number_with};
 pub use comparing::motchidu_compare;
 pub use compiling::motchidu_compile;
 pub use compiling_at::motchidu_compile_at;
 pub use compiling_with::motchidu_compile_with;
 pub use default_profile::motchidu_default;
-pub use explaining::motchidu_explain;
+pub use explaining::{motchidu_explain, motchidu_explain_with};
+pub use explaining_name::motchidu_explain_name;
 pub use exports::{motchidu_longest, motchidu_run_all, motchidu_verify};
-pub use resolving::motchidu_resolve;
+pub use resolving::{motchidu_resolve, motchidu_resolve_with};
 pub use status::Status;

@@ -1,4 +1,4 @@
-ghost use Rattle.std.specs.Prelude.{◌≡◌, ◌≤◌, ◌<◌, ◌++◌, drop, length};
+ghost use Rattle.std.specs.Prelude.{◌≡◌, ◌≤◌, ◌<◌, ◌⊎◌, ◌++◌, drop, length};
 ghost use Rattle.motchidu_c.specs.declared.status.Status.TheVariants.{Accepted, NoRoom};
 
 use crate::status::Status;
@@ -10,6 +10,7 @@ pub(crate) fn give(bytes: &[u8], room: &mut [u8], len: &mut usize) -> Status
     ensures fits { length bytes.now ≤ length room.old → (result ≡ Accepted)
         × (room.new ≡ bytes.now ++ drop (length bytes.now) room.old) }
     ensures no_room { length room.old < length bytes.now → (result ≡ NoRoom) × (room.new ≡ room.old) }
+    ensures either { (result ≡ Accepted) ⊎ (result ≡ NoRoom) }
 {
     *len = bytes.len();
     if bytes.len() > room.len() {

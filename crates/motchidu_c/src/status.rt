@@ -28,7 +28,7 @@ pub enum Status {
     NoFinalReturn = 10,
     /// A load of a scratch word that some walk to it did not store.
     Unstored = 11,
-    /// Memory ran out. This says nothing about the filter.
+    /// Memory ran out. The filter may have faults or none.
     Memory = 12,
     /// The lengths of the calls, the values and the steps don't agree.
     Lengths = 13,

@@ -48,7 +48,7 @@ impl fmt::Display for FileFault {
     }
 }
 
-/// A fault, and its cause if the system gives one.
+/// A fault, and its cause if the system reports one.
 #[derive(Clone, Copy, Debug, PartialEq, Eq)]
 pub struct CausedFault {
     pub fault: FileFault,

@@ -14,7 +14,7 @@ use std::marker::Model;
 pub struct StreamWire<S> {
     stream: S,
     failures: u64,
-    // Why the last failed call failed, if the system gave a cause.
+    // The cause of the last failed call, if the system reported one.
     cause: Option<Cause>,
 }
 
@@ -39,7 +39,7 @@ impl<S: Read + Write> StreamWire<S> {
         }
     }
 
-    /// Why the last failed call failed, if the system gave a cause.
+    /// The cause of the last failed call, if the system reported one.
     pub fn cause(&self) -> Option<Cause> {
         self.cause
     }

@@ -55,7 +55,7 @@ impl<'a, R: rt::Files + AllocGlobal> SystemFiles<'a, R> {
         }
     }
 
-    /// Why a read of this path fails now, if the system gives a cause.
+    /// Why a read of this path fails now, if the system reports a cause.
     pub fn cause(&self, path: &str, limit: u64) -> Option<Cause> {
         let opened = self.opened(path).ok()??;
         read_file(self.rt, opened.as_str(), limit).err()?.cause

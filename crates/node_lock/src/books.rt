@@ -25,7 +25,7 @@ use worker_pod::Settings;
 
 /// The node that workers share, the history of what they did, and the count of its entries. A history is
 /// written in parts: the entries of a part are dropped once it has ended, and the next part goes on from the
-/// node as it is then. A book belongs behind a lock: each of its calls is one step, and uses no file and no
+/// node as it is then. A lock has to protect a book. Each call of a book is one step, and uses no file and no
 /// socket.
 #[derive(Drop)]
 pub struct Book<L: Ledger> {

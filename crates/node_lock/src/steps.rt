@@ -36,7 +36,7 @@ fn copied(alloc: Global, event: &AgentEvent) -> Result<AgentEvent, AllocError>
     }
 }
 
-// The answer that the node will give.
+// The answer that the node will return.
 #[tactic(auto, using(crate::proofs::Abandons::asking))]
 fn foreseen(node: &Node, event: &AgentEvent) -> Result<Answer, BookFault>
     ensures answer { IfOk result (λ answer. answer ≡ answer_of node.now event.now) }

@@ -89,7 +89,7 @@ fn same_reply(a: &World, b: &World) -> bool {
     }
 }
 
-/// `World::step`: a world, one that no event comes to, and one that took the event.
+/// `World::step`: a world, the same world without any event, and the same world after the event.
 #[derive(Drop)]
 struct Steps {
     world: World,

@@ -1,4 +1,4 @@
-//! Runs pods in the containers of a runtime behind a socket: see `nodeagent --help`.
+//! Runs pods in the containers of a runtime, over a socket: see `nodeagent --help`.
 #![tactic(auto)]
 
 use agent_program::nodeagent_run;

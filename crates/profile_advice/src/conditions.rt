@@ -14,7 +14,7 @@ use std::alloc::{AllocError, Global};
 /// How many numbers 32 bits have.
 const WIDE: u64 = 0x1_0000_0000;
 
-/// A condition and where it stands.
+/// A condition and its place.
 #[derive(Clone, Copy)]
 struct Tested<'p> {
     profile: &'p Profile,

@@ -27,7 +27,7 @@ pub struct Wanted {
     pub needed: bool,
 }
 
-/// The profile that allows the calls that were seen, and says what the base says of all others.
+/// The profile that allows the calls that were seen, and decides all others as the base does.
 pub fn profile_of(
     alloc: Global,
     learned: &Learned,

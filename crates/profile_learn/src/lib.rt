@@ -1,7 +1,7 @@
 //! A profile from the calls that were seen: each of them is allowed, and a base decides all others.
 //!
-//! `specs/Sightings.antt` defines what sightings say of a call, `specs/Kept.antt` the summary of them, and
-//! `specs/Allowed.antt` what the profile says.
+//! `specs/Sightings.antt` defines what sightings show of a call, `specs/Kept.antt` the summary of them, and
+//! `specs/Allowed.antt` the decisions of the profile.
 //!
 //! # What is proved
 //!

@@ -3,11 +3,13 @@ use Rattle.std.specs.Prelude.{ℕ, ◌==◌, Bool, if◌then◌else◌, List, []
 use Rattle.std.specs.List.{list_any}
 use Rattle.std.specs.Fmt.{decimal}
 use Rattle.sys_table.specs.SysTable.{name_in}
+use Rattle.sys_table.specs.declared.calls.CallTable.{CallTable}
 use Rattle.sys_table.specs.declared.calls.CallTable.TheVariants.{Linux6_12}
+use Rattle.action.specs.Shown.{value_object, value_text}
+use Rattle.call_names.specs.Words.{call_members, words_text}
 use Rattle.call_data.specs.declared.sys_call.SysCall.{SysCall}
 use Rattle.profile_advice.specs.declared.kind.Advice.{Advice}
 use Rattle.profile_advice.specs.declared.kind.Advice.TheVariants as about
-use Rattle.profile_lint.specs.Calls.{call_members, call_text, value_object, value_text}
 
 -- the name of a call, and nothing if there is none
 unfoldable pub call_name : ℕ → List ℕ
@@ -48,27 +50,27 @@ advice_place (about.RepeatedName place number earlier) = entry_place place
 advice_place (about.Bypass number call) = codes "syscalls"
 advice_place (about.Powerful number) = codes "syscalls"
 
-unfoldable pub other_words : SysCall → List ℕ
-other_words call = call_name call.nr ++ (codes ", which can do the same, is allowed at " ++ call_text call)
+unfoldable pub other_words : CallTable → SysCall → List ℕ
+other_words calls call = words_text calls call ++ codes ", which can do the same, is allowed"
 
 abbrev pub errno_words : ℕ → List ℕ
 errno_words code = codes "Linux has no errno " ++ decimal code
 
-unfoldable pub advice_words : Advice → List ℕ
-advice_words (about.AlwaysHolds place at) = codes "it holds for every argument"
-advice_words (about.UnusedValue place at) = codes "only SCMP_CMP_MASKED_EQ reads valueTwo"
-advice_words (about.NoArgument place at number) = call_name number ++ codes " has no such argument"
-advice_words (about.WideArgument place at call here cut) = codes "at " ++ (call_text call ++ (codes ": "
+unfoldable pub advice_words : CallTable → Advice → List ℕ
+advice_words calls (about.AlwaysHolds place at) = codes "it holds for every argument"
+advice_words calls (about.UnusedValue place at) = codes "only SCMP_CMP_MASKED_EQ reads valueTwo"
+advice_words calls (about.NoArgument place at number) = call_name number ++ codes " has no such argument"
+advice_words calls (about.WideArgument place at call here cut) = codes "at " ++ (words_text calls call ++ (codes ": "
     ++ (value_text here ++ (codes ", but " ++ (value_text cut
     ++ codes " without the upper 32 bits, which the kernel does not read")))))
-advice_words (about.UnknownErrno place code) = errno_words code
-advice_words (about.UnknownDefaultErrno code) = errno_words code
-advice_words (about.ShadowedName place number earlier) = entry_place earlier
+advice_words calls (about.UnknownErrno place code) = errno_words code
+advice_words calls (about.UnknownDefaultErrno code) = errno_words code
+advice_words calls (about.ShadowedName place number earlier) = entry_place earlier
     ++ (codes " decides " ++ (call_name number ++ codes " differently"))
-advice_words (about.RepeatedName place number earlier) = entry_place earlier
+advice_words calls (about.RepeatedName place number earlier) = entry_place earlier
     ++ (codes " decides " ++ (call_name number ++ codes " the same way"))
-advice_words (about.Bypass number call) = call_name number ++ (codes " is denied, but " ++ other_words call)
-advice_words (about.Powerful number) = call_name number ++ (codes " is allowed, and " ++ reason_of number)
+advice_words calls (about.Bypass number call) = call_name number ++ (codes " is denied, but " ++ other_words calls call)
+advice_words calls (about.Powerful number) = call_name number ++ (codes " is allowed, and " ++ reason_of number)
 
 abbrev pub number_members : ℕ → List ℕ
 number_members number = codes ",\"call\":" ++ decimal number

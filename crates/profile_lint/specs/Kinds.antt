@@ -1,6 +1,6 @@
 -- The kinds of findings and their severities, this project's own: docs/SEMANTICS.md, "What lint
 -- reports".
-use Rattle.std.specs.Prelude.{ℕ, List, codes, Option, Some, None, if◌then◌else◌}
+use Rattle.std.specs.Prelude.{ℕ, List, [], ◌∷◌, codes, Option, Some, None, if◌then◌else◌, option_to_list}
 use Rattle.std.specs.Str.{bytes_eq}
 use Rattle.absent_names.specs.Kinds.{kind_of}
 use Rattle.absent_names.specs.declared.kind.AbsentName.{AbsentName}
@@ -95,6 +95,13 @@ kind_named name = one_named kind.Ignored name (one_named kind.OtherArchitecture 
     (one_named kind.WideArgument name (one_named kind.UnknownErrno name (one_named kind.ShadowedName name
     (one_named kind.Bypass name (one_named kind.Powerful name (one_named kind.OldAnnotation name
     None)))))))))))))))))))))))))
+
+-- the kinds that a word names: a kind, or the name of a line that counts the names of a kind
+abbrev pub kinds_named : List ℕ → List FindingKind
+kinds_named word =
+    if bytes_eq word (codes "OtherNames") then kind.OtherArchitecture ∷ kind.NotImplemented ∷ []
+    else if bytes_eq word (codes "NewerNames") then kind.NewerName ∷ []
+    else option_to_list (kind_named word)
 
 -- a misspelt name is an error; what may not be meant is a warning; what changes nothing, or is not known, a note
 abbrev pub severity_of : FindingKind → Severity

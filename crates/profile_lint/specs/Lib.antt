@@ -1,5 +1,4 @@
 pub mod Advised
-pub mod Calls
 pub mod Choice
 pub mod Engines
 pub mod Entries

@@ -6,6 +6,8 @@ use Rattle.std.specs.Prelude.{Some, None}
 use Rattle.std.specs.Fmt.{decimal}
 use Rattle.serde_json.specs.Data.{string}
 use Rattle.serde_json.specs.Written.{compact_text}
+use Rattle.action.specs.Shown.{value_object}
+use Rattle.call_names.specs.Words.{call_members}
 use Rattle.absent_names.specs.Kinds.{kind_of}
 use Rattle.absent_names.specs.Near.{suggestion}
 use Rattle.absent_names.specs.declared.kind.AbsentName.{AbsentName}
@@ -21,7 +23,6 @@ use Rattle.profile_lint.specs.declared.kinds.FindingKind.{FindingKind}
 use Rattle.profile_lint.specs.Choice.{counted, is_shown}
 use Rattle.profile_lint.specs.Kinds.{kind_of_found, kind_of_told, kind_text, severity_of, severity_text}
 use Rattle.profile_lint.specs.Advised.{advice_members}
-use Rattle.profile_lint.specs.Calls.{call_members, value_object}
 use Rattle.profile_lint.specs.Passed.{Told}
 use Rattle.profile_lint.specs.Passed.Told.{Ignored, OtherArchitectures, RepeatedName, UnknownArchitecture}
 use Rattle.profile_lint.specs.Passed.Told.{UnknownName}
@@ -39,28 +40,29 @@ abbrev pub near_members : Option (List ℕ) → List ℕ
 near_members None = []
 near_members (Some call) = codes ",\"near\":\"" ++ (call ++ codes "\"")
 
-abbrev pub kind_members : List ℕ → AbsentName → List ℕ
-kind_members name (absent.Newer number) = codes ",\"call\":" ++ decimal number
-kind_members name absent.NotImplemented = []
-kind_members name absent.OtherArchitecture = []
-kind_members name absent.Unknown = near_members (suggestion name)
+abbrev pub kind_members : CallTable → List ℕ → AbsentName → List ℕ
+kind_members calls name (absent.Newer number) = codes ",\"call\":" ++ decimal number
+kind_members calls name absent.NotImplemented = []
+kind_members calls name absent.OtherArchitecture = []
+kind_members calls name absent.Unknown = near_members (suggestion calls name)
 
 -- the number of a newer call, or the call that a name was probably meant to be
-abbrev pub absent_members : List ℕ → List ℕ
-absent_members name = kind_members name (kind_of name)
+abbrev pub absent_members : CallTable → List ℕ → List ℕ
+absent_members calls name = kind_members calls name (kind_of name)
 
 abbrev pub name_members : List ℕ → List ℕ
 name_members name = codes ",\"value\":" ++ compact_text (string name)
 
-abbrev pub told_members : Told → List ℕ
-told_members (Ignored holder key) = codes ",\"field\":" ++ compact_text (string key)
-told_members OtherArchitectures = codes ",\"field\":\"architectures\""
-told_members (UnknownArchitecture index name) = name_members name
-told_members (UnknownName entry index name) = name_members name ++ absent_members name
-told_members (RepeatedName entry index name) = name_members name
+abbrev pub told_members : CallTable → Told → List ℕ
+told_members calls (Ignored holder key) = codes ",\"field\":" ++ compact_text (string key)
+told_members calls OtherArchitectures = codes ",\"field\":\"architectures\""
+told_members calls (UnknownArchitecture index name) = name_members name
+told_members calls (UnknownName entry index name) = name_members name ++ absent_members calls name
+told_members calls (RepeatedName entry index name) = name_members name
 
-abbrev pub told_object : Told → List ℕ
-told_object told = object_text (told_place told) (kind_of_told told) (told_members told) (told_words told)
+abbrev pub told_object : CallTable → Told → List ℕ
+told_object calls told =
+    object_text (told_place told) (kind_of_told told) (told_members calls told) (told_words calls told)
 
 abbrev pub instead_members : Option ℕ → List ℕ
 instead_members None = []
@@ -89,9 +91,9 @@ abbrev pub found_object : CallTable → Finding → List ℕ
 found_object calls found =
     object_text (found_place found) (kind_of_found found) (found_members calls found) (found_words calls found)
 
-abbrev pub told_line : Bool → List FindingKind → Told → List ℕ
-told_line all allowed told =
-    if is_shown all allowed (kind_of_told told) then line_of (told_object told) else []
+abbrev pub told_line : CallTable → Bool → List FindingKind → Told → List ℕ
+told_line calls all allowed told =
+    if is_shown all allowed (kind_of_told told) then line_of (told_object calls told) else []
 
 abbrev pub found_line : CallTable → Bool → List FindingKind → Finding → List ℕ
 found_line calls all allowed found =
@@ -111,6 +113,6 @@ newer_object count value = if nat_lt 0 count
 
 -- an object for each line
 abbrev pub lint_objects : CallTable → Bool → List FindingKind → ℕ → List Told → List Finding → List ℕ
-lint_objects calls all allowed value tolds finds = flat_map (told_line all allowed) tolds
+lint_objects calls all allowed value tolds finds = flat_map (told_line calls all allowed) tolds
     ++ (others_object (counted which.Others all allowed tolds)
     ++ (newer_object (counted which.Newer all allowed tolds) value ++ flat_map (found_line calls all allowed) finds))

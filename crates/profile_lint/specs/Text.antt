@@ -3,6 +3,7 @@ use Rattle.std.specs.Prelude.{ℕ, ◌==◌, nat_le, not, Bool, ◌&&◌, ◌||�
 use Rattle.std.specs.Prelude.{length, flat_map, nat_lt, ◌-◌, Option, Some, None}
 use Rattle.std.specs.List.{list_all}
 use Rattle.action.specs.Errnos.{shown_errno}
+use Rattle.action.specs.Shown.{value_text}
 use Rattle.action.specs.Verdict.{verdict_of}
 use Rattle.action.specs.declared.action.Action.{Action}
 use Rattle.action.specs.declared.action.Action.TheVariants as act
@@ -12,6 +13,7 @@ use Rattle.absent_names.specs.declared.kind.AbsentName.{AbsentName}
 use Rattle.absent_names.specs.declared.kind.AbsentName.TheVariants as absent
 use Rattle.std.specs.Str.{bytes_eq}
 use Rattle.std.specs.Fmt.{decimal}
+use Rattle.call_names.specs.Words.{words_text}
 use Rattle.json_place.specs.Quoted.{quoted_text}
 use Rattle.json_place.specs.declared.quoted.TheConstants.{MAX_SHOWN}
 use Rattle.profile_lint.specs.declared.passed.Holder.{Holder}
@@ -25,7 +27,6 @@ use Rattle.profile_lint.specs.Kinds.{kind_of_found, kind_of_told, kind_text, sev
 use Rattle.sys_table.specs.SysTable.{limit_of}
 use Rattle.sys_table.specs.declared.calls.CallTable.{CallTable}
 use Rattle.profile_lint.specs.Advised.{advice_place, advice_words, entry_place}
-use Rattle.profile_lint.specs.Calls.{call_text, value_text}
 use Rattle.profile_lint.specs.Passed.{Told, is_recased}
 use Rattle.profile_lint.specs.Passed.Told.{Ignored, OtherArchitectures, RepeatedName, UnknownArchitecture}
 use Rattle.profile_lint.specs.Passed.Told.{UnknownName}
@@ -71,14 +72,14 @@ near_text None = codes " is no call"
 near_text (Some call) = codes " is no call (did you mean " ++ (call ++ codes "?)")
 
 -- what a name is that the call table lacks
-abbrev pub absent_text : List ℕ → AbsentName → List ℕ
-absent_text name (absent.Newer number) = codes " is call " ++ (decimal number ++ codes ", newer than the table")
-absent_text name absent.NotImplemented = codes " is not implemented on x86-64"
-absent_text name absent.OtherArchitecture = codes " is a call of other architectures"
-absent_text name absent.Unknown = near_text (suggestion name)
+abbrev pub absent_text : CallTable → List ℕ → AbsentName → List ℕ
+absent_text calls name (absent.Newer number) = codes " is call " ++ (decimal number ++ codes ", newer than the table")
+absent_text calls name absent.NotImplemented = codes " is not implemented on x86-64"
+absent_text calls name absent.OtherArchitecture = codes " is a call of other architectures"
+absent_text calls name absent.Unknown = near_text (suggestion calls name)
 
-abbrev pub name_words : List ℕ → List ℕ
-name_words name = quoted_text name ++ absent_text name (kind_of name)
+abbrev pub name_words : CallTable → List ℕ → List ℕ
+name_words calls name = quoted_text name ++ absent_text calls name (kind_of name)
 
 abbrev pub name_place : ℕ → ℕ → List ℕ
 name_place entry index = codes "syscalls[" ++ (decimal entry ++ (codes "].names["
@@ -91,20 +92,20 @@ told_place (UnknownArchitecture index name) = codes "architectures[" ++ (decimal
 told_place (UnknownName entry index name) = name_place entry index
 told_place (RepeatedName entry index name) = name_place entry index
 
-abbrev pub told_words : Told → List ℕ
-told_words (Ignored holder key) = if is_recased holder key
+abbrev pub told_words : CallTable → Told → List ℕ
+told_words calls (Ignored holder key) = if is_recased holder key
     then codes "runc reads it in any case, and crun does not" else words_of key
-told_words OtherArchitectures = codes "x86-64 is not among them, and only its calls are decided"
-told_words (UnknownArchitecture index name) = quoted_text name ++ codes " is no architecture"
-told_words (UnknownName entry index name) = name_words name
-told_words (RepeatedName entry index name) = quoted_text name ++ codes " is repeated"
+told_words calls OtherArchitectures = codes "x86-64 is not among them, and only its calls are decided"
+told_words calls (UnknownArchitecture index name) = quoted_text name ++ codes " is no architecture"
+told_words calls (UnknownName entry index name) = name_words calls name
+told_words calls (RepeatedName entry index name) = quoted_text name ++ codes " is repeated"
 
 -- a place, a kind and words
 abbrev pub text_of : List ℕ → List ℕ → List ℕ → List ℕ
 text_of place kind words = place ++ (codes ": " ++ (kind ++ (codes ": " ++ words)))
 
-abbrev pub told_text : Told → List ℕ
-told_text told = text_of (told_place told) (kind_text (kind_of_told told)) (told_words told)
+abbrev pub told_text : CallTable → Told → List ℕ
+told_text calls told = text_of (told_place told) (kind_text (kind_of_told told)) (told_words calls told)
 
 abbrev pub found_place : Finding → List ℕ
 found_place (found.NeverDecides place) = entry_place place
@@ -129,15 +130,15 @@ found_words calls (found.SameWithout place) = codes "what follows decides its ca
 found_words calls (found.NotFoundOut place) = codes "it may decide no call, or be redundant"
 found_words calls (found.NotLookedAt place) = codes "from here on entries may decide no call, or be redundant"
 found_words calls (found.NotCompared place) = codes "from here on engines may read entries differently"
-found_words calls (found.ReadOtherwise place call values) = codes "at " ++ (call_text call ++ (codes ": "
+found_words calls (found.ReadOtherwise place call values) = codes "at " ++ (words_text calls call ++ (codes ": "
     ++ (value_text values.here ++ (codes " here, " ++ (value_text values.there ++ (codes " by runc"
     ++ instead_words values.instead))))))
-found_words calls (found.Overlap place other call) = codes "at " ++ (call_text call ++ (codes " syscalls["
+found_words calls (found.Overlap place other call) = codes "at " ++ (words_text calls call ++ (codes ": syscalls["
     ++ (decimal other ++ codes "] decides otherwise, and libseccomp does not keep their order")))
 found_words calls (found.NewerCalls errno) = codes "calls newer than " ++ (decimal (limit_of calls - 1)
     ++ (codes " return errno "
     ++ (shown_errno errno ++ codes ", and programs fall back to older calls only on errno 38 (ENOSYS)")))
-found_words calls (found.Advised advice) = advice_words advice
+found_words calls (found.Advised advice) = advice_words calls advice
 
 abbrev pub found_text : CallTable → Finding → List ℕ
 found_text calls found = text_of (found_place found) (kind_text (kind_of_found found)) (found_words calls found)
@@ -149,9 +150,9 @@ line_of text = text ++ codes "\n"
 abbrev pub graded : FindingKind → List ℕ → List ℕ
 graded kind text = line_of (severity_text (severity_of kind) ++ (codes ": " ++ text))
 
-abbrev pub told_line : Bool → List FindingKind → Told → List ℕ
-told_line all allowed told = if is_shown all allowed (kind_of_told told)
-    then graded (kind_of_told told) (told_text told) else []
+abbrev pub told_line : CallTable → Bool → List FindingKind → Told → List ℕ
+told_line calls all allowed told = if is_shown all allowed (kind_of_told told)
+    then graded (kind_of_told told) (told_text calls told) else []
 
 abbrev pub found_line : CallTable → Bool → List FindingKind → Finding → List ℕ
 found_line calls all allowed found = if is_shown all allowed (kind_of_found found)
@@ -187,14 +188,14 @@ abbrev pub newer_line : ℕ → ℕ → List ℕ
 newer_line count value = if nat_lt 0 count
     then line_of (codes "warning: syscalls: NewerNames: " ++ newer_words count value) else []
 
-abbrev pub told_lines : Bool → List FindingKind → List Told → List ℕ
-told_lines all allowed tolds = flat_map (told_line all allowed) tolds
+abbrev pub told_lines : CallTable → Bool → List FindingKind → List Told → List ℕ
+told_lines calls all allowed tolds = flat_map (told_line calls all allowed) tolds
 
 abbrev pub found_lines : CallTable → Bool → List FindingKind → List Finding → List ℕ
 found_lines calls all allowed finds = flat_map (found_line calls all allowed) finds
 
 -- the findings about the text, the counts of names, and the findings about the profile
 abbrev pub lint_text : CallTable → Bool → List FindingKind → ℕ → List Told → List Finding → List ℕ
-lint_text calls all allowed value tolds finds = told_lines all allowed tolds
+lint_text calls all allowed value tolds finds = told_lines calls all allowed tolds
     ++ (others_line (counted which.Others all allowed tolds)
     ++ (newer_line (counted which.Newer all allowed tolds) value ++ found_lines calls all allowed finds))

@@ -3,9 +3,9 @@ ghost use Rattle.std.specs.Prelude.{◌≡◌, ◌==◌};
 ghost use Rattle.std.specs.List.{list_any};
 ghost use Rattle.profile_lint.specs.Advised.{call_name, is_among, reason_of};
 
-use crate::objects::{CallMembers, ValueObject};
-use crate::words::{Value, Words};
+use action::{ValueObject, ValueText};
 use call_data::SysCall;
+use call_names::{CallMembers, CallWords};
 use profile_advice::Advice;
 use std::fmt;
 use sys_table::CallTable;
@@ -110,41 +110,41 @@ impl fmt::Display for CallName {
 
 /// A call that can do what another one does.
 #[derive(Clone, Copy)]
-struct OtherCall(SysCall);
+struct OtherCall(CallTable, SysCall);
 
 impl fmt::Display for OtherCall {
     ghost use Rattle.std.specs.Prelude.{Some};
     ghost use Rattle.profile_lint.specs.Advised.{other_words};
 
-    ghost output = { λ other. Some (other_words other.0) };
+    ghost output = { λ other. Some (other_words other.0 other.1) };
 
     #[tactic(auto, unfolding(crate::specs::Advised::other_words))]
     fn fmt<W: fmt::Write>(&self, f: &mut fmt::Formatter<W>) -> fmt::Result {
-        let (name, call) = (CallName(self.0.nr), Words(self.0));
-        write!(f, "{name}, which can do the same, is allowed at {call}")
+        let call = CallWords(self.0, self.1);
+        write!(f, "{call}, which can do the same, is allowed")
     }
 }
 
-/// What is advised.
+/// What is advised, if these are the known calls.
 #[derive(Clone, Copy)]
-pub(crate) struct AdviceWords(pub(crate) Advice);
+pub(crate) struct AdviceWords(pub(crate) CallTable, pub(crate) Advice);
 
 impl fmt::Display for AdviceWords {
     ghost use Rattle.std.specs.Prelude.{Some};
     ghost use Rattle.profile_lint.specs.Advised.{advice_words};
 
-    ghost output = { λ words. Some (advice_words words.0) };
+    ghost output = { λ words. Some (advice_words words.0 words.1) };
 
     #[tactic(auto, unfolding(crate::specs::Advised::advice_words))]
     fn fmt<W: fmt::Write>(&self, f: &mut fmt::Formatter<W>) -> fmt::Result {
-        match self.0 {
+        match self.1 {
             Advice::AlwaysHolds(_, _) => f.write_str("it holds for every argument"),
             Advice::UnusedValue(_, _) => f.write_str("only SCMP_CMP_MASKED_EQ reads valueTwo"),
             Advice::NoArgument(_, _, number) => {
                 write!(f, "{} has no such argument", CallName(number))
             }
             Advice::WideArgument(_, _, call, here, cut) => {
-                let (call, here, cut) = (Words(call), Value(here), Value(cut));
+                let (call, here, cut) = (CallWords(self.0, call), ValueText(here), ValueText(cut));
                 write!(
                     f,
                     "at {call}: {here}, but {cut} without the upper 32 bits, which the kernel does not read"
@@ -162,7 +162,7 @@ impl fmt::Display for AdviceWords {
                 write!(f, "{place} decides {name} the same way")
             }
             Advice::Bypass(number, call) => {
-                let (name, other) = (CallName(number), OtherCall(call));
+                let (name, other) = (CallName(number), OtherCall(self.0, call));
                 write!(f, "{name} is denied, but {other}")
             }
             Advice::Powerful(number) => {

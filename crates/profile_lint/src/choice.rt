@@ -42,7 +42,7 @@ pub fn is_allowed(kind: FindingKind, allowed: &[FindingKind]) -> bool
     allowed.iter().any(|other| is_same(kind, *other))
 }
 
-/// Whether there may be hundreds, of which only the number is printed.
+/// Whether there may be hundreds of this kind, so that only their number is printed.
 fn is_counted(kind: FindingKind) -> bool
     ensures { result ≡ is_counted kind }
 {

@@ -265,7 +265,8 @@ fn overlap_at(place: usize, second: usize, overlapping: Overlapping) -> Option<F
     }
 }
 
-/// The findings as they are printed: that entries were not compared is said once, about the first of them.
+/// The findings as they are printed. After the first finding that entries were not compared, others of this
+/// kind are left out.
 pub fn once(alloc: Global, found: &[Finding]) -> Result<Vec<Finding>, AllocError>
     ensures { IfOk result (λ v. v.items ≡ once_from false found.now) }
 {

@@ -1,6 +1,6 @@
-ghost use Rattle.std.specs.Prelude.{◌≡◌};
+ghost use Rattle.std.specs.Prelude.{◌≡◌, ◌==◌, ◌++◌, IfOk, length, not};
 ghost use Rattle.profile_lint.specs.Passed.{told};
-ghost use Rattle.profile_lint.specs.Kinds.{kind_named, kind_of_advice, kind_of_found, kind_of_member};
+ghost use Rattle.profile_lint.specs.Kinds.{kind_named, kind_of_advice, kind_of_found, kind_of_member, kinds_named};
 ghost use Rattle.profile_lint.specs.Kinds.{kind_of_name, kind_of_told, rank_of, severity_of};
 
 use crate::finding::Finding;
@@ -8,6 +8,7 @@ use crate::members::{is_for_engines, is_recased};
 use crate::passed::{Holder, Passed};
 use absent_names::{AbsentName, kind_of};
 use profile_advice::Advice;
+use std::alloc::AllocError;
 use std::fmt;
 
 /// How much a finding matters.
@@ -132,7 +133,7 @@ impl fmt::Display for FindingKind {
 }
 
 /// The kind with this name.
-pub fn kind_named(name: &str) -> Option<FindingKind>
+fn kind_named(name: &str) -> Option<FindingKind>
     ensures { result ≡ kind_named name.now }
 {
     match name {
@@ -163,6 +164,32 @@ pub fn kind_named(name: &str) -> Option<FindingKind>
         "Powerful" => Some(FindingKind::Powerful),
         "OldAnnotation" => Some(FindingKind::OldAnnotation),
         _ => None,
+    }
+}
+
+/// Adds the kinds that a word names: a kind, or the name of a line that counts the names of a kind. Returns
+/// whether it names some.
+pub fn add_kinds(kinds: &mut Vec<FindingKind>, word: &str) -> Result<bool, AllocError>
+    ensures added { IfOk result (λ _. kinds.new.items ≡ kinds.old.items ++ kinds_named word.now) }
+    ensures names { IfOk result (λ is_named. is_named ≡ not (length (kinds_named word.now) == 0)) }
+{
+    match word {
+        "OtherNames" => {
+            kinds.push(FindingKind::OtherArchitecture)?;
+            kinds.push(FindingKind::NotImplemented)?;
+            Ok(true)
+        }
+        "NewerNames" => {
+            kinds.push(FindingKind::NewerName)?;
+            Ok(true)
+        }
+        _ => match kind_named(word) {
+            Some(kind) => {
+                kinds.push(kind)?;
+                Ok(true)
+            }
+            None => Ok(false),
+        },
     }
 }
 

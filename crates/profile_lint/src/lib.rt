@@ -24,7 +24,7 @@
 //! - The kind of each finding, and how severe each kind is: `kind_of_passed`, `kind_of_found`, `severity_of`.
 //!   Whether a warning or an error is among the findings: `is_bad`, `is_bad_kind`.
 //! - The printed lines and the JSON objects, byte by byte: `lint_lines`, `lint_objects`, `finding_object`,
-//!   `Display` of `Passed`, `ShownFinding`, `Holder`.
+//!   `Display` of `ShownPassed`, `ShownFinding`, `Holder`.
 //!
 //! Only tested: how seldom an entry is reported as not known, and that runc and libseccomp behave like the
 //! model.
@@ -53,10 +53,10 @@ pub use choice::{Choice, grave_count, has_newer_names, is_allowed, is_bad, is_ba
 pub use entries::standing;
 pub use finder::{all_findings, findings, newer_calls, once};
 pub use finding::{EngineValues, Finding};
-pub use kinds::{FindingKind, Severity, kind_named, kind_of_found, kind_of_passed, severity_of};
+pub use kinds::{FindingKind, Severity, add_kinds, kind_of_found, kind_of_passed, severity_of};
 pub use lines::lint_lines;
 pub use objects::{finding_object, lint_objects};
 pub use passed::{Holder, Passed};
 pub use stands::Standing;
 pub use text::passed_in;
-pub use words::ShownFinding;
+pub use words::{ShownFinding, ShownPassed};

@@ -8,8 +8,8 @@ use crate::choice::{Choice, Tally, counted, is_shown};
 use crate::finding::Finding;
 use crate::kinds::{FindingKind, kind_of_found, kind_of_passed, severity_of};
 use crate::passed::Passed;
-use crate::words::{ShownFinding, Value};
-use action::{Action, Verdict};
+use crate::words::{ShownFinding, ShownPassed};
+use action::{Action, ValueText, Verdict};
 use std::alloc::{AllocError, Global};
 use std::fmt;
 use sys_table::CallTable;
@@ -46,7 +46,7 @@ impl fmt::Display for NewerWords {
     ghost output = { λ words. Some (newer_words words.0 words.1) };
 
     fn fmt<W: fmt::Write>(&self, f: &mut fmt::Formatter<W>) -> fmt::Result {
-        let (value, end) = (Value(self.1), end_of(self.1));
+        let (value, end) = (ValueText(self.1), end_of(self.1));
         match self.0 {
             1 => write!(
                 f,
@@ -71,13 +71,19 @@ fn end_of(value: u32) -> &'static str
 }
 
 /// Adds the line of a finding about the text, if it has one.
-fn add_passed(text: &mut String, item: &Passed<'_>, choice: Choice<'_>) -> Result<(), AllocError>
+fn add_passed(
+    text: &mut String,
+    calls: CallTable,
+    item: &Passed<'_>,
+    choice: Choice<'_>,
+) -> Result<(), AllocError>
     ensures { OnOk result (string_bytes text.new
-        ≡ string_bytes text.old ++ told_line choice.entry.is_all choice.entry.allowed.now (told item.now)) }
+        ≡ string_bytes text.old ++ told_line calls choice.entry.is_all choice.entry.allowed.now (told item.now)) }
 {
     let kind = kind_of_passed(item);
     if is_shown(kind, choice) {
-        writeln!(text, "{}: {item}", severity_of(kind))?;
+        let shown = ShownPassed(calls, item);
+        writeln!(text, "{}: {shown}", severity_of(kind))?;
     }
     Ok(())
 }
@@ -125,12 +131,17 @@ fn add_newer(text: &mut String, count: usize, default: u32) -> Result<(), AllocE
 }
 
 /// Adds the lines of the findings about the text.
-fn add_text(text: &mut String, passed: &[Passed<'_>], choice: Choice<'_>) -> Result<(), AllocError>
+fn add_text(
+    text: &mut String,
+    calls: CallTable,
+    passed: &[Passed<'_>],
+    choice: Choice<'_>,
+) -> Result<(), AllocError>
     ensures { OnOk result (string_bytes text.new ≡ string_bytes text.old
-        ++ told_lines choice.entry.is_all choice.entry.allowed.now (map told passed.now)) }
+        ++ told_lines calls choice.entry.is_all choice.entry.allowed.now (map told passed.now)) }
 {
     for item in passed {
-        add_passed(text, item, choice)?;
+        add_passed(text, calls, item, choice)?;
     }
     Ok(())
 }
@@ -165,7 +176,7 @@ pub fn lint_lines(
         ≡ lint_text calls choice.entry.is_all choice.entry.allowed.now default (map told passed.now) found.now) }
 {
     let mut text = String::new(alloc);
-    add_text(&mut text, passed, choice)?;
+    add_text(&mut text, calls, passed, choice)?;
     add_others(&mut text, counted(passed, Tally::Others, choice))?;
     add_newer(&mut text, counted(passed, Tally::Newer, choice), default)?;
     add_profile(&mut text, calls, found, choice)?;

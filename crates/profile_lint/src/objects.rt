@@ -15,8 +15,9 @@ use crate::lines::{NewerWords, OtherWords};
 use crate::passed::Passed;
 use crate::words::{FoundPlace, FoundWords, PassedPlace, PassedWords};
 use absent_names::{AbsentName, kind_of, suggestion};
-use action::Verdict;
+use action::ValueObject;
 use call_data::SysCall;
+use call_names::CallMembers;
 use serde_json::Value;
 use std::alloc::{AllocError, Global};
 use std::fmt;
@@ -49,12 +50,12 @@ pub fn finding_object(
 }
 
 /// What a name is that the call table lacks.
-fn absent_members(alloc: Global, name: &str) -> Result<String, AllocError>
-    ensures { IfOk result (λ text. string_bytes text ≡ absent_members name.now) }
+fn absent_members(alloc: Global, calls: CallTable, name: &str) -> Result<String, AllocError>
+    ensures { IfOk result (λ text. string_bytes text ≡ absent_members calls name.now) }
 {
     match kind_of(name) {
         AbsentName::Newer(number) => format!(in alloc; ",\"call\":{number}"),
-        AbsentName::Unknown => match suggestion(name) {
+        AbsentName::Unknown => match suggestion(calls, name) {
             Some(call) => format!(in alloc; ",\"near\":\"{call}\""),
             None => Ok(String::new(alloc)),
         },
@@ -62,7 +63,7 @@ fn absent_members(alloc: Global, name: &str) -> Result<String, AllocError>
     }
 }
 
-/// A name as it stands in the profile.
+/// The member for a name of the profile's text.
 fn name_members(alloc: Global, name: &str) -> Result<String, AllocError>
     ensures { IfOk result (λ text. string_bytes text ≡ name_members name.now) }
 {
@@ -71,8 +72,12 @@ fn name_members(alloc: Global, name: &str) -> Result<String, AllocError>
 }
 
 /// The members of a finding about the text.
-fn passed_members(alloc: Global, passed: &Passed<'_>) -> Result<String, AllocError>
-    ensures { IfOk result (λ text. string_bytes text ≡ told_members (told passed.now)) }
+fn passed_members(
+    alloc: Global,
+    calls: CallTable,
+    passed: &Passed<'_>,
+) -> Result<String, AllocError>
+    ensures { IfOk result (λ text. string_bytes text ≡ told_members calls (told passed.now)) }
 {
     match passed {
         Passed::Ignored(_, key) => {
@@ -82,7 +87,10 @@ fn passed_members(alloc: Global, passed: &Passed<'_>) -> Result<String, AllocErr
         Passed::OtherArchitectures => String::from_str(alloc, ",\"field\":\"architectures\""),
         Passed::UnknownArchitecture(_, name) => name_members(alloc, name),
         Passed::UnknownName(_, _, name) => {
-            let (value, absent) = (name_members(alloc, name)?, absent_members(alloc, name)?);
+            let (value, absent) = (
+                name_members(alloc, name)?,
+                absent_members(alloc, calls, name)?,
+            );
             format!(in alloc; "{value}{absent}")
         }
         Passed::RepeatedName(_, _, name) => name_members(alloc, name),
@@ -90,12 +98,12 @@ fn passed_members(alloc: Global, passed: &Passed<'_>) -> Result<String, AllocErr
 }
 
 /// A finding about the text.
-fn passed_object(alloc: Global, passed: &Passed<'_>) -> Result<String, AllocError>
-    ensures { IfOk result (λ text. string_bytes text ≡ told_object (told passed.now)) }
+fn passed_object(alloc: Global, calls: CallTable, passed: &Passed<'_>) -> Result<String, AllocError>
+    ensures { IfOk result (λ text. string_bytes text ≡ told_object calls (told passed.now)) }
 {
     let place = format!(in alloc; "{}", PassedPlace(passed))?;
-    let words = format!(in alloc; "{}", PassedWords(passed))?;
-    let members = passed_members(alloc, passed)?;
+    let words = format!(in alloc; "{}", PassedWords(calls, passed))?;
+    let members = passed_members(alloc, calls, passed)?;
     finding_object(
         alloc,
         place,
@@ -103,48 +111,6 @@ fn passed_object(alloc: Global, passed: &Passed<'_>) -> Result<String, AllocErro
         members.as_str(),
         words,
     )
-}
-
-/// A call, as members.
-#[derive(Clone, Copy)]
-pub(crate) struct CallMembers(pub(crate) SysCall);
-
-impl fmt::Display for CallMembers {
-    ghost use Rattle.std.specs.Prelude.{Some};
-    ghost use Rattle.profile_lint.specs.Calls.{call_members};
-
-    ghost output = { λ call. Some (call_members call.0) };
-
-    fn fmt<W: fmt::Write>(&self, f: &mut fmt::Formatter<W>) -> fmt::Result {
-        let (nr, args) = (self.0.nr, self.0.args);
-        let (arch, ip) = (self.0.arch, self.0.ip);
-        write!(
-            f,
-            "\"call\":{nr},\"args\":[{},{},{},{},{},{}],\"arch\":{arch},\"ip\":{ip}",
-            args[0], args[1], args[2], args[3], args[4], args[5]
-        )
-    }
-}
-
-/// A value: `{"value":2147418112,"action":"ALLOW","data":0}`.
-#[derive(Clone, Copy)]
-pub(crate) struct ValueObject(pub(crate) u32);
-
-impl fmt::Display for ValueObject {
-    ghost use Rattle.std.specs.Prelude.{Some};
-    ghost use Rattle.profile_lint.specs.Calls.{value_object};
-
-    ghost output = { λ value. Some (value_object value.0) };
-
-    fn fmt<W: fmt::Write>(&self, f: &mut fmt::Formatter<W>) -> fmt::Result {
-        let value = self.0;
-        let verdict = Verdict::of_value(value);
-        let (action, ret_data) = (verdict.action, verdict.ret_data);
-        write!(
-            f,
-            "{{\"value\":{value},\"action\":\"{action}\",\"data\":{ret_data}}}"
-        )
-    }
 }
 
 /// The value that runc may have in place of that of the order of entries.
@@ -224,15 +190,16 @@ fn found_object(alloc: Global, calls: CallTable, found: Finding) -> Result<Strin
 /// Adds the object of a finding about the text, if it has one.
 fn add_passed(
     alloc: Global,
+    calls: CallTable,
     text: &mut String,
     item: &Passed<'_>,
     choice: Choice<'_>,
 ) -> Result<(), AllocError>
     ensures { OnOk result (string_bytes text.new
-        ≡ string_bytes text.old ++ told_line choice.entry.is_all choice.entry.allowed.now (told item.now)) }
+        ≡ string_bytes text.old ++ told_line calls choice.entry.is_all choice.entry.allowed.now (told item.now)) }
 {
     if is_shown(kind_of_passed(item), choice) {
-        let object = passed_object(alloc, item)?;
+        let object = passed_object(alloc, calls, item)?;
         writeln!(text, "{object}")?;
     }
     Ok(())
@@ -289,15 +256,16 @@ fn add_newer(text: &mut String, count: usize, default: u32) -> Result<(), AllocE
 /// Adds the objects of the findings about the text.
 fn add_text(
     alloc: Global,
+    calls: CallTable,
     text: &mut String,
     passed: &[Passed<'_>],
     choice: Choice<'_>,
 ) -> Result<(), AllocError>
     ensures { OnOk result (string_bytes text.new ≡ string_bytes text.old
-        ++ flat_map (told_line choice.entry.is_all choice.entry.allowed.now) (map told passed.now)) }
+        ++ flat_map (told_line calls choice.entry.is_all choice.entry.allowed.now) (map told passed.now)) }
 {
     for item in passed {
-        add_passed(alloc, text, item, choice)?;
+        add_passed(alloc, calls, text, item, choice)?;
     }
     Ok(())
 }
@@ -333,7 +301,7 @@ pub fn lint_objects(
         ≡ lint_objects calls choice.entry.is_all choice.entry.allowed.now default (map told passed.now) found.now) }
 {
     let mut text = String::new(alloc);
-    add_text(alloc, &mut text, passed, choice)?;
+    add_text(alloc, calls, &mut text, passed, choice)?;
     add_others(&mut text, counted(passed, Tally::Others, choice))?;
     add_newer(&mut text, counted(passed, Tally::Newer, choice), default)?;
     add_profile(alloc, calls, &mut text, found, choice)?;

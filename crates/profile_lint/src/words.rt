@@ -9,8 +9,8 @@ use crate::kinds::{kind_of_found, kind_of_passed};
 use crate::members::is_recased;
 use crate::passed::{Holder, Passed};
 use absent_names::{AbsentName, kind_of, suggestion};
-use action::{ShownErrno, Verdict};
-use call_data::SysCall;
+use action::{ShownErrno, ValueText};
+use call_names::CallWords;
 use json_place::{MAX_SHOWN, Quoted};
 use std::fmt;
 use sys_table::CallTable;
@@ -94,23 +94,23 @@ pub(crate) fn words_of(key: &str) -> &'static str
     }
 }
 
-/// A name that is no call of the table, and what it is.
+/// A name that is none of these calls, and what it is.
 #[derive(Clone, Copy)]
-struct NameWords<'v>(&'v str);
+struct NameWords<'v>(CallTable, &'v str);
 
 impl fmt::Display for NameWords<'_> {
     ghost use Rattle.std.specs.Prelude.{Some};
     ghost use Rattle.profile_lint.specs.Text.{name_words};
 
-    ghost output = { λ words. Some (name_words words.0.now) };
+    ghost output = { λ words. Some (name_words words.0 words.1.now) };
 
     fn fmt<W: fmt::Write>(&self, f: &mut fmt::Formatter<W>) -> fmt::Result {
-        let name = Quoted(self.0);
-        match kind_of(self.0) {
+        let name = Quoted(self.1);
+        match kind_of(self.1) {
             AbsentName::Newer(number) => write!(f, "{name} is call {number}, newer than the table"),
             AbsentName::NotImplemented => write!(f, "{name} is not implemented on x86-64"),
             AbsentName::OtherArchitecture => write!(f, "{name} is a call of other architectures"),
-            AbsentName::Unknown => match suggestion(self.0) {
+            AbsentName::Unknown => match suggestion(self.0, self.1) {
                 Some(call) => write!(f, "{name} is no call (did you mean {call}?)"),
                 None => write!(f, "{name} is no call"),
             },
@@ -140,19 +140,19 @@ impl fmt::Display for PassedPlace<'_> {
     }
 }
 
-/// What is found in the text.
+/// What is found in the text, if these are the known calls.
 #[derive(Clone, Copy)]
-pub(crate) struct PassedWords<'p>(pub(crate) &'p Passed<'p>);
+pub(crate) struct PassedWords<'p>(pub(crate) CallTable, pub(crate) &'p Passed<'p>);
 
 impl fmt::Display for PassedWords<'_> {
     ghost use Rattle.std.specs.Prelude.{Some};
     ghost use Rattle.profile_lint.specs.Passed.{told};
     ghost use Rattle.profile_lint.specs.Text.{told_words};
 
-    ghost output = { λ words. Some (told_words (told words.0.now)) };
+    ghost output = { λ words. Some (told_words words.0 (told words.1.now)) };
 
     fn fmt<W: fmt::Write>(&self, f: &mut fmt::Formatter<W>) -> fmt::Result {
-        match self.0 {
+        match self.1 {
             Passed::Ignored(holder, key) if is_recased(*holder, key) => {
                 f.write_str("runc reads it in any case, and crun does not")
             }
@@ -165,61 +165,27 @@ impl fmt::Display for PassedWords<'_> {
                 "{} is no architecture",
                 Quoted(name)
             ),
-            Passed::UnknownName(_, _, name) => write!(f, "{}", NameWords(name)),
+            Passed::UnknownName(_, _, name) => write!(f, "{}", NameWords(self.0, name)),
             Passed::RepeatedName(_, _, name) => write!(f, "{} is repeated", Quoted(name)),
         }
     }
 }
 
-/// `PLACE: KIND: WORDS`.
-impl fmt::Display for Passed<'_> {
+/// A finding about the text as it is printed, if these are the known calls: `PLACE: KIND: WORDS`.
+#[derive(Clone, Copy)]
+pub struct ShownPassed<'p>(pub CallTable, pub &'p Passed<'p>);
+
+impl fmt::Display for ShownPassed<'_> {
     ghost use Rattle.std.specs.Prelude.{Some};
     ghost use Rattle.profile_lint.specs.Passed.{told};
     ghost use Rattle.profile_lint.specs.Text.{told_text};
 
-    ghost output = { λ passed. Some (told_text (told passed)) };
+    ghost output = { λ shown. Some (told_text shown.0 (told shown.1.now)) };
 
     fn fmt<W: fmt::Write>(&self, f: &mut fmt::Formatter<W>) -> fmt::Result {
-        let kind = kind_of_passed(self);
-        write!(f, "{}: {kind}: {}", PassedPlace(self), PassedWords(self))
-    }
-}
-
-/// A call, as arguments of `seccheck run`.
-#[derive(Clone, Copy)]
-pub(crate) struct Words(pub(crate) SysCall);
-
-impl fmt::Display for Words {
-    ghost use Rattle.std.specs.Prelude.{Some};
-    ghost use Rattle.profile_lint.specs.Calls.{call_text};
-
-    ghost output = { λ words. Some (call_text words.0) };
-
-    #[tactic(auto, unfolding(crate::specs::Calls::call_text))]
-    fn fmt<W: fmt::Write>(&self, f: &mut fmt::Formatter<W>) -> fmt::Result {
-        let (nr, args) = (self.0.nr, self.0.args);
-        write!(
-            f,
-            "{nr} {} {} {} {} {} {}",
-            args[0], args[1], args[2], args[3], args[4], args[5]
-        )
-    }
-}
-
-/// A value, as its action and its data.
-#[derive(Clone, Copy)]
-pub(crate) struct Value(pub(crate) u32);
-
-impl fmt::Display for Value {
-    ghost use Rattle.std.specs.Prelude.{Some};
-    ghost use Rattle.profile_lint.specs.Calls.{value_text};
-
-    ghost output = { λ value. Some (value_text value.0) };
-
-    fn fmt<W: fmt::Write>(&self, f: &mut fmt::Formatter<W>) -> fmt::Result {
-        let verdict = Verdict::of_value(self.0);
-        let (action, ret_data) = (verdict.action, verdict.ret_data);
-        write!(f, "{action} {ret_data}")
+        let kind = kind_of_passed(self.1);
+        let (place, words) = (PassedPlace(self.1), PassedWords(self.0, self.1));
+        write!(f, "{place}: {kind}: {words}")
     }
 }
 
@@ -261,7 +227,7 @@ impl fmt::Display for InsteadWords {
     fn fmt<W: fmt::Write>(&self, f: &mut fmt::Formatter<W>) -> fmt::Result {
         match self.0 {
             Some(value) => {
-                let value = Value(value);
+                let value = ValueText(value);
                 write!(
                     f,
                     ", or {value}: libseccomp does not keep the order of entries"
@@ -294,15 +260,15 @@ impl fmt::Display for FoundWords {
                 "from here on engines may read entries differently",
             ),
             Finding::ReadOtherwise(_, call, values) => {
-                let (here, there) = (Value(values.here), Value(values.there));
-                let (call, instead) = (Words(call), InsteadWords(values.instead));
+                let (here, there) = (ValueText(values.here), ValueText(values.there));
+                let (call, instead) = (CallWords(self.0, call), InsteadWords(values.instead));
                 write!(f, "at {call}: {here} here, {there} by runc{instead}")
             }
             Finding::Overlap(_, other, call) => {
-                let call = Words(call);
+                let call = CallWords(self.0, call);
                 write!(
                     f,
-                    "at {call} syscalls[{other}] decides otherwise, \
+                    "at {call}: syscalls[{other}] decides otherwise, \
                      and libseccomp does not keep their order"
                 )
             }
@@ -314,7 +280,7 @@ impl fmt::Display for FoundWords {
                      and programs fall back to older calls only on errno 38 (ENOSYS)"
                 )
             }
-            Finding::Advised(advice) => write!(f, "{}", AdviceWords(advice)),
+            Finding::Advised(advice) => write!(f, "{}", AdviceWords(self.0, advice)),
         }
     }
 }

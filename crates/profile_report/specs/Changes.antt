@@ -7,6 +7,7 @@ use Rattle.filter_differences.specs.declared.part.Part.TheVariants.{Numbers, Lat
 use Rattle.shown_differences.specs.declared.line.Line.{Line}
 use Rattle.shown_differences.specs.declared.line.Line.TheVariants.{Differs, Undecided}
 use Rattle.shown_differences.specs.Texts.{line_text, told_text}
+use Rattle.profile_report.specs.More.{more_text}
 use Rattle.profile_report.specs.Escaped.{html_text}
 use Rattle.profile_report.specs.Ways.{first}
 use Rattle.profile_report.specs.declared.changes.TheConstants.{SHOWN_CHANGES}
@@ -47,10 +48,6 @@ change_items calls [] = []
 change_items calls (line ∷ lines) =
     codes "<li>" ++ (line_text calls line ++ (codes "</li>\n" ++ change_items calls lines))
 
-unfoldable pub more_changes : ℕ → List ℕ
-more_changes count = if count == 0 then [] else codes "<li>" ++ (decimal count
-    ++ codes " more, which <code>seccheck table --against</code> prints</li>\n")
-
 -- the old profile, and how many calls differ
 unfoldable pub changes_head : List ℕ → ℕ → List ℕ
 changes_head old count =
@@ -62,4 +59,5 @@ changes_head old count =
 abbrev pub changes_html : CallTable → List ℕ → List Line → List ℕ
 changes_html calls old lines =
     changes_head old (length lines) ++ (change_items calls (first SHOWN_CHANGES lines)
-    ++ (more_changes (length lines - SHOWN_CHANGES) ++ codes "</ul></section>\n"))
+    ++ (more_text (codes "<li>") (length lines - SHOWN_CHANGES)
+    (codes " more, which <code>seccheck table --against</code> prints</li>\n") ++ codes "</ul></section>\n"))

@@ -2,8 +2,8 @@
 use Rattle.std.specs.Prelude.{ℕ, ◌-◌, ◌==◌, if◌then◌else◌, List, [], ◌∷◌, ◌++◌, codes, length, string_bytes}
 use Rattle.std.specs.Prelude.{String, Vec}
 use Rattle.std.specs.Global.{Global}
-use Rattle.std.specs.Fmt.{decimal}
 use Rattle.profile_report.specs.Escaped.{html_text}
+use Rattle.profile_report.specs.More.{more_text}
 use Rattle.profile_report.specs.Ways.{first}
 use Rattle.profile_report.specs.declared.denials.TheConstants.{SHOWN_DENIALS}
 
@@ -17,18 +17,17 @@ abbrev pub lines_html : List (Vec (String Global) Global) → List ℕ
 lines_html [] = []
 lines_html (line ∷ lines) = codes "<tr>" ++ (cells_html line.items ++ (codes "</tr>\n" ++ lines_html lines))
 
-unfoldable pub more_denials : ℕ → List ℕ
-more_denials count = if count == 0 then [] else codes "<p class=\"m\">" ++ (decimal count
-    ++ codes " more, which <code>seccheck denied</code> prints</p>\n")
-
 unfoldable pub table_head : List ℕ
 table_head = codes "<div class=\"s\" tabindex=\"0\"><table>\n<thead><tr><th scope=\"col\">pod</th><th scope=\"col\">container</th><th scope=\"col\">call</th><th scope=\"col\">verdict</th><th scope=\"col\">times</th><th scope=\"col\">first</th></tr></thead>\n<tbody>\n"
 
--- the first lines as a table, and how many more there are
+-- the first lines as a table
+unfoldable pub first_lines : List (Vec (String Global) Global) → List ℕ
+first_lines lines = table_head ++ (lines_html (first SHOWN_DENIALS lines) ++ codes "</tbody></table></div>\n")
+
+-- and how many more there are
 unfoldable pub table_html : List (Vec (String Global) Global) → List ℕ
-table_html lines =
-    table_head ++ (lines_html (first SHOWN_DENIALS lines) ++ (codes "</tbody></table></div>\n"
-    ++ more_denials (length lines - SHOWN_DENIALS)))
+table_html lines = first_lines lines ++ more_text (codes "<p class=\"m\">") (length lines - SHOWN_DENIALS)
+    (codes " more, which <code>seccheck denied</code> prints</p>\n")
 
 -- the table, or that there is no line for it
 unfoldable pub table_or : List (Vec (String Global) Global) → List ℕ

@@ -1,5 +1,5 @@
 -- The entries of a profile in a report, this project's own: docs/SEMANTICS.md, "A report".
-use Rattle.std.specs.Prelude.{ℕ, ◌+◌, ◌-◌, ◌==◌, if◌then◌else◌, List, [], ◌∷◌, ◌++◌, codes, length, Some, None}
+use Rattle.std.specs.Prelude.{ℕ, ◌+◌, ◌-◌, List, [], ◌∷◌, ◌++◌, codes, length, Some, None}
 use Rattle.std.specs.Fmt.{decimal}
 use Rattle.oci_profile.specs.declared.profile.Entry.{Entry}
 use Rattle.oci_profile.specs.declared.profile.Profile.{Profile}
@@ -8,19 +8,18 @@ use Rattle.profile_lint.specs.declared.finding.Finding.{Finding}
 use Rattle.profile_lint.specs.declared.passed.Passed.{Passed}
 use Rattle.sys_table.specs.declared.calls.CallTable.{CallTable}
 use Rattle.profile_table.specs.Text.{count_text, names_text}
+use Rattle.action.specs.Shown.{value_text}
+use Rattle.profile_report.specs.More.{more_text}
 use Rattle.profile_report.specs.Notes.{notes_about}
 use Rattle.profile_report.specs.Ways.{first, shown_conds}
-use Rattle.profile_report.specs.Words.{letter_in, value_text}
+use Rattle.profile_report.specs.Words.{letter_in}
 use Rattle.profile_report.specs.declared.entries.TheConstants.{SHOWN_NAMES, SHOWN_NOTES, SHOWN_OTHERS}
 use Rattle.profile_report.specs.declared.words.TheConstants.{SHOWN_ENTRIES}
-
-unfoldable pub more_names : ℕ → List ℕ
-more_names count = if count == 0 then [] else codes " and " ++ (decimal count ++ codes " more")
 
 -- how many calls an entry names, and the first ones
 unfoldable pub names_html : CallTable → List ℕ → List ℕ
 names_html calls numbers = count_text (length numbers) ++ (names_text calls 0 (first SHOWN_NAMES numbers)
-    ++ more_names (length numbers - SHOWN_NAMES))
+    ++ more_text (codes " and ") (length numbers - SHOWN_NAMES) (codes " more"))
 
 -- the head of an entry, and its decision
 unfoldable pub entry_head : ℕ → ℕ → List ℕ
@@ -57,13 +56,10 @@ unfoldable pub default_html : CallTable → ℕ → List Passed → List Finding
 default_html calls value passed finds =
     default_head value ++ (notes_about calls SHOWN_OTHERS None passed finds ++ codes "</section>\n")
 
-unfoldable pub more_entries : ℕ → List ℕ
-more_entries count = if count == 0 then [] else codes "<p class=\"m\">" ++ (decimal count
-    ++ codes " more entries, which <code>seccheck table</code> prints</p>\n")
-
 -- the first entries, how many more there are, and the default
 unfoldable pub entries_html : CallTable → Profile → List Passed → List Finding → List ℕ
 entries_html calls profile passed finds =
     entries_from calls passed finds 0 (first SHOWN_ENTRIES profile.entries)
-    ++ (more_entries (length profile.entries - SHOWN_ENTRIES)
+    ++ (more_text (codes "<p class=\"m\">") (length profile.entries - SHOWN_ENTRIES)
+    (codes " more entries, which <code>seccheck table</code> prints</p>\n")
     ++ default_html calls (value_of profile.default) passed finds)

@@ -8,9 +8,10 @@ use Rattle.oci_profile.specs.declared.profile.Profile.{Profile}
 use Rattle.sys_table.specs.declared.calls.CallTable.{CallTable}
 use Rattle.profile_table.specs.declared.row.Row.{Row}
 use Rattle.shown_differences.specs.declared.line.Line.{Line}
+use Rattle.explain.specs.Text.{decided_text}
 use Rattle.profile_report.specs.Changes.{changes_at, is_changed}
 use Rattle.profile_report.specs.Ways.{asking, shown_for, ways_html}
-use Rattle.profile_report.specs.Words.{decided_text, letter_in, linked_text}
+use Rattle.profile_report.specs.Words.{letter_in, linked_text}
 
 -- the classes of a cell whose call entries with conditions may decide, and of one that differs
 abbrev pub asked_class : Bool → List ℕ

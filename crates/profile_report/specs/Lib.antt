@@ -3,6 +3,7 @@ pub mod Denials
 pub mod Entries
 pub mod Escaped
 pub mod Grid
+pub mod More
 pub mod Notes
 pub mod Page
 pub mod Tallies

@@ -2,7 +2,6 @@
 -- report".
 use Rattle.std.specs.Prelude.{ℕ, ◌-◌, ◌==◌, Bool, true, false, if◌then◌else◌, List, [], ◌∷◌, ◌++◌, codes}
 use Rattle.std.specs.Prelude.{length, Option, Some, None}
-use Rattle.std.specs.Fmt.{decimal}
 use Rattle.profile_advice.specs.Entries as advised
 use Rattle.sys_table.specs.declared.calls.CallTable.{CallTable}
 use Rattle.profile_lint.specs.declared.finding.Finding.{Finding}
@@ -14,6 +13,7 @@ use Rattle.profile_lint.specs.Passed.{Told, told}
 use Rattle.profile_lint.specs.Passed.Told.{Ignored, OtherArchitectures, RepeatedName, UnknownArchitecture}
 use Rattle.profile_lint.specs.Passed.Told.{UnknownName}
 use Rattle.profile_lint.specs.Text.{found_text, told_text}
+use Rattle.profile_report.specs.More.{more_text}
 use Rattle.profile_report.specs.Escaped.{html_text}
 use Rattle.profile_report.specs.Ways.{first}
 
@@ -50,16 +50,16 @@ is_about None (Some other) = false
 is_about (Some place) None = false
 
 -- the line of a finding, if it is about this entry, or about none if none is meant
-unfoldable pub told_line : Option ℕ → Told → List (List ℕ)
-told_line about t = if is_about (told_about t) about then told_text t ∷ [] else []
+unfoldable pub told_line : CallTable → Option ℕ → Told → List (List ℕ)
+told_line calls about t = if is_about (told_about t) about then told_text calls t ∷ [] else []
 
 unfoldable pub found_line : CallTable → Option ℕ → Finding → List (List ℕ)
 found_line calls about f = if is_about (found_about f) about then found_text calls f ∷ [] else []
 
 -- the lines about the text, in order
-abbrev pub told_lines : Option ℕ → List Passed → List (List ℕ)
-told_lines about [] = []
-told_lines about (item ∷ passed) = told_line about (told item) ++ told_lines about passed
+abbrev pub told_lines : CallTable → Option ℕ → List Passed → List (List ℕ)
+told_lines calls about [] = []
+told_lines calls about (item ∷ passed) = told_line calls about (told item) ++ told_lines calls about passed
 
 -- the lines about the profile, in order
 abbrev pub found_lines : CallTable → Option ℕ → List Finding → List (List ℕ)
@@ -71,14 +71,11 @@ abbrev pub items_html : List (List ℕ) → List ℕ
 items_html [] = []
 items_html (line ∷ lines) = codes "<li>" ++ (html_text 160 line ++ (codes "</li>\n" ++ items_html lines))
 
-unfoldable pub more_notes : ℕ → List ℕ
-more_notes count = if count == 0 then [] else codes "<li>" ++ (decimal count
-    ++ codes " more, which <code>seccheck lint</code> prints</li>\n")
-
 -- the first findings, and how many more there are
 unfoldable pub list_html : ℕ → List (List ℕ) → List ℕ
 list_html count lines =
-    codes "<ul class=\"n\">\n" ++ (items_html (first count lines) ++ (more_notes (length lines - count)
+    codes "<ul class=\"n\">\n" ++ (items_html (first count lines) ++ (more_text (codes "<li>") (length lines - count)
+    (codes " more, which <code>seccheck lint</code> prints</li>\n")
     ++ codes "</ul>\n"))
 
 -- nothing if there is no finding
@@ -88,4 +85,4 @@ notes_html count lines = if length lines == 0 then [] else list_html count lines
 -- the findings about this entry, or about none
 abbrev pub notes_about : CallTable → ℕ → Option ℕ → List Passed → List Finding → List ℕ
 notes_about calls count about passed finds =
-    notes_html count (told_lines about passed ++ found_lines calls about finds)
+    notes_html count (told_lines calls about passed ++ found_lines calls about finds)

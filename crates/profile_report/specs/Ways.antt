@@ -1,7 +1,6 @@
 -- The entries with conditions in the cell of a call, this project's own: docs/SEMANTICS.md, "A report".
-use Rattle.std.specs.Prelude.{ℕ, ◌+◌, ◌-◌, ◌==◌, ◌&&◌, if◌then◌else◌, List, [], ◌∷◌, ◌++◌, codes, length, min}
+use Rattle.std.specs.Prelude.{ℕ, ◌+◌, ◌-◌, ◌&&◌, if◌then◌else◌, List, [], ◌∷◌, ◌++◌, codes, length, min}
 use Rattle.std.specs.Prelude.{Option, Some, None, nat_le, slice_get, take}
-use Rattle.std.specs.Fmt.{decimal}
 use Rattle.oci_profile.specs.declared.conditions.Cond.{Cond}
 use Rattle.oci_profile.specs.declared.profile.Entry.{Entry}
 use Rattle.oci_profile.specs.Decision.{value_of}
@@ -10,6 +9,7 @@ use Rattle.explain.specs.declared.explanation.Decider.TheVariants as by
 use Rattle.profile_table.specs.Text.{cond_text, cond_word, is_before}
 use Rattle.profile_table.specs.declared.row.Row.{Row}
 use Rattle.profile_report.specs.Escaped.{html_text}
+use Rattle.profile_report.specs.More.{more_text}
 use Rattle.profile_report.specs.Words.{linked_text}
 use Rattle.profile_report.specs.declared.ways.TheConstants.{FEW_ASKED, SHOWN_OF_FEW, SHOWN_OF_MANY}
 
@@ -26,13 +26,10 @@ abbrev pub conds_html : ℕ → List Cond → List ℕ
 conds_html place [] = []
 conds_html place (cond ∷ conds) = cond_word place ++ (cond_html cond ++ conds_html (place + 1) conds)
 
--- the conditions that are not shown
-unfoldable pub more_conds : ℕ → List ℕ
-more_conds count = if count == 0 then [] else codes " and " ++ (decimal count ++ codes " more")
-
 -- the first conditions of an entry, and how many more it has
 abbrev pub shown_conds : ℕ → List Cond → List ℕ
-shown_conds count conds = conds_html 0 (first count conds) ++ more_conds (length conds - count)
+shown_conds count conds =
+    conds_html 0 (first count conds) ++ more_text (codes " and ") (length conds - count) (codes " more")
 
 -- an entry that decides if its conditions hold
 abbrev pub way_html : ℕ → ℕ → Entry → List ℕ
@@ -58,15 +55,11 @@ ways_at count entries [] = []
 ways_at count entries (place ∷ places) =
     way_or count place (slice_get entries place) ++ ways_at count entries places
 
--- the entries that are not shown
-unfoldable pub more_ways : ℕ → List ℕ
-more_ways count = if count == 0 then [] else codes "by " ++ (decimal count
-    ++ codes " more with conditions, else ")
-
 -- so many entries and conditions of each are shown in a cell, if so many calls have some
 unfoldable pub shown_for : ℕ → ℕ
 shown_for calls = if nat_le calls FEW_ASKED then SHOWN_OF_FEW else SHOWN_OF_MANY
 
 -- the first entries at these places, and how many more there are
 abbrev pub ways_html : ℕ → List Entry → List ℕ → List ℕ
-ways_html count entries places = ways_at count entries (first count places) ++ more_ways (length places - count)
+ways_html count entries places = ways_at count entries (first count places)
+    ++ more_text (codes "by ") (length places - count) (codes " more with conditions, else ")

@@ -4,10 +4,10 @@ use Rattle.std.specs.Fmt.{decimal}
 use Rattle.action.specs.declared.action.Action.{Action}
 use Rattle.action.specs.declared.action.Action.TheVariants.{KillProcess, KillThread, Trap, Errno, UserNotif}
 use Rattle.action.specs.declared.action.Action.TheVariants.{Trace, Log, Allow}
-use Rattle.action.specs.Verdict.{name_of, verdict_of}
+use Rattle.action.specs.Shown.{value_text}
+use Rattle.action.specs.Verdict.{verdict_of}
 use Rattle.explain.specs.declared.explanation.Decider.{Decider}
 use Rattle.explain.specs.declared.explanation.Decider.TheVariants as by
-use Rattle.explain.specs.Text.{decider_text}
 use Rattle.profile_report.specs.declared.words.TheConstants.{SHOWN_ENTRIES}
 
 -- a letter for each action, so that no colour is needed
@@ -24,14 +24,6 @@ letter_of Allow = codes "A"
 -- the letter of a filter's value
 abbrev pub letter_in : ℕ → List ℕ
 letter_in value = letter_of (verdict_of value).action
-
--- a value's action and data
-abbrev pub value_text : ℕ → List ℕ
-value_text value = name_of (verdict_of value).action ++ (codes " " ++ decimal (verdict_of value).ret_data)
-
--- what decides, as `explain` prints it
-abbrev pub decided_text : ℕ → Decider → List ℕ
-decided_text value decider = value_text value ++ (codes " by " ++ decider_text decider)
 
 -- the place of an entry, with a link to the entry if it is shown
 unfoldable pub entry_link : ℕ → List ℕ

@@ -4,6 +4,7 @@ ghost use Rattle.profile_report.specs.Changes.{change_at, change_html, change_it
 ghost use Rattle.profile_report.specs.Changes.{is_changed, is_on, is_part_of};
 
 use crate::escaping::Html;
+use crate::more::More;
 use crate::ways::first;
 use filter_differences::Part;
 use shown_differences::{Line, LineText};
@@ -104,7 +105,11 @@ pub fn changes_html(
 {
     let head = ChangesHead(old, lines.len());
     let items = change_items(alloc, calls, first(lines, SHOWN_CHANGES))?;
-    let more = MoreChanges(lines.len().saturating_sub(SHOWN_CHANGES));
+    let more = More {
+        before: "<li>",
+        count: lines.len().saturating_sub(SHOWN_CHANGES),
+        after: " more, which <code>seccheck table --against</code> prints</li>\n",
+    };
     format!(in alloc; "{head}{items}{more}</ul></section>\n")
 }
 
@@ -142,28 +147,4 @@ fn change_items(alloc: Global, calls: CallTable, lines: &[Line]) -> Result<Strin
         write!(text, "<li>{line}</li>\n")?;
     }
     Ok(text)
-}
-
-/// How many differences are not listed.
-#[derive(Clone, Copy)]
-struct MoreChanges(usize);
-
-impl fmt::Display for MoreChanges {
-    ghost use Rattle.std.specs.Prelude.{Some};
-    ghost use Rattle.profile_report.specs.Changes.{more_changes};
-
-    ghost output = { λ more. Some (more_changes more.0) };
-
-    #[tactic(auto, unfolding(crate::specs::Changes::more_changes))]
-    fn fmt<W: fmt::Write>(&self, f: &mut fmt::Formatter<W>) -> fmt::Result {
-        let count = self.0;
-        if count == 0 {
-            Ok(())
-        } else {
-            write!(
-                f,
-                "<li>{count} more, which <code>seccheck table --against</code> prints</li>\n"
-            )
-        }
-    }
 }

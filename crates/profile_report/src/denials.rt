@@ -1,12 +1,12 @@
 //! The denied calls of containers.
 ghost use Rattle.std.specs.Prelude.{◌≡◌, IfOk, string_bytes};
-ghost use Rattle.profile_report.specs.Denials.{cells_html, denials_html, lines_html, table_head, table_html};
-ghost use Rattle.profile_report.specs.Denials.{table_or};
+ghost use Rattle.profile_report.specs.Denials.{cells_html, denials_html, first_lines, lines_html, table_head};
+ghost use Rattle.profile_report.specs.Denials.{table_html, table_or};
 
 use crate::escaping::Html;
+use crate::more::More;
 use crate::ways::first;
 use std::alloc::{AllocError, Global};
-use std::fmt;
 
 /// How many denied calls are shown at most, the most denied first.
 pub const SHOWN_DENIALS: usize = 16;
@@ -36,10 +36,22 @@ fn table_or(alloc: Global, lines: &[Vec<String>]) -> Result<String, AllocError>
 fn table_html(alloc: Global, lines: &[Vec<String>]) -> Result<String, AllocError>
     ensures { IfOk result (λ text. string_bytes text ≡ table_html lines.now) }
 {
+    let shown = first_lines(alloc, lines)?;
+    let more = More {
+        before: "<p class=\"m\">",
+        count: lines.len().saturating_sub(SHOWN_DENIALS),
+        after: " more, which <code>seccheck denied</code> prints</p>\n",
+    };
+    format!(in alloc; "{shown}{more}")
+}
+
+#[tactic(auto, unfolding(crate::specs::Denials::first_lines))]
+fn first_lines(alloc: Global, lines: &[Vec<String>]) -> Result<String, AllocError>
+    ensures { IfOk result (λ text. string_bytes text ≡ first_lines lines.now) }
+{
     let head = table_head();
     let shown = lines_html(alloc, first(lines, SHOWN_DENIALS))?;
-    let more = MoreDenials(lines.len().saturating_sub(SHOWN_DENIALS));
-    format!(in alloc; "{head}{shown}</tbody></table></div>\n{more}")
+    format!(in alloc; "{head}{shown}</tbody></table></div>\n")
 }
 
 #[tactic(auto, unfolding(crate::specs::Denials::table_head))]
@@ -74,28 +86,4 @@ fn cells_html(alloc: Global, cells: &[String]) -> Result<String, AllocError>
         write!(text, "<td>{html}</td>")?;
     }
     Ok(text)
-}
-
-/// How many denied calls are not shown.
-#[derive(Clone, Copy)]
-struct MoreDenials(usize);
-
-impl fmt::Display for MoreDenials {
-    ghost use Rattle.std.specs.Prelude.{Some};
-    ghost use Rattle.profile_report.specs.Denials.{more_denials};
-
-    ghost output = { λ more. Some (more_denials more.0) };
-
-    #[tactic(auto, unfolding(crate::specs::Denials::more_denials))]
-    fn fmt<W: fmt::Write>(&self, f: &mut fmt::Formatter<W>) -> fmt::Result {
-        let count = self.0;
-        if count == 0 {
-            Ok(())
-        } else {
-            write!(
-                f,
-                "<p class=\"m\">{count} more, which <code>seccheck denied</code> prints</p>\n"
-            )
-        }
-    }
 }

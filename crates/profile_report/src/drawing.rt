@@ -1,9 +1,10 @@
 //! The tree of a filter as a drawing: SVG 2, inside HTML.
 use crate::tree::{End, Held, Question, Tree, Way, bit, tree_of};
-use crate::words::{Value, letter_in};
+use crate::words::letter_in;
+use action::ValueText;
 use bpf_code::{Insn, Operation};
 use bpf_verify::Filter;
-use call_names::{CallWord, Naming};
+use call_names::{Argument, CallWord, Naming};
 use std::alloc::{AllocError, Global};
 use std::fmt;
 use sys_table::CallTable;
@@ -68,7 +69,7 @@ fn add_tree(text: &mut String, calls: CallTable, tree: &Tree) -> Result<(), Allo
     Ok(())
 }
 
-/// Draws the questions, so many at a time.
+/// Draws the questions, at most `CHUNK` in one drawing.
 fn add_drawings(
     text: &mut String,
     calls: CallTable,
@@ -88,7 +89,7 @@ fn add_drawings(
     Ok(())
 }
 
-/// Begins a drawing of so many questions.
+/// Begins a drawing of this number of questions.
 fn add_start(text: &mut String, count: usize) -> Result<(), AllocError> {
     let height = count.saturating_add(1).saturating_mul(LINE);
     write!(
@@ -188,7 +189,7 @@ impl fmt::Display for EndWords {
     fn fmt<W: fmt::Write>(&self, f: &mut fmt::Formatter<W>) -> fmt::Result {
         match self.0 {
             End::Returns(value, steps) => {
-                let (letter, value) = (letter_in(value), Value(value));
+                let (letter, value) = (letter_in(value), ValueText(value));
                 write!(f, "{letter} {value}, {steps}")
             }
             End::Computed(steps) => write!(f, "computed, {steps}"),
@@ -236,8 +237,7 @@ impl fmt::Display for Number {
                 write!(f, "{k} {word}")
             }
             (_, Held::Word(0)) if k < 4096 => write!(f, "{k}"),
-            _ if k < 10 => write!(f, "{k}"),
-            _ => write!(f, "0x{k:x}"),
+            _ => write!(f, "{}", Argument(u64::from(k))),
         }
     }
 }
@@ -250,7 +250,9 @@ impl fmt::Display for HeldWords {
     fn fmt<W: fmt::Write>(&self, f: &mut fmt::Formatter<W>) -> fmt::Result {
         match self.0 {
             Held::Word(at) => write!(f, "{}", WordName(at)),
-            Held::Masked(at, mask) => write!(f, "{} &amp; 0x{mask:x}", WordName(at)),
+            Held::Masked(at, mask) => {
+                write!(f, "{} &amp; {}", WordName(at), Argument(u64::from(mask)))
+            }
             Held::Other => f.write_str("A"),
         }
     }

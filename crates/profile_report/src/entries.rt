@@ -1,15 +1,16 @@
 //! The entries of a profile, each with the findings about it.
 ghost use Rattle.std.specs.Prelude.{◌≡◌, IfOk, string_bytes};
-ghost use Rattle.profile_table.specs.Text.{names_text};
 ghost use Rattle.profile_report.specs.Entries.{default_html, entries_from, entries_html, entry_body};
 ghost use Rattle.profile_report.specs.Entries.{entry_html, names_html};
 
+use crate::more::More;
 use crate::notes::notes_about;
 use crate::ways::{first, shown_conds};
-use crate::words::{SHOWN_ENTRIES, Value, letter_in};
-use call_names::{CallWord, Naming};
+use crate::words::{SHOWN_ENTRIES, letter_in};
+use action::ValueText;
 use oci_profile::{Entry, Profile};
 use profile_lint::{Finding, Passed};
+use profile_table::{Count, names_text};
 use std::alloc::{AllocError, Global};
 use std::fmt;
 use sys_table::CallTable;
@@ -36,7 +37,11 @@ pub(crate) fn entries_html(
 {
     let entries = profile.entries.as_slice();
     let shown = entries_from(alloc, calls, passed, found, first(entries, SHOWN_ENTRIES))?;
-    let more = MoreEntries(entries.len().saturating_sub(SHOWN_ENTRIES));
+    let more = More {
+        before: "<p class=\"m\">",
+        count: entries.len().saturating_sub(SHOWN_ENTRIES),
+        after: " more entries, which <code>seccheck table</code> prints</p>\n",
+    };
     let default = default_html(alloc, calls, profile.default.value(), passed, found)?;
     format!(in alloc; "{shown}{more}{default}")
 }
@@ -99,7 +104,7 @@ impl fmt::Display for EntryHead {
     #[tactic(auto, unfolding(crate::specs::Entries::entry_head))]
     fn fmt<W: fmt::Write>(&self, f: &mut fmt::Formatter<W>) -> fmt::Result {
         let place = self.0;
-        let (letter, decision) = (letter_in(self.1), Value(self.1));
+        let (letter, decision) = (letter_in(self.1), ValueText(self.1));
         write!(
             f,
             "<section class=\"{letter}\" id=\"e{place}\"><h3><b>{letter}</b> syscalls[{place}]</h3>\n<p>{decision}"
@@ -135,7 +140,7 @@ impl fmt::Display for DefaultHead {
 
     #[tactic(auto, unfolding(crate::specs::Entries::default_head))]
     fn fmt<W: fmt::Write>(&self, f: &mut fmt::Formatter<W>) -> fmt::Result {
-        let (letter, decision) = (letter_in(self.0), Value(self.0));
+        let (letter, decision) = (letter_in(self.0), ValueText(self.0));
         write!(
             f,
             "<section class=\"{letter}\" id=\"default\"><h3><b>{letter}</b> defaultAction</h3>\n<p>{decision}</p>\n\
@@ -151,108 +156,10 @@ fn names_html(alloc: Global, calls: CallTable, numbers: &[u32]) -> Result<String
 {
     let count = Count(numbers.len());
     let names = names_text(alloc, calls, first(numbers, SHOWN_NAMES))?;
-    let more = MoreNames(numbers.len().saturating_sub(SHOWN_NAMES));
+    let more = More {
+        before: " and ",
+        count: numbers.len().saturating_sub(SHOWN_NAMES),
+        after: " more",
+    };
     format!(in alloc; "{count}{names}{more}")
-}
-
-/// `: read, write`.
-fn names_text(alloc: Global, calls: CallTable, numbers: &[u32]) -> Result<String, AllocError>
-    ensures { IfOk result (λ text. string_bytes text ≡ names_text calls 0 numbers.now) }
-{
-    let mut text = String::new(alloc);
-    for (place, nr) in numbers.iter().enumerate() {
-        let word = NameWord(place);
-        let name = CallWord {
-            nr: *nr,
-            naming: Naming::Name(calls),
-        };
-        write!(text, "{word}{name}")?;
-    }
-    Ok(text)
-}
-
-/// The word before the name at this place.
-#[derive(Clone, Copy)]
-struct NameWord(usize);
-
-impl fmt::Display for NameWord {
-    ghost use Rattle.std.specs.Prelude.{Some};
-    ghost use Rattle.profile_table.specs.Text.{name_word};
-
-    ghost output = { λ word. Some (name_word word.0) };
-
-    #[tactic(auto, unfolding(profile_table::specs::Text::name_word))]
-    fn fmt<W: fmt::Write>(&self, f: &mut fmt::Formatter<W>) -> fmt::Result {
-        if self.0 == 0 {
-            f.write_str(": ")
-        } else {
-            f.write_str(", ")
-        }
-    }
-}
-
-/// How many calls: `1 call`, `2 calls`.
-#[derive(Clone, Copy)]
-struct Count(usize);
-
-impl fmt::Display for Count {
-    ghost use Rattle.std.specs.Prelude.{Some};
-    ghost use Rattle.profile_table.specs.Text.{count_text};
-
-    ghost output = { λ count. Some (count_text count.0) };
-
-    #[tactic(auto, unfolding(profile_table::specs::Text::count_text))]
-    fn fmt<W: fmt::Write>(&self, f: &mut fmt::Formatter<W>) -> fmt::Result {
-        let count = self.0;
-        if count == 1 {
-            f.write_str("1 call")
-        } else {
-            write!(f, "{count} calls")
-        }
-    }
-}
-
-/// How many names are not shown.
-#[derive(Clone, Copy)]
-struct MoreNames(usize);
-
-impl fmt::Display for MoreNames {
-    ghost use Rattle.std.specs.Prelude.{Some};
-    ghost use Rattle.profile_report.specs.Entries.{more_names};
-
-    ghost output = { λ more. Some (more_names more.0) };
-
-    #[tactic(auto, unfolding(crate::specs::Entries::more_names))]
-    fn fmt<W: fmt::Write>(&self, f: &mut fmt::Formatter<W>) -> fmt::Result {
-        let count = self.0;
-        if count == 0 {
-            Ok(())
-        } else {
-            write!(f, " and {count} more")
-        }
-    }
-}
-
-/// How many entries are not shown.
-#[derive(Clone, Copy)]
-struct MoreEntries(usize);
-
-impl fmt::Display for MoreEntries {
-    ghost use Rattle.std.specs.Prelude.{Some};
-    ghost use Rattle.profile_report.specs.Entries.{more_entries};
-
-    ghost output = { λ more. Some (more_entries more.0) };
-
-    #[tactic(auto, unfolding(crate::specs::Entries::more_entries))]
-    fn fmt<W: fmt::Write>(&self, f: &mut fmt::Formatter<W>) -> fmt::Result {
-        let count = self.0;
-        if count == 0 {
-            Ok(())
-        } else {
-            write!(
-                f,
-                "<p class=\"m\">{count} more entries, which <code>seccheck table</code> prints</p>\n"
-            )
-        }
-    }
 }

@@ -1,7 +1,7 @@
 use json_place::Escaped;
 use std::fmt;
 
-/// One character as it stands in a page: HTML Living Standard, "Character references". A control character is
+/// One character as a page shows it: HTML Living Standard, "Character references". A control character is
 /// shown as JSON (RFC 8259) escapes it.
 #[derive(Clone, Copy)]
 struct HtmlChar(char);
@@ -26,8 +26,8 @@ impl fmt::Display for HtmlChar {
     }
 }
 
-/// A text as it stands in a page, between tags or in a quoted attribute: no byte of it is markup. Of a text
-/// with more than `room` bytes only the characters that fit are shown, and the cut is marked by `..`.
+/// A text as a page shows it, between tags or in a quoted attribute: no byte of it is markup. If the text has
+/// more than `room` bytes, only the characters that fit are shown, and the cut is marked by `..`.
 #[derive(Clone, Copy)]
 pub struct Html<'a> {
     pub text: &'a str,

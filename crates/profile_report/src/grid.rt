@@ -5,10 +5,10 @@ ghost use Rattle.profile_report.specs.Grid.{cells_html, changed_class, changed_m
 
 use crate::changes::{changes_at, is_changed};
 use crate::ways::{shown_for, ways_html};
-use crate::words::{Decided, Linked, letter_in};
-use call_names::{CallWord, Naming};
+use crate::words::{Linked, letter_in};
+use explain::Decided;
 use oci_profile::Profile;
-use profile_table::Row;
+use profile_table::{Row, named};
 use shown_differences::Line;
 use std::alloc::{AllocError, Global};
 use std::fmt;
@@ -42,7 +42,7 @@ fn asked(rows: &[Row]) -> usize
     count
 }
 
-/// The cells of these rows, with so many entries with conditions in each.
+/// The cells of these rows, with at most this number of entries with conditions in each.
 fn cells_html(
     alloc: Global,
     calls: CallTable,
@@ -117,13 +117,6 @@ impl fmt::Display for Head {
              <b>{letter}</b> {name}{asks}{changes}</summary>"
         )
     }
-}
-
-fn named(calls: CallTable, nr: u32) -> CallWord
-    ensures { result ≡ record { nr = nr; naming = Naming.Name calls } }
-{
-    let naming = Naming::Name(calls);
-    CallWord { nr, naming }
 }
 
 fn asked_class(is_asked: bool) -> &'static str

@@ -4,7 +4,7 @@
 //! `specs/Page.antt` defines the page, `specs/Grid.antt`, `specs/Ways.antt` and `specs/Tallies.antt` the cells
 //! of the calls, `specs/Changes.antt` the differences from an old profile, `specs/Entries.antt` and
 //! `specs/Notes.antt` the entries with their findings, `specs/Denials.antt` the denied calls, and
-//! `specs/Escaped.antt` how texts stand in a page.
+//! `specs/Escaped.antt` how a page escapes texts.
 //!
 //! # What is proved
 //!
@@ -24,6 +24,7 @@ mod entries;
 mod escaping;
 mod grid;
 mod laws;
+mod more;
 mod notes;
 mod style;
 mod tallies;

@@ -6,10 +6,10 @@ ghost use Rattle.profile_report.specs.Notes.{items_html, list_html, notes_about,
 ghost use Rattle.profile_report.specs.Notes.{told_lines};
 
 use crate::escaping::Html;
+use crate::more::More;
 use crate::ways::first;
-use profile_lint::{Finding, Holder, Passed, ShownFinding};
+use profile_lint::{Finding, Holder, Passed, ShownFinding, ShownPassed};
 use std::alloc::{AllocError, Global};
-use std::fmt;
 use sys_table::CallTable;
 
 /// The first findings about an entry, or about none, and how many more there are.
@@ -36,11 +36,11 @@ fn lines_about(
     found: &[Finding],
 ) -> Result<Vec<String>, AllocError>
     ensures { IfOk result (λ lines. map string_bytes lines.items
-        ≡ told_lines about passed.now ++ found_lines calls about found.now) }
+        ≡ told_lines calls about passed.now ++ found_lines calls about found.now) }
 {
     let mut lines = Vec::new(alloc);
     for item in passed {
-        add_told(alloc, &mut lines, about, item)?;
+        add_told(alloc, calls, &mut lines, about, item)?;
     }
     for finding in found {
         add_found(alloc, calls, &mut lines, about, finding)?;
@@ -52,15 +52,17 @@ fn lines_about(
 #[tactic(auto, unfolding(crate::specs::Notes::told_line))]
 fn add_told(
     alloc: Global,
+    calls: CallTable,
     lines: &mut Vec<String>,
     about: Option<usize>,
     item: &Passed<'_>,
 ) -> Result<(), AllocError>
     ensures { IfOk result (λ _. map string_bytes lines.new.items
-        ≡ map string_bytes lines.old.items ++ told_line about (told item.now)) }
+        ≡ map string_bytes lines.old.items ++ told_line calls about (told item.now)) }
 {
     if is_about(told_about(item), about) {
-        lines.push(format!(in alloc; "{item}")?)?;
+        let shown = ShownPassed(calls, item);
+        lines.push(format!(in alloc; "{shown}")?)?;
     }
     Ok(())
 }
@@ -147,7 +149,11 @@ fn list_html(alloc: Global, count: usize, lines: &[String]) -> Result<String, Al
     ensures { IfOk result (λ text. string_bytes text ≡ list_html count (map string_bytes lines.now)) }
 {
     let items = items_html(alloc, first(lines, count))?;
-    let more = MoreNotes(lines.len().saturating_sub(count));
+    let more = More {
+        before: "<li>",
+        count: lines.len().saturating_sub(count),
+        after: " more, which <code>seccheck lint</code> prints</li>\n",
+    };
     format!(in alloc; "<ul class=\"n\">\n{items}{more}</ul>\n")
 }
 
@@ -163,28 +169,4 @@ fn items_html(alloc: Global, lines: &[String]) -> Result<String, AllocError>
         write!(text, "<li>{html}</li>\n")?;
     }
     Ok(text)
-}
-
-/// How many findings are not shown.
-#[derive(Clone, Copy)]
-struct MoreNotes(usize);
-
-impl fmt::Display for MoreNotes {
-    ghost use Rattle.std.specs.Prelude.{Some};
-    ghost use Rattle.profile_report.specs.Notes.{more_notes};
-
-    ghost output = { λ more. Some (more_notes more.0) };
-
-    #[tactic(auto, unfolding(crate::specs::Notes::more_notes))]
-    fn fmt<W: fmt::Write>(&self, f: &mut fmt::Formatter<W>) -> fmt::Result {
-        let count = self.0;
-        if count == 0 {
-            Ok(())
-        } else {
-            write!(
-                f,
-                "<li>{count} more, which <code>seccheck lint</code> prints</li>\n"
-            )
-        }
-    }
 }

@@ -19,9 +19,9 @@ pub(crate) enum Held {
 /// Where one answer to a question leads.
 #[derive(Clone, Copy)]
 pub(crate) enum End {
-    /// To this value, after so many instructions in all.
+    /// To this value, after this number of instructions in all.
     Returns(u32, usize),
-    /// To a computed value, after so many instructions in all.
+    /// To a computed value, after this number of instructions in all.
     Computed(usize),
     /// To another question.
     Asks,
@@ -40,7 +40,7 @@ pub(crate) enum Way {
 pub(crate) struct Question {
     /// How many questions on the way to it were answered by yes.
     pub depth: usize,
-    /// How it was come to.
+    /// The answer that leads to it.
     pub way: Way,
     /// A bit for each depth at which a branch for no is still to be drawn.
     pub bars: u32,

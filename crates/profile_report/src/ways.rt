@@ -1,18 +1,17 @@
 //! The entries with conditions in the cell of a call.
 ghost use Rattle.std.specs.Prelude.{◌≡◌, [], ◌∷◌, IfOk, if◌then◌else◌, slice_get, string_bytes};
-ghost use Rattle.profile_table.specs.Text.{is_before};
 ghost use Rattle.profile_report.specs.Ways.{asking, asking_at, cond_html, conds_html, first, shown_conds, shown_for};
 ghost use Rattle.profile_report.specs.Ways.{way_html, way_or, ways_at, ways_html};
 
 use crate::escaping::Html;
+use crate::more::More;
 use crate::words::Linked;
 use explain::Decider;
 use oci_profile::{Cond, Entry};
-use profile_table::{Row, Words};
+use profile_table::{CondWord, Row, Words, is_before};
 use std::alloc::{AllocError, Global};
-use std::fmt;
 
-/// If at most so many calls have entries with conditions, their cells have room for more of them.
+/// If at most this number of calls have entries with conditions, their cells have room for more of them.
 pub const FEW_ASKED: usize = 24;
 
 /// How many entries with conditions a cell shows at most, and how many conditions of each.
@@ -21,7 +20,8 @@ pub const SHOWN_OF_FEW: usize = 5;
 /// The same if more calls have entries with conditions.
 pub const SHOWN_OF_MANY: usize = 1;
 
-/// How many entries with conditions a cell shows, and how many conditions of each, if so many calls have some.
+/// How many entries with conditions a cell shows, and how many conditions of each, if this many calls have
+/// any.
 #[tactic(auto, unfolding(crate::specs::Ways::shown_for))]
 pub(crate) fn shown_for(calls: usize) -> usize
     ensures { result ≡ shown_for calls }
@@ -33,14 +33,14 @@ pub(crate) fn shown_for(calls: usize) -> usize
     }
 }
 
-/// The first items of a list, at most so many.
+/// The first items of a list, at most this many.
 pub(crate) fn first<T>(items: &[T], count: usize) -> &[T]
     ensures { result.now ≡ first count items.now }
 {
     &items[..items.len().min(count)]
 }
 
-/// The entries that are asked before the one that decides, the first ones with their conditions.
+/// The entries that are tried before the one that decides, the first ones with their conditions.
 pub(crate) fn ways_html(
     alloc: Global,
     count: usize,
@@ -52,11 +52,15 @@ pub(crate) fn ways_html(
 {
     let places = asking(alloc, row, entries)?;
     let shown = ways_at(alloc, count, entries, first(places.as_slice(), count))?;
-    let more = MoreWays(places.len().saturating_sub(count));
+    let more = More {
+        before: "by ",
+        count: places.len().saturating_sub(count),
+        after: " more with conditions, else ",
+    };
     format!(in alloc; "{shown}{more}")
 }
 
-/// The places of the entries that are asked before the one that decides.
+/// The places of the entries that are tried before the one that decides.
 fn asking(alloc: Global, row: &Row, entries: &[Entry]) -> Result<Vec<usize>, AllocError>
     ensures { IfOk result (λ places. places.items ≡ asking row.now 0 entries.now) }
 {
@@ -75,16 +79,6 @@ fn is_asked(row: &Row, place: usize, entry: &Entry) -> bool
     ensures { asking_at row.now place entry.now ≡ (if result then place ∷ [] else []) }
 {
     is_before(place, row.decider) && entry.names(row.nr)
-}
-
-fn is_before(place: usize, decider: Decider) -> bool
-    ensures { result ≡ is_before place decider }
-{
-    match decider {
-        Decider::Architecture | Decider::X32Bit => false,
-        Decider::Entry(end) => place < end,
-        Decider::Default => true,
-    }
 }
 
 /// The entries at these places.
@@ -133,7 +127,11 @@ pub(crate) fn shown_conds(alloc: Global, conds: &[Cond], count: usize) -> Result
     ensures { IfOk result (λ text. string_bytes text ≡ shown_conds count conds.now) }
 {
     let shown = conds_html(alloc, first(conds, count))?;
-    let more = MoreConds(conds.len().saturating_sub(count));
+    let more = More {
+        before: " and ",
+        count: conds.len().saturating_sub(count),
+        after: " more",
+    };
     format!(in alloc; "{shown}{more}")
 }
 
@@ -159,66 +157,4 @@ fn cond_html(alloc: Global, cond: Cond) -> Result<String, AllocError>
         room: 64,
     };
     format!(in alloc; "{html}")
-}
-
-/// The word before the condition at this place.
-#[derive(Clone, Copy)]
-struct CondWord(usize);
-
-impl fmt::Display for CondWord {
-    ghost use Rattle.std.specs.Prelude.{Some};
-    ghost use Rattle.profile_table.specs.Text.{cond_word};
-
-    ghost output = { λ word. Some (cond_word word.0) };
-
-    #[tactic(auto, unfolding(profile_table::specs::Text::cond_word))]
-    fn fmt<W: fmt::Write>(&self, f: &mut fmt::Formatter<W>) -> fmt::Result {
-        if self.0 == 0 {
-            f.write_str(" if ")
-        } else {
-            f.write_str(" and ")
-        }
-    }
-}
-
-/// How many conditions are not shown.
-#[derive(Clone, Copy)]
-struct MoreConds(usize);
-
-impl fmt::Display for MoreConds {
-    ghost use Rattle.std.specs.Prelude.{Some};
-    ghost use Rattle.profile_report.specs.Ways.{more_conds};
-
-    ghost output = { λ more. Some (more_conds more.0) };
-
-    #[tactic(auto, unfolding(crate::specs::Ways::more_conds))]
-    fn fmt<W: fmt::Write>(&self, f: &mut fmt::Formatter<W>) -> fmt::Result {
-        let count = self.0;
-        if count == 0 {
-            Ok(())
-        } else {
-            write!(f, " and {count} more")
-        }
-    }
-}
-
-/// How many entries are not shown.
-#[derive(Clone, Copy)]
-struct MoreWays(usize);
-
-impl fmt::Display for MoreWays {
-    ghost use Rattle.std.specs.Prelude.{Some};
-    ghost use Rattle.profile_report.specs.Ways.{more_ways};
-
-    ghost output = { λ more. Some (more_ways more.0) };
-
-    #[tactic(auto, unfolding(crate::specs::Ways::more_ways))]
-    fn fmt<W: fmt::Write>(&self, f: &mut fmt::Formatter<W>) -> fmt::Result {
-        let count = self.0;
-        if count == 0 {
-            Ok(())
-        } else {
-            write!(f, "by {count} more with conditions, else ")
-        }
-    }
 }

@@ -3,7 +3,7 @@ ghost use Rattle.std.specs.Prelude.{◌≡◌};
 ghost use Rattle.action.specs.Verdict.{verdict_of};
 ghost use Rattle.profile_report.specs.Words.{letter_in, letter_of};
 
-use action::{Action, Verdict};
+use action::{Action, ValueText, Verdict};
 use explain::Decider;
 use std::fmt;
 
@@ -31,39 +31,6 @@ pub(crate) fn letter_in(value: u32) -> &'static str
     ensures { result.now ≡ letter_in value }
 {
     letter(Verdict::of_value(value).action)
-}
-
-/// A value's action and data: `ERRNO 1`.
-#[derive(Clone, Copy)]
-pub(crate) struct Value(pub u32);
-
-impl fmt::Display for Value {
-    ghost use Rattle.std.specs.Prelude.{Some};
-    ghost use Rattle.profile_report.specs.Words.{value_text};
-
-    ghost output = { λ value. Some (value_text value.0) };
-
-    fn fmt<W: fmt::Write>(&self, f: &mut fmt::Formatter<W>) -> fmt::Result {
-        let verdict = Verdict::of_value(self.0);
-        let (action, ret_data) = (verdict.action, verdict.ret_data);
-        write!(f, "{action} {ret_data}")
-    }
-}
-
-/// A value's action and data, and what decides: `ERRNO 1 by syscalls[0]`.
-#[derive(Clone, Copy)]
-pub(crate) struct Decided(pub u32, pub Decider);
-
-impl fmt::Display for Decided {
-    ghost use Rattle.std.specs.Prelude.{Some};
-    ghost use Rattle.profile_report.specs.Words.{decided_text};
-
-    ghost output = { λ decided. Some (decided_text decided.0 decided.1) };
-
-    fn fmt<W: fmt::Write>(&self, f: &mut fmt::Formatter<W>) -> fmt::Result {
-        let (value, decider) = (Value(self.0), self.1);
-        write!(f, "{value} by {decider}")
-    }
 }
 
 /// The place of an entry, with a link to the entry if it is shown.
@@ -118,7 +85,7 @@ impl fmt::Display for Linked {
     ghost output = { λ linked. Some (linked_text linked.0 linked.1) };
 
     fn fmt<W: fmt::Write>(&self, f: &mut fmt::Formatter<W>) -> fmt::Result {
-        let (value, link) = (Value(self.0), Link(self.1));
+        let (value, link) = (ValueText(self.0), Link(self.1));
         write!(f, "{value} by {link}")
     }
 }

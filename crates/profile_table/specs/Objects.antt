@@ -1,13 +1,11 @@
 -- A table as JSON objects (RFC 8259), one per line, this project's own: docs/SEMANTICS.md, "Programs". No
 -- text of these has a byte that JSON would escape.
 use Rattle.std.specs.Prelude.{ℕ, ◌+◌, ◌==◌, ◌&&◌, if◌then◌else◌, List, [], ◌∷◌, ◌++◌, codes}
-use Rattle.std.specs.Fmt.{decimal}
-use Rattle.action.specs.Verdict.{name_of, verdict_of}
 use Rattle.call_names.specs.declared.naming.Naming.TheVariants.{Name}
 use Rattle.call_names.specs.Text.{call_text}
 use Rattle.explain.specs.declared.explanation.Decider.{Decider}
 use Rattle.explain.specs.declared.explanation.Decider.TheVariants as by
-use Rattle.explain.specs.Text.{decider_text}
+use Rattle.explain.specs.Objects.{decided_members}
 use Rattle.oci_profile.specs.declared.conditions.Cond.{Cond}
 use Rattle.oci_profile.specs.declared.profile.Entry.{Entry}
 use Rattle.oci_profile.specs.declared.profile.Profile.{Profile}
@@ -20,12 +18,6 @@ use Rattle.profile_table.specs.Text.{cond_text, is_before, numbers_in}
 -- the comma before each item but the first
 unfoldable pub comma : ℕ → List ℕ
 comma place = if place == 0 then [] else codes ","
-
--- a value's action and data, and what decides
-abbrev pub decided_members : ℕ → Decider → List ℕ
-decided_members value decider =
-    codes "\"action\":\"" ++ (name_of (verdict_of value).action ++ (codes "\",\"data\":"
-    ++ (decimal (verdict_of value).ret_data ++ (codes ",\"by\":\"" ++ (decider_text decider ++ codes "\"")))))
 
 -- conditions from this place on, each as words
 abbrev pub conds_items : ℕ → List Cond → List ℕ

@@ -1,10 +1,10 @@
 -- The printed lines of a table, this project's own: docs/SEMANTICS.md, "Programs".
 use Rattle.std.specs.Prelude.{ℕ, ◌+◌, ◌==◌, nat_lt, Bool, true, false, not, ◌&&◌, if◌then◌else◌}
 use Rattle.std.specs.Prelude.{List, [], ◌∷◌, ◌++◌, codes, length}
-use Rattle.std.specs.Fmt.{decimal, digits}
-use Rattle.action.specs.Verdict.{name_of, verdict_of}
+use Rattle.std.specs.Fmt.{decimal}
 use Rattle.call_names.specs.declared.naming.Naming.TheVariants.{Name}
 use Rattle.call_names.specs.Text.{call_text}
+use Rattle.call_names.specs.Words.{argument_text}
 use Rattle.oci_profile.specs.declared.conditions.Cond.{Cond}
 use Rattle.oci_profile.specs.declared.conditions.Op.{Op}
 use Rattle.oci_profile.specs.declared.conditions.Op.TheVariants.{NotEqual, Less, LessOrEqual, Equal}
@@ -15,22 +15,18 @@ use Rattle.oci_profile.specs.Decision.{value_of}
 use Rattle.oci_profile.specs.Meaning.{names}
 use Rattle.explain.specs.declared.explanation.Decider.{Decider}
 use Rattle.explain.specs.declared.explanation.Decider.TheVariants as by
-use Rattle.explain.specs.Text.{decider_text}
+use Rattle.explain.specs.Text.{decided_text}
 use Rattle.sys_table.specs.declared.calls.CallTable.{CallTable}
 use Rattle.profile_table.specs.declared.row.Row.{Row}
 
--- hexadecimal, without 0x if it is 0
-unfoldable pub hex_text : ℕ → List ℕ
-hex_text n = if n == 0 then codes "0" else codes "0x" ++ digits 16 false n
-
 abbrev pub compared_text : Op → ℕ → ℕ → List ℕ
-compared_text NotEqual value two = codes " != " ++ decimal value
-compared_text Less value two = codes " < " ++ decimal value
-compared_text LessOrEqual value two = codes " <= " ++ decimal value
-compared_text Equal value two = codes " == " ++ decimal value
-compared_text GreaterOrEqual value two = codes " >= " ++ decimal value
-compared_text Greater value two = codes " > " ++ decimal value
-compared_text MaskedEqual value two = codes " & " ++ (hex_text value ++ (codes " == " ++ hex_text two))
+compared_text NotEqual value two = codes " != " ++ argument_text value
+compared_text Less value two = codes " < " ++ argument_text value
+compared_text LessOrEqual value two = codes " <= " ++ argument_text value
+compared_text Equal value two = codes " == " ++ argument_text value
+compared_text GreaterOrEqual value two = codes " >= " ++ argument_text value
+compared_text Greater value two = codes " > " ++ argument_text value
+compared_text MaskedEqual value two = codes " & " ++ (argument_text value ++ (codes " == " ++ argument_text two))
 
 -- a condition, as `args[0] & 0x7e020000 == 0`
 abbrev pub cond_text : Cond → List ℕ
@@ -45,12 +41,6 @@ cond_word place = if place == 0 then codes " if " else codes " and "
 abbrev pub conds_text : ℕ → List Cond → List ℕ
 conds_text place [] = []
 conds_text place (cond ∷ conds) = cond_word place ++ (cond_text cond ++ conds_text (place + 1) conds)
-
--- a value's action and data, and what decides
-abbrev pub decided_text : ℕ → Decider → List ℕ
-decided_text value decider =
-    name_of (verdict_of value).action
-    ++ (codes " " ++ (decimal (verdict_of value).ret_data ++ (codes " by " ++ decider_text decider)))
 
 -- an entry that decides if its conditions hold
 abbrev pub way_text : ℕ → Entry → List ℕ

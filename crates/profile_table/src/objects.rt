@@ -8,8 +8,7 @@ ghost use Rattle.profile_table.specs.Text.{numbers_in};
 use crate::conditions::Words;
 use crate::row::Row;
 use crate::texts::{is_before, named, numbers_in};
-use action::Verdict;
-use explain::Decider;
+use explain::{DecidedMembers, Decider};
 use oci_profile::{Cond, Entry, Profile};
 use std::alloc::{AllocError, Global};
 use std::fmt;
@@ -88,7 +87,7 @@ fn group_object(
     if numbers.is_empty() {
         return Ok(String::new(alloc));
     }
-    let members = Members(value, decider);
+    let members = DecidedMembers(value, decider);
     let names = names_items(alloc, calls, numbers)?;
     format!(in alloc; "{{{members},\"calls\":[{names}]}}\n")
 }
@@ -123,7 +122,7 @@ fn asked_object(
     if !row.is_asked {
         return Ok(String::new(alloc));
     }
-    let (call, members) = (named(calls, row.nr), Members(row.value, row.decider));
+    let (call, members) = (named(calls, row.nr), DecidedMembers(row.value, row.decider));
     let ways = ways_objects(alloc, row, profile.entries.as_slice())?;
     format!(in alloc; "{{\"call\":\"{call}\",\"ways\":[{ways}{{{members}}}]}}\n")
 }
@@ -161,7 +160,7 @@ fn way_object_at(
 fn way_object(alloc: Global, place: usize, entry: &Entry) -> Result<String, AllocError>
     ensures { IfOk result (λ text. string_bytes text ≡ way_object place entry.now) }
 {
-    let members = Members(entry.decision.value(), Decider::Entry(place));
+    let members = DecidedMembers(entry.decision.value(), Decider::Entry(place));
     let conds = conds_items(alloc, entry.conds.as_slice())?;
     format!(in alloc; "{{{members},\"if\":[{conds}]}},")
 }
@@ -188,27 +187,6 @@ fn names_items(alloc: Global, calls: CallTable, numbers: &[u32]) -> Result<Strin
         write!(text, "{comma}\"{name}\"")?;
     }
     Ok(text)
-}
-
-/// A value's action and data, and what decides, as members.
-#[derive(Clone, Copy)]
-struct Members(u32, Decider);
-
-impl fmt::Display for Members {
-    ghost use Rattle.std.specs.Prelude.{Some};
-    ghost use Rattle.profile_table.specs.Objects.{decided_members};
-
-    ghost output = { λ members. Some (decided_members members.0 members.1) };
-
-    fn fmt<W: fmt::Write>(&self, f: &mut fmt::Formatter<W>) -> fmt::Result {
-        let verdict = Verdict::of_value(self.0);
-        let (action, ret_data) = (verdict.action, verdict.ret_data);
-        let decider = self.1;
-        write!(
-            f,
-            "\"action\":\"{action}\",\"data\":{ret_data},\"by\":\"{decider}\""
-        )
-    }
 }
 
 /// The comma before the item at this place.

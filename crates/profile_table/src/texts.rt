@@ -6,9 +6,8 @@ ghost use Rattle.profile_table.specs.Text.{table_text, way_at, way_text, ways_te
 
 use crate::conditions::Words;
 use crate::row::Row;
-use action::Verdict;
 use call_names::{CallWord, Naming};
-use explain::Decider;
+use explain::{Decided, Decider};
 use oci_profile::{Cond, Entry, Profile};
 use std::alloc::{AllocError, Global};
 use std::fmt;
@@ -189,7 +188,7 @@ fn way_at(alloc: Global, row: &Row, place: usize, entry: &Entry) -> Result<Strin
 }
 
 /// Whether the entry at this place comes before the one that decides.
-pub(crate) fn is_before(place: usize, decider: Decider) -> bool
+pub fn is_before(place: usize, decider: Decider) -> bool
     ensures { result ≡ is_before place decider }
 {
     match decider {
@@ -220,8 +219,8 @@ fn conds_text(alloc: Global, conds: &[Cond]) -> Result<String, AllocError>
     Ok(text)
 }
 
-/// `: read, write`.
-fn names_text(alloc: Global, calls: CallTable, numbers: &[u32]) -> Result<String, AllocError>
+/// The names of calls, a word before each: `: read, write`.
+pub fn names_text(alloc: Global, calls: CallTable, numbers: &[u32]) -> Result<String, AllocError>
     ensures { IfOk result (λ text. string_bytes text ≡ names_text calls 0 numbers.now) }
 {
     let mut text = String::new(alloc);
@@ -232,8 +231,8 @@ fn names_text(alloc: Global, calls: CallTable, numbers: &[u32]) -> Result<String
     Ok(text)
 }
 
-/// The name of a call.
-pub(crate) fn named(calls: CallTable, nr: u32) -> CallWord
+/// The name of a call, or its number if it has none.
+pub fn named(calls: CallTable, nr: u32) -> CallWord
     ensures number { result.nr ≡ nr }
     ensures naming { result.naming ≡ Name calls }
 {
@@ -243,27 +242,9 @@ pub(crate) fn named(calls: CallTable, nr: u32) -> CallWord
     }
 }
 
-/// A value's action and data, and what decides: `ALLOW 0 by syscalls[0]`.
-#[derive(Clone, Copy)]
-struct Decided(u32, Decider);
-
-impl fmt::Display for Decided {
-    ghost use Rattle.std.specs.Prelude.{Some};
-    ghost use Rattle.profile_table.specs.Text.{decided_text};
-
-    ghost output = { λ decided. Some (decided_text decided.0 decided.1) };
-
-    fn fmt<W: fmt::Write>(&self, f: &mut fmt::Formatter<W>) -> fmt::Result {
-        let verdict = Verdict::of_value(self.0);
-        let (action, ret_data) = (verdict.action, verdict.ret_data);
-        let decider = self.1;
-        write!(f, "{action} {ret_data} by {decider}")
-    }
-}
-
 /// How many calls: `1 call`, `2 calls`.
 #[derive(Clone, Copy)]
-struct Count(usize);
+pub struct Count(pub usize);
 
 impl fmt::Display for Count {
     ghost use Rattle.std.specs.Prelude.{Some};
@@ -282,9 +263,9 @@ impl fmt::Display for Count {
     }
 }
 
-/// The word before the condition at this place.
+/// The word before the condition at this place: ` if `, ` and `.
 #[derive(Clone, Copy)]
-struct CondWord(usize);
+pub struct CondWord(pub usize);
 
 impl fmt::Display for CondWord {
     ghost use Rattle.std.specs.Prelude.{Some};

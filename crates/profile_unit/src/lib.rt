@@ -1,11 +1,11 @@
 //! A profile as the filter of calls of a unit of systemd, by `SystemCallFilter=` of systemd.exec(5): a list of
 //! allowed calls, or one of denied calls. It knows no arguments.
 //!
-//! `specs/Units.antt` defines what such a list says of a call, and `specs/UnitText.antt` its lines.
+//! `specs/Units.antt` defines how such a list decides a call, and `specs/UnitText.antt` its lines.
 //!
 //! # What is proved
 //!
-//! - The list says of each call of x86-64 what the profile says: `unit_of` (means).
+//! - The list decides each call of x86-64 as the profile does: `unit_of` (means).
 //! - Its actions are those that a unit can have: `unit_of` (fits).
 //! - A profile is refused for a cause: an entry with conditions, a default action or a call's action that no
 //!   list has, or no call beside the default: `unit_of` (condition, default_action, call_action, no_calls).

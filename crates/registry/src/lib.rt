@@ -3,8 +3,8 @@
 //!
 //! # What is proved
 //!
-//! - Each request acts as the table of calls says, on the sandbox that it names and on no other: `serve_lent`
-//!   (number, row, spares).
+//! - Each request acts as the table of calls states, on the sandbox that it names and on no other:
+//!   `serve_lent` (number, row, spares).
 //! - Calls that start, stop or remove, and statuses, take no memory, and a refusal changes nothing:
 //!   `serve_lent` (row, keeps).
 //! - Whatever was removed leaves only removed uids. The cells that a request removes are handed out:

@@ -77,7 +77,7 @@ impl<B: Node> CellLists<B> {
     }
 }
 
-// A list still without its cells, and the right to give them to it.
+// A list still without its cells, and the right to fill it with them.
 type NewList<B> = (Arc<SandboxCells<B>, Global>, Blank<Listed<B>>);
 
 fn get_in<'m, B: Node>(

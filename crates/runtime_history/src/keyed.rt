@@ -65,7 +65,7 @@ impl<T: Keyed> Model for KeyedLock<T> {
     ghost invariant = { λ l. (l.table.shared.table_id.words ≡ 1) × (l.table.shared.table_id.slots ≡ 1) };
 }
 
-/// The right to give a lock its first value. Contracts see which lock it belongs to.
+/// The right to set the first value of a lock. Contracts see which lock it belongs to.
 #[derive(Drop)]
 pub struct Blank<T> {
     seat: Seat<Option<T>, Uid>,

@@ -1,10 +1,11 @@
 //! Faults of a request's files, in the order in which a runtime checks them: the script, then the profile. A
 //! request refused for another reason is reported without them.
-ghost use Rattle.std.specs.Prelude.{◌≡◌, ◌++◌, IfOk, string_bytes};
+ghost use Rattle.std.specs.Prelude.{◌≡◌, ◌++◌, IfOk, IfSome, string_bytes};
 ghost use Rattle.fault_notes.specs.Paths.{shown_path};
 ghost use Rattle.runtime_server.specs.Wrong.{TellsProfile, TellsScript, cause_in, cause_text, is_of_files, kind_text};
 
 use compile::{CompileFault, compile};
+use creation::ReadAs;
 use cri_msgs::{Answer, Call, Refusal, Request};
 use fault_notes::{ShownPath, profile_note, script_note};
 use manifest::SeccompProfile;
@@ -83,6 +84,54 @@ pub(crate) fn is_of_files(answer: &Answer) -> bool
         answer,
         Answer::Refused(Refusal::InvalidArgument | Refusal::Internal)
     )
+}
+
+/// A request to make a container, and its files: a copy that is kept until the request is answered, since a bad
+/// file is looked for only if it is refused.
+#[derive(Drop)]
+pub(crate) struct Creation {
+    pub(crate) request: Request,
+    pub(crate) files: FileAnswers,
+}
+
+impl Creation {
+    /// A copy of the request and its files, if it is to make a container.
+    pub(crate) fn of(
+        alloc: Global,
+        request: &Request,
+        files: &FileAnswers,
+    ) -> Result<Option<Creation>, AllocError>
+        ensures request { IfOk result (λ copy. IfSome copy (λ creation. creation.request ≡ request.now)) }
+        ensures files { IfOk result (λ copy. IfSome copy (λ creation. creation.files ≡ files.now)) }
+    {
+        let Call::CreateContainer { .. } = &request.call else {
+            return Ok(None);
+        };
+        let request = request.try_clone(alloc)?;
+        let files = FileAnswers {
+            script: copied(alloc, &files.script)?,
+            profile: copied(alloc, &files.profile)?,
+        };
+        Ok(Some(Creation { request, files }))
+    }
+}
+
+/// A copy of a file's bytes, or of why it could not be read.
+fn copied<T: ReadAs + Drop>(
+    alloc: Global,
+    read: &FileAnswer<T>,
+) -> Result<FileAnswer<T>, AllocError>
+    ensures { IfOk result (λ copy. copy ≡ read.now) }
+{
+    match read {
+        None => Ok(None),
+        Some(Err(fault)) => Ok(Some(Err(*fault))),
+        Some(Ok(contents)) => {
+            let mut bytes = Vec::new(alloc);
+            bytes.extend_from_slice(contents.as_slice())?;
+            Ok(Some(Ok(Contents::new(contents.calls(), bytes))))
+        }
+    }
 }
 
 /// The first bad file of a request.

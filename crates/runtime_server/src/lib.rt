@@ -1,7 +1,7 @@
-//! Serves a runtime behind a socket. The program `scriptd` does nothing else.
+//! Serves a runtime over a socket. The program `scriptd` does nothing else.
 //!
 //! An [`Engine`] is a runtime that threads share, with the runners that step its containers; a [`Site`] is an
-//! engine behind its socket, whose connections are served in threads of their own. `telling` has the log line
+//! engine with its socket, whose connections are served in threads of their own. `telling` has the log line
 //! of each call, and a [`Teller`] writes it. Why a program ends before its work is done is in
 //! `runtime_stops`.
 //!
@@ -20,7 +20,7 @@
 //! - The first fault of a text that refuses a container is reported, with its place: `script_fault`,
 //!   `profile_fault`, which are private.
 //! - Which answers of a runtime are reported: `Tells::is_told`, which is private.
-//! - A line waits behind those before it, or is left out and counted: `LineQueue::add`, which is private.
+//! - A line is added after all that wait, or is left out and counted: `LineQueue::add`, which is private.
 //! - The line on a template that is given as a profile, and which profiles are remembered: `profile_line`,
 //!   `SeenProfiles::is_known`, `remember`, which are private.
 //! - A removed cell is recorded unless it had ended by itself: `has_ended_alone`, which is private.

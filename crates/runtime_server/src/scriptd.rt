@@ -16,7 +16,7 @@ use std::sync::Wait;
 use std::thread::{Scope, Threads, scope, scope_env};
 use std::time::Clock;
 
-/// The program `scriptd`: runs containers, which are scripts, behind a socket that takes CRI calls. `words`
+/// The program `scriptd`: runs containers, which are scripts, and serves CRI calls over a socket. `words`
 /// is the command line, with the program's name first. It ends only if something stops it, and returns its
 /// exit status: 1 input refused, 2 command line refused, 3 file or socket fault, 4 out of memory. Writes the
 /// reason to `err`, and nothing to `_out`.

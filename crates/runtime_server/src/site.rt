@@ -1,16 +1,16 @@
-//! A runtime behind its socket: accepts connections and serves them.
+//! A runtime with its socket: accepts connections and serves them.
 ghost use Rattle.std.specs.Prelude.{◌≡◌, IfOk, Some};
 
 use crate::accepting::{Accepting, Report};
 use crate::connections::{Connections, NoPlace};
-use crate::diagnosis::{Wrong, cause_in, is_of_files, wrong_in};
+use crate::diagnosis::{Creation, Wrong, cause_in, is_of_files, wrong_in};
 use crate::engine::{Engine, EngineHost};
 use crate::recording::Recorder;
 use crate::sockets::Socket;
 use crate::teller::Teller;
 use crate::telling::{asked, listening_line, reply_line};
 use crate::templates::{SeenProfiles, given_profile, profile_line};
-use cri_msgs::{MessageFault, Reply, Request, Version};
+use cri_msgs::{Answer, MessageFault, Reply, Request, Version};
 use node_io::{Cause, StreamWire, SystemFiles};
 use refusal_causes::{self, Causes};
 use runner::{Begun, Host, Node, Service, serve_wire};
@@ -170,24 +170,27 @@ impl<'a, B: Node, R: Wait> Model for ToldHost<'a, B, R> {
 }
 
 impl<B: Node, R: Wait> ToldHost<'_, B, R> {
-    // The bad file of a request, if there is one. Out of memory, the answer is reported without it.
-    fn wrong_in(&self, request: &Request, files: &FileAnswers) -> Option<Wrong> {
+    // The bad file due to which a request was answered like this, if there is one. Its cause is noted for the
+    // agent in this process. Out of memory, the answer is reported without it.
+    fn wrong_by(&self, answer: &Answer, creation: &Option<Creation>) -> Option<Wrong> {
+        if !is_of_files(answer) {
+            return None;
+        }
+        let Creation { request, files } = creation.as_ref()?;
         let address = self.site.address;
         let scripts = SystemFiles::within(self.system, address.scripts);
         let profiles = SystemFiles::within(self.system, address.profiles);
-        wrong_in(self.site.alloc, &scripts, &profiles, request, files).unwrap_or(None)
+        let wrong = wrong_in(self.site.alloc, &scripts, &profiles, request, files).unwrap_or(None)?;
+        self.note(request, &wrong);
+        Some(wrong)
     }
 
-    // The cause to note if the request is refused because of this file. Out of memory, none is noted.
-    fn cause_in(&self, request: &Request, wrong: &Option<Wrong>) -> Option<refusal_causes::Cause> {
-        self.site.causes.as_ref()?;
-        cause_in(self.site.alloc, request, wrong.as_ref()?).unwrap_or(None)
-    }
-
-    // Notes the cause for the agent in this process.
-    fn note(&self, cause: Option<refusal_causes::Cause>) {
-        if let (Some(causes), Some(cause)) = (&self.site.causes, cause) {
-            let _ = causes.lock(self.rt).note(cause);
+    // Notes why the request is refused. Out of memory, nothing is noted.
+    fn note(&self, request: &Request, wrong: &Wrong) {
+        if let Some(causes) = &self.site.causes {
+            if let Ok(Some(cause)) = cause_in(self.site.alloc, request, wrong) {
+                let _ = causes.lock(self.rt).note(cause);
+            }
         }
     }
 
@@ -231,15 +234,10 @@ impl<B: Node, R: Wait> Host for ToldHost<'_, B, R> {
             return self.host.serve(request, files);
         }
         let asked = asked(self.site.alloc, &request);
-        let wrong = self.wrong_in(&request, &files);
-        let cause = self.cause_in(&request, &wrong);
+        let creation = Creation::of(self.site.alloc, &request, &files).unwrap_or(None);
         let reply = self.host.serve(request, files);
-        if is_of_files(&reply.answer) {
-            self.note(cause);
-            self.tell(asked, &reply, wrong);
-        } else {
-            self.tell(asked, &reply, None);
-        }
+        let wrong = self.wrong_by(&reply.answer, &creation);
+        self.tell(asked, &reply, wrong);
         reply
     }
 

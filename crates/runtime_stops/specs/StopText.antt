@@ -1,6 +1,6 @@
 -- The message of a program that serves a runtime and ends before its work is done, this project's own:
 -- docs/SEMANTICS.md, "Programs". A refused command line has none here: its text is clap's.
-use Rattle.std.specs.Prelude.{ℕ, List, ◌++◌, codes, Option, Some, None}
+use Rattle.std.specs.Prelude.{ℕ, Bool, true, false, if◌then◌else◌, List, [], ◌++◌, codes, Option, Some, None}
 use Rattle.std.specs.Fmt.{decimal}
 use Rattle.bpf_code.specs.declared.fault.CodeFault.{CodeFault}
 use Rattle.bpf_code.specs.declared.fault.CodeFault.TheVariants as code
@@ -11,6 +11,8 @@ use Rattle.bpf_verify.specs.declared.refusal.Refusal.TheVariants as refused
 use Rattle.command_line.specs.Faults.{misfit_text}
 use Rattle.fault_notes.specs.Paths.{shown_path}
 use Rattle.node_io.specs.Causes.{cause_text}
+use Rattle.node_io.specs.declared.causes.Cause.{Cause}
+use Rattle.node_io.specs.declared.causes.Cause.TheVariants.{Gone}
 use Rattle.node_io.specs.FaultText.{caused_text}
 use Rattle.runtime_stops.specs.declared.socket_fault.SocketFault.{SocketFault}
 use Rattle.runtime_stops.specs.declared.socket_fault.SocketFault.TheVariants as socket
@@ -55,6 +57,15 @@ socket_text socket.Folders = codes "its folders .new0 to .new99 are taken"
 socket_text (socket.System cause) = cause_text cause
 socket_text socket.Memory = codes "Memory"
 
+-- whether only the reader is gone
+abbrev pub is_gone : Cause → Bool
+is_gone Gone = true
+is_gone cause = false
+
+abbrev pub unwritten_text : List ℕ → Cause → List ℕ
+unwritten_text program cause = if is_gone cause then []
+    else program ++ codes ": standard output: Failed (" ++ cause_text cause ++ codes ")\n"
+
 -- the message of the program with this name
 abbrev pub stop_text : List ℕ → ServerStop → Option (List ℕ)
 stop_text program (CommandLine error) = None
@@ -71,6 +82,5 @@ stop_text program (File path caused) = Some
 stop_text program (Socket path fault) =
     Some (program ++ codes ": " ++ shown_path path.now ++ codes ": Failed (" ++ socket_text fault
     ++ codes ")\n")
-stop_text program (Unwritten cause) = Some (program ++ codes ": standard output: Failed (" ++ cause_text cause
-    ++ codes ")\n")
+stop_text program (Unwritten cause) = Some (unwritten_text program cause)
 stop_text program Memory = Some (program ++ codes ": Memory\n")

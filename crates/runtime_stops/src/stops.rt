@@ -1,5 +1,5 @@
 ghost use Rattle.std.specs.Prelude.{◌≡◌};
-ghost use Rattle.runtime_stops.specs.StopText.{refusal_name};
+ghost use Rattle.runtime_stops.specs.StopText.{is_gone, refusal_name};
 ghost use Rattle.runtime_stops.specs.Stops.{IsOfFile, IsOfSocket};
 
 use crate::socket_fault::SocketFault;
@@ -79,6 +79,13 @@ fn name_of(refusal: Refusal) -> &'static str
     }
 }
 
+/// Whether only the reader is gone.
+fn is_gone(cause: Cause) -> bool
+    ensures { result ≡ is_gone cause }
+{
+    matches!(cause, Cause::Gone)
+}
+
 /// A stop as the program of this name prints it, with the line end.
 #[derive(Clone, Copy)]
 pub struct Told<'t, 'a> {
@@ -115,6 +122,8 @@ impl fmt::Display for Told<'_, '_> {
                 "{program}: {}: Failed ({fault})",
                 ShownPath(path)
             ),
+            // Nobody reads standard output any more, as after `| head`.
+            ServerStop::Unwritten(cause) if is_gone(*cause) => Ok(()),
             ServerStop::Unwritten(cause) => writeln!(
                 f,
                 "{program}: standard output: Failed ({cause})"

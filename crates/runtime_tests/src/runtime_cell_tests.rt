@@ -154,7 +154,7 @@ fn labels(rt: HostRuntime) -> Result<(), Fail> {
     Ok(())
 }
 
-/// Filters of these lengths, each of which allows every call at its first instruction.
+/// Filters of these lengths. Each allows every call at its first instruction.
 fn allowing(rt: &HostRuntime, lengths: &[usize]) -> Result<Stack, Fail> {
     let mut stack = Stack::new(rt.alloc());
     for length in lengths {
@@ -169,7 +169,7 @@ fn allowing(rt: &HostRuntime, lengths: &[usize]) -> Result<Stack, Fail> {
     Ok(stack)
 }
 
-/// A script of 4,096 steps, each second of which installs a filter of one instruction.
+/// A script of 4,096 steps. Every second step installs a filter of one instruction.
 fn installing(rt: &HostRuntime) -> Result<Script, Fail> {
     let mut text = String::from_str(rt.alloc(), "{\"steps\":[")?;
     for place in 0..2048 {

@@ -1,4 +1,4 @@
-//! Runs containers behind a socket that takes CRI calls: see `scriptd --help`.
+//! Runs containers, and serves CRI calls over a socket: see `scriptd --help`.
 #![tactic(auto)]
 
 use host_io::open_closed;

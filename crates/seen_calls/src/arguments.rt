@@ -1,7 +1,7 @@
-//! The value of an argument in a line of strace, if it stands there as a number.
+//! The value of an argument in a line of strace, if the line has it as a number.
 use crate::words::number_of;
 
-/// The value of the first argument, or of the second one behind a descriptor.
+/// The value of the first argument, or of the second one after a descriptor.
 pub(crate) fn argument(arguments: &[u8], index: u8) -> Option<u64> {
     match index {
         0 => value_at(arguments),

@@ -1,4 +1,4 @@
-//! Lines of `strace`, whatever of a process, a time, an address and a number stands before the call.
+//! Lines of `strace`, with or without a process, a time, an address and a number before the call.
 ghost use Rattle.std.specs.Prelude.{◌≡◌, IfOk};
 ghost use Rattle.seen_calls.specs.Lines.{IsOfTable, IsSmall};
 ghost use Rattle.seen_calls.specs.declared.line.Line.TheVariants.{Nothing};
@@ -10,7 +10,7 @@ use crate::names::{name_of, number_printed};
 use profile_learn::{Sighting, small_argument};
 use sys_table::CallTable;
 
-// How many brackets may stand before a call: a process, an address, a number and a time since the last call.
+// The most brackets before a call: a process, an address, a number and a time since the last call.
 const MAX_FRONTS: usize = 8;
 
 /// What a line of strace has.
@@ -42,7 +42,7 @@ fn own_line(line: &[u8]) -> Result<Line, LineFault>
     }
 }
 
-/// Whether a line has what follows a message of strace's own that stands within a call's line: where strace
+/// Whether a line has what follows a message of strace's own within a call's line: where strace
 /// writes to its standard error, `vfork(strace: Process 59 attached`, and then ` <unfinished ...>` or
 /// `) = 59`.
 fn is_rest(line: &[u8]) -> bool {
@@ -52,7 +52,7 @@ fn is_rest(line: &[u8]) -> bool {
     }
 }
 
-/// The rest of a line behind the process, the times, the address and the number.
+/// The rest of a line after the process, the times, the address and the number.
 fn after_front(line: &[u8]) -> &[u8] {
     let mut rest = line;
     for _ in 0..MAX_FRONTS {
@@ -136,13 +136,13 @@ fn is_whole(rest: &[u8]) -> bool {
 /// Where a result is looked for.
 #[derive(Clone, Copy, PartialEq, Eq)]
 enum Place {
-    /// Not behind a bracket.
+    /// Not after a bracket.
     Within,
-    /// Behind a bracket.
+    /// After a bracket.
     Closed,
-    /// Behind a bracket and spaces.
+    /// After a bracket and spaces.
     Spaced,
-    /// Behind a bracket, spaces and `=`.
+    /// After a bracket, spaces and `=`.
     Equal,
 }
 
@@ -161,7 +161,7 @@ fn has_result(rest: &[u8]) -> bool {
     false
 }
 
-/// Whether the part stands somewhere in a line.
+/// Whether a line contains the part.
 fn has(line: &[u8], part: &[u8]) -> bool {
     let mut rest = line;
     for _ in 0..line.len() {

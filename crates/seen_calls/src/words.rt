@@ -34,7 +34,7 @@ fn value_of(digit: u8) -> Option<u64> {
     }
 }
 
-/// Decimal, or hexadecimal behind `0x`.
+/// Decimal, or hexadecimal after `0x`.
 pub(crate) fn number_of(word: &[u8]) -> Option<u64> {
     match word.strip_prefix(b"0x") {
         Some(digits) => hexadecimal(digits),

@@ -1,14 +1,13 @@
 -- Differences as JSON objects (RFC 8259), one per line, this project's own: docs/SEMANTICS.md, "Programs". No
 -- text of these has a byte that JSON would escape.
 use Rattle.std.specs.Prelude.{ℕ, List, [], ◌∷◌, ◌++◌, codes, Option, Some, None}
-use Rattle.std.specs.Fmt.{decimal}
-use Rattle.action.specs.Verdict.{name_of, verdict_of}
+use Rattle.action.specs.Shown.{value_members, value_object}
 use Rattle.bpf_compare.specs.declared.scope.Calls.{Calls}
-use Rattle.check_answers.specs.Compared.{arg_text, reason_of}
-use Rattle.check_answers.specs.Objects.{same_object, value_object}
+use Rattle.call_names.specs.Words.{call_members}
+use Rattle.check_answers.specs.Compared.{reason_of}
+use Rattle.check_answers.specs.Objects.{same_object}
 use Rattle.explain.specs.declared.explanation.Decider.{Decider}
 use Rattle.explain.specs.Text.{decider_text}
-use Rattle.call_data.specs.declared.sys_call.SysCall.{SysCall}
 use Rattle.shown_differences.specs.declared.line.Line.{Line}
 use Rattle.shown_differences.specs.declared.line.Line.TheVariants.{Differs, Undecided}
 use Rattle.shown_differences.specs.declared.line.Told.{Told}
@@ -19,21 +18,10 @@ use Rattle.sys_table.specs.declared.calls.CallTable.{CallTable}
 abbrev pub decided_object : Option Decider → ℕ → List ℕ
 decided_object None value = value_object value
 decided_object (Some decider) value =
-    codes "{\"value\":" ++ (decimal value ++ (codes ",\"action\":\"" ++ (name_of (verdict_of value).action
-    ++ (codes "\",\"data\":" ++ (decimal (verdict_of value).ret_data ++ (codes ",\"by\":\""
-    ++ (decider_text decider ++ codes "\"}")))))))
+    codes "{" ++ (value_members value ++ (codes ",\"by\":\"" ++ (decider_text decider ++ codes "\"}")))
 
 abbrev pub told_object : Told → List ℕ
 told_object told = decided_object told.decider told.value
-
--- the call, as its members
-abbrev pub call_members : SysCall → List ℕ
-call_members call =
-    codes "\"call\":" ++ (decimal call.nr
-    ++ (codes ",\"args\":[" ++ (arg_text call.args 0 ++ (codes "," ++ (arg_text call.args 1
-    ++ (codes "," ++ (arg_text call.args 2 ++ (codes "," ++ (arg_text call.args 3
-    ++ (codes "," ++ (arg_text call.args 4 ++ (codes "," ++ (arg_text call.args 5
-    ++ (codes "],\"arch\":" ++ (decimal call.arch ++ (codes ",\"ip\":" ++ decimal call.ip))))))))))))))))
 
 abbrev pub line_object : CallTable → Line → List ℕ
 line_object known (Differs part call one other) =

@@ -1,14 +1,13 @@
 -- The printed lines of differences, this project's own: docs/SEMANTICS.md, "Programs".
 use Rattle.std.specs.Prelude.{ℕ, List, [], ◌∷◌, ◌++◌, ◌==◌, if◌then◌else◌, codes, Option, Some, None}
 use Rattle.std.specs.Fmt.{decimal}
-use Rattle.action.specs.Verdict.{name_of, verdict_of}
 use Rattle.bpf_compare.specs.declared.scope.Calls.{Calls}
 use Rattle.call_names.specs.declared.naming.Naming.TheVariants as naming
 use Rattle.call_names.specs.Text.{call_text}
-use Rattle.check_answers.specs.CallWords.{words_text}
+use Rattle.call_names.specs.Words.{words_text}
 use Rattle.check_answers.specs.Compared.{reason_of, same_text, value_text}
 use Rattle.explain.specs.declared.explanation.Decider.{Decider}
-use Rattle.explain.specs.Text.{decider_text}
+use Rattle.explain.specs.Text.{decided_text}
 use Rattle.filter_differences.specs.declared.part.Part.{Part}
 use Rattle.filter_differences.specs.declared.part.Part.TheVariants.{Numbers, Later, X32, OtherArchitectures}
 use Rattle.shown_differences.specs.declared.line.Line.{Line}
@@ -30,14 +29,12 @@ part_text known X32 = codes "x32"
 part_text known OtherArchitectures = codes "other architectures"
 
 -- a filter's value as `run` prints it, and a profile's decision as `explain` does
-abbrev pub decided_text : Option Decider → ℕ → List ℕ
-decided_text None value = value_text value
-decided_text (Some decider) value =
-    name_of (verdict_of value).action
-    ++ (codes " " ++ (decimal (verdict_of value).ret_data ++ (codes " by " ++ decider_text decider)))
+abbrev pub answer_by : Option Decider → ℕ → List ℕ
+answer_by None value = value_text value
+answer_by (Some decider) value = decided_text value decider
 
 abbrev pub told_text : Told → List ℕ
-told_text told = decided_text told.decider told.value
+told_text told = answer_by told.decider told.value
 
 abbrev pub line_text : CallTable → Line → List ℕ
 line_text known (Differs part call one other) =

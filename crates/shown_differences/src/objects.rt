@@ -4,10 +4,10 @@ ghost use Rattle.shown_differences.specs.Objects.{answer_objects, lines_objects}
 
 use crate::line::{Line, Told};
 use crate::texts::PartName;
-use action::Verdict;
+use action::{ValueMembers, ValueObject};
 use bpf_compare::Calls;
-use call_data::SysCall;
-use check_answers::{ValueObject, reason, same_object};
+use call_names::CallMembers;
+use check_answers::{reason, same_object};
 use std::alloc::{AllocError, Global};
 use std::fmt;
 use sys_table::CallTable;
@@ -27,35 +27,10 @@ impl fmt::Display for ToldObject {
         match self.0.decider {
             None => write!(f, "{}", ValueObject(value)),
             Some(decider) => {
-                let verdict = Verdict::of_value(value);
-                let (action, ret_data) = (verdict.action, verdict.ret_data);
-                write!(
-                    f,
-                    "{{\"value\":{value},\"action\":\"{action}\",\"data\":{ret_data},\"by\":\"{decider}\"}}"
-                )
+                let members = ValueMembers(value);
+                write!(f, "{{{members},\"by\":\"{decider}\"}}")
             }
         }
-    }
-}
-
-/// A call, as the members of an object.
-#[derive(Clone, Copy)]
-struct CallMembers(SysCall);
-
-impl fmt::Display for CallMembers {
-    ghost use Rattle.std.specs.Prelude.{Some};
-    ghost use Rattle.shown_differences.specs.Objects.{call_members};
-
-    ghost output = { λ call. Some (call_members call.0) };
-
-    fn fmt<W: fmt::Write>(&self, f: &mut fmt::Formatter<W>) -> fmt::Result {
-        let (nr, args) = (self.0.nr, self.0.args);
-        let (arch, ip) = (self.0.arch, self.0.ip);
-        write!(
-            f,
-            "\"call\":{nr},\"args\":[{},{},{},{},{},{}],\"arch\":{arch},\"ip\":{ip}",
-            args[0], args[1], args[2], args[3], args[4], args[5]
-        )
     }
 }
 

@@ -2,10 +2,10 @@ ghost use Rattle.std.specs.Prelude.{◌≡◌, IfOk, string_bytes};
 ghost use Rattle.shown_differences.specs.Texts.{answer_text, lines_text};
 
 use crate::line::{Line, Told};
-use action::Verdict;
 use bpf_compare::Calls;
-use call_names::{CallWord, Naming};
-use check_answers::{CallWords, ShownValue, reason, same_line};
+use call_names::{CallWord, CallWords, Naming};
+use check_answers::{ShownValue, reason, same_line};
+use explain::Decided;
 use filter_differences::Part;
 use std::alloc::{AllocError, Global};
 use std::fmt;
@@ -68,17 +68,13 @@ impl fmt::Display for Told {
     fn fmt<W: fmt::Write>(&self, f: &mut fmt::Formatter<W>) -> fmt::Result {
         match self.decider {
             None => write!(f, "{}", ShownValue(self.value)),
-            Some(decider) => {
-                let verdict = Verdict::of_value(self.value);
-                let (action, ret_data) = (verdict.action, verdict.ret_data);
-                write!(f, "{action} {ret_data} by {decider}")
-            }
+            Some(decider) => write!(f, "{}", Decided(self.value, decider)),
         }
     }
 }
 
 /// A line with the names of these calls:
-/// `socket: ERRNO 1 by syscalls[3], ALLOW 0 by defaultAction at socket 0x28 0 0 0 0 0`.
+/// `socket: ERRNO 1 by syscalls[3], ALLOW 0 by defaultAction at socket 0x28`.
 #[derive(Clone, Copy)]
 pub struct LineText(pub CallTable, pub Line);
 

@@ -43,8 +43,8 @@ fn names_at_the_edges(rt: HostRuntime) {
     }
 }
 
-// As asm/unistd_64.h of Linux 6.12 has them: the call of a gap, the calls behind 439, and names that only Linux
-// 6.12 knows.
+// As asm/unistd_64.h of Linux 6.12 has them: the call of a gap, the calls above 439, and names that only
+// Linux 6.12 knows.
 #[test]
 fn calls_of_linux_6_12(rt: HostRuntime) {
     let cases = [

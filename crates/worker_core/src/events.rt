@@ -62,7 +62,7 @@ pub enum AgentEvent {
     Report(u32, Reported),
     /// The time is this moment now.
     Tick(u64),
-    /// This worker gives its request up.
+    /// This worker abandons its request.
     Abandon(u32),
 }
 

@@ -325,8 +325,8 @@ impl Node {
         }
     }
 
-    /// The answer that [`apply`](Node::apply) would return if memory sufficed. Only a request that would be
-    /// given is copied, which may run out of memory.
+    /// The answer that [`apply`](Node::apply) would return if memory sufficed. Only a request that a worker
+    /// would get is copied, which may run out of memory.
     pub fn answer(&self, event: &AgentEvent) -> Answer
         ensures kept { Foresees self.now event.now result }
         ensures answer { (node : NodeState) → StandsFor self.now node

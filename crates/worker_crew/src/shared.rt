@@ -1,4 +1,4 @@
-//! The node's book behind its lock, and the workers that wait for it to change.
+//! The node's book under its lock, and the workers that wait for the book to change.
 ghost use Rattle.std.specs.Prelude.{◌≡◌, ◌+◌, ◌<◌, [], IfOk, IfSome, IfNone, OnOk, OnErr, OnSome};
 ghost use Rattle.worker_core.specs.declared.events.AgentEvent.TheVariants.{Claim};
 ghost use Rattle.node_lock.specs.Books.{worker_of};

@@ -71,7 +71,7 @@ fn end_of<P: Peer, G: Gate>(
     Some(AgentEvent::Report(worker, told))
 }
 
-// Records how the claim ended. If memory for the report runs out, gives up the claim, which needs none.
+// Records how the claim ended. If memory for the report runs out, abandons the claim, which needs none.
 fn report<L: Ledger, P: Peer, R: Wait>(
     rt: &R,
     shared: &Shared<L>,

@@ -29,7 +29,7 @@ pub struct PodView<'p> {
     /// The tracks of its containers, init ones first, in the order of the manifest.
     pub tracks: &'p [Track],
     pub phase: Phase,
-    /// Whether its last claim was lost or given up.
+    /// Whether its last claim was lost or abandoned.
     pub lost: bool,
 }
 

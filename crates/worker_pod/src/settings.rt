@@ -28,7 +28,7 @@ pub enum Outcome {
     Replied(Reply),
     /// No reply came, and nobody knows whether the request was carried out.
     Lost,
-    /// The worker gave the claim up.
+    /// The worker abandoned the claim.
     Abandoned,
 }
 

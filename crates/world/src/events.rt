@@ -16,7 +16,7 @@ pub enum Act {
     Claim(u32),
     /// The time is this moment now.
     Tick(u64),
-    /// This worker gives its request up.
+    /// This worker abandons its request.
     Abandon(u32),
 }
 

@@ -1,5 +1,5 @@
 -- What is printed of a hint: this project's own, docs/SEMANTICS.md, "What a refused file seems to be".
-use Rattle.std.specs.Prelude.{ℕ, List, codes}
+use Rattle.std.specs.Prelude.{ℕ, List, [], ◌++◌, codes, Option, Some, None}
 use Rattle.wrong_files.specs.declared.hint.Hint.{Hint}
 use Rattle.wrong_files.specs.declared.hint.Hint.TheVariants.{ByteOrderMark, Filter, Config, Documents}
 use Rattle.wrong_files.specs.declared.hint.Hint.TheVariants.{Manifest, Profile, Uncompiled, Base64}
@@ -13,3 +13,8 @@ hint_text Manifest = codes "(a manifest? a profile is wanted)"
 hint_text Profile = codes "(a profile? a manifest is wanted)"
 hint_text Uncompiled = codes "(a profile? see seccheck compile)"
 hint_text Base64 = codes "(Base64? decode it: base64 -d)"
+
+-- the hint after a line's text, if there is one
+abbrev pub hint_after : Option Hint → List ℕ
+hint_after None = []
+hint_after (Some hint) = codes " " ++ hint_text hint

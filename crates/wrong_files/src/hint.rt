@@ -45,6 +45,24 @@ impl fmt::Display for Hint {
     }
 }
 
+/// A hint after a line's text, if there is one.
+#[derive(Clone, Copy, Debug)]
+pub struct HintAfter(pub Option<Hint>);
+
+impl fmt::Display for HintAfter {
+    ghost use Rattle.std.specs.Prelude.{Some};
+    ghost use Rattle.wrong_files.specs.HintText.{hint_after};
+
+    ghost output = { λ after. Some (hint_after after.0) };
+
+    fn fmt<W: fmt::Write>(&self, f: &mut fmt::Formatter<W>) -> fmt::Result {
+        match self.0 {
+            Some(hint) => write!(f, " {hint}"),
+            None => Ok(()),
+        }
+    }
+}
+
 fn text_of(hint: Hint) -> &'static str
     ensures { result.now ≡ hint_text hint }
 {

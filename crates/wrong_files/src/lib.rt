@@ -8,9 +8,9 @@
 //!
 //! - The hint is the first in its order that suits the bytes, and there is none only if none suits:
 //!   `hint_of_text`, `hint_of_filter`.
-//! - The text of a hint: `Display` of `Hint`.
+//! - The text of a hint: `Display` of `Hint` and `HintAfter`.
 //!
-//! A refused allocation is an error, and says nothing about the bytes.
+//! A refused allocation is an error, whatever the bytes are.
 #![tactic(auto)]
 
 mod documents;
@@ -21,5 +21,5 @@ mod starts;
 mod suits;
 mod trees;
 
-pub use hint::{Hint, Wanted};
+pub use hint::{Hint, HintAfter, Wanted};
 pub use hints::{hint_of_filter, hint_of_text};

@@ -9,7 +9,7 @@ use crate::trees::{is_config, is_manifest, is_profile};
 use fault_notes::begins_object;
 use std::alloc::{AllocError, Global};
 
-/// Whether the bytes are what the hint says.
+/// Whether the bytes are what the hint names.
 pub(crate) fn suits(alloc: Global, bytes: &[u8], hint: Hint) -> Result<bool, AllocError>
     ensures { IfOk result (λ suits. IsTrue suits ↔ Suits bytes.now hint) }
 {

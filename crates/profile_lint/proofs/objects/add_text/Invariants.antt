@@ -7,5 +7,5 @@ use Rattle.profile_lint.proofs.objects.add_text.Given as goal
 
 abbrev pub invariant-loop-item : goal.invariant-loop-item
 invariant-loop-item l = string_bytes l.text
-    ++ flat_map (told_line l.choice.is_all l.choice.allowed.now) (map told (drop l.item-index l.passed))
-    ≡ string_bytes l.initial.text ++ flat_map (told_line l.choice.is_all l.choice.allowed.now) (map told l.passed)
+    ++ flat_map (told_line l.calls l.choice.is_all l.choice.allowed.now) (map told (drop l.item-index l.passed))
+    ≡ string_bytes l.initial.text ++ flat_map (told_line l.calls l.choice.is_all l.choice.allowed.now) (map told l.passed)

@@ -5,10 +5,10 @@ use Rattle.profile_report.specs.Notes.{found_lines, told_lines}
 use Rattle.profile_report.proofs.notes.lines_about.Given as goal
 
 abbrev pub invariant-loop-item : goal.invariant-loop-item
-invariant-loop-item l = map string_bytes l.lines.items ++ told_lines l.about (drop l.item-index l.passed)
-    ≡ told_lines l.about l.passed
+invariant-loop-item l = map string_bytes l.lines.items ++ told_lines l.calls l.about (drop l.item-index l.passed)
+    ≡ told_lines l.calls l.about l.passed
 
 abbrev pub invariant-loop-finding : goal.invariant-loop-finding
 invariant-loop-finding l = map string_bytes l.lines.items
     ++ found_lines l.calls l.about (drop l.finding-index l.found)
-    ≡ told_lines l.about l.passed ++ found_lines l.calls l.about l.found
+    ≡ told_lines l.calls l.about l.passed ++ found_lines l.calls l.about l.found
