@@ -156,7 +156,7 @@ enum motchidu_status motchidu_call_number_with(uint32_t calls, const void *name,
  * MOTCHIDU_DIFFER is anything written.
  *
  * The comparison follows the ways that calls can take through both filters, by at most budget instructions
- * in all. seccheck allows 100,000,000, which take some 20 seconds if all of them are used.
+ * in all. seccheck allows 100,000,000, which take some 40 seconds if all of them are used.
  */
 enum motchidu_status motchidu_compare(const void *first, size_t first_len,
                                       const void *second, size_t second_len,
