@@ -10,8 +10,9 @@ Agree calls = (name : List ℕ) (number : ℕ)
     → (number_in calls name ≡ Some number) ↔ (name_in calls number ≡ Some name)
 
 -- if the choice between a number's name and another named call is a call, it has a number
-chosen : (calls : CallTable) (agree : Agree calls) (number : ℕ) (name call : List ℕ) (later : Option (List ℕ)) (is : Bool)
-    → name_in calls number ≡ Some name → (later ≡ Some call → is_some (number_in calls call) ≡ true)
+chosen : (calls : CallTable) (agree : Agree calls) (number : ℕ) (name call : List ℕ)
+    (later : Option (List ℕ)) (is : Bool) → name_in calls number ≡ Some name
+    → (later ≡ Some call → is_some (number_in calls call) ≡ true)
     → (if is then Some name else later) ≡ Some call → is_some (number_in calls call) ≡ true
 chosen calls agree number name call later true named rest h =
     let same : name ≡ call = cc in
@@ -19,22 +20,25 @@ chosen calls agree number name call later true named rest h =
     rw (← same) (rw found refl)
 chosen calls agree number name call later false named rest h = rest h
 
-at_number : (calls : CallTable) (agree : Agree calls) (once : Bool) (name : List ℕ) (number : ℕ) (call : List ℕ) (later here : Option (List ℕ))
-    → name_in calls number ≡ here → (later ≡ Some call → is_some (number_in calls call) ≡ true)
+at_number : (calls : CallTable) (agree : Agree calls) (once : Bool) (name : List ℕ) (number : ℕ)
+    (call : List ℕ) (later here : Option (List ℕ)) → name_in calls number ≡ here
+    → (later ≡ Some call → is_some (number_in calls call) ≡ true)
     → first_of once name here later ≡ Some call → is_some (number_in calls call) ≡ true
 at_number calls agree once name number call later None named rest h = rest h
 at_number calls agree once name number call later (Some one) named rest h =
     chosen calls agree number one call later (is_like once name one) named rest h
 
-among : (calls : CallTable) (agree : Agree calls) (once : Bool) (name : List ℕ) (number count : ℕ) (call : List ℕ)
-    → first_from calls once name number count ≡ Some call → is_some (number_in calls call) ≡ true
+among : (calls : CallTable) (agree : Agree calls) (once : Bool) (name : List ℕ) (number count : ℕ)
+    (call : List ℕ) → first_from calls once name number count ≡ Some call → is_some (number_in calls call) ≡ true
 among calls agree once name number zero call h = cc
 among calls agree once name number (suc count) call h =
-    let later : first_from calls once name (suc number) count ≡ Some call → is_some (number_in calls call) ≡ true =
+    let later : first_from calls once name (suc number) count ≡ Some call
+        → is_some (number_in calls call) ≡ true =
     among calls agree once name (suc number) count call in
-    let step : first_of once name (name_in calls number) (first_from calls once name (suc number) count) ≡ Some call = h in
-    at_number calls agree once name number call (first_from calls once name (suc number) count) (name_in calls number) refl
-    later step
+    let step : first_of once name (name_in calls number) (first_from calls once name (suc number) count)
+        ≡ Some call = h in
+    at_number calls agree once name number call (first_from calls once name (suc number) count)
+    (name_in calls number) refl later step
 
 either : (calls : CallTable) (agree : Agree calls) (name call : List ℕ) (one : Option (List ℕ))
     → (one ≡ Some call → is_some (number_in calls call) ≡ true)
@@ -42,8 +46,9 @@ either : (calls : CallTable) (agree : Agree calls) (name call : List ℕ) (one :
 either calls agree name call None known h = among calls agree false name 0 (limit_of calls) call h
 either calls agree name call (Some one) known h = known h
 
-pub suggested : (calls : CallTable) (agree : Agree calls) (name call : List ℕ) → suggestion calls name ≡ Some call
-    → is_some (number_in calls call) ≡ true
+pub suggested : (calls : CallTable) (agree : Agree calls) (name call : List ℕ)
+    → suggestion calls name ≡ Some call → is_some (number_in calls call) ≡ true
 unfolding suggestion
 suggested calls agree name call h =
-    either calls agree name call (first calls true name) (among calls agree true name 0 (limit_of calls) call) h
+    either calls agree name call (first calls true name)
+    (among calls agree true name 0 (limit_of calls) call) h
