@@ -33,10 +33,10 @@ among : (calls : CallTable) (agree : Agree calls) (once : Bool) (name : List ℕ
 among calls agree once name number zero call h = cc
 among calls agree once name number (suc count) call h =
     let later : first_from calls once name (suc number) count ≡ Some call
-        → is_some (number_in calls call) ≡ true =
+    → is_some (number_in calls call) ≡ true =
     among calls agree once name (suc number) count call in
     let step : first_of once name (name_in calls number) (first_from calls once name (suc number) count)
-        ≡ Some call = h in
+    ≡ Some call = h in
     at_number calls agree once name number call (first_from calls once name (suc number) count)
     (name_in calls number) refl later step
 
