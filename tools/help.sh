@@ -16,7 +16,7 @@ make cases    runs the cases of tests/ with the programs that make test built, o
 make demo     compiles a profile, judges calls with its filter, plays scripts, settles pods over a socket, and runs
               the pods of a folder, before any proof. A first verdict within a minute, two to four minutes in all
 make try      installs the programs, their manual pages and completions to PREFIX (/usr/local), compiled with
-              checks at run time in place of proofs; their --version says unproved. Two or three minutes on four cores
+              checks at run time in place of proofs; their --version says unproved. Two to eight minutes on four cores
 make install  proves the programs and the library for C, and installs them with pages and completions to PREFIX
               (/usr/local). Two to three hours of one core; make copy installs what is already built, and
               make uninstall removes it. At once
