@@ -89,18 +89,18 @@ pub(crate) fn is_of_files(answer: &Answer) -> bool
 /// A request to make a container, and its files: a copy that is kept until the request is answered, since a bad
 /// file is looked for only if it is refused.
 #[derive(Drop)]
-pub(crate) struct Creation {
+pub(crate) struct CreationCopy {
     pub(crate) request: Request,
     pub(crate) files: FileAnswers,
 }
 
-impl Creation {
+impl CreationCopy {
     /// A copy of the request and its files, if it is to make a container.
     pub(crate) fn of(
         alloc: Global,
         request: &Request,
         files: &FileAnswers,
-    ) -> Result<Option<Creation>, AllocError>
+    ) -> Result<Option<CreationCopy>, AllocError>
         ensures request { IfOk result (λ copy. IfSome copy (λ creation. creation.request ≡ request.now)) }
         ensures files { IfOk result (λ copy. IfSome copy (λ creation. creation.files ≡ files.now)) }
     {
@@ -112,7 +112,7 @@ impl Creation {
             script: copied(alloc, &files.script)?,
             profile: copied(alloc, &files.profile)?,
         };
-        Ok(Some(Creation { request, files }))
+        Ok(Some(CreationCopy { request, files }))
     }
 }
 

@@ -3,7 +3,7 @@ ghost use Rattle.std.specs.Prelude.{◌≡◌, IfOk, Some};
 
 use crate::accepting::{Accepting, Report};
 use crate::connections::{Connections, NoPlace};
-use crate::diagnosis::{Creation, Wrong, cause_in, is_of_files, wrong_in};
+use crate::diagnosis::{CreationCopy, Wrong, cause_in, is_of_files, wrong_in};
 use crate::engine::{Engine, EngineHost};
 use crate::recording::Recorder;
 use crate::sockets::Socket;
@@ -172,11 +172,11 @@ impl<'a, B: Node, R: Wait> Model for ToldHost<'a, B, R> {
 impl<B: Node, R: Wait> ToldHost<'_, B, R> {
     // The bad file due to which a request was answered like this, if there is one. Its cause is noted for the
     // agent in this process. Out of memory, the answer is reported without it.
-    fn wrong_by(&self, answer: &Answer, creation: &Option<Creation>) -> Option<Wrong> {
+    fn wrong_by(&self, answer: &Answer, creation: &Option<CreationCopy>) -> Option<Wrong> {
         if !is_of_files(answer) {
             return None;
         }
-        let Creation { request, files } = creation.as_ref()?;
+        let CreationCopy { request, files } = creation.as_ref()?;
         let address = self.site.address;
         let scripts = SystemFiles::within(self.system, address.scripts);
         let profiles = SystemFiles::within(self.system, address.profiles);
@@ -234,7 +234,7 @@ impl<B: Node, R: Wait> Host for ToldHost<'_, B, R> {
             return self.host.serve(request, files);
         }
         let asked = asked(self.site.alloc, &request);
-        let creation = Creation::of(self.site.alloc, &request, &files).unwrap_or(None);
+        let creation = CreationCopy::of(self.site.alloc, &request, &files).unwrap_or(None);
         let reply = self.host.serve(request, files);
         let wrong = self.wrong_by(&reply.answer, &creation);
         self.tell(asked, &reply, wrong);
