@@ -113,7 +113,7 @@ table:
 	@tools/compare_call_table.sh
 	@tools/compare_call_types.py
 
-# Three nodes behind an etcd of this machine, by the programs that make test built, or those in the folder BIN.
+# Three nodes that read an etcd of this machine, by the programs that make test built, or those in the folder BIN.
 fleet:
 	@tools/fleet.py
 

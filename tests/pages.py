@@ -1,12 +1,17 @@
 """Copies the programs, the library and the manual pages into a folder as make install does, from what make
-test built, and holds README.md, docs/ and man/ to what is there: each command of README's sessions is run and
-has to print what stands below it, each line that is quoted stands where it is said to, each link and each
-file that is named leads somewhere; each manual page names each command and option that --help prints, and
-each status, and its examples run; where --help tells a range or a default of an option, the page tells the
-same, a case of tests/ tries both ends of the range, and the program takes these and refuses what is next to
-them; each other number of a page is that of a constant; the shells complete each option. What make copy installs has
-the modes, names and links that it should have. tests/run calls it. With programs of another folder (BIN) there is no
-library, and the session in C and make copy are left out.
+test built, and checks README.md, docs/ and man/ against them:
+
+- Each command of README's sessions runs, and prints what the page shows below it.
+- Each quoted line is in the file that the page names. Each link and each named file exists.
+- Each manual page has each command and option that --help prints, and each status. Its examples run.
+- If --help prints a range or a default of an option, the page has the same. A case of tests/ tries both ends of
+  the range; the program takes them, and refuses the numbers next to them.
+- Each other number of a page is that of a constant.
+- The shells complete each option.
+- What make copy installs has the right modes, names and links.
+
+tests/run calls it. With the programs of another folder (BIN) there is no library, and the session in C and make
+copy are left out.
 """
 import json
 import os
@@ -38,16 +43,18 @@ def text_of(path):
 
 
 def installed(folder, programs):
+    """Whether the programs are there to be checked."""
     if os.environ.get("BIN"):
         os.makedirs(f"{folder}/share/man")
         os.symlink(programs, f"{folder}/bin")
         os.symlink(f"{ROOT}/man", f"{folder}/share/man/man1")
-        return
+        return True
     words = ["make", "--no-print-directory", "-C", ROOT, "copy", f"PREFIX={folder}"]
     ran = subprocess.run(words, capture_output=True, text=True, errors="replace", umask=0o022)
     check("make copy", ran.returncode, 0)
     if ran.returncode:
         print((ran.stdout + ran.stderr)[-2000:], flush=True)
+    return ran.returncode == 0
 
 
 def modes_below(prefix):
@@ -166,7 +173,7 @@ class Terminal:
             time.sleep(0.05)
 
     def end(self):
-        # The runtime alone is ended: what reads its output comes to its end behind it.
+        # Only the runtime is ended. The reader of its output then ends by itself.
         for pid in runtimes_of(self.ran.pid):
             os.kill(pid, signal.SIGINT)
         check(f"README: {self.command}", self.ran.communicate(timeout=60)[0], self.below)
@@ -263,7 +270,7 @@ def check_paths():
     """The files that the pages name are there."""
     pages = sorted(name for name in os.listdir(f"{ROOT}/docs") if name.endswith(".md"))
     for page in ["README.md", *(f"docs/{name}" for name in pages)]:
-        # (what begins with src or the like is said of the crate that the text speaks of)
+        # (paths that begin with src or the like are in the crate that the text is about)
         named = set(re.findall(PATHS, text_of(page)))
         lost = [path for path in sorted(named) if not is_there(path)]
         check(f"{page} names files that are there", lost, [])
@@ -277,7 +284,7 @@ FAULTS = (("bpf_code/src/fault.rt", "CodeFault"), ("bpf_verify/src/fault.rt", "F
           ("cri_frames/src/faults.rt", "FeedFault"), ("cri_frames/src/faults.rt", "Lost"),
           ("worker_core/src/answers.rt", "NodeRefusal"), ("compile/src/fault.rt", "CompileFault"),
           ("profile_text/src/faults.rt", "WriteFault"), ("node_io/src/faults.rt", "FileFault"),
-          ("check_stops/src/bad_words.rt", "WordFault"), ("command_line/src/fault.rt", "Misfit"),
+          ("seccheck_stops/src/bad_words.rt", "WordFault"), ("command_line/src/fault.rt", "Misfit"),
           ("seen_calls/src/faults.rt", "LineFault"), ("profile_unit/src/faults.rt", "UnitFault"))
 # (a template's fault that is one of a profile, and an architecture that is printed as BadNumber)
 NO_ROWS = {"Profile", "NoArch"}
@@ -329,7 +336,7 @@ def stated_statuses(crates):
 
 # What a program ends with besides what stops it: done, and the last moment.
 STATUSES = {
-    "seccheck": (["check_stops"], {0}),
+    "seccheck": (["seccheck_stops"], {0}),
     "scriptd": (["runtime_stops"], set()),
     "scriptctl": (["runtime_stops"], {0}),
     "nodeagent": (["runtime_stops", "agent_parts"], {0, 5}),
@@ -362,7 +369,7 @@ NUMBERS = (
     ("nodeagent.1", r"at most (\d+) bytes", "runtime_stops/src/socket_fault.rt", "MAX_NAME"),
     ("nodeagent.1", r"in DIR, at most ([\d,]+) of them", "pod_folder/src/looking.rt", "MAX_FILES"),
     ("nodeagent.1", r"holds at least ([\d,]+) lines", "runtime_server/src/line_queue.rt", "MAX_WAITING"),
-    ("nodeagent.1", r"up to (\d+) seconds for a reader", "runtime_server/src/teller.rt", "READER_PATIENCE"),
+    ("nodeagent.1", r"up to (\d+) seconds for a reader", "runtime_server/src/line_writer.rt", "READER_PATIENCE"),
     ("nodeagent.1", r"Each file has at most ([\d,]+) bytes", "node_io/src/files.rt", "MAX_FILE_BYTES"),
     ("nodeagent.1", r"with 1 to (\d+) containers", "manifest/src/containers.rt", "MAX_CONTAINERS"),
     ("nodeagent.1", r"a list of at most ([\d,]+)\. A step", "script/src/scripts.rt", "MAX_STEPS"),
@@ -382,14 +389,14 @@ NUMBERS = (
     ("scriptd.1", r"has at most ([\d,]+) containers", "registry/src/limits.rt", "MAX_CELLS"),
     ("scriptd.1", r"and ([\d,]+) attempts over its life", "registry/src/limits.rt", "MAX_KEYS"),
     ("seccheck.1", r"Each file has at most ([\d,]+) bytes", "node_io/src/files.rt", "MAX_FILE_BYTES"),
-    ("seccheck.1", r"A file of records has at most ([\d,]+) bytes", "container_answers/src/denying.rt",
+    ("seccheck.1", r"A file of records has at most ([\d,]+) bytes", "seccheck_containers/src/denying.rt",
      "MAX_RECORDS_BYTES"),
     ("seccheck.1", r"of at most ([\d,]+) bytes:", "oci_profile/src/reader.rt", "MAX_PROFILE_BYTES"),
     ("seccheck.1", r"a list of 1 to ([\d,]+) items", "bpf_code/src/limits.rt", "MAX_INSNS"),
     ("seccheck.1", r"with 1 to (\d+) containers", "manifest/src/containers.rt", "MAX_CONTAINERS"),
     ("seccheck.1", r"A filter has at most ([\d,]+) instructions", "bpf_code/src/limits.rt", "MAX_INSNS"),
-    ("seccheck.1", r"The default is ([\d,]+), and with", "checker/src/compared.rt", "BUDGET"),
-    ("seccheck.1", r"and with\n\.B .*all\n([\d,]+)\. If more", "checker/src/compared.rt", "PART_BUDGET"),
+    ("seccheck.1", r"The default is ([\d,]+), and with", "seccheck_cli/src/compared.rt", "BUDGET"),
+    ("seccheck.1", r"and with\n\.B .*all\n([\d,]+)\. If more", "seccheck_cli/src/compared.rt", "PART_BUDGET"),
     ("seccheck.1", r"A stack of filters has at most ([\d,]+) instr", "verdict/src/stack.rt", "MAX_STACK_INSNS"),
     ("scriptctl.1", r"waits (\d+) seconds for the runtime", "runtime_client/src/asking.rt", "PATIENCE"),
     ("motchidu.3", r"([\d,]+) bytes are room for any filter", "bpf_code/src/limits.rt", "MAX_BYTES"),
@@ -458,7 +465,7 @@ def told_in_help(said):
 
 
 def told_in_page(plain, option):
-    """The range and the default that a manual page tells of an option."""
+    """The range and the default of an option in a manual page."""
     part = re.search(rf"^\.(?:BI|B) {option}\b.*\n((?:(?!\.TP|\.SH).*\n)*)", plain, re.M)
     text = " ".join(part[1].split()) if part else ""
     limits = LIMITS.search(text)
@@ -469,7 +476,7 @@ def told_in_page(plain, option):
 def check_numbers(program, said, plain, prefix):
     for option, (limits, default) in told_in_help(said).items():
         told = told_in_page(plain, option)
-        check(f"{program}.1 tells of {option} what --help does", told, (limits, default))
+        check(f"{program}.1 has the same for {option} as --help", told, (limits, default))
         if limits:
             check_ends(program, option, *map(int, limits), prefix)
 
@@ -524,7 +531,8 @@ def checked(programs):
     """How many things are as they should be, and how many not, by the programs of this folder."""
     with tempfile.TemporaryDirectory(prefix="motchidu-pages-") as room:
         prefix = f"{room}/motchidu"  # README's PREFIX, in a home of its own
-        installed(prefix, programs)
+        if not installed(prefix, programs):
+            return COUNTS["passed"], COUNTS["failed"]
         readme = text_of("README.md")
         check_readme(readme)
         check_paths()

@@ -3,7 +3,7 @@
 own have a node of 110 pods, or of PODS, with 4 containers each that fail and are made again for ever, by the
 machine's clock for so many seconds (80), and then by a virtual clock to such a moment (14,400); 0 leaves a
 clock out. Pods begin one after the other, so that calls are spread. For each tenth of the time it prints how
-many calls there are, the entries of the history up to then, what both processes hold of memory, and what a
+many calls there are, the entries of the history up to then, the memory of both processes, and what a
 call takes of the processor; then what the agent held once all pods had begun and at the end, and the calls of
 the first tenth beside those of the last. By the machine's clock the pods lie in a folder, and the agent's
 share has a look at it each second in it. The programs are crates/NAME/out/NAME, or those in the folder BIN

@@ -10,17 +10,24 @@ if [ -z "$header" ]; then
   echo "call table: skipped, this machine has no asm/unistd_64.h"
   exit 0
 fi
+constant() { # the value of a constant of the table
+  sed -n "s/.* $1: [a-z0-9]* = \([0-9]*\);/\1/p" crates/sys_table/src/table.rt
+}
+limit=$(constant NUMBER_LIMIT)
+table_limit=$(constant TABLE_LIMIT)
+late=$(constant LATE_NUMBER)
 parts=$(mktemp -d)
 trap 'rm -rf "$parts"' EXIT
 awk '$1 == "#define" && $2 ~ /^__NR_/ { print $3, substr($2, 6) }' "$header" | sort > "$parts/header"
 last=$(sort -n "$parts/header" | tail -1 | cut -d ' ' -f 1)
 sed -n '/static NAMES/,/^\];/p' crates/sys_table/src/table.rt | sed '1d;s://.*::' | grep -o '"[^"]*"' |
   tr -d '"' | awk '{ if ($0 != "") print NR - 1, $0 }' | sort > "$parts/6.12"
-awk '$1 < 440 && $2 != "uretprobe"' "$parts/6.12" > "$parts/5.8"
+awk -v limit="$limit" -v late="$late" '$1 < limit && $1 != late' "$parts/6.12" > "$parts/5.8"
 
-# Linux 6.11 added uretprobe at 335, and mseal, of Linux 6.10, is 462.
+# The late number is of Linux 6.11: a header without the newest calls lacks it too.
 for version in 5.8 6.12; do
-  awk -v last="$last" '$1 <= last && (last >= 462 || $2 != "uretprobe")' "$parts/$version" > "$parts/known"
+  awk -v last="$last" -v newest="$((table_limit - 1))" -v late="$late" \
+    '$1 <= last && (last >= newest || $1 != late)' "$parts/$version" > "$parts/known"
   wrong=$(comm -23 "$parts/known" "$parts/header")
   if [ -n "$wrong" ]; then
     echo "call table of Linux $version: not as in $header:"

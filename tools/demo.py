@@ -100,7 +100,7 @@ def main():
             if name == "first_verdict":
                 said(f"after {timed(begun)}, a small program compiles a profile, and has its first verdicts:")
                 shown("first_verdict no_ptrace.json getpid ptrace", room, env)
-                said("seccheck and nodeagent are compiled, a minute more")
+                said("seccheck and nodeagent are compiled, a minute and a half more")
             elif name == "seccheck":
                 for title, command in SECCHECK:
                     said(title)

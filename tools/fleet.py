@@ -1,5 +1,5 @@
 #!/usr/bin/env python3
-"""fleet.py: three nodes behind an etcd of this machine, as docs/FLEET.md describes them. Hands out 60 pods, moves
+"""fleet.py: three nodes that read an etcd of this machine, as docs/FLEET.md describes them. Hands out 60 pods, moves
 ten of them to another node, kills each part once with SIGKILL, and checks each time that the folder of every node
 has the files of its keys within ten seconds, that every pod runs where its key says, and that no status is older
 than ten seconds. If bwrap is there, the parts of node a run under the filters that seccheck compiles from the

@@ -16,7 +16,7 @@ make cases    runs the cases of tests/ with the programs that make test built, o
 make demo     compiles a profile, judges calls with its filter, plays scripts, settles pods over a socket, and runs
               the pods of a folder, before any proof. A first verdict within a minute, two to four minutes in all
 make try      installs the programs, their manual pages and completions to PREFIX (/usr/local), compiled with
-              checks at run time in place of proofs; their --version says unproved. Two to eight minutes on four cores
+              checks at run time in place of proofs; their --version says unproved. One and a half to eight minutes
 make install  proves the programs and the library for C, and installs them with pages and completions to PREFIX
               (/usr/local). Two to three hours of one core; make copy installs what is already built, and
               make uninstall removes it. At once
@@ -26,12 +26,12 @@ make bench    measures the machine and the compiler beside others, the runtime w
               ENGINES=FOLDER: profiles of engines whose packages lie there. A quarter of an hour
 make kernel   compares the running kernel with the library on COUNT drawn calls. A minute
 make table    compares the tables of calls with the kernel of this machine, and its header. At once
-make fleet    runs 60 pods on three nodes behind Debian's etcd, and kills each kind of part once, by what is
-              built, or BIN=FOLDER. Two minutes
-make real     holds real programs to filters, by bwrap, crun, runc, systemd and a program in C, and says which
-              packages are missing; by what is built, or BIN=FOLDER. A few seconds
+make fleet    runs 60 pods on three nodes that read an etcd of Debian, and kills each kind of part once. Uses
+              what is already built, or BIN=FOLDER. Two minutes
+make real     runs real programs under filters, by bwrap, crun, runc, systemd and a program in C, and prints which
+              packages are missing. Uses what is already built, or BIN=FOLDER. A few seconds
 make look     opens pages of seccheck report in a headless Chromium, wide and narrow, light and dark, and keeps
-              pictures in out/look; fails if a page scrolls sideways or logs an error; by what is built, or
-              BIN=FOLDER. ENGINES=FOLDER as for bench. A minute
+              pictures in out/look. Fails if a page scrolls sideways or logs an error. Uses what is already built,
+              or BIN=FOLDER. ENGINES=FOLDER as for bench. A minute
 make clean    removes what is built and proved
 TEXT

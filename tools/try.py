@@ -14,7 +14,9 @@ sys.dont_write_bytecode = True
 from side_by_side import ROOT, timed
 from tried import built
 
-PROGRAMS = ("seccheck", "scriptd", "scriptctl", "nodeagent")
+# How many seconds after the start each program's compiler begins. On a machine of four cores all four ended sooner
+# in this way than if they began at once (docs/BENCHMARKS.md). Why was not found out.
+PROGRAMS = {"seccheck": 0, "nodeagent": 0, "scriptd": 15, "scriptctl": 45}
 VERSION_FILE, VERSION = "crates/command_line/src/arguments.rt", '"0.1.0"'
 
 
@@ -34,9 +36,9 @@ def copy_into(folder):
         it.write(text.replace(VERSION, f'{VERSION[:-1]} unproved"'))
 
 
-def installed(name, folder, prefix):
+def installed(name, folder, prefix, begun):
     """Compiles a program and installs it, and answers whether there is one."""
-    begun = time.monotonic()
+    time.sleep(PROGRAMS[name])
     said, is_there = built(name, folder, folder)
     if not is_there:
         print(f"{said}try: {name} could not be compiled", flush=True)
@@ -60,7 +62,8 @@ def main():
     with tempfile.TemporaryDirectory(prefix="try-") as folder:
         copy_into(folder)
         with ThreadPoolExecutor(len(PROGRAMS)) as pool:
-            found = [*pool.map(lambda name: installed(name, folder, prefix), PROGRAMS)]
+            begun = time.monotonic()
+            found = [*pool.map(lambda name: installed(name, folder, prefix, begun), PROGRAMS)]
     if all(found):
         subprocess.run([f"{ROOT}/tools/completions.py", prefix], check=True)
     return not all(found)

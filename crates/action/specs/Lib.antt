@@ -1,3 +1,3 @@
-pub mod Shown
 pub mod Verdict
 pub mod Errnos
+pub mod Shown

@@ -1,4 +1,9 @@
 //! Values and verdicts as they are printed, in words and as JSON (RFC 8259).
+ghost use Rattle.std.specs.Prelude.{◌≡◌};
+ghost use Rattle.action.specs.Shown.{is_errno};
+
+use crate::action::Action;
+use crate::errnos::ShownErrno;
 use crate::verdict::Verdict;
 use std::fmt;
 
@@ -15,7 +20,13 @@ impl fmt::Display for Verdict {
     }
 }
 
-/// A filter's value as its action and its data: `ERRNO 38`.
+fn is_errno(action: Action) -> bool
+    ensures { result ≡ is_errno action }
+{
+    action == Action::Errno
+}
+
+/// A filter's value as its action and its data, an errno with its name: `ERRNO 38 (ENOSYS)`.
 #[derive(Clone, Copy, Debug)]
 pub struct ValueText(pub u32);
 
@@ -25,8 +36,14 @@ impl fmt::Display for ValueText {
 
     ghost output = { λ value. Some (value_text value.0) };
 
+    #[tactic(auto, unfolding(crate::specs::Shown::value_text))]
     fn fmt<W: fmt::Write>(&self, f: &mut fmt::Formatter<W>) -> fmt::Result {
-        write!(f, "{}", Verdict::of_value(self.0))
+        let verdict = Verdict::of_value(self.0);
+        if is_errno(verdict.action) {
+            write!(f, "ERRNO {}", ShownErrno(verdict.ret_data))
+        } else {
+            write!(f, "{verdict}")
+        }
     }
 }
 

@@ -6,7 +6,7 @@
 
 pub use agent_parts::table;
 pub use agent_program::nodeagent_run;
-pub use checker::seccheck_run;
 pub use command_line::{nodeagent_line, scriptd_line};
 pub use runtime_server::scriptd_run;
+pub use seccheck_cli::seccheck_run;
 pub use worker_crew::{Gate, Peer, work};

@@ -8,15 +8,15 @@ use Rattle.cri_msgs.specs.declared.version.Version.TheVariants.{V1, V2}
 use Rattle.node_watch.specs.declared.forms.Form.{Form}
 use Rattle.node_watch.specs.declared.forms.Form.TheVariants.{Text, Json}
 use Rattle.node_watch.specs.declared.reasons.Reason.{Reason}
-use Rattle.runtime_server.specs.declared.site.Tells.{Tells}
-use Rattle.runtime_server.specs.declared.site.Tells.TheVariants as tells
+use Rattle.runtime_server.specs.declared.server.Tells.{Tells}
+use Rattle.runtime_server.specs.declared.server.Tells.TheVariants as tells
 use Rattle.runtime_stops.specs.declared.stops.ServerStop.TheVariants.{Memory}
 use Rattle.worker_crew.specs.declared.observer.Observed.{Observed}
 use Rattle.worker_crew.specs.declared.observer.Observed.TheVariants as observed
 use Rattle.worker_crew.specs.declared.pace.Ended.{Ended}
 use Rattle.worker_crew.specs.declared.pace.Ended.TheVariants as ended
 use Rattle.worker_crew.specs.declared.pace.Pace.{Pace}
-use Rattle.worker_crew.specs.declared.pace.Pace.TheVariants.{Counted, Machine}
+use Rattle.worker_crew.specs.declared.pace.Pace.TheVariants.{Virtual, Real}
 use Rattle.worker_pod.specs.declared.settings.Settings.{Settings}
 use Rattle.agent_parts.specs.declared.stops.AgentStop.{AgentStop}
 use Rattle.agent_parts.specs.declared.stops.AgentStop.TheVariants.{Server, HistoryFull}
@@ -40,8 +40,8 @@ told_beside false = tells.Nothing
 
 -- with --settle the time is counted, by default for an hour; otherwise it is the machine's
 abbrev pub pace_for : NodeagentLine → Pace
-pace_for line = if line.settle then Counted (unwrap_or line.numbers.until 3600)
-    else Machine line.numbers.until
+pace_for line = if line.settle then Virtual (unwrap_or line.numbers.until 3600)
+    else Real line.numbers.until
 
 -- the status of a run that nothing stopped
 abbrev pub status_at : Ended → Option ℕ

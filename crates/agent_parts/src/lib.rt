@@ -17,7 +17,7 @@
 //!   happens again: `reach_of`, `is_unreached`, `report_of`, `Repeats::note` (told, after).
 //! - The text of the file of `--state`, which is written before a uid counts as kept: `KeptUids`.
 //! - The settings, the clock and the version of the line: `settings_of`, `pace_of`, `version_of`,
-//!   `address_of`.
+//!   `config_of`.
 //! - The name of a run, and the status and the text of its end: `run_name`, `run_end`.
 //! - The time between two looks into a folder of pods: `rest_after`.
 //! - The lines on what of a manifest has no effect: `advice_lines`.
@@ -51,13 +51,13 @@ pub use laws::constants_are_as_stated;
 pub use limits::{LONGEST_REST, LOOK_SHARE, POLL, REMOVAL, SETTLE_UNTIL, SHORTEST_REST};
 pub use looks::{for_node, rest_after};
 pub use lost::{LostCall, Why};
-pub use node_ends::{NodeEnd, TableEnd, TableTeller, table_end};
+pub use node_ends::{NodeEnd, TableEnd, TableWriter, table_end};
 pub use reach::{Reach, ReachReport, is_unreached, reach_of, report_of};
 pub use removal::Removal;
 pub use repeats::{REPORT_REST, Repeats};
 pub use run_ends::{RunEnd, note_of, run_end};
 pub use settings::{
-    address_of, form_of, limit_of, observed_of, pace_of, run_name, settings_of, version_of,
+    config_of, form_of, limit_of, observed_of, pace_of, run_name, settings_of, version_of,
 };
 pub use state::{KeptUids, Store};
 pub use state_file::StateFile;

@@ -8,7 +8,7 @@ use crate::tables::told_table;
 use node_watch::{Counts, Form, Reasons};
 use std::alloc::{AllocError, Global};
 use worker_core::Node;
-use worker_crew::NodeTeller;
+use worker_crew::DescribeNode;
 
 /// The state of a node's pods.
 #[derive(Clone, Copy, Debug, PartialEq, Eq)]
@@ -76,15 +76,15 @@ pub fn table_end(
 
 /// Writes the table of a node.
 #[derive(Clone, Copy)]
-pub struct TableTeller {
+pub struct TableWriter {
     pub alloc: Global,
     pub form: Form,
 }
 
-impl NodeTeller for TableTeller {
-    type Told = TableEnd;
+impl DescribeNode for TableWriter {
+    type Output = TableEnd;
 
-    fn tell(
+    fn describe(
         &self,
         node: &Node,
         reasons: &Reasons,

@@ -9,7 +9,7 @@ use command_line::NodeagentLine;
 use cri_msgs::Version;
 use node_lock::MAX_ENTRIES;
 use node_watch::Form;
-use runtime_server::{Address, Tells};
+use runtime_server::{ServerConfig, Tells};
 use worker_crew::{Observed, Pace};
 use worker_pod::Settings;
 
@@ -51,9 +51,9 @@ pub fn pace_of(line: &NodeagentLine<'_>) -> Pace
 {
     let until = line.numbers.until;
     if line.settle {
-        Pace::Counted(until.unwrap_or(SETTLE_UNTIL))
+        Pace::Virtual(until.unwrap_or(SETTLE_UNTIL))
     } else {
-        Pace::Machine(until)
+        Pace::Real(until)
     }
 }
 
@@ -88,14 +88,14 @@ pub fn limit_of(line: &NodeagentLine<'_>) -> usize
 }
 
 /// If the runtime is in this process, the agent logs the calls. The runtime only reports which file is wrong.
-pub fn address_of<'a>(line: &NodeagentLine<'a>) -> Address<'a>
+pub fn config_of<'a>(line: &NodeagentLine<'a>) -> ServerConfig<'a>
     ensures socket { result.socket ≡ line.now.socket }
     ensures scripts { result.scripts ≡ line.now.scripts }
     ensures profiles { result.profiles ≡ line.now.profiles }
     ensures calls { result.calls ≡ line.now.calls }
     ensures tells { result.tells ≡ told_beside line.now.verbose }
 {
-    Address {
+    ServerConfig {
         socket: line.socket,
         scripts: line.scripts,
         profiles: line.profiles,

@@ -1,7 +1,7 @@
 use command_line::LineFault;
 use fault_notes::ShownPath;
 use manifest::PodFault;
-use runtime_stops::{ServerStop, Told};
+use runtime_stops::{ServerStop, StopLine};
 use std::alloc::{AllocError, AllocFailed};
 use std::fmt;
 
@@ -54,7 +54,7 @@ impl fmt::Display for AgentStop<'_> {
     fn fmt<W: fmt::Write>(&self, f: &mut fmt::Formatter<W>) -> fmt::Result {
         match self {
             AgentStop::Server(stop) => fmt::Display::fmt(
-                &Told {
+                &StopLine {
                     program: "nodeagent",
                     stop,
                 },

@@ -2,7 +2,7 @@
 ghost use Rattle.std.specs.Prelude.{◌≡◌, IfOk};
 ghost use Rattle.node_lock.specs.declared.limits.TheConstants.{PARTS};
 
-use crate::tellers::shared_causes;
+use crate::line_writers::shared_causes;
 use agent_parts::{AgentStop, NamedPod, StateFile, limit_of, observed_of, pod_at, settings_of};
 use command_line::NodeagentLine;
 use node_lock::{Book, BookFault, PARTS};

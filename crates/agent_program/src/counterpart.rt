@@ -1,6 +1,6 @@
 use crate::limits::{LAST_CALLS, LOOKS};
 use runner::Node;
-use runtime_server::{Connections, Engine};
+use runtime_server::{Connections, RuntimeThreads};
 use std::sync::Wait;
 use std::thread;
 use std::time::{Clock, Duration};
@@ -10,7 +10,7 @@ use worker_crew::Counterpart;
 /// runners, or external, with nothing known about it.
 #[derive(Clone, Copy)]
 pub(crate) enum RuntimeBehind<'r, 'o, 'e, B: Node, R: Wait> {
-    Own(&'r R, &'o Connections, &'e Engine<B>, u32),
+    Own(&'r R, &'o Connections, &'e RuntimeThreads<B>, u32),
     Other(&'r R, &'o Connections),
 }
 
@@ -28,7 +28,7 @@ fn end_calls<R: Wait + Clock>(rt: &R, open: &Connections) {
 impl<B: Node, R: Wait + Clock> Counterpart for RuntimeBehind<'_, '_, '_, B, R> {
     fn wait_idle(&self) {
         match self {
-            RuntimeBehind::Own(rt, _, engine, runners) => engine.wait_idle(*rt, *runners),
+            RuntimeBehind::Own(rt, _, threads, runners) => threads.wait_idle(*rt, *runners),
             RuntimeBehind::Other(_, _) => {}
         }
     }

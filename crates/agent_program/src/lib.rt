@@ -25,10 +25,10 @@ mod dialing;
 mod laws;
 mod leftovers;
 mod limits;
+mod line_writers;
 mod nodeagent;
 mod outside;
 mod peers;
-mod tellers;
 mod working;
 
 pub use laws::constants_are_as_stated;

@@ -2,8 +2,8 @@ ghost use Rattle.std.specs.Prelude.{◌≡◌};
 ghost use Rattle.node_lock.specs.declared.limits.TheConstants.{PARTS};
 
 use crate::admission::{admission_of, node_of};
+use crate::line_writers::{LineWriters, causes_for};
 use crate::outside::Outside;
-use crate::tellers::{Tellers, causes_for};
 use crate::working::{Left, run_admitted};
 use agent_parts::{AgentStop, RunEnd, note_of, run_end, run_name};
 use command_line::{NodeagentLine, nodeagent_line};
@@ -121,10 +121,10 @@ fn run_line<'a, L: Ledger + Send + Sync, R: Threads + Wait + Clock + Copy + Send
     let mut admission = admission_of(rt, system, line, &shared, coordinator)?;
     let outside = Outside::start(rt, system, line, causes)?;
     let advice = mem::replace(&mut admission.advice, Vec::new(system.alloc()));
-    outside.tellers.tell_all(rt, advice);
+    outside.writers.tell_all(rt, advice);
     let left = run_admitted(rt, system, line, baseline, &shared, &outside, admission);
-    outside.tellers.finish(rt);
-    ended_by(rt, system, line, shared, &outside.tellers, left?)
+    outside.writers.finish(rt);
+    ended_by(rt, system, line, shared, &outside.writers, left?)
 }
 
 // The end of the program after a run that ended like this.
@@ -133,13 +133,13 @@ fn ended_by<'a, L: Ledger, R: Wait>(
     system: &HostRuntime,
     line: &NodeagentLine<'a>,
     shared: Shared<L>,
-    tellers: &Tellers,
+    writers: &LineWriters,
     left: Left,
 ) -> Result<RunEnd, AgentStop<'a>> {
     let cause = if left.unread {
         Some(Cause::Gone)
     } else {
-        tellers.unwritten(rt)
+        writers.unwritten(rt)
     };
     if let Some(cause) = cause {
         return Err(AgentStop::Server(ServerStop::Unwritten(cause)));

@@ -1,13 +1,13 @@
 //! What a run has outside of its node: connections, writers of lines, and reports of lost calls.
 
+use crate::line_writers::LineWriters;
 use crate::peers::{CallLog, Calls};
-use crate::tellers::Tellers;
-use agent_errands::{AgentErrands, FileTeller, PodsFolder, Troubles};
-use agent_parts::{FolderLines, Removal, StateFile, TableTeller, form_of};
+use agent_parts::{FolderLines, Removal, StateFile, TableWriter, form_of};
+use agent_tasks::{AgentTasks, FolderReader, PodsFolder, Troubles};
 use command_line::NodeagentLine;
 use pod_folder::Naming;
 use refusal_causes::Causes;
-use runtime_server::{Connections, Teller};
+use runtime_server::{Connections, LineWriter};
 use std::alloc::{AllocError, Global};
 use std::sync::atomic::AtomicU64;
 use std::sync::ledger::Ledger;
@@ -22,7 +22,7 @@ pub(crate) struct Outside {
     /// The open connections of calls.
     pub(crate) open: Connections,
     /// The writers of lines.
-    pub(crate) tellers: Tellers,
+    pub(crate) writers: LineWriters,
     // Which calls were lost.
     troubles: Troubles,
     // The current moment, in seconds.
@@ -38,12 +38,12 @@ impl Outside {
         causes: Option<Arc<Mutex<Causes>, Global>>,
     ) -> Result<Outside, AllocError> {
         let open = Connections::new(system.alloc())?;
-        let tellers = Tellers::start(rt, system, line, causes)?;
+        let writers = LineWriters::start(rt, system, line, causes)?;
         let is_told = !line.verbose && !line.settle;
         let troubles = Troubles::new(system.alloc(), line.socket, is_told)?;
         Ok(Outside {
             open,
-            tellers,
+            writers,
             troubles,
             moment: AtomicU64::new(0),
         })
@@ -57,7 +57,7 @@ impl Outside {
     ) -> Calls<'s, R> {
         let log = CallLog {
             rt,
-            teller: &self.tellers.lines,
+            writer: &self.writers.lines,
             moment: &self.moment,
             troubles: &self.troubles,
             each: line.verbose,
@@ -68,8 +68,8 @@ impl Outside {
         }
     }
 
-    /// The errands of worker 0, besides advancing the time.
-    pub(crate) fn errands<'s, 'a, L: Ledger, R: Wait + Clock>(
+    /// The tasks of worker 0, besides advancing the time.
+    pub(crate) fn tasks<'s, 'a, L: Ledger, R: Wait + Clock>(
         &'s self,
         rt: &'s R,
         system: &HostRuntime,
@@ -77,15 +77,15 @@ impl Outside {
         shared: &'s Shared<L>,
         naming: Naming<'a>,
         state: Option<StateFile<'a>>,
-    ) -> AgentErrands<'s, 'a, L, R> {
+    ) -> AgentTasks<'s, 'a, L, R> {
         let alloc = system.alloc();
-        let teller: &'s Teller = &self.tellers.lines;
+        let writer: &'s LineWriter = &self.writers.lines;
         let folder = match line.pods {
             Some(path) => {
-                let reader = FileTeller {
+                let reader = FolderReader {
                     rt,
                     shared,
-                    teller,
+                    writer,
                     lines: FolderLines {
                         alloc,
                         folder: path,
@@ -95,15 +95,15 @@ impl Outside {
             }
             None => None,
         };
-        let changes: Option<&'s Teller> = match &self.tellers.changes {
-            Some(teller) => Some(teller),
+        let changes: Option<&'s LineWriter> = match &self.writers.changes {
+            Some(writer) => Some(writer),
             None => None,
         };
-        AgentErrands {
+        AgentTasks {
             rt,
             system: *system,
             shared,
-            table: TableTeller {
+            table: TableWriter {
                 alloc,
                 form: form_of(line),
             },
@@ -114,7 +114,7 @@ impl Outside {
                 None
             },
             troubles: &self.troubles,
-            teller,
+            writer,
             told: Vec::new(alloc),
             moment: &self.moment,
             state,

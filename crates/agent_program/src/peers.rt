@@ -3,12 +3,12 @@ ghost use Rattle.std.specs.Prelude.{◌≡◌, IfOk};
 
 use crate::dialing::{Deadline, TimedStream, connect};
 use crate::limits::PATIENCE;
-use agent_errands::Troubles;
 use agent_parts::{LostCall, Why, call_line};
+use agent_tasks::Troubles;
 use cri_frames::{Lost, call_over};
 use cri_msgs::{Reply, Request, Version};
 use node_io::{Cause, StreamWire};
-use runtime_server::{Connections, NoPlace, Teller};
+use runtime_server::{Connections, LineWriter, NoPlace};
 use std::alloc::Global;
 use std::io;
 use std::sync::Wait;
@@ -20,7 +20,7 @@ use worker_crew::Peer;
 #[derive(Drop)]
 pub(crate) struct CallLog<'a, R: Wait> {
     pub(crate) rt: &'a R,
-    pub(crate) teller: &'a Teller,
+    pub(crate) writer: &'a LineWriter,
     // The current moment, in seconds.
     pub(crate) moment: &'a AtomicU64,
     pub(crate) troubles: &'a Troubles,
@@ -105,11 +105,11 @@ impl<R: Wait + Clock> Peer for SocketPeer<'_, '_, '_, '_, R> {
         let came = self.ask(request);
         if log.each {
             let line = call_line(self.alloc, moment, request, &came);
-            log.teller.tell(log.rt, line);
+            log.writer.tell(log.rt, line);
         }
         log.troubles.note(
             log.rt,
-            log.teller,
+            log.writer,
             log.moment.load(Ordering::SeqCst),
             request,
             &came,

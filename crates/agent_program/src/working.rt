@@ -8,16 +8,16 @@ use crate::admission::Admission;
 use crate::counterpart::RuntimeBehind;
 use crate::leftovers::sweep;
 use crate::limits::{MAX_WORKERS, RUNNERS};
+use crate::line_writers::LineWriters;
 use crate::outside::Outside;
 use crate::peers::{Calls, SocketPeer};
-use crate::tellers::Tellers;
-use agent_errands::AgentErrands;
-use agent_parts::{AgentStop, TableEnd, address_of, pace_of, version_of, working_line};
+use agent_parts::{AgentStop, TableEnd, config_of, pace_of, version_of, working_line};
+use agent_tasks::AgentTasks;
 use bpf_verify::Filter;
 use command_line::NodeagentLine;
 use node_lock::PARTS;
 use runner::{Begun, Node};
-use runtime_server::{Site, accept_all, recorder_for, start_runners};
+use runtime_server::{RuntimeServer, accept_all, recorder_for, start_runners};
 use runtime_stops::socket_stop;
 use std::alloc::AllocError;
 use std::marker::Brand;
@@ -34,6 +34,16 @@ pub(crate) struct Left {
     pub(crate) table: Option<TableEnd>,
     /// Whether the reader of the changes is gone.
     pub(crate) unread: bool,
+}
+
+// What each part of a run reads: the command line, the pods that the workers share, and how calls are made.
+#[derive(Drop)]
+struct Run<'r, 'c, 'a, L: Ledger, R: Wait> {
+    rt: &'r R,
+    system: &'r HostRuntime,
+    line: &'r NodeagentLine<'a>,
+    shared: &'r Shared<L>,
+    calls: &'r Calls<'c, R>,
 }
 
 // A peer for each worker.
@@ -75,12 +85,9 @@ fn peer_of<'r, 'p, 'c, 'a, R: Wait>(
     }
 }
 
-fn left_by<L: Ledger, R: Wait + Clock>(
-    ended: Ended,
-    mut errands: AgentErrands<'_, '_, L, R>,
-) -> Left {
-    errands.report_losses();
-    let (table, unread) = errands.into_end();
+fn left_by<L: Ledger, R: Wait + Clock>(ended: Ended, mut tasks: AgentTasks<'_, '_, L, R>) -> Left {
+    tasks.report_losses();
+    let (table, unread) = tasks.into_end();
     Left {
         ended,
         table,
@@ -90,31 +97,34 @@ fn left_by<L: Ledger, R: Wait + Clock>(
 
 // Works until there is nothing left to wait for.
 fn run_crew<L: Ledger + Send + Sync, B: Node + Send + Sync, R: Threads + Wait + Clock + Sync>(
-    rt: &R,
-    system: &HostRuntime,
-    line: &NodeagentLine<'_>,
-    shared: &Shared<L>,
-    calls: &Calls<'_, R>,
+    run: &Run<'_, '_, '_, L, R>,
     behind: &RuntimeBehind<'_, '_, '_, B, R>,
     coordinator: Coordinator<L>,
-    mut errands: AgentErrands<'_, '_, L, R>,
+    mut tasks: AgentTasks<'_, '_, L, R>,
 ) -> Result<Left, AllocError>
     requires parts { coordinator.parts ≡ PARTS }
     requires whole { L.parts ≡ PARTS }
 {
+    let Run {
+        rt,
+        system,
+        line,
+        shared,
+        calls,
+    } = *run;
     let peers = peers(rt, system, line, calls)?;
     if line.verbose {
         let working = working_line(system.alloc(), line.socket, line.manifests.len());
-        calls.log.teller.tell(rt, working);
+        calls.log.writer.tell(rt, working);
     }
-    if !swept(rt, system, line, calls, &mut errands) {
+    if !swept(rt, system, line, calls, &mut tasks) {
         drop(coordinator);
-        return Ok(left_by(Ended::TimeUp, errands));
+        return Ok(left_by(Ended::TimeUp, tasks));
     }
     let CrewEnd {
         ended,
         tally,
-        errands,
+        tasks,
     } = crew(
         rt,
         system.alloc(),
@@ -123,11 +133,11 @@ fn run_crew<L: Ledger + Send + Sync, B: Node + Send + Sync, R: Threads + Wait + 
         behind,
         coordinator,
         peers,
-        errands,
+        tasks,
         pace_of(line),
     );
     drop(tally);
-    Ok(left_by(ended, errands))
+    Ok(left_by(ended, tasks))
 }
 
 // Removes the pods that a former start left in the runtime. False if the last moment came first.
@@ -136,9 +146,9 @@ fn swept<L: Ledger, R: Wait + Clock>(
     system: &HostRuntime,
     line: &NodeagentLine<'_>,
     calls: &Calls<'_, R>,
-    errands: &mut AgentErrands<'_, '_, L, R>,
+    tasks: &mut AgentTasks<'_, '_, L, R>,
 ) -> bool {
-    let Some(state) = &mut errands.state else {
+    let Some(state) = &mut tasks.state else {
         return true;
     };
     let mut peer = peer_of(rt, system, line, calls);
@@ -170,62 +180,35 @@ pub(crate) fn run_admitted<
         advice: _,
     } = admission;
     let calls = outside.calls(rt, line);
-    let errands = outside.errands(rt, system, line, shared, naming, state);
+    let tasks = outside.tasks(rt, system, line, shared, naming, state);
+    let run = Run {
+        rt,
+        system,
+        line,
+        shared,
+        calls: &calls,
+    };
     if line.with_runtime {
-        run_own(
-            rt,
-            system,
-            line,
-            baseline,
-            &outside.tellers,
-            shared,
-            &calls,
-            coordinator,
-            errands,
-        )
+        run_own(&run, baseline, &outside.writers, coordinator, tasks)
     } else {
         let other: RuntimeBehind<'_, '_, '_, Brand, R> = RuntimeBehind::Other(rt, &outside.open);
-        let left = run_crew(
-            rt,
-            system,
-            line,
-            shared,
-            &calls,
-            &other,
-            coordinator,
-            errands,
-        );
-        Ok(left?)
+        Ok(run_crew(&run, &other, coordinator, tasks)?)
     }
 }
 
 // Runs the crew with a runtime of a node with this filter, in threads beside the workers.
 fn run_own<'a, L: Ledger + Send + Sync, R: Threads + Wait + Clock + Copy + Send + Sync + 'static>(
-    rt: &R,
-    system: &HostRuntime,
-    line: &NodeagentLine<'a>,
+    run: &Run<'_, '_, 'a, L, R>,
     baseline: Option<Filter>,
-    tellers: &Tellers,
-    shared: &Shared<L>,
-    calls: &Calls<'_, R>,
+    writers: &LineWriters,
     coordinator: Coordinator<L>,
-    errands: AgentErrands<'_, '_, L, R>,
+    tasks: AgentTasks<'_, '_, L, R>,
 ) -> Result<Left, AgentStop<'a>>
     requires parts { coordinator.parts ≡ PARTS }
     requires whole { L.parts ≡ PARTS }
 {
-    let begun = Begun::new(system.alloc(), baseline)?;
-    run_beside::<L, Brand, R>(
-        rt,
-        system,
-        line,
-        begun,
-        tellers,
-        shared,
-        calls,
-        coordinator,
-        errands,
-    )
+    let begun = Begun::new(run.system.alloc(), baseline)?;
+    run_beside::<L, Brand, R>(run, begun, writers, coordinator, tasks)
 }
 
 // Runs the crew with this runtime in threads beside the workers.
@@ -235,34 +218,31 @@ fn run_beside<
     B: Node + Send + Sync,
     R: Threads + Wait + Clock + Copy + Send + Sync + 'static,
 >(
-    rt: &R,
-    system: &HostRuntime,
-    line: &NodeagentLine<'a>,
+    run: &Run<'_, '_, 'a, L, R>,
     begun: Begun,
-    tellers: &Tellers,
-    shared: &Shared<L>,
-    calls: &Calls<'_, R>,
+    writers: &LineWriters,
     coordinator: Coordinator<L>,
-    errands: AgentErrands<'_, '_, L, R>,
+    tasks: AgentTasks<'_, '_, L, R>,
 ) -> Result<Left, AgentStop<'a>>
     requires parts { coordinator.parts ≡ PARTS }
     requires whole { L.parts ≡ PARTS }
     requires own { begun ≡ (B.filter, B.table) }
 {
-    let site = site_of::<B, R>(rt, system, line, begun, tellers)?;
-    let left = run_at(rt, system, line, &site, shared, calls, coordinator, errands);
-    site.engine.finish(rt);
+    let rt = run.rt;
+    let server = server_of::<B, R>(rt, run.system, run.line, begun, writers)?;
+    let left = run_at(run, &server, coordinator, tasks);
+    server.threads.finish(rt);
     Ok(left?)
 }
 
 // The runtime at the line's socket.
-fn site_of<'a, B: Node + Send + Sync, R: Threads + Wait + Clock + Copy + Send + Sync + 'static>(
+fn server_of<'a, B: Node + Send + Sync, R: Threads + Wait + Clock + Copy + Send + Sync + 'static>(
     rt: &R,
     system: &HostRuntime,
     line: &NodeagentLine<'a>,
     begun: Begun,
-    tellers: &Tellers,
-) -> Result<Site<'a, B>, AgentStop<'a>>
+    writers: &LineWriters,
+) -> Result<RuntimeServer<'a, B>, AgentStop<'a>>
     requires own { begun ≡ (B.filter, B.table) }
 {
     let (path, calls) = (line.records, line.calls);
@@ -270,27 +250,24 @@ fn site_of<'a, B: Node + Send + Sync, R: Threads + Wait + Clock + Copy + Send + 
         Ok(recorder) => recorder,
         Err(stop) => return Err(AgentStop::Server(stop)),
     };
-    let reports = tellers.reports(recorder)?;
-    match Site::<B>::open(rt, system, address_of(line), begun, reports) {
-        Ok(site) => Ok(site),
+    let reports = writers.reports(recorder)?;
+    match RuntimeServer::<B>::open(rt, system, config_of(line), begun, reports) {
+        Ok(server) => Ok(server),
         Err(fault) => Err(AgentStop::Server(socket_stop(line.socket, fault))),
     }
 }
 
 fn run_at<L: Ledger + Send + Sync, B: Node + Send + Sync, R: Threads + Wait + Clock + Sync>(
-    rt: &R,
-    system: &HostRuntime,
-    line: &NodeagentLine<'_>,
-    site: &Site<'_, B>,
-    shared: &Shared<L>,
-    calls: &Calls<'_, R>,
+    run: &Run<'_, '_, '_, L, R>,
+    server: &RuntimeServer<'_, B>,
     coordinator: Coordinator<L>,
-    errands: AgentErrands<'_, '_, L, R>,
+    tasks: AgentTasks<'_, '_, L, R>,
 ) -> Result<Left, AllocError>
     requires parts { coordinator.parts ≡ PARTS }
     requires whole { L.parts ≡ PARTS }
 {
-    let behind = RuntimeBehind::Own(rt, calls.open, &site.engine, RUNNERS);
+    let (rt, system) = (run.rt, run.system);
+    let behind = RuntimeBehind::Own(rt, run.calls.open, &server.threads, RUNNERS);
     scope(
         scope_env(),
         rt,
@@ -298,36 +275,27 @@ fn run_at<L: Ledger + Send + Sync, B: Node + Send + Sync, R: Threads + Wait + Cl
             requires parts { coordinator.parts ≡ PARTS }
             requires whole { L.parts ≡ PARTS }
         {
-            let left = match start_site(scope, rt, system, site) {
-                Ok(()) => run_crew(
-                    rt,
-                    system,
-                    line,
-                    shared,
-                    calls,
-                    &behind,
-                    coordinator,
-                    errands,
-                ),
+            let left = match start_server(scope, rt, system, server) {
+                Ok(()) => run_crew(run, &behind, coordinator, tasks),
                 Err(error) => {
-                    drop((coordinator, errands));
+                    drop((coordinator, tasks));
                     Err(error)
                 }
             };
-            site.close(rt, system);
+            server.close(rt, system);
             left
         },
     )
 }
 
 // Starts the runners, and the thread that accepts connections.
-fn start_site<'s, 'e, B: Node + Send + Sync, R: Threads + Wait + Clock + Sync>(
+fn start_server<'s, 'e, B: Node + Send + Sync, R: Threads + Wait + Clock + Sync>(
     scope: &'s Scope<'s, &'e ()>,
     rt: &'e R,
     system: &'e HostRuntime,
-    site: &'e Site<'e, B>,
+    server: &'e RuntimeServer<'e, B>,
 ) -> Result<(), AllocError> {
-    start_runners(scope, rt, &site.engine, RUNNERS)?;
-    scope.spawn(move || accept_all(scope, rt, system, site))?;
+    start_runners(scope, rt, &server.threads, RUNNERS)?;
+    scope.spawn(move || accept_all(scope, rt, system, server))?;
     Ok(())
 }

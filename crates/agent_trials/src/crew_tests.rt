@@ -251,7 +251,7 @@ fn workers_without_work_wait(rt: HostRuntime) -> Result<(), Fail> {
 // of the claim, and of the moments up to 4.
 #[test]
 fn a_second_makes_one_entry(rt: HostRuntime) -> Result<(), Fail> {
-    let entries = held_up(&rt, rt.alloc(), Pace::Machine(Some(4)), 2_500, 0)?;
+    let entries = held_up(&rt, rt.alloc(), Pace::Real(Some(4)), 2_500, 0)?;
     assert!(rt; entries.held <= 6, "{}", entries.held);
     Ok(())
 }
@@ -260,7 +260,7 @@ fn a_second_makes_one_entry(rt: HostRuntime) -> Result<(), Fail> {
 // its end, and of at most a few seconds in which the workers begin.
 #[test]
 fn time_makes_no_entries_where_nothing_is_due(rt: HostRuntime) -> Result<(), Fail> {
-    let entries = held_up(&rt, rt.alloc(), Pace::Machine(Some(8)), 0, 1)?;
+    let entries = held_up(&rt, rt.alloc(), Pace::Real(Some(8)), 0, 1)?;
     assert!(rt; entries.all <= 7, "{}", entries.all);
     Ok(())
 }

@@ -7,7 +7,7 @@ use cri_frames::{Feed, FeedFault, Lost, call_over, frame_of};
 use cri_msgs::{Reply, Request, Version};
 use node_io::{FileFault, Files, MemoryFiles, MemoryWire, Wire, WireFault};
 use runner::{Begun, Node, Service, serve_wire};
-use runtime_server::{Engine, EngineHost};
+use runtime_server::{RuntimeHost, RuntimeThreads};
 use std::alloc::{AllocError, Global};
 use std::sync::atomic::{AtomicU64, Ordering};
 use std::sync::{Mutex, Wait};
@@ -21,7 +21,7 @@ const PLACE: usize = 1 << 14;
 #[derive(Drop)]
 pub(crate) struct Loop<B: Node> {
     alloc: Global,
-    pub(crate) engine: Engine<B>,
+    pub(crate) threads: RuntimeThreads<B>,
     scripts: Mutex<MemoryFiles>,
     profiles: Mutex<MemoryFiles>,
     moves: AtomicU64,
@@ -42,7 +42,7 @@ impl<B: Node> Loop<B> {
     {
         Loop {
             alloc,
-            engine: Engine::new(alloc, node, None),
+            threads: RuntimeThreads::new(alloc, node, None),
             scripts: Mutex::new(scripts),
             profiles: Mutex::new(profiles),
             moves: AtomicU64::new(0),
@@ -96,7 +96,7 @@ pub(crate) struct Idle<'a, B: Node, R: Wait> {
 
 impl<B: Node, R: Wait> Counterpart for Idle<'_, B, R> {
     fn wait_idle(&self) {
-        self.runtime.engine.wait_idle(self.rt, self.runners);
+        self.runtime.threads.wait_idle(self.rt, self.runners);
     }
 
     // A call in memory comes back by itself.
@@ -160,11 +160,11 @@ impl<'a, B: Node, R: Wait> LoopWire<'a, B, R> {
         Vec::from_slice(alloc, wire.written())
     }
 
-    fn service(&self) -> Service<SharedFiles<'a, R>, SharedFiles<'a, R>, EngineHost<'a, B, R>> {
+    fn service(&self) -> Service<SharedFiles<'a, R>, SharedFiles<'a, R>, RuntimeHost<'a, B, R>> {
         Service {
             scripts: self.shared_files(&self.runtime.scripts),
             profiles: self.shared_files(&self.runtime.profiles),
-            host: self.runtime.engine.host(self.rt),
+            host: self.runtime.threads.host(self.rt),
         }
     }
 

@@ -18,13 +18,11 @@ use std::test::Fail;
 use std::thread::{Threads, scope, scope_env, sleep};
 use std::time::{Clock, Duration};
 use worker_core::{AgentEvent, MAX_PODS, Node};
-use worker_crew::{
-    Coordinator, CrewEnd, Ended, Gate, NoErrands, Observed, Pace, Peer, Shared, crew,
-};
+use worker_crew::{Coordinator, CrewEnd, Ended, Gate, NoTasks, Observed, Pace, Peer, Shared, crew};
 use worker_pod::Settings;
 
 /// The virtual clock, up to moment 3600.
-pub(crate) const COUNTED: Pace = Pace::Counted(3_600);
+pub(crate) const COUNTED: Pace = Pace::Virtual(3_600);
 
 // How many runners step the containers.
 const RUNNERS: u32 = 4;
@@ -209,7 +207,7 @@ pub(crate) fn worked<
             requires parts { coordinator.parts ≡ PARTS }
             requires whole { L.parts ≡ PARTS }
         {
-            let started = start_runners(scope, rt, &runtime.engine, RUNNERS);
+            let started = start_runners(scope, rt, &runtime.threads, RUNNERS);
             let runners = if started.is_ok() { RUNNERS } else { 0 };
             let counterpart = Idle {
                 rt,
@@ -224,10 +222,10 @@ pub(crate) fn worked<
                 &counterpart,
                 coordinator,
                 peers,
-                NoErrands,
+                NoTasks,
                 pace,
             );
-            runtime.engine.close(rt);
+            runtime.threads.close(rt);
             match started {
                 Ok(()) => (ended, tally),
                 Err(_) => (Ended::Memory, tally),

@@ -12,7 +12,7 @@
 //!   `ReadyDefault`.
 //!
 //! Only tested: that scripts and profiles are prepared before the locks, and which texts are kept, and how
-//! long (`runner_tests`).
+//! long (`tests_runner`).
 #![tactic(auto)]
 
 mod building;

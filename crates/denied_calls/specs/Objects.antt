@@ -20,7 +20,7 @@ container_members s = codes "\"uid\":" ++ (quoted (string_bytes s.uid) ++ (codes
 abbrev pub place_members : Sighting → List ℕ
 place_members s = codes "\"attempt\":" ++ (decimal s.attempt ++ (codes ",\"first\":" ++ decimal s.first))
 
--- `by` stands behind the other members
+-- `by` comes after the other members
 abbrev pub row_object : CallTable → Sighting → ℕ → List ℕ → List ℕ
 row_object calls s count by =
     codes "{" ++ (container_members s ++ (codes "," ++ (call_members calls (kind_of s.nr s.arch s.value)

@@ -1,4 +1,4 @@
--- The order of what is told of denied calls, this project's own: docs/SEMANTICS.md, "Programs".
+-- The order in which denied calls are printed, this project's own: docs/SEMANTICS.md, "Programs".
 use Rattle.std.specs.Prelude.{ℕ, List, string_bytes}
 use Rattle.std.specs.Cmp.Lexicographic.{slice_cmp}
 use Rattle.std.specs.declared.cmp.Ordering.{Ordering}

@@ -1,4 +1,5 @@
 pub mod Starts
+pub mod CallHints
 pub mod Notes
 pub mod Paths
 pub mod Refusals

@@ -16,6 +16,7 @@ use Rattle.profile_template.specs.Faults.{fault_text as template_fault_text}
 use Rattle.profile_template.specs.declared.faults.TemplateFault.TheVariants as template
 use Rattle.script.specs.FaultText.{fault_text as script_fault_text}
 use Rattle.script.specs.declared.faults.ScriptFault.TheVariants as script
+use Rattle.fault_notes.specs.CallHints.{hint_after, unknown_name}
 use Rattle.fault_notes.specs.Starts.{begins_yaml}
 use Rattle.fault_notes.specs.declared.named.Kind.{Kind}
 use Rattle.fault_notes.specs.declared.named.Kind.TheVariants as kind
@@ -67,16 +68,19 @@ behind_text (part ∷ parts) = codes ": " ++ place_text (part ∷ parts)
 abbrev pub wanted_text : List ℕ → List ℕ → List ℕ
 wanted_text join wanted = if length wanted == 0 then [] else join ++ (codes "wanted " ++ wanted)
 
--- the value there, if it is a text or a number, and what was wanted
-abbrev pub standing_text : Option standing.Shown → List ℕ → Option (List ℕ)
-standing_text None wanted = Some (wanted_text (codes ": ") wanted)
-standing_text (Some shown) wanted = option_map
-    (λ text. codes ": " ++ (text ++ wanted_text (codes ", ") wanted)) (shown_text shown)
+-- the value there, if it is a text or a number, what was wanted, and the hint on a call's name
+abbrev pub standing_text : Named → Option standing.Shown → List ℕ → Option (List ℕ)
+standing_text fault None wanted = Some (wanted_text (codes ": ") wanted)
+standing_text fault (Some shown) wanted = option_map
+    (λ text. codes ": "
+    ++ (text ++ (wanted_text (codes ", ") wanted ++ hint_after (unknown_name fault shown))))
+    (shown_text shown)
 
 -- the place in the file, the fault's name, the value there and what was wanted
 abbrev pub place_note : List Part → Named → Option standing.Shown → List ℕ → Option (List ℕ)
 place_note place fault shown wanted = option_map
-    (λ text. behind_text place ++ (codes ": " ++ (named_text fault ++ text))) (standing_text shown wanted)
+    (λ text. behind_text place ++ (codes ": " ++ (named_text fault ++ text)))
+    (standing_text fault shown wanted)
 
 -- nothing is claimed if a number's text is serde_json's
 abbrev pub Says : List Part → Named → Option standing.Shown → List ℕ → Type 0

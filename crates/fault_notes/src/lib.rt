@@ -9,6 +9,8 @@
 //! - The note on a refused text has the fault's name, its place, and the value there as it is in the text's
 //!   own tree: `profile_note`, `template_note`, `manifest_note`, `script_note`.
 //! - The place and the value there as members of an object of JSON: `fault_members`.
+//! - After a name that no known call has, the note shows the call that the name was probably meant to be, or
+//!   that a newer table has it: `profile_note` and its like, by `specs/CallHints.antt`.
 //! - For a text that is not JSON, the note shows whether it begins as YAML: `profile_note` and its like.
 //! - What a text begins with, and what is white space of JSON: `begins_object`, `begins_list`, `is_space`.
 //! - The name of a file, each character escaped: `ShownPath`.
@@ -18,6 +20,7 @@
 //! at a place.
 #![tactic(auto)]
 
+mod call_hints;
 mod members;
 mod named;
 mod notes;

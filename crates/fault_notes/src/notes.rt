@@ -15,7 +15,8 @@ use script::ScriptFaultAt;
 use serde_json::Value;
 use std::alloc::{AllocError, Global};
 
-/// The note after the name of a file that is not a profile: `: syscalls[1].names[2]: UnknownCall: "ptrce"`.
+/// The note after the name of a file that is not a profile:
+/// `: syscalls[1].names[2]: UnknownCall: "ptrce" (did you mean ptrace?)`.
 pub fn profile_note(
     alloc: Global,
     bytes: &[u8],

@@ -3,12 +3,13 @@ ghost use Rattle.serde_json.specs.View.{view};
 ghost use Rattle.json_place.specs.Shown.{stands_at};
 ghost use Rattle.fault_notes.specs.Notes.{IsShownOf};
 
+use crate::call_hints::{CallHint, unknown_name};
 use crate::named::Named;
 use json_place::{Place, Shown, stands_at};
 use serde_json::Value;
 use std::fmt;
 
-/// The note on a text with a fault at a place: `: syscalls[1].names[2]: UnknownCall: "ptrce"`.
+/// The note on a text with a fault at a place: `: syscalls[1].action: UnknownAction: "x", wanted an action ..`.
 #[derive(Clone, Copy)]
 pub(crate) struct PlaceNote<'p, 't> {
     pub(crate) place: &'p Place,
@@ -65,7 +66,8 @@ impl fmt::Display for PlaceNote<'_, '_> {
         match self.shown {
             Some(shown) => {
                 let wanted = Wanted(", ", self.wanted);
-                write!(f, "{behind}: {fault}: {shown}{wanted}")
+                let hint = CallHint(unknown_name(fault, shown));
+                write!(f, "{behind}: {fault}: {shown}{wanted}{hint}")
             }
             None => {
                 let wanted = Wanted(": ", self.wanted);

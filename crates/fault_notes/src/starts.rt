@@ -1,7 +1,7 @@
 //! What a text begins with.
 ghost use Rattle.std.specs.Prelude.{◌≡◌, ◌<◌, IfSome, length, not, position};
-ghost use Rattle.fault_notes.specs.Starts.{begins_list, begins_object, begins_yaml, is_letter, is_space};
-ghost use Rattle.fault_notes.specs.Starts.{is_yaml_start};
+ghost use Rattle.fault_notes.specs.Starts.{begins_key, begins_list, begins_object, begins_yaml, is_letter};
+ghost use Rattle.fault_notes.specs.Starts.{is_space, is_yaml_start, opens_mapping};
 
 /// Whether the first byte that is not JSON white space (RFC 8259) begins an object.
 pub fn begins_object(bytes: &[u8]) -> bool
@@ -23,12 +23,33 @@ pub fn begins_list(bytes: &[u8]) -> bool
     }
 }
 
-/// Whether a text begins as YAML does: its first byte that is not white space is a letter, `-`, `#` or `%`.
+/// Whether a text begins as YAML does: its first byte that is not white space is a letter, `-`, `#` or `%`,
+/// or a brace with a letter after it.
 pub(crate) fn begins_yaml(bytes: &[u8]) -> bool
     ensures { result ≡ begins_yaml bytes.now }
 {
     match begin(bytes) {
-        Some(first) => is_yaml_start(bytes[first]),
+        Some(first) => is_yaml_start(bytes[first]) || opens_mapping(&bytes[first..]),
+        None => false,
+    }
+}
+
+/// Whether the first byte opens a mapping of YAML, whose first key is without quotes.
+fn opens_mapping(bytes: &[u8]) -> bool
+    ensures { result ≡ opens_mapping bytes.now }
+{
+    match bytes {
+        [b'{', rest @ ..] => begins_key(rest),
+        _ => false,
+    }
+}
+
+/// Whether the first byte that is not white space is a letter.
+fn begins_key(bytes: &[u8]) -> bool
+    ensures { result ≡ begins_key bytes.now }
+{
+    match begin(bytes) {
+        Some(first) => is_letter(bytes[first]),
         None => false,
     }
 }

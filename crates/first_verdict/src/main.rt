@@ -2,7 +2,7 @@
 //! does the same and much more, but takes longer to build.
 #![tactic(auto)]
 
-use action::Verdict;
+use action::ValueText;
 use bpf_machine::run;
 use bpf_verify::Filter;
 use call_data::{NATIVE_ARCH, SysCall};
@@ -62,7 +62,6 @@ fn judge(rt: &HostRuntime, filter: &Filter, name: &str) -> Result<(), &'static s
         args: [0; 6],
     };
     let ran = run(filter, &call);
-    let verdict = Verdict::of_value(ran.value);
-    let (action, data, steps) = (verdict.action, verdict.ret_data, ran.steps);
-    println!(rt; "{name}: {action} {data} in {steps} steps").map_err(unwritten)
+    let (verdict, steps) = (ValueText(ran.value), ran.steps);
+    println!(rt; "{name}: {verdict} in {steps} steps").map_err(unwritten)
 }

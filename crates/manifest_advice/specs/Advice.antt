@@ -20,11 +20,11 @@ use Rattle.manifest_advice.specs.declared.holder.Listing.{Listing}
 use Rattle.manifest_advice.specs.declared.holder.Listing.TheVariants as listing
 
 -- a piece of advice, with texts as their bytes
-pub data Told : Type 0 where
-  OtherCase : Holder → List ℕ → List ℕ → Told
-  OldAnnotation : List ℕ → Told
+pub data AdviceData : Type 0 where
+  OtherCase : Holder → List ℕ → List ℕ → AdviceData
+  OldAnnotation : List ℕ → AdviceData
 
-abbrev pub told : Advice → Told
+abbrev pub told : Advice → AdviceData
 told (advice.OtherCase holder key name) = OtherCase holder key.now name.now
 told (advice.OldAnnotation key) = OldAnnotation key.now
 
@@ -56,59 +56,59 @@ is_other_case key name =
 abbrev pub known_as : Holder → List ℕ → Option (List ℕ)
 known_as holder key = find (is_other_case key) (known holder)
 
-abbrev pub recased_at : Holder → List ℕ × Data → Option Told
+abbrev pub recased_at : Holder → List ℕ × Data → Option AdviceData
 recased_at holder (key, value) = option_map (OtherCase holder key) (known_as holder key)
 
-unfoldable pub recased_in : Holder → Data → List Told
+unfoldable pub recased_in : Holder → Data → List AdviceData
 recased_in holder tree = filter_map (recased_at holder) (members_of tree)
 
 -- the annotations that named the profile of a pod or of a container
 abbrev pub is_old : List ℕ → Bool
 is_old key = bytes_eq key POD_ANNOTATION.now || starts_with nat_eq key CONTAINER_ANNOTATIONS.now
 
-abbrev pub old_at : List ℕ × Data → Option Told
+abbrev pub old_at : List ℕ × Data → Option AdviceData
 old_at (key, value) = if is_old key then Some (OldAnnotation key) else None
 
-unfoldable pub old_in : Data → List Told
+unfoldable pub old_in : Data → List AdviceData
 old_in tree = filter_map old_at (members_of tree)
 
-abbrev pub of_some : (Data → List Told) → Option Data → List Told
+abbrev pub of_some : (Data → List AdviceData) → Option Data → List AdviceData
 of_some f None = []
 of_some f (Some tree) = f tree
 
 -- the advice on the member with this key, if there is one
-unfoldable pub within : (Data → List Told) → List ℕ → Data → List Told
+unfoldable pub within : (Data → List AdviceData) → List ℕ → Data → List AdviceData
 within f key tree = of_some f (member key tree)
 
 -- the items of the list at this member
 unfoldable pub items_in : List ℕ → Data → List Data
 items_in key tree = unwrap_or (option_and_then list (member key tree)) []
 
-unfoldable pub context_in : Holder → Holder → Data → List Told
+unfoldable pub context_in : Holder → Holder → Data → List AdviceData
 context_in context profile tree = recased_in context tree
     ++ within (recased_in profile) (codes "seccompProfile") tree
 
-unfoldable pub container_at : Listing → ℕ × Data → List Told
+unfoldable pub container_at : Listing → ℕ × Data → List AdviceData
 container_at listing (index, item) = recased_in (of.Container listing index) item
     ++ within (context_in (of.Context listing index) (of.Profile listing index)) (codes "securityContext") item
 
-unfoldable pub listed_in : Listing → List Data → List Told
+unfoldable pub listed_in : Listing → List Data → List AdviceData
 listed_in listing items = flat_map (container_at listing) (enumerate_from 0 items)
 
-unfoldable pub metadata_in : Data → List Told
+unfoldable pub metadata_in : Data → List AdviceData
 metadata_in tree = recased_in of.Metadata tree ++ within old_in (codes "annotations") tree
 
 -- the advice on all containers, init ones first
-unfoldable pub containers_in : Data → List Told
+unfoldable pub containers_in : Data → List AdviceData
 containers_in tree = listed_in listing.Init (items_in (codes "initContainers") tree)
     ++ listed_in listing.Main (items_in (codes "containers") tree)
 
-unfoldable pub spec_in : Data → List Told
+unfoldable pub spec_in : Data → List AdviceData
 spec_in tree = recased_in of.Spec tree
     ++ (within (context_in of.PodContext of.PodProfile) (codes "securityContext") tree
     ++ containers_in tree)
 
 -- the advice on a manifest's tree
-unfoldable pub advice_in : Data → List Told
+unfoldable pub advice_in : Data → List AdviceData
 advice_in tree = recased_in of.Manifest tree
     ++ (within metadata_in (codes "metadata") tree ++ within spec_in (codes "spec") tree)

@@ -4,8 +4,8 @@ use Rattle.std.specs.Fmt.{decimal}
 use Rattle.serde_json.specs.Data.{Data}
 use Rattle.json_place.specs.Quoted.{quoted_text}
 use Rattle.json_tree.specs.Tree.{tree_of}
-use Rattle.manifest_advice.specs.Advice.{Told, advice_in}
-use Rattle.manifest_advice.specs.Advice.Told.{OtherCase, OldAnnotation}
+use Rattle.manifest_advice.specs.Advice.{AdviceData, advice_in}
+use Rattle.manifest_advice.specs.Advice.AdviceData.{OtherCase, OldAnnotation}
 use Rattle.manifest_advice.specs.declared.holder.Holder.{Holder}
 use Rattle.manifest_advice.specs.declared.holder.Holder.TheVariants as of
 use Rattle.manifest_advice.specs.declared.holder.Listing.{Listing}
@@ -30,15 +30,15 @@ holder_text (of.Container listing index) = container_text listing index (codes "
 holder_text (of.Context listing index) = container_text listing index (codes "].securityContext.")
 holder_text (of.Profile listing index) = container_text listing index (codes "].securityContext.seccompProfile.")
 
-abbrev pub advice_place : Told → List ℕ
+abbrev pub advice_place : AdviceData → List ℕ
 advice_place (OtherCase holder key name) = holder_text holder ++ key
 advice_place (OldAnnotation key) = codes "metadata.annotations[" ++ (quoted_text key ++ codes "]")
 
-abbrev pub advice_words : Told → List ℕ
+abbrev pub advice_words : AdviceData → List ℕ
 advice_words (OtherCase holder key name) = codes "ignored, the member is " ++ name
 advice_words (OldAnnotation key) = codes "ignored since Kubernetes 1.27, see securityContext.seccompProfile"
 
-abbrev pub advice_text : Told → List ℕ
+abbrev pub advice_text : AdviceData → List ℕ
 advice_text told = advice_place told ++ (codes ": " ++ advice_words told)
 
 abbrev pub texts_of : Option Data → List (List ℕ)

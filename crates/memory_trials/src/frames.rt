@@ -6,10 +6,10 @@ use cri_frames::{Feed, FeedFault, Lost, call_over};
 use cri_msgs::{Answer, Reply, Request, Version};
 use node_io::{Wire, WireFault};
 use std::alloc::Global;
-use trials::{Came, Told, Trial, tried};
+use trials::{Came, Trial, TrialResult, tried};
 
 /// Tries the call of this name, if it is one of this module's.
-pub(crate) fn told(rt: &HostRuntime, name: &str) -> Option<Told> {
+pub(crate) fn told(rt: &HostRuntime, name: &str) -> Option<TrialResult> {
     let alloc = rt.alloc();
     match name {
         "Feed::push" => Some(tried(rt, Feeds::new(alloc))),

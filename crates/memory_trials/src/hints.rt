@@ -1,10 +1,10 @@
 //! Hints on refused files.
 use std::alloc::{AllocError, Global};
-use trials::{Came, Told, Trial, tried};
+use trials::{Came, Trial, TrialResult, tried};
 use wrong_files::{Hint, Wanted, hint_of_filter, hint_of_text};
 
 /// Tries the call of this name, if it is one of this module's.
-pub(crate) fn told(rt: &HostRuntime, name: &str) -> Option<Told> {
+pub(crate) fn told(rt: &HostRuntime, name: &str) -> Option<TrialResult> {
     let alloc = rt.alloc();
     match name {
         "hint_of_text" => Some(tried(rt, Some(OfText { alloc }))),

@@ -7,11 +7,11 @@ use bpf_verify::{Filter, verify};
 use call_data::{NATIVE_ARCH, SysCall};
 use std::alloc::Global;
 use sys_table::{name, number};
-use trials::{Came, Told, Trial, tried};
+use trials::{Came, Trial, TrialResult, tried};
 use verdict::Stack;
 
 /// Tries to judge calls.
-pub(crate) fn told(rt: &HostRuntime, name: &str) -> Option<Told> {
+pub(crate) fn told(rt: &HostRuntime, name: &str) -> Option<TrialResult> {
     match name {
         "judging" => Some(tried(rt, Judges::new(rt.alloc()))),
         _ => None,

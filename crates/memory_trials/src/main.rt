@@ -18,7 +18,7 @@ mod serving;
 mod stacks;
 
 use std::{env, io};
-use trials::Told;
+use trials::TrialResult;
 
 fn main(rt: HostRuntime) -> io::Result<()> {
     let words: Vec<String> = env::args(&rt)?.collect(rt.alloc())?;
@@ -34,7 +34,7 @@ fn main(rt: HostRuntime) -> io::Result<()> {
 }
 
 /// Tries the call of this name, with what is given for it.
-fn told(rt: &HostRuntime, name: &str, given: &str) -> Option<Told> {
+fn told(rt: &HostRuntime, name: &str, given: &str) -> Option<TrialResult> {
     if let Some(told) = of_filters(rt, name) {
         return Some(told);
     }
@@ -45,7 +45,7 @@ fn told(rt: &HostRuntime, name: &str, given: &str) -> Option<Told> {
 }
 
 /// Tries a call for judging calls.
-fn of_filters(rt: &HostRuntime, name: &str) -> Option<Told> {
+fn of_filters(rt: &HostRuntime, name: &str) -> Option<TrialResult> {
     if let Some(told) = filters::told(rt, name) {
         return Some(told);
     }
@@ -65,7 +65,7 @@ fn of_filters(rt: &HostRuntime, name: &str) -> Option<Told> {
 }
 
 /// Tries a call for what is read and written between a user, an agent and a runtime.
-fn of_messages(rt: &HostRuntime, name: &str) -> Option<Told> {
+fn of_messages(rt: &HostRuntime, name: &str) -> Option<TrialResult> {
     if let Some(told) = manifests::told(rt, name) {
         return Some(told);
     }

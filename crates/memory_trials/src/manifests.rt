@@ -2,10 +2,10 @@
 use crate::places::is_at;
 use manifest::{Pod, PodFault, PodFaultAt};
 use std::alloc::{AllocError, Global};
-use trials::{Came, Told, Trial, tried};
+use trials::{Came, Trial, TrialResult, tried};
 
 /// Tries the call of this name, if it is one of this module's.
-pub(crate) fn told(rt: &HostRuntime, name: &str) -> Option<Told> {
+pub(crate) fn told(rt: &HostRuntime, name: &str) -> Option<TrialResult> {
     let alloc = rt.alloc();
     match name {
         "manifest::read" => Some(tried(rt, Reads::new(alloc))),

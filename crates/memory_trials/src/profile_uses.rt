@@ -7,10 +7,10 @@ use oci_profile::{Decision, Errno, Profile, ProfileFault, ProfileFaultAt};
 use profile_text::{WriteFault, default_text, write};
 use std::alloc::{AllocError, Global};
 use sys_table::CallTable;
-use trials::{Came, Told, Trial, tried};
+use trials::{Came, Trial, TrialResult, tried};
 
 /// Tries the call of this name, if it is one of this module's.
-pub(crate) fn told(rt: &HostRuntime, name: &str) -> Option<Told> {
+pub(crate) fn told(rt: &HostRuntime, name: &str) -> Option<TrialResult> {
     let alloc = rt.alloc();
     match name {
         "oci_profile::read_placed" => Some(tried(rt, Some(Places { alloc }))),
@@ -183,7 +183,8 @@ impl Trial for Lines {
     }
 
     fn came(&mut self, answer: &Result<String, AllocError>) -> Came {
-        let wanted = "not syscalls[2]: args[1] is 3, wanted GT 9\nERRNO 13 by defaultAction\n";
+        let wanted =
+            "not syscalls[2]: args[1] is 3, wanted GT 9\nERRNO 13 (EACCES) by defaultAction\n";
         match answer {
             Ok(text) => Came::right_if(text.as_str() == wanted),
             Err(AllocError) => Came::Memory,

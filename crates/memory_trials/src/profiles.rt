@@ -3,10 +3,10 @@ use bpf_verify::Filter;
 use compile::{CompileFault, compile};
 use oci_profile::{Entry, Profile, ProfileFault, runtime_default};
 use std::alloc::{AllocError, Global};
-use trials::{Came, PROFILE, Told, Trial, tried};
+use trials::{Came, PROFILE, Trial, TrialResult, tried};
 
 /// Tries the call of this name, if it is one of this module's.
-pub(crate) fn told(rt: &HostRuntime, name: &str) -> Option<Told> {
+pub(crate) fn told(rt: &HostRuntime, name: &str) -> Option<TrialResult> {
     let alloc = rt.alloc();
     match name {
         "oci_profile::read" => Some(tried(rt, Reads::new(alloc))),

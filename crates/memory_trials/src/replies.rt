@@ -1,10 +1,10 @@
 //! Reading, writing and copying replies.
 use cri_msgs::{MessageFault, Reply, Version};
 use std::alloc::{AllocError, Global};
-use trials::{Came, Told, Trial, tried};
+use trials::{Came, Trial, TrialResult, tried};
 
 /// Tries the call of this name, if it is one of this module's.
-pub(crate) fn told(rt: &HostRuntime, name: &str) -> Option<Told> {
+pub(crate) fn told(rt: &HostRuntime, name: &str) -> Option<TrialResult> {
     let alloc = rt.alloc();
     match name {
         "Reply::read" => Some(tried(rt, Reads::new(alloc))),

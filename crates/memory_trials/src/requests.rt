@@ -1,10 +1,10 @@
 //! Reading, writing and copying requests.
 use cri_msgs::{MessageFault, Request, Version};
 use std::alloc::{AllocError, Global};
-use trials::{Came, Told, Trial, tried};
+use trials::{Came, Trial, TrialResult, tried};
 
 /// Tries the call of this name, if it is one of this module's.
-pub(crate) fn told(rt: &HostRuntime, name: &str) -> Option<Told> {
+pub(crate) fn told(rt: &HostRuntime, name: &str) -> Option<TrialResult> {
     let alloc = rt.alloc();
     match name {
         "Request::read" => Some(tried(rt, Reads::new(alloc))),

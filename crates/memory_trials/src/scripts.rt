@@ -5,11 +5,11 @@ use runtime_cell::{Cell, Did, State};
 use script::{Script, ScriptFault, ScriptFaultAt, Step};
 use std::alloc::{AllocError, Global};
 use sys_table::CallTable;
-use trials::{Came, SCRIPT, Told, Trial, tried};
+use trials::{Came, SCRIPT, Trial, TrialResult, tried};
 use verdict::Stack;
 
 /// Tries the call of this name, if it is one of this module's.
-pub(crate) fn told(rt: &HostRuntime, name: &str) -> Option<Told> {
+pub(crate) fn told(rt: &HostRuntime, name: &str) -> Option<TrialResult> {
     let alloc = rt.alloc();
     match name {
         "script::read" => Some(tried(rt, Reads::new(alloc))),

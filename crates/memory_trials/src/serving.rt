@@ -6,10 +6,10 @@ use cri_msgs::{Answer, Refusal, Reply, Request};
 use runtime_cell::{Did, State};
 use runtime_core::{Contents, FileAnswers, Runtime};
 use std::alloc::Global;
-use trials::{Came, Told, Trial, files, tried};
+use trials::{Came, Trial, TrialResult, files, tried};
 
 /// Tries to serve the request of this text.
-pub(crate) fn told(rt: &HostRuntime, name: &str, text: &str) -> Option<Told> {
+pub(crate) fn told(rt: &HostRuntime, name: &str, text: &str) -> Option<TrialResult> {
     match name {
         "serve" => Some(tried(rt, Serves::new(rt.alloc(), text, false))),
         "prepare and serve" => Some(tried(rt, Serves::new(rt.alloc(), text, true))),

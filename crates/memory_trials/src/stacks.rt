@@ -2,11 +2,11 @@
 use crate::filters::{are_same, filter};
 use bpf_verify::Filter;
 use std::alloc::{AllocError, Global};
-use trials::{Came, Told, Trial, tried};
+use trials::{Came, Trial, TrialResult, tried};
 use verdict::{Stack, StackFault};
 
 /// Tries the call of this name, if it is one of this module's.
-pub(crate) fn told(rt: &HostRuntime, name: &str) -> Option<Told> {
+pub(crate) fn told(rt: &HostRuntime, name: &str) -> Option<TrialResult> {
     let alloc = rt.alloc();
     match name {
         "Stack::push" => Some(tried(rt, Pushes::new(alloc))),

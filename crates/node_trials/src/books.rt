@@ -7,11 +7,11 @@ use node_lock::{Book, BookFault, MAX_ENTRIES, PARTS, Receipt, Tally, audit};
 use std::alloc::Global;
 use std::marker::Brand;
 use std::sync::ledger::{Blank, Ledger, Share};
-use trials::{Came, Told, Trial, tried};
+use trials::{Came, Trial, TrialResult, tried};
 use worker_core::AgentEvent;
 
 /// Tries to record the event of this name, to join tallies, or what takes no memory.
-pub(crate) fn told(rt: &HostRuntime, name: &str, event: &str) -> Option<Told> {
+pub(crate) fn told(rt: &HostRuntime, name: &str, event: &str) -> Option<TrialResult> {
     match name {
         "record" => {
             let foreseen = Foreseen::new(rt.alloc(), event)?;
@@ -23,7 +23,7 @@ pub(crate) fn told(rt: &HostRuntime, name: &str, event: &str) -> Option<Told> {
     }
 }
 
-fn recorded<L: Ledger>(rt: &HostRuntime, foreseen: Foreseen, blank: Blank) -> Told
+fn recorded<L: Ledger>(rt: &HostRuntime, foreseen: Foreseen, blank: Blank) -> TrialResult
     requires name { blank.name ≡ L.name }
     requires parts { blank.parts ≡ L.parts }
     requires some { 0 < blank.parts }
@@ -31,7 +31,7 @@ fn recorded<L: Ledger>(rt: &HostRuntime, foreseen: Foreseen, blank: Blank) -> To
     tried(rt, recording::<L>(rt.alloc(), foreseen, blank))
 }
 
-fn joined<L: Ledger>(rt: &HostRuntime, blank: Blank) -> Told
+fn joined<L: Ledger>(rt: &HostRuntime, blank: Blank) -> TrialResult
     requires name { blank.name ≡ L.name }
     requires parts { blank.parts ≡ L.parts }
     requires two { 2 ≤ blank.parts }
@@ -39,7 +39,7 @@ fn joined<L: Ledger>(rt: &HostRuntime, blank: Blank) -> Told
     tried(rt, joining::<L>(rt.alloc(), blank))
 }
 
-fn audited<L: Ledger>(rt: &HostRuntime, blank: Blank) -> Told
+fn audited<L: Ledger>(rt: &HostRuntime, blank: Blank) -> TrialResult
     requires name { blank.name ≡ L.name }
     requires parts { blank.parts ≡ L.parts }
     requires some { 0 < blank.parts }

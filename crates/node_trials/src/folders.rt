@@ -7,11 +7,11 @@ use pod_folder::{
     Reading, Stamp, gives_uid, names_in, uid_for,
 };
 use std::alloc::{AllocError, Global};
-use trials::{Came, Told, Trial, tried};
+use trials::{Came, Trial, TrialResult, tried};
 use worker_core::AgentEvent;
 
 /// Tries the call of this name, if it is one of this module's.
-pub(crate) fn told(rt: &HostRuntime, name: &str) -> Option<Told> {
+pub(crate) fn told(rt: &HostRuntime, name: &str) -> Option<TrialResult> {
     let alloc = rt.alloc();
     match name {
         "uid_for" => Some(tried(rt, Names::new(alloc))),

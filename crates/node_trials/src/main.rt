@@ -13,7 +13,7 @@ mod watching;
 mod worlds;
 
 use std::{env, io};
-use trials::Told;
+use trials::TrialResult;
 
 fn main(rt: HostRuntime) -> io::Result<()> {
     let words: Vec<String> = env::args(&rt)?.collect(rt.alloc())?;
@@ -29,7 +29,7 @@ fn main(rt: HostRuntime) -> io::Result<()> {
 }
 
 /// Tries the call of this name, with what is given for it.
-fn told(rt: &HostRuntime, name: &str, given: &str) -> Option<Told> {
+fn told(rt: &HostRuntime, name: &str, given: &str) -> Option<TrialResult> {
     if let Some(told) = of_pods(rt, name) {
         return Some(told);
     }
@@ -43,7 +43,7 @@ fn told(rt: &HostRuntime, name: &str, given: &str) -> Option<Told> {
 }
 
 /// Tries a call of what an agent shows of its pods, of their past runs, or of its folder of manifests.
-fn of_pods(rt: &HostRuntime, name: &str) -> Option<Told> {
+fn of_pods(rt: &HostRuntime, name: &str) -> Option<TrialResult> {
     if let Some(told) = watching::told(rt, name) {
         return Some(told);
     }

@@ -5,12 +5,12 @@ use lifecycle::{PastRun, Phase, RestartPolicy, Track, may_restart, phase, ready_
 use manifest::{Pod, Uid};
 use profile_pick::{Choice, pick};
 use std::alloc::Global;
-use trials::{Came, Told, Trial, tried};
+use trials::{Came, Trial, TrialResult, tried};
 use worker_core::{AgentEvent, Answer, Node, Reported};
 use worker_pod::{PodView, Settings};
 
 /// Tries an event of this name, which the node takes, or whose answer it predicts.
-pub(crate) fn told(rt: &HostRuntime, name: &str, event: &str) -> Option<Told> {
+pub(crate) fn told(rt: &HostRuntime, name: &str, event: &str) -> Option<TrialResult> {
     let alloc = rt.alloc();
     match name {
         "apply" => Some(tried(rt, Applies::new(alloc, event))),

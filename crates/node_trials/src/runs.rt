@@ -1,9 +1,9 @@
 //! Runs of a container that ended.
 use lifecycle::{PastRun, Runs};
-use trials::{Came, Told, Trial, tried};
+use trials::{Came, Trial, TrialResult, tried};
 
 /// Tries the call of this name, if it is one of this module's.
-pub(crate) fn told(rt: &HostRuntime, name: &str) -> Option<Told> {
+pub(crate) fn told(rt: &HostRuntime, name: &str) -> Option<TrialResult> {
     match name {
         "Runs::push" => Some(tried(rt, Some(Pushes { runs: Runs::new() }))),
         _ => None,

@@ -4,11 +4,11 @@ use cri_msgs::Call;
 use manifest::Uid;
 use node_watch::{Form, PodWaits, Reasons, Trouble, WaitReason, wait_changes};
 use std::alloc::{AllocError, Global};
-use trials::{Came, Told, Trial, tried};
+use trials::{Came, Trial, TrialResult, tried};
 use worker_core::Node;
 
 /// Tries the call of this name, if it is one of this module's.
-pub(crate) fn told(rt: &HostRuntime, name: &str) -> Option<Told> {
+pub(crate) fn told(rt: &HostRuntime, name: &str) -> Option<TrialResult> {
     let alloc = rt.alloc();
     match name {
         "PodWaits::of" => Some(tried(rt, Waits::new(alloc))),

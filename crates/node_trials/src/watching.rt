@@ -6,11 +6,11 @@ use lifecycle::{ContainerState, Phase};
 use manifest::{Label, Uid};
 use node_watch::{Counts, Form, PodSeen, Reasons, Trouble, gone_line, pod_changes};
 use std::alloc::{AllocError, Global};
-use trials::{Came, Told, Trial, tried};
+use trials::{Came, Trial, TrialResult, tried};
 use worker_core::Node;
 
 /// Tries the call of this name, if it is one of this module's.
-pub(crate) fn told(rt: &HostRuntime, name: &str) -> Option<Told> {
+pub(crate) fn told(rt: &HostRuntime, name: &str) -> Option<TrialResult> {
     let alloc = rt.alloc();
     match name {
         "Reasons::note" => Some(tried(rt, Notes::new(alloc, Some(TROUBLE)))),

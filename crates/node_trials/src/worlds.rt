@@ -4,11 +4,11 @@ use manifest::Uid;
 use runtime_cell::Cell;
 use runtime_core::Runtime;
 use std::alloc::Global;
-use trials::{Came, Told, Trial, files, tried};
+use trials::{Came, Trial, TrialResult, files, tried};
 use world::{Act, World, WorldEvent, WorldFault};
 
 /// Tries the step by an event of this name.
-pub(crate) fn told(rt: &HostRuntime, name: &str, event: &str) -> Option<Told> {
+pub(crate) fn told(rt: &HostRuntime, name: &str, event: &str) -> Option<TrialResult> {
     match name {
         "World::step" => Some(tried(rt, Steps::new(rt.alloc(), event))),
         "World::new" => Some(tried(rt, Some(Begins { alloc: rt.alloc() }))),

@@ -2,8 +2,8 @@ ghost use Rattle.std.specs.Prelude.{◌≡◌, ◌++◌, IfOk, OnOk};
 ghost use Rattle.node_watch.specs.Seen.{container_seen, containers_seen};
 
 use crate::counts::{CallCounts, Counts};
-use lifecycle::{ContainerState, Phase, RestartPolicy, Track};
-use manifest::{Container, Label, Uid};
+use lifecycle::{ContainerState, Phase, Track};
+use manifest::{Container, Label, Pod, Uid};
 use std::alloc::{AllocError, Global};
 use worker_pod::PodView;
 
@@ -29,35 +29,33 @@ pub struct PodSeen {
 
 fn container_seen(
     alloc: Global,
-    policy: RestartPolicy,
-    uid: &Uid,
+    pod: &Pod,
     counts: &Counts,
     container: &Container,
     track: &Track,
 ) -> Result<ContainerSeen, AllocError>
-    ensures { IfOk result (λ seen. seen ≡ container_seen policy uid.now counts.now
+    ensures { IfOk result (λ seen. seen ≡ container_seen pod.now.policy pod.now.uid counts.now
         (container.now, track.now)) }
 {
     Ok(ContainerSeen {
         name: container.name.try_clone(alloc)?,
-        state: track.state(policy),
+        state: track.state(pod.policy),
         restarts: track.started().saturating_sub(1),
-        counts: counts.counts_of(uid, &container.name),
+        counts: counts.counts_of(&pod.uid, &container.name),
     })
 }
 
 // Those of the other containers come after.
 fn add_containers(
     alloc: Global,
-    policy: RestartPolicy,
-    uid: &Uid,
+    pod: &Pod,
     counts: &Counts,
     containers: &[Container],
     tracks: &[Track],
     seen: &mut Vec<ContainerSeen>,
 ) -> Result<(), AllocError>
     ensures { OnOk result (seen.new.items ≡ seen.old.items
-        ++ containers_seen policy uid.now counts.now containers.now tracks.now) }
+        ++ containers_seen pod.now.policy pod.now.uid counts.now containers.now tracks.now) }
 {
     let Some((container, containers)) = containers.split_first() else {
         return Ok(());
@@ -65,8 +63,8 @@ fn add_containers(
     let Some((track, tracks)) = tracks.split_first() else {
         return Ok(());
     };
-    seen.push(container_seen(alloc, policy, uid, counts, container, track)?)?;
-    add_containers(alloc, policy, uid, counts, containers, tracks, seen)
+    seen.push(container_seen(alloc, pod, counts, container, track)?)?;
+    add_containers(alloc, pod, counts, containers, tracks, seen)
 }
 
 impl PodSeen {
@@ -82,8 +80,7 @@ impl PodSeen {
         let mut containers = Vec::new(alloc);
         add_containers(
             alloc,
-            pod.policy,
-            &pod.uid,
+            pod,
             counts,
             pod.containers.as_slice(),
             view.tracks,

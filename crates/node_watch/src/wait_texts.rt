@@ -193,19 +193,27 @@ fn add_reason(text: &mut String, moment: u64, reason: &WaitReason) -> Result<(),
     }
 }
 
+/// What the lines of a pod have in common.
+#[derive(Clone, Copy)]
+struct PodLine<'a> {
+    form: Form,
+    /// In seconds.
+    moment: u64,
+    uid: &'a Uid,
+}
+
 fn add_wait(
     alloc: Global,
     text: &mut String,
-    form: Form,
-    moment: u64,
-    uid: &Uid,
+    line: &PodLine<'_>,
     name: &Label,
     reason: &WaitReason,
 ) -> Result<(), AllocError>
     ensures { OnOk result (string_bytes text.new ≡ string_bytes text.old
-        ++ wait_line form moment uid.now name.now reason.now) }
+        ++ wait_line line.now.form line.now.moment line.now.uid.now name.now reason.now) }
 {
-    match form {
+    let (moment, uid) = (line.moment, line.uid);
+    match line.form {
         Form::Text => {
             let (uid, name) = (uid.as_str(), name.as_str());
             write!(text, "{moment} {uid} {name} waits: ")?;
@@ -222,17 +230,12 @@ fn add_wait(
     }
 }
 
-fn add_no_wait(
-    text: &mut String,
-    form: Form,
-    moment: u64,
-    uid: &Uid,
-    name: &Label,
-) -> Result<(), AllocError>
+fn add_no_wait(text: &mut String, line: &PodLine<'_>, name: &Label) -> Result<(), AllocError>
     ensures { OnOk result (string_bytes text.new ≡ string_bytes text.old
-        ++ no_wait_line form moment uid.now name.now) }
+        ++ no_wait_line line.now.form line.now.moment line.now.uid.now name.now) }
 {
-    match form {
+    let (moment, uid) = (line.moment, line.uid);
+    match line.form {
         Form::Text => {
             let (uid, name) = (uid.as_str(), name.as_str());
             writeln!(text, "{moment} {uid} {name} waits no longer")?;
@@ -257,68 +260,63 @@ fn told_reason(reason: &Option<WaitReason>) -> Option<&WaitReason>
 fn add_change_by(
     alloc: Global,
     text: &mut String,
-    form: Form,
-    moment: u64,
-    uid: &Uid,
+    line: &PodLine<'_>,
     name: &Label,
     old: Option<&WaitReason>,
     new: Option<&WaitReason>,
 ) -> Result<(), AllocError>
     ensures { OnOk result (string_bytes text.new ≡ string_bytes text.old
-        ++ wait_change_by form moment uid.now name.now (option_copied old.entry) (option_copied new.entry)) }
+        ++ wait_change_by line.now.form line.now.moment line.now.uid.now name.now (option_copied old.entry)
+        (option_copied new.entry)) }
 {
     match (old, new) {
         (None, None) => Ok(()),
-        (Some(_), None) => add_no_wait(text, form, moment, uid, name),
+        (Some(_), None) => add_no_wait(text, line, name),
         (Some(old), Some(new)) if is_same_reason(old, new) => Ok(()),
-        (_, Some(new)) => add_wait(alloc, text, form, moment, uid, name, new),
+        (_, Some(new)) => add_wait(alloc, text, line, name, new),
     }
 }
 
 fn add_change(
     alloc: Global,
     text: &mut String,
-    form: Form,
-    moment: u64,
-    uid: &Uid,
+    line: &PodLine<'_>,
     old: Option<&ContainerWait>,
     new: &ContainerWait,
 ) -> Result<(), AllocError>
     ensures { OnOk result (string_bytes text.new ≡ string_bytes text.old
-        ++ wait_change form moment uid.now (option_copied old.entry) new.now) }
+        ++ wait_change line.now.form line.now.moment line.now.uid.now (option_copied old.entry) new.now) }
 {
     let before = match old {
         Some(old) => told_reason(&old.reason),
         None => None,
     };
     let after = told_reason(&new.reason);
-    add_change_by(alloc, text, form, moment, uid, &new.name, before, after)
+    add_change_by(alloc, text, line, &new.name, before, after)
 }
 
 // Adds the changes place by place.
 fn add_containers(
     alloc: Global,
     text: &mut String,
-    form: Form,
-    moment: u64,
-    uid: &Uid,
+    line: &PodLine<'_>,
     old: &[ContainerWait],
     new: &[ContainerWait],
 ) -> Result<(), AllocError>
     ensures { OnOk result (string_bytes text.new ≡ string_bytes text.old
-        ++ container_waits form moment uid.now old.now new.now) }
+        ++ container_waits line.now.form line.now.moment line.now.uid.now old.now new.now) }
 {
     let Some((wait, others)) = new.split_first() else {
         return Ok(());
     };
     match old.split_first() {
         Some((was, rest)) => {
-            add_change(alloc, text, form, moment, uid, Some(was), wait)?;
-            add_containers(alloc, text, form, moment, uid, rest, others)
+            add_change(alloc, text, line, Some(was), wait)?;
+            add_containers(alloc, text, line, rest, others)
         }
         None => {
-            add_change(alloc, text, form, moment, uid, None, wait)?;
-            add_containers(alloc, text, form, moment, uid, &[], others)
+            add_change(alloc, text, line, None, wait)?;
+            add_containers(alloc, text, line, &[], others)
         }
     }
 }
@@ -337,12 +335,17 @@ pub fn wait_changes(
 {
     let mut text = String::new(alloc);
     let containers = new.containers.as_slice();
+    let line = PodLine {
+        form,
+        moment,
+        uid: &new.uid,
+    };
     match old {
         Some(old) => {
             let before = old.containers.as_slice();
-            add_containers(alloc, &mut text, form, moment, &new.uid, before, containers)?;
+            add_containers(alloc, &mut text, &line, before, containers)?;
         }
-        None => add_containers(alloc, &mut text, form, moment, &new.uid, &[], containers)?,
+        None => add_containers(alloc, &mut text, &line, &[], containers)?,
     }
     Ok(text)
 }

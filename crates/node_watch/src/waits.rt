@@ -115,38 +115,44 @@ pub fn reason_of(
     }
 }
 
+/// A pod at a moment in seconds, and the failed calls of its node.
+#[derive(Clone, Copy)]
+struct PodAt<'a> {
+    pod: &'a Pod,
+    reasons: &'a Reasons,
+    moment: u64,
+}
+
 fn container_wait(
     alloc: Global,
-    pod: &Pod,
-    reasons: &Reasons,
-    moment: u64,
+    at: &PodAt<'_>,
     is_behind: bool,
     container: &Container,
     track: &Track,
 ) -> Result<ContainerWait, AllocError>
-    ensures { IfOk result (λ wait. wait ≡ container_wait pod.now.policy pod.now.uid reasons.now moment
-        is_behind container.now track.now) }
+    ensures { IfOk result (λ wait. wait ≡ container_wait at.now.pod.now.policy at.now.pod.now.uid at.now.reasons.now
+        at.now.moment is_behind container.now track.now) }
 {
-    let failed = reasons.reason_for(&pod.uid, &container.name);
+    let (policy, moment) = (at.pod.policy, at.moment);
+    let failed = at.reasons.reason_for(&at.pod.uid, &container.name);
     Ok(ContainerWait {
         name: container.name.try_clone(alloc)?,
-        reason: reason_of(alloc, pod.policy, is_behind, moment, track, failed)?,
+        reason: reason_of(alloc, policy, is_behind, moment, track, failed)?,
     })
 }
 
 // Those of the other containers come after.
 fn add_waits(
     alloc: Global,
-    pod: &Pod,
-    reasons: &Reasons,
-    moment: u64,
+    at: &PodAt<'_>,
     is_behind: bool,
     containers: &[Container],
     tracks: &[Track],
     waits: &mut Vec<ContainerWait>,
 ) -> Result<(), AllocError>
     ensures { OnOk result (waits.new.items ≡ waits.old.items
-        ++ waits_behind pod.now.policy pod.now.uid reasons.now moment is_behind containers.now tracks.now) }
+        ++ waits_behind at.now.pod.now.policy at.now.pod.now.uid at.now.reasons.now at.now.moment is_behind
+        containers.now tracks.now) }
 {
     let Some((container, containers)) = containers.split_first() else {
         return Ok(());
@@ -154,11 +160,9 @@ fn add_waits(
     let Some((track, tracks)) = tracks.split_first() else {
         return Ok(());
     };
-    waits.push(container_wait(alloc, pod, reasons, moment, is_behind, container, track)?)?;
-    let is_behind = is_behind || holds_back(pod.policy, track);
-    add_waits(
-        alloc, pod, reasons, moment, is_behind, containers, tracks, waits,
-    )
+    waits.push(container_wait(alloc, at, is_behind, container, track)?)?;
+    let is_behind = is_behind || holds_back(at.pod.policy, track);
+    add_waits(alloc, at, is_behind, containers, tracks, waits)
 }
 
 impl PodWaits {
@@ -176,11 +180,14 @@ impl PodWaits {
     {
         let pod = view.pod;
         let mut containers = Vec::new(alloc);
-        add_waits(
-            alloc,
+        let at = PodAt {
             pod,
             reasons,
             moment,
+        };
+        add_waits(
+            alloc,
+            &at,
             false,
             pod.containers.as_slice(),
             view.tracks,

@@ -73,7 +73,7 @@ reported_right profile xs ys place has = record {
   overlaps = λ second. overlap_right profile xs ys place second (has.overlaps second);
 }
 
--- a place behind the last entry
+-- a place after the last entry
 pub past_reported : (profile : Profile) (finds : List Finding) (place : ℕ) → length profile.entries ≤ place
     → IsReported profile finds place
 past_reported profile finds place past = record {

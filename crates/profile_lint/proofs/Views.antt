@@ -5,7 +5,7 @@ use Rattle.std.proofs.Common.{Option, Some, None, take, drop, refl, ap, sym, ◌
 use Rattle.std.specs.List.{enumerate_from, list_any}
 use Rattle.std.proofs.lemmas.List.{take-map, map_more, append_assoc, drop_more, map-append}
 use Rattle.profile_lint.specs.declared.passed.Passed.{Passed}
-use Rattle.profile_lint.specs.Passed.{Told, told}
+use Rattle.profile_lint.specs.Passed.{PassedData, told}
 use Rattle.serde_json.specs.Data.{Data}
 use Rattle.serde_json.specs.View.{view}
 use Rattle.serde_json.specs.declared.value.Value.{Value}
@@ -43,8 +43,8 @@ pub told_one_more : (found : List Passed) (one : Option Passed)
 told_one_more found None = map-append told found []
 told_one_more found (Some one) = map-append told found (one ∷ [])
 
-pub told_on : (f : ℕ × Data → Option Told) (items : List Value) (i : ℕ) (item : Value)
-    (found new : List Passed) (one : Option Passed) (all : List Told)
+pub told_on : (f : ℕ × Data → Option PassedData) (items : List Value) (i : ℕ) (item : Value)
+    (found new : List Passed) (one : Option Passed) (all : List PassedData)
     → i < length items → item ≡ get_or items i item → new ≡ found ++ option_to_list one
     → option_map told one ≡ f (i, view item)
     → map told found ++ filter_map f (enumerate_from i (map view (drop i items))) ≡ all

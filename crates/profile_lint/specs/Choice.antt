@@ -2,7 +2,7 @@
 -- told of a profile".
 use Rattle.std.specs.Prelude.{ℕ, ◌+◌, ◌==◌, nat_lt, List, [], ◌∷◌, Bool, true, false, not, ◌&&◌, ◌||◌}
 use Rattle.std.specs.List.{list_any}
-use Rattle.profile_lint.specs.Passed.{Told, told}
+use Rattle.profile_lint.specs.Passed.{PassedData, told}
 use Rattle.profile_lint.specs.declared.passed.Passed.{Passed}
 use Rattle.profile_lint.specs.declared.finding.Finding.{Finding}
 use Rattle.profile_lint.specs.declared.choice.Tally.{Tally}
@@ -59,14 +59,14 @@ one_if true = 1
 one_if false = 0
 
 -- how many findings about the text are only counted, of these
-abbrev pub counted : Tally → Bool → List FindingKind → List Told → ℕ
+abbrev pub counted : Tally → Bool → List FindingKind → List PassedData → ℕ
 counted wanted all allowed [] = 0
 counted wanted all allowed (told ∷ tolds) =
     one_if (is_in_count wanted all allowed (kind_of_told told)) + counted wanted all allowed tolds
 
 -- how many warnings and errors have a line each
-abbrev pub grave_count : List Told → ℕ
+abbrev pub grave_count : List PassedData → ℕ
 grave_count tolds = counted which.Grave false [] tolds
 
-abbrev pub has_newer_names : List Told → Bool
+abbrev pub has_newer_names : List PassedData → Bool
 has_newer_names tolds = nat_lt 0 (counted which.Newer false [] tolds)

@@ -66,6 +66,6 @@ NeverDecides profile place = (entry : Entry) → slice_get profile.entries place
 -- what is reported of the entry at a place
 abbrev pub Stands : Profile → ℕ → Standing → Type 0
 Stands profile place standing.NeverDecides = NeverDecides profile place
-Stands profile place standing.SameWithout = MeanSame profile (without profile place)
+Stands profile place standing.Redundant = MeanSame profile (without profile place)
 Stands profile place (standing.Needed call) = DifferOn profile (without profile place) call
 Stands profile place standing.Unknown = Unit {0}

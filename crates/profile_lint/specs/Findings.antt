@@ -28,11 +28,11 @@ newer_of Log = None
 -- the finding is true
 abbrev pub IsSo : Profile → Finding → Type 0
 IsSo profile (found.NeverDecides place) = NeverDecides profile place
-IsSo profile (found.SameWithout place) = MeanSame profile (without profile place)
+IsSo profile (found.Redundant place) = MeanSame profile (without profile place)
 IsSo profile (found.NotFoundOut place) = Unit {0}
 IsSo profile (found.NotLookedAt place) = Unit {0}
 IsSo profile (found.NotCompared place) = Unit {0}
-IsSo profile (found.ReadOtherwise place call values) = IsReadOtherwise profile place call values
+IsSo profile (found.EnginesDiffer place call values) = IsReadOtherwise profile place call values
 IsSo profile (found.Overlap place other call) = Overlap profile place other call
 IsSo profile (found.NewerCalls errno) = newer_of profile.default ≡ Some errno
 IsSo profile (found.Advised one) = Contains (advice_of profile) one
@@ -40,11 +40,11 @@ IsSo profile (found.Advised one) = Contains (advice_of profile) one
 -- whether it is about the need for the entry at a place
 abbrev pub is_on_need : ℕ → Finding → Bool
 is_on_need place (found.NeverDecides at) = at == place
-is_on_need place (found.SameWithout at) = at == place
+is_on_need place (found.Redundant at) = at == place
 is_on_need place (found.NotFoundOut at) = at == place
 is_on_need place (found.NotLookedAt from) = nat_le from place
 is_on_need place (found.NotCompared at) = false
-is_on_need place (found.ReadOtherwise at call values) = false
+is_on_need place (found.EnginesDiffer at call values) = false
 is_on_need place (found.Overlap at other call) = false
 is_on_need place (found.NewerCalls errno) = false
 is_on_need place (found.Advised one) = false
@@ -52,11 +52,11 @@ is_on_need place (found.Advised one) = false
 -- whether it is about how engines read the entry at a place
 abbrev pub is_on_reading : ℕ → Finding → Bool
 is_on_reading place (found.NeverDecides at) = false
-is_on_reading place (found.SameWithout at) = false
+is_on_reading place (found.Redundant at) = false
 is_on_reading place (found.NotFoundOut at) = false
 is_on_reading place (found.NotLookedAt from) = nat_le from place
 is_on_reading place (found.NotCompared at) = at == place
-is_on_reading place (found.ReadOtherwise at call values) = at == place
+is_on_reading place (found.EnginesDiffer at call values) = at == place
 is_on_reading place (found.Overlap at other call) = false
 is_on_reading place (found.NewerCalls errno) = false
 is_on_reading place (found.Advised one) = false
@@ -64,22 +64,22 @@ is_on_reading place (found.Advised one) = false
 -- whether it is about the overlap of the entries at two places
 abbrev pub is_on_overlap : ℕ → ℕ → Finding → Bool
 is_on_overlap place second (found.NeverDecides at) = false
-is_on_overlap place second (found.SameWithout at) = false
+is_on_overlap place second (found.Redundant at) = false
 is_on_overlap place second (found.NotFoundOut at) = false
 is_on_overlap place second (found.NotLookedAt from) = nat_le from place
 is_on_overlap place second (found.NotCompared at) = at == place
-is_on_overlap place second (found.ReadOtherwise at call values) = false
+is_on_overlap place second (found.EnginesDiffer at call values) = false
 is_on_overlap place second (found.Overlap at other call) = (at == place) && (other == second)
 is_on_overlap place second (found.NewerCalls errno) = false
 is_on_overlap place second (found.Advised one) = false
 
 abbrev pub is_on_newer : ℕ → Finding → Bool
 is_on_newer errno (found.NeverDecides at) = false
-is_on_newer errno (found.SameWithout at) = false
+is_on_newer errno (found.Redundant at) = false
 is_on_newer errno (found.NotFoundOut at) = false
 is_on_newer errno (found.NotLookedAt from) = false
 is_on_newer errno (found.NotCompared at) = false
-is_on_newer errno (found.ReadOtherwise at call values) = false
+is_on_newer errno (found.EnginesDiffer at call values) = false
 is_on_newer errno (found.Overlap at other call) = false
 is_on_newer errno (found.NewerCalls other) = other == errno
 is_on_newer errno (found.Advised one) = false
@@ -120,11 +120,11 @@ pub record AreWhole (profile : Profile) (finds : List Finding) : Type 0 where
 -- whether it says that an entry was not compared
 abbrev pub is_uncompared : Finding → Bool
 is_uncompared (found.NeverDecides at) = false
-is_uncompared (found.SameWithout at) = false
+is_uncompared (found.Redundant at) = false
 is_uncompared (found.NotFoundOut at) = false
 is_uncompared (found.NotLookedAt from) = false
 is_uncompared (found.NotCompared at) = true
-is_uncompared (found.ReadOtherwise at call values) = false
+is_uncompared (found.EnginesDiffer at call values) = false
 is_uncompared (found.Overlap at other call) = false
 is_uncompared (found.NewerCalls errno) = false
 is_uncompared (found.Advised one) = false

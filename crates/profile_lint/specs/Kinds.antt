@@ -8,9 +8,9 @@ use Rattle.absent_names.specs.declared.kind.AbsentName.TheVariants as name
 use Rattle.profile_advice.specs.declared.kind.Advice.{Advice}
 use Rattle.profile_advice.specs.declared.kind.Advice.TheVariants as about
 use Rattle.profile_lint.specs.declared.passed.Holder.{Holder}
-use Rattle.profile_lint.specs.Passed.{Told, is_for_engines, is_recased}
-use Rattle.profile_lint.specs.Passed.Told.{Ignored, OtherArchitectures, RepeatedName, UnknownArchitecture}
-use Rattle.profile_lint.specs.Passed.Told.{UnknownName}
+use Rattle.profile_lint.specs.Passed.{PassedData, is_for_engines, is_recased}
+use Rattle.profile_lint.specs.Passed.PassedData.{Ignored, OtherArchitectures, RepeatedName, UnknownArchitecture}
+use Rattle.profile_lint.specs.Passed.PassedData.{UnknownName}
 use Rattle.profile_lint.specs.declared.finding.Finding.{Finding}
 use Rattle.profile_lint.specs.declared.finding.Finding.TheVariants as found
 use Rattle.profile_lint.specs.declared.kinds.FindingKind.{FindingKind}
@@ -142,7 +142,7 @@ abbrev pub kind_of_member : Holder → List ℕ → FindingKind
 kind_of_member holder key = if is_recased holder key then kind.OtherCase
     else if is_for_engines holder key then kind.ForEngines else kind.Ignored
 
-abbrev pub kind_of_told : Told → FindingKind
+abbrev pub kind_of_told : PassedData → FindingKind
 kind_of_told (Ignored holder key) = kind_of_member holder key
 kind_of_told OtherArchitectures = kind.Ignored
 kind_of_told (UnknownArchitecture index text) = kind.UnknownArchitecture
@@ -163,11 +163,11 @@ kind_of_advice (about.Powerful number) = kind.Powerful
 
 abbrev pub kind_of_found : Finding → FindingKind
 kind_of_found (found.NeverDecides place) = kind.NeverDecides
-kind_of_found (found.SameWithout place) = kind.Redundant
+kind_of_found (found.Redundant place) = kind.Redundant
 kind_of_found (found.NotFoundOut place) = kind.NotFoundOut
 kind_of_found (found.NotLookedAt place) = kind.NotLookedAt
 kind_of_found (found.NotCompared place) = kind.NotCompared
-kind_of_found (found.ReadOtherwise place call values) = kind.EnginesDiffer
+kind_of_found (found.EnginesDiffer place call values) = kind.EnginesDiffer
 kind_of_found (found.Overlap place other call) = kind.Overlap
 kind_of_found (found.NewerCalls errno) = kind.NewerCalls
 kind_of_found (found.Advised advice) = kind_of_advice advice

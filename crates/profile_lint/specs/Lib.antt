@@ -4,6 +4,7 @@ pub mod Engines
 pub mod Entries
 pub mod Findings
 pub mod Kinds
+pub mod Matters
 pub mod Objects
 pub mod Passed
 pub mod Readings

@@ -23,9 +23,9 @@ use Rattle.profile_lint.specs.declared.kinds.FindingKind.{FindingKind}
 use Rattle.profile_lint.specs.Choice.{counted, is_shown}
 use Rattle.profile_lint.specs.Kinds.{kind_of_found, kind_of_told, kind_text, severity_of, severity_text}
 use Rattle.profile_lint.specs.Advised.{advice_members}
-use Rattle.profile_lint.specs.Passed.{Told}
-use Rattle.profile_lint.specs.Passed.Told.{Ignored, OtherArchitectures, RepeatedName, UnknownArchitecture}
-use Rattle.profile_lint.specs.Passed.Told.{UnknownName}
+use Rattle.profile_lint.specs.Passed.{PassedData}
+use Rattle.profile_lint.specs.Passed.PassedData.{Ignored, OtherArchitectures, RepeatedName, UnknownArchitecture}
+use Rattle.profile_lint.specs.Passed.PassedData.{UnknownName}
 use Rattle.profile_lint.specs.Text.{found_place, found_words, line_of, newer_words, others_words}
 use Rattle.profile_lint.specs.Text.{told_place, told_words}
 
@@ -53,14 +53,14 @@ absent_members calls name = kind_members calls name (kind_of name)
 abbrev pub name_members : List ℕ → List ℕ
 name_members name = codes ",\"value\":" ++ compact_text (string name)
 
-abbrev pub told_members : CallTable → Told → List ℕ
+abbrev pub told_members : CallTable → PassedData → List ℕ
 told_members calls (Ignored holder key) = codes ",\"field\":" ++ compact_text (string key)
 told_members calls OtherArchitectures = codes ",\"field\":\"architectures\""
 told_members calls (UnknownArchitecture index name) = name_members name
 told_members calls (UnknownName entry index name) = name_members name ++ absent_members calls name
 told_members calls (RepeatedName entry index name) = name_members name
 
-abbrev pub told_object : CallTable → Told → List ℕ
+abbrev pub told_object : CallTable → PassedData → List ℕ
 told_object calls told =
     object_text (told_place told) (kind_of_told told) (told_members calls told) (told_words calls told)
 
@@ -76,11 +76,11 @@ otherwise_members call values = codes "," ++ (call_members call
 
 abbrev pub found_members : CallTable → Finding → List ℕ
 found_members calls (found.NeverDecides place) = []
-found_members calls (found.SameWithout place) = []
+found_members calls (found.Redundant place) = []
 found_members calls (found.NotFoundOut place) = []
 found_members calls (found.NotLookedAt place) = []
 found_members calls (found.NotCompared place) = []
-found_members calls (found.ReadOtherwise place call values) = otherwise_members call values
+found_members calls (found.EnginesDiffer place call values) = otherwise_members call values
 found_members calls (found.Overlap place other call) = codes "," ++ (call_members call
     ++ (codes ",\"other\":\"syscalls[" ++ (decimal other ++ codes "]\"")))
 found_members calls (found.NewerCalls errno) = codes ",\"above\":" ++ (decimal (limit_of calls - 1)
@@ -91,7 +91,7 @@ abbrev pub found_object : CallTable → Finding → List ℕ
 found_object calls found =
     object_text (found_place found) (kind_of_found found) (found_members calls found) (found_words calls found)
 
-abbrev pub told_line : CallTable → Bool → List FindingKind → Told → List ℕ
+abbrev pub told_line : CallTable → Bool → List FindingKind → PassedData → List ℕ
 told_line calls all allowed told =
     if is_shown all allowed (kind_of_told told) then line_of (told_object calls told) else []
 
@@ -112,7 +112,7 @@ newer_object count value = if nat_lt 0 count
     else []
 
 -- an object for each line
-abbrev pub lint_objects : CallTable → Bool → List FindingKind → ℕ → List Told → List Finding → List ℕ
+abbrev pub lint_objects : CallTable → Bool → List FindingKind → ℕ → List PassedData → List Finding → List ℕ
 lint_objects calls all allowed value tolds finds = flat_map (told_line calls all allowed) tolds
     ++ (others_object (counted which.Others all allowed tolds)
     ++ (newer_object (counted which.Newer all allowed tolds) value ++ flat_map (found_line calls all allowed) finds))

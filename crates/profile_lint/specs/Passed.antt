@@ -20,14 +20,14 @@ use Rattle.profile_lint.specs.declared.passed.Passed as passed
 use Rattle.profile_lint.specs.declared.passed.Passed.TheVariants as kind
 
 -- a finding about the text, with texts as their bytes
-pub data Told : Type 0 where
-  Ignored : Holder → List ℕ → Told
-  OtherArchitectures : Told
-  UnknownArchitecture : ℕ → List ℕ → Told
-  UnknownName : ℕ → ℕ → List ℕ → Told
-  RepeatedName : ℕ → ℕ → List ℕ → Told
+pub data PassedData : Type 0 where
+  Ignored : Holder → List ℕ → PassedData
+  OtherArchitectures : PassedData
+  UnknownArchitecture : ℕ → List ℕ → PassedData
+  UnknownName : ℕ → ℕ → List ℕ → PassedData
+  RepeatedName : ℕ → ℕ → List ℕ → PassedData
 
-abbrev pub told : passed.Passed → Told
+abbrev pub told : passed.Passed → PassedData
 told (kind.Ignored holder key) = Ignored holder key.now
 told kind.OtherArchitectures = OtherArchitectures
 told (kind.UnknownArchitecture index name) = UnknownArchitecture index name.now
@@ -79,11 +79,11 @@ unfoldable pub is_ignored : Holder → List ℕ → Data → Bool
 is_ignored holder key value = not (says_nothing value)
     && not (bytes_eq key (codes "comment") || is_one_of (deciding holder) key)
 
-abbrev pub ignored_at : Holder → List ℕ × Data → Option Told
+abbrev pub ignored_at : Holder → List ℕ × Data → Option PassedData
 ignored_at holder (key, value) = if is_ignored holder key value then Some (Ignored holder key) else None
 
 -- the members that decide nothing
-abbrev pub ignored_in : Holder → Data → List Told
+abbrev pub ignored_in : Holder → Data → List PassedData
 ignored_in holder tree = filter_map (ignored_at holder) (unwrap_or (members_of tree) [])
 
 -- the items of the list at this member
@@ -101,7 +101,7 @@ is_native name = is_text (codes "SCMP_ARCH_X86_64") (text name)
 abbrev pub are_others : List Data → Bool
 are_others names = not (length names == 0) && not (list_any is_native names)
 
-abbrev pub others_in : Data → List Told
+abbrev pub others_in : Data → List PassedData
 others_in tree = if are_others (items_in (codes "architectures") tree) then OtherArchitectures ∷ [] else []
 
 -- the names of architectures: seccomp.h of libseccomp 2.6
@@ -115,14 +115,14 @@ architectures = codes "SCMP_ARCH_X86" ∷ codes "SCMP_ARCH_X86_64" ∷ codes "SC
     codes "SCMP_ARCH_PARISC" ∷ codes "SCMP_ARCH_PARISC64" ∷ codes "SCMP_ARCH_RISCV64" ∷
     codes "SCMP_ARCH_SH" ∷ codes "SCMP_ARCH_SHEB" ∷ []
 
-abbrev pub arch_named : ℕ → Option (List ℕ) → Option Told
+abbrev pub arch_named : ℕ → Option (List ℕ) → Option PassedData
 arch_named index None = None
 arch_named index (Some name) = if is_one_of architectures name then None else Some (UnknownArchitecture index name)
 
-abbrev pub arch_at : ℕ × Data → Option Told
+abbrev pub arch_at : ℕ × Data → Option PassedData
 arch_at (index, item) = arch_named index (text item)
 
-abbrev pub archs_in : List Data → List Told
+abbrev pub archs_in : List Data → List PassedData
 archs_in items = filter_map arch_at (enumerate_from 0 items)
 
 abbrev pub is_number : ℕ → Option ℕ → Bool
@@ -139,37 +139,37 @@ AreSeen calls names numbers = (number : ℕ)
     → list_any (λ n. n == number) numbers ≡ is_named_in calls names number
 
 -- the finding about the entry's name at this index: its call is not known, or an earlier name has it
-abbrev pub told_number : CallTable → ℕ → ℕ → List ℕ → Option ℕ → List Data → Option Told
+abbrev pub told_number : CallTable → ℕ → ℕ → List ℕ → Option ℕ → List Data → Option PassedData
 told_number calls entry index name None before = Some (UnknownName entry index name)
 told_number calls entry index name (Some number) before =
     if is_named_in calls before number then Some (RepeatedName entry index name) else None
 
-abbrev pub told_text : CallTable → ℕ → ℕ → Option (List ℕ) → List Data → Option Told
+abbrev pub told_text : CallTable → ℕ → ℕ → Option (List ℕ) → List Data → Option PassedData
 told_text calls entry index None before = None
 told_text calls entry index (Some name) before =
     told_number calls entry index name (number_in calls name) before
 
-abbrev pub name_at : CallTable → ℕ → List Data → ℕ × Data → Option Told
+abbrev pub name_at : CallTable → ℕ → List Data → ℕ × Data → Option PassedData
 name_at calls entry names (index, name) = told_text calls entry index (text name) (take index names)
 
-abbrev pub names_in : CallTable → ℕ → List Data → List Told
+abbrev pub names_in : CallTable → ℕ → List Data → List PassedData
 names_in calls entry names = filter_map (name_at calls entry names) (enumerate_from 0 names)
 
-abbrev pub arg_at : ℕ → ℕ × Data → List Told
+abbrev pub arg_at : ℕ → ℕ × Data → List PassedData
 arg_at entry (index, item) = ignored_in (of.Arg entry index) item
 
-abbrev pub args_in : ℕ → List Data → List Told
+abbrev pub args_in : ℕ → List Data → List PassedData
 args_in entry items = flat_map (arg_at entry) (enumerate_from 0 items)
 
-abbrev pub entry_at : CallTable → ℕ × Data → List Told
+abbrev pub entry_at : CallTable → ℕ × Data → List PassedData
 entry_at calls (index, item) = ignored_in (of.Entry index) item
     ++ (names_in calls index (items_in (codes "names") item) ++ args_in index (items_in (codes "args") item))
 
-abbrev pub entries_in : CallTable → List Data → List Told
+abbrev pub entries_in : CallTable → List Data → List PassedData
 entries_in calls items = flat_map (entry_at calls) (enumerate_from 0 items)
 
 -- all findings about a profile's tree, if these are the known calls
-abbrev pub passed_in : CallTable → Data → List Told
-passed_in calls tree = ignored_in of.Profile tree
+abbrev pub all_passed_in : CallTable → Data → List PassedData
+all_passed_in calls tree = ignored_in of.Profile tree
     ++ (others_in tree ++ (archs_in (items_in (codes "architectures") tree)
     ++ entries_in calls (items_in (codes "syscalls") tree)))

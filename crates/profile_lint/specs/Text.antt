@@ -27,9 +27,9 @@ use Rattle.profile_lint.specs.Kinds.{kind_of_found, kind_of_told, kind_text, sev
 use Rattle.sys_table.specs.SysTable.{limit_of}
 use Rattle.sys_table.specs.declared.calls.CallTable.{CallTable}
 use Rattle.profile_lint.specs.Advised.{advice_place, advice_words, entry_place}
-use Rattle.profile_lint.specs.Passed.{Told, is_recased}
-use Rattle.profile_lint.specs.Passed.Told.{Ignored, OtherArchitectures, RepeatedName, UnknownArchitecture}
-use Rattle.profile_lint.specs.Passed.Told.{UnknownName}
+use Rattle.profile_lint.specs.Passed.{PassedData, is_recased}
+use Rattle.profile_lint.specs.Passed.PassedData.{Ignored, OtherArchitectures, RepeatedName, UnknownArchitecture}
+use Rattle.profile_lint.specs.Passed.PassedData.{UnknownName}
 
 -- the prefix of a member's key
 abbrev pub holder_text : Holder → List ℕ
@@ -85,14 +85,14 @@ abbrev pub name_place : ℕ → ℕ → List ℕ
 name_place entry index = codes "syscalls[" ++ (decimal entry ++ (codes "].names["
     ++ (decimal index ++ codes "]")))
 
-abbrev pub told_place : Told → List ℕ
+abbrev pub told_place : PassedData → List ℕ
 told_place (Ignored holder key) = holder_text holder ++ key_text key
 told_place OtherArchitectures = codes "architectures"
 told_place (UnknownArchitecture index name) = codes "architectures[" ++ (decimal index ++ codes "]")
 told_place (UnknownName entry index name) = name_place entry index
 told_place (RepeatedName entry index name) = name_place entry index
 
-abbrev pub told_words : CallTable → Told → List ℕ
+abbrev pub told_words : CallTable → PassedData → List ℕ
 told_words calls (Ignored holder key) = if is_recased holder key
     then codes "runc reads it in any case, and crun does not" else words_of key
 told_words calls OtherArchitectures = codes "x86-64 is not among them, and only its calls are decided"
@@ -104,16 +104,16 @@ told_words calls (RepeatedName entry index name) = quoted_text name ++ codes " i
 abbrev pub text_of : List ℕ → List ℕ → List ℕ → List ℕ
 text_of place kind words = place ++ (codes ": " ++ (kind ++ (codes ": " ++ words)))
 
-abbrev pub told_text : CallTable → Told → List ℕ
+abbrev pub told_text : CallTable → PassedData → List ℕ
 told_text calls told = text_of (told_place told) (kind_text (kind_of_told told)) (told_words calls told)
 
 abbrev pub found_place : Finding → List ℕ
 found_place (found.NeverDecides place) = entry_place place
-found_place (found.SameWithout place) = entry_place place
+found_place (found.Redundant place) = entry_place place
 found_place (found.NotFoundOut place) = entry_place place
 found_place (found.NotLookedAt place) = entry_place place
 found_place (found.NotCompared place) = entry_place place
-found_place (found.ReadOtherwise place call values) = entry_place place
+found_place (found.EnginesDiffer place call values) = entry_place place
 found_place (found.Overlap place other call) = entry_place place
 found_place (found.NewerCalls errno) = codes "defaultAction"
 found_place (found.Advised advice) = advice_place advice
@@ -126,11 +126,11 @@ instead_words (Some value) =
 
 abbrev pub found_words : CallTable → Finding → List ℕ
 found_words calls (found.NeverDecides place) = codes "it decides no call"
-found_words calls (found.SameWithout place) = codes "what follows decides its calls the same way"
+found_words calls (found.Redundant place) = codes "what follows decides its calls the same way"
 found_words calls (found.NotFoundOut place) = codes "it may decide no call, or be redundant"
 found_words calls (found.NotLookedAt place) = codes "from here on entries may decide no call, or be redundant"
 found_words calls (found.NotCompared place) = codes "from here on engines may read entries differently"
-found_words calls (found.ReadOtherwise place call values) = codes "at " ++ (words_text calls call ++ (codes ": "
+found_words calls (found.EnginesDiffer place call values) = codes "at " ++ (words_text calls call ++ (codes ": "
     ++ (value_text values.here ++ (codes " here, " ++ (value_text values.there ++ (codes " by runc"
     ++ instead_words values.instead))))))
 found_words calls (found.Overlap place other call) = codes "at " ++ (words_text calls call ++ (codes ": syscalls["
@@ -150,7 +150,7 @@ line_of text = text ++ codes "\n"
 abbrev pub graded : FindingKind → List ℕ → List ℕ
 graded kind text = line_of (severity_text (severity_of kind) ++ (codes ": " ++ text))
 
-abbrev pub told_line : CallTable → Bool → List FindingKind → Told → List ℕ
+abbrev pub told_line : CallTable → Bool → List FindingKind → PassedData → List ℕ
 told_line calls all allowed told = if is_shown all allowed (kind_of_told told)
     then graded (kind_of_told told) (told_text calls told) else []
 
@@ -188,14 +188,14 @@ abbrev pub newer_line : ℕ → ℕ → List ℕ
 newer_line count value = if nat_lt 0 count
     then line_of (codes "warning: syscalls: NewerNames: " ++ newer_words count value) else []
 
-abbrev pub told_lines : CallTable → Bool → List FindingKind → List Told → List ℕ
+abbrev pub told_lines : CallTable → Bool → List FindingKind → List PassedData → List ℕ
 told_lines calls all allowed tolds = flat_map (told_line calls all allowed) tolds
 
 abbrev pub found_lines : CallTable → Bool → List FindingKind → List Finding → List ℕ
 found_lines calls all allowed finds = flat_map (found_line calls all allowed) finds
 
 -- the findings about the text, the counts of names, and the findings about the profile
-abbrev pub lint_text : CallTable → Bool → List FindingKind → ℕ → List Told → List Finding → List ℕ
+abbrev pub lint_text : CallTable → Bool → List FindingKind → ℕ → List PassedData → List Finding → List ℕ
 lint_text calls all allowed value tolds finds = told_lines calls all allowed tolds
     ++ (others_line (counted which.Others all allowed tolds)
     ++ (newer_line (counted which.Newer all allowed tolds) value ++ found_lines calls all allowed finds))

@@ -56,7 +56,7 @@ fn standing_of(
         return Ok(Standing::NeverDecides);
     }
     match compared_with(alloc, profile, place, entry, Middle::LeftOut)? {
-        Sameness::Same => Ok(Standing::SameWithout),
+        Sameness::Same => Ok(Standing::Redundant),
         Sameness::Differ(call) => Ok(Standing::Needed(call)),
         Sameness::Unknown => Ok(Standing::Unknown),
     }

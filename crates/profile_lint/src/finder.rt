@@ -175,7 +175,7 @@ fn need_at(place: usize, standing: Standing) -> Option<Finding>
     match standing {
         Standing::Needed(_) => None,
         Standing::NeverDecides => Some(Finding::NeverDecides(place)),
-        Standing::SameWithout => Some(Finding::SameWithout(place)),
+        Standing::Redundant => Some(Finding::Redundant(place)),
         Standing::Unknown => Some(Finding::NotFoundOut(place)),
     }
 }
@@ -217,7 +217,7 @@ fn reading_at(place: usize, reading: Reading) -> Option<Finding>
     ensures unknown { reading ≡ of_reading.Unknown → result ≡ Some (NotCompared place) }
 {
     match reading {
-        Reading::Differs(call, values) => Some(Finding::ReadOtherwise(place, call, values)),
+        Reading::Differs(call, values) => Some(Finding::EnginesDiffer(place, call, values)),
         Reading::Same => None,
         Reading::Unknown => Some(Finding::NotCompared(place)),
     }

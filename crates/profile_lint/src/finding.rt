@@ -19,7 +19,7 @@ pub enum Finding {
     /// The entry at this place decides no call.
     NeverDecides(usize),
     /// Without the entry at this place the profile means the same.
-    SameWithout(usize),
+    Redundant(usize),
     /// It is not known whether the entry at this place ever decides a call.
     NotFoundOut(usize),
     /// It was not checked whether the entries from this place on ever decide a call.
@@ -28,7 +28,7 @@ pub enum Finding {
     NotCompared(usize),
     /// The entry at this place decides the call, and the filter that engines make of the profile returns
     /// another value for it.
-    ReadOtherwise(usize, SysCall, EngineValues),
+    EnginesDiffer(usize, SysCall, EngineValues),
     /// The entries at both places apply to the call and decide it differently, and engines don't keep their
     /// order.
     Overlap(usize, usize, SysCall),

@@ -322,11 +322,11 @@ pub fn kind_of_found(finding: &Finding) -> FindingKind
 {
     match finding {
         Finding::NeverDecides(_) => FindingKind::NeverDecides,
-        Finding::SameWithout(_) => FindingKind::Redundant,
+        Finding::Redundant(_) => FindingKind::Redundant,
         Finding::NotFoundOut(_) => FindingKind::NotFoundOut,
         Finding::NotLookedAt(_) => FindingKind::NotLookedAt,
         Finding::NotCompared(_) => FindingKind::NotCompared,
-        Finding::ReadOtherwise(_, _, _) => FindingKind::EnginesDiffer,
+        Finding::EnginesDiffer(_, _, _) => FindingKind::EnginesDiffer,
         Finding::Overlap(_, _, _) => FindingKind::Overlap,
         Finding::NewerCalls(_) => FindingKind::NewerCalls,
         Finding::Advised(advice) => kind_of_advice(*advice),

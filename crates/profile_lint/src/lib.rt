@@ -2,15 +2,15 @@
 //! without which it means the same, and entries that engines read differently. OCI runtime-spec 1.1,
 //! config-linux, seccomp.
 //!
-//! `specs/Passed.antt` defines the findings about a text; `specs/Findings.antt`, `specs/Entries.antt` and
-//! `specs/Engines.antt` those about a profile; `specs/Kinds.antt` kinds and severities, `specs/Choice.antt`
+//! `specs/Passed.antt` and `specs/Matters.antt` define the findings about a text; `specs/Findings.antt`,
+//! `specs/Entries.antt` and `specs/Engines.antt` those about a profile; `specs/Kinds.antt` kinds and severities, `specs/Choice.antt`
 //! which findings are printed, `specs/Text.antt` the lines, and `specs/Objects.antt` the objects of JSON. An
 //! entry is judged by comparing filters, made of only the entries that share a call with it (`entries.rt`).
 //!
 //! # What is proved
 //!
 //! - Members, names and architectures of a text that decide nothing are found exactly by the definition, in
-//!   order: `passed_in`.
+//!   order, but no name of a newer call that gets what its entry returns: `passed_in`.
 //! - Whether an entry is needed: `standing`. An entry reported to decide no call decides none, whatever its
 //!   decision is. Without an entry reported as redundant, the profile means the same at every call. An entry
 //!   reported as needed has a call that the profile decides differently without it.
@@ -39,6 +39,7 @@ mod finder;
 mod finding;
 mod kinds;
 mod lines;
+mod matters;
 mod members;
 mod names;
 mod objects;
@@ -55,8 +56,8 @@ pub use finder::{all_findings, findings, newer_calls, once};
 pub use finding::{EngineValues, Finding};
 pub use kinds::{FindingKind, Severity, add_kinds, kind_of_found, kind_of_passed, severity_of};
 pub use lines::lint_lines;
+pub use matters::passed_in;
 pub use objects::{finding_object, lint_objects};
 pub use passed::{Holder, Passed};
 pub use stands::Standing;
-pub use text::passed_in;
 pub use words::{ShownFinding, ShownPassed};

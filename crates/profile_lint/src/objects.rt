@@ -160,7 +160,7 @@ impl fmt::Display for FoundMembers {
 
     fn fmt<W: fmt::Write>(&self, f: &mut fmt::Formatter<W>) -> fmt::Result {
         match self.1 {
-            Finding::ReadOtherwise(_, call, values) => {
+            Finding::EnginesDiffer(_, call, values) => {
                 write!(f, "{}", OtherwiseMembers(call, values))
             }
             Finding::Overlap(_, other, call) => {

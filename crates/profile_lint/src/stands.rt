@@ -8,7 +8,7 @@ pub enum Standing {
     /// It decides no call.
     NeverDecides,
     /// Without it the profile means the same.
-    SameWithout,
+    Redundant,
     /// No answer was found, or there is no such entry.
     Unknown,
 }

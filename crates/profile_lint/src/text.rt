@@ -1,9 +1,10 @@
 ghost use Rattle.std.specs.Prelude.{◌≡◌, IfOk, flat_map, map, option_map};
 ghost use Rattle.std.specs.List.{enumerate_from, list_any};
 ghost use Rattle.serde_json.specs.View.{view};
-ghost use Rattle.profile_lint.specs.Passed.{arch_at, architectures, archs_in, are_others, arg_at, args_in};
-ghost use Rattle.profile_lint.specs.Passed.{entries_in, entry_at, is_native, is_one_of, items_in, others_in};
-ghost use Rattle.profile_lint.specs.Passed.{passed_in, told};
+ghost use Rattle.profile_lint.specs.Passed.{all_passed_in, arch_at, architectures, archs_in, are_others};
+ghost use Rattle.profile_lint.specs.Passed.{arg_at, args_in, entries_in, entry_at, is_native};
+ghost use Rattle.profile_lint.specs.Passed.{is_one_of, items_in, others_in};
+ghost use Rattle.profile_lint.specs.Passed.{told};
 
 use crate::members::ignored_in;
 use crate::names::{names_in, tell};
@@ -14,12 +15,12 @@ use std::alloc::{AllocError, Global};
 use sys_table::CallTable;
 
 /// The parts of a profile's tree that decide nothing if these are the known calls, in order of the entries.
-pub fn passed_in<'v>(
+pub(crate) fn all_passed_in<'v>(
     alloc: Global,
     calls: CallTable,
     tree: &'v Value,
 ) -> Result<Vec<Passed<'v>>, AllocError>
-    ensures { IfOk result (λ v. map told v.items ≡ passed_in calls (view tree.now)) }
+    ensures { IfOk result (λ v. map told v.items ≡ all_passed_in calls (view tree.now)) }
 {
     let mut found = ignored_in(alloc, Holder::Profile, tree)?;
     if are_others(items_in(tree, "architectures")) {

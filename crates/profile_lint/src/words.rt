@@ -202,11 +202,11 @@ impl fmt::Display for FoundPlace {
     fn fmt<W: fmt::Write>(&self, f: &mut fmt::Formatter<W>) -> fmt::Result {
         match self.0 {
             Finding::NeverDecides(place)
-            | Finding::SameWithout(place)
+            | Finding::Redundant(place)
             | Finding::NotFoundOut(place)
             | Finding::NotLookedAt(place)
             | Finding::NotCompared(place)
-            | Finding::ReadOtherwise(place, _, _)
+            | Finding::EnginesDiffer(place, _, _)
             | Finding::Overlap(place, _, _) => write!(f, "syscalls[{place}]"),
             Finding::NewerCalls(_) => f.write_str("defaultAction"),
             Finding::Advised(advice) => write!(f, "{}", AdvicePlace(advice)),
@@ -251,7 +251,7 @@ impl fmt::Display for FoundWords {
     fn fmt<W: fmt::Write>(&self, f: &mut fmt::Formatter<W>) -> fmt::Result {
         match self.1 {
             Finding::NeverDecides(_) => f.write_str("it decides no call"),
-            Finding::SameWithout(_) => f.write_str("what follows decides its calls the same way"),
+            Finding::Redundant(_) => f.write_str("what follows decides its calls the same way"),
             Finding::NotFoundOut(_) => f.write_str("it may decide no call, or be redundant"),
             Finding::NotLookedAt(_) => f.write_str(
                 "from here on entries may decide no call, or be redundant",
@@ -259,7 +259,7 @@ impl fmt::Display for FoundWords {
             Finding::NotCompared(_) => f.write_str(
                 "from here on engines may read entries differently",
             ),
-            Finding::ReadOtherwise(_, call, values) => {
+            Finding::EnginesDiffer(_, call, values) => {
                 let (here, there) = (ValueText(values.here), ValueText(values.there));
                 let (call, instead) = (CallWords(self.0, call), InsteadWords(values.instead));
                 write!(f, "at {call}: {here} here, {there} by runc{instead}")

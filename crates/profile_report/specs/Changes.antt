@@ -4,9 +4,9 @@ use Rattle.std.specs.Fmt.{decimal}
 use Rattle.std.specs.List.{list_any}
 use Rattle.filter_differences.specs.declared.part.Part.{Part}
 use Rattle.filter_differences.specs.declared.part.Part.TheVariants.{Numbers, Later, X32, OtherArchitectures}
-use Rattle.shown_differences.specs.declared.line.Line.{Line}
-use Rattle.shown_differences.specs.declared.line.Line.TheVariants.{Differs, Undecided}
-use Rattle.shown_differences.specs.Texts.{line_text, told_text}
+use Rattle.seccheck_differences.specs.declared.line.Line.{Line}
+use Rattle.seccheck_differences.specs.declared.line.Line.TheVariants.{Differs, Undecided}
+use Rattle.seccheck_differences.specs.Texts.{line_text, side_text}
 use Rattle.profile_report.specs.More.{more_text}
 use Rattle.profile_report.specs.Escaped.{html_text}
 use Rattle.profile_report.specs.Ways.{first}
@@ -31,7 +31,7 @@ is_changed nr lines = list_any (is_on nr) lines
 -- both decisions, that of the old profile first
 unfoldable pub change_html : Line → List ℕ
 change_html (Differs part call one other) =
-    codes "<p>was " ++ (told_text one ++ (codes ", is " ++ (told_text other ++ codes "</p>")))
+    codes "<p>was " ++ (side_text one ++ (codes ", is " ++ (side_text other ++ codes "</p>")))
 change_html (Undecided part why) = codes "<p>it was not found out whether this differs</p>"
 
 unfoldable pub change_at : ℕ → Line → List ℕ

@@ -7,7 +7,7 @@ use Rattle.call_names.specs.Text.{call_text}
 use Rattle.oci_profile.specs.declared.profile.Profile.{Profile}
 use Rattle.sys_table.specs.declared.calls.CallTable.{CallTable}
 use Rattle.profile_table.specs.declared.row.Row.{Row}
-use Rattle.shown_differences.specs.declared.line.Line.{Line}
+use Rattle.seccheck_differences.specs.declared.line.Line.{Line}
 use Rattle.explain.specs.Text.{decided_text}
 use Rattle.profile_report.specs.Changes.{changes_at, is_changed}
 use Rattle.profile_report.specs.Ways.{asking, shown_for, ways_html}

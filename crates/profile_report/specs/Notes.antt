@@ -9,9 +9,9 @@ use Rattle.profile_lint.specs.declared.finding.Finding.TheVariants as found
 use Rattle.profile_lint.specs.declared.passed.Holder.{Holder}
 use Rattle.profile_lint.specs.declared.passed.Holder.TheVariants as of
 use Rattle.profile_lint.specs.declared.passed.Passed.{Passed}
-use Rattle.profile_lint.specs.Passed.{Told, told}
-use Rattle.profile_lint.specs.Passed.Told.{Ignored, OtherArchitectures, RepeatedName, UnknownArchitecture}
-use Rattle.profile_lint.specs.Passed.Told.{UnknownName}
+use Rattle.profile_lint.specs.Passed.{PassedData, told}
+use Rattle.profile_lint.specs.Passed.PassedData.{Ignored, OtherArchitectures, RepeatedName, UnknownArchitecture}
+use Rattle.profile_lint.specs.Passed.PassedData.{UnknownName}
 use Rattle.profile_lint.specs.Text.{found_text, told_text}
 use Rattle.profile_report.specs.More.{more_text}
 use Rattle.profile_report.specs.Escaped.{html_text}
@@ -24,7 +24,7 @@ entry_of (of.Entry entry) = Some entry
 entry_of (of.Arg entry arg) = Some entry
 
 -- the entry that a finding about the text is about
-abbrev pub told_about : Told → Option ℕ
+abbrev pub told_about : PassedData → Option ℕ
 told_about (Ignored holder key) = entry_of holder
 told_about OtherArchitectures = None
 told_about (UnknownArchitecture index name) = None
@@ -34,11 +34,11 @@ told_about (RepeatedName entry index name) = Some entry
 -- the entry that a finding about the profile is about: the first one of two that overlap
 abbrev pub found_about : Finding → Option ℕ
 found_about (found.NeverDecides place) = Some place
-found_about (found.SameWithout place) = Some place
+found_about (found.Redundant place) = Some place
 found_about (found.NotFoundOut place) = Some place
 found_about (found.NotLookedAt place) = Some place
 found_about (found.NotCompared place) = Some place
-found_about (found.ReadOtherwise place call values) = Some place
+found_about (found.EnginesDiffer place call values) = Some place
 found_about (found.Overlap place other call) = Some place
 found_about (found.NewerCalls errno) = None
 found_about (found.Advised advice) = advised.entry_of advice
@@ -50,7 +50,7 @@ is_about None (Some other) = false
 is_about (Some place) None = false
 
 -- the line of a finding, if it is about this entry, or about none if none is meant
-unfoldable pub told_line : CallTable → Option ℕ → Told → List (List ℕ)
+unfoldable pub told_line : CallTable → Option ℕ → PassedData → List (List ℕ)
 told_line calls about t = if is_about (told_about t) about then told_text calls t ∷ [] else []
 
 unfoldable pub found_line : CallTable → Option ℕ → Finding → List (List ℕ)

@@ -9,12 +9,13 @@ use Rattle.sys_table.specs.SysTable.{limit_of}
 use Rattle.sys_table.specs.declared.calls.CallTable.{CallTable}
 use Rattle.profile_table.specs.Rows.{IsRowOf, named_below}
 use Rattle.profile_table.specs.declared.row.Row.{Row}
-use Rattle.shown_differences.specs.declared.line.Line.{Line}
+use Rattle.seccheck_differences.specs.declared.line.Line.{Line}
 use Rattle.profile_report.specs.Entries.{entries_html}
 use Rattle.profile_report.specs.Escaped.{html_text}
 use Rattle.profile_report.specs.Grid.{grid_html}
 use Rattle.profile_report.specs.Tallies.{tallies_html}
 use Rattle.profile_report.specs.declared.document.Parts.{Parts}
+use Rattle.profile_report.specs.declared.document.Report.{Report}
 
 -- the head: nothing is loaded from elsewhere, and no script runs
 unfoldable pub head_html : List ℕ → List ℕ → List ℕ
@@ -46,27 +47,25 @@ section_html calls profile passed finds =
     ++ (entries_html calls profile passed finds ++ codes "</div></section>\n")
 
 -- the page down to the differences
-unfoldable pub upper_part : CallTable → List ℕ → List ℕ → Profile → List Line → List Row → Parts → List ℕ
-upper_part calls style name profile lines rows parts =
-    head_html style name ++ (calls_html calls profile lines rows ++ parts.changes.now)
+unfoldable pub upper_part : List ℕ → Report → List Row → Parts → List ℕ
+upper_part style report rows parts =
+    head_html style report.name.now
+    ++ (calls_html report.calls report.profile.now report.lines.now rows ++ parts.changes.now)
 
 -- the page from the entries on
-unfoldable pub lower_part : CallTable → Profile → List Passed → List Finding → Parts → List ℕ
-lower_part calls profile passed finds parts =
-    section_html calls profile passed finds ++ (parts.tree.now ++ (parts.denied.now
-    ++ codes "</main>\n</body>\n</html>\n"))
+unfoldable pub lower_part : Report → Parts → List ℕ
+lower_part report parts =
+    section_html report.calls report.profile.now report.passed.now report.found.now
+    ++ (parts.tree.now ++ (parts.denied.now ++ codes "</main>\n</body>\n</html>\n"))
 
 -- the page
-abbrev pub page_html : CallTable → List ℕ → List ℕ → Profile → List Passed → List Finding → List Line → List Row
-    → Parts → List ℕ
-page_html calls style name profile passed finds lines rows parts =
-    upper_part calls style name profile lines rows parts ++ lower_part calls profile passed finds parts
+abbrev pub page_html : List ℕ → Report → List Row → Parts → List ℕ
+page_html style report rows parts = upper_part style report rows parts ++ lower_part report parts
 
 -- a page of a profile: there is one cell for each of these calls, in order, and its decision is what
 -- `explain` returns for the call
-pub record IsPage (calls : CallTable) (style name : List ℕ) (profile : Profile) (passed : List Passed)
-    (finds : List Finding) (lines : List Line) (parts : Parts) (page : List ℕ) : Type 0 where
+pub record IsPage (style : List ℕ) (report : Report) (parts : Parts) (page : List ℕ) : Type 0 where
   pub rows : List Row
-  pub each : map (λ row. row.nr) rows ≡ named_below calls (limit_of calls)
-  pub real : All (IsRowOf calls profile) rows
-  pub is : page ≡ page_html calls style name profile passed finds lines rows parts
+  pub each : map (λ row. row.nr) rows ≡ named_below report.calls (limit_of report.calls)
+  pub real : All (IsRowOf report.calls report.profile.now) rows
+  pub is : page ≡ page_html style report rows parts

@@ -7,7 +7,7 @@ use crate::escaping::Html;
 use crate::more::More;
 use crate::ways::first;
 use filter_differences::Part;
-use shown_differences::{Line, LineText};
+use seccheck_differences::{Line, LineText};
 use std::alloc::{AllocError, Global};
 use std::fmt;
 use sys_table::CallTable;

@@ -10,10 +10,27 @@ use crate::tallies::tallies_html;
 use oci_profile::Profile;
 use profile_lint::{Finding, Passed};
 use profile_table::{Row, rows};
-use shown_differences::Line;
+use seccheck_differences::Line;
 use std::alloc::{AllocError, Global};
 use std::fmt;
 use sys_table::CallTable;
+
+/// What a page is about.
+#[derive(Clone, Copy)]
+pub struct Report<'a> {
+    /// The calls, each with a cell.
+    pub calls: CallTable,
+    /// The profile's name.
+    pub name: &'a str,
+    /// The profile.
+    pub profile: &'a Profile,
+    /// The findings about its text.
+    pub passed: &'a [Passed<'a>],
+    /// The findings about its entries.
+    pub found: &'a [Finding],
+    /// The lines of the calls on which it differs from an old profile.
+    pub lines: &'a [Line],
+}
 
 /// The parts of a page that are made before it.
 #[derive(Clone, Copy)]
@@ -26,50 +43,30 @@ pub struct Parts<'a> {
     pub denied: &'a str,
 }
 
-/// The page of a profile with this name, with a cell for each of these calls, the findings about its text and
-/// about its entries, and the lines of the calls on which it differs from an old one.
+/// The page in this style, with a cell for each call.
 pub fn page(
     alloc: Global,
-    calls: CallTable,
     style: &str,
-    name: &str,
-    profile: &Profile,
-    passed: &[Passed<'_>],
-    found: &[Finding],
-    lines: &[Line],
+    report: &Report<'_>,
     parts: &Parts<'_>,
 ) -> Result<String, AllocError>
-    ensures { IfOk result (λ page. IsPage calls style.now name.now profile.now passed.now found.now
-        lines.now parts.now (string_bytes page)) }
+    ensures { IfOk result (λ page. IsPage style.now report.now parts.now (string_bytes page)) }
 {
-    let rows = rows(alloc, calls, profile)?;
-    let upper = upper_part(
-        alloc,
-        calls,
-        style,
-        name,
-        profile,
-        lines,
-        rows.as_slice(),
-        parts,
-    )?;
-    with_lower_part(alloc, calls, upper.as_str(), profile, passed, found, parts)
+    let rows = rows(alloc, report.calls, report.profile)?;
+    let upper = upper_part(alloc, style, report, rows.as_slice(), parts)?;
+    with_lower_part(alloc, upper.as_str(), report, parts)
 }
 
 /// The page whose upper part is this.
 fn with_lower_part(
     alloc: Global,
-    calls: CallTable,
     upper: &str,
-    profile: &Profile,
-    passed: &[Passed<'_>],
-    found: &[Finding],
+    report: &Report<'_>,
     parts: &Parts<'_>,
 ) -> Result<String, AllocError>
-    ensures { IfOk result (λ text. string_bytes text ≡ upper.now ++ lower_part calls profile.now passed.now
-        found.now parts.now) }
+    ensures { IfOk result (λ text. string_bytes text ≡ upper.now ++ lower_part report.now parts.now) }
 {
-    let lower = lower_part(alloc, calls, profile, passed, found, parts)?;
+    let lower = lower_part(alloc, report, parts)?;
     format!(in alloc; "{upper}{lower}")
 }
 
@@ -77,36 +74,31 @@ fn with_lower_part(
 #[tactic(auto, unfolding(crate::specs::Page::upper_part))]
 fn upper_part(
     alloc: Global,
-    calls: CallTable,
     style: &str,
-    name: &str,
-    profile: &Profile,
-    lines: &[Line],
+    report: &Report<'_>,
     rows: &[Row],
     parts: &Parts<'_>,
 ) -> Result<String, AllocError>
-    ensures { IfOk result (λ text. string_bytes text ≡ upper_part calls style.now name.now profile.now lines.now
-        rows.now parts.now) }
+    ensures { IfOk result (λ text. string_bytes text ≡ upper_part style.now report.now rows.now parts.now) }
 {
-    let head = head_html(alloc, style, name)?;
-    let cells = calls_html(alloc, calls, profile, lines, rows)?;
+    let head = head_html(alloc, style, report.name)?;
+    let cells = calls_html(alloc, report.calls, report.profile, report.lines, rows)?;
     let changes = parts.changes;
     format!(in alloc; "{head}{cells}{changes}")
 }
 
 /// The page from the entries on.
 #[tactic(auto, unfolding(crate::specs::Page::lower_part))]
-fn lower_part(
-    alloc: Global,
-    calls: CallTable,
-    profile: &Profile,
-    passed: &[Passed<'_>],
-    found: &[Finding],
-    parts: &Parts<'_>,
-) -> Result<String, AllocError>
-    ensures { IfOk result (λ text. string_bytes text ≡ lower_part calls profile.now passed.now found.now parts.now) }
+fn lower_part(alloc: Global, report: &Report<'_>, parts: &Parts<'_>) -> Result<String, AllocError>
+    ensures { IfOk result (λ text. string_bytes text ≡ lower_part report.now parts.now) }
 {
-    let entries = section_html(alloc, calls, profile, passed, found)?;
+    let entries = section_html(
+        alloc,
+        report.calls,
+        report.profile,
+        report.passed,
+        report.found,
+    )?;
     let (tree, denied) = (parts.tree, parts.denied);
     format!(in alloc; "{entries}{tree}{denied}</main>\n</body>\n</html>\n")
 }

@@ -9,7 +9,7 @@ use crate::words::{Linked, letter_in};
 use explain::Decided;
 use oci_profile::Profile;
 use profile_table::{Row, named};
-use shown_differences::Line;
+use seccheck_differences::Line;
 use std::alloc::{AllocError, Global};
 use std::fmt;
 use sys_table::CallTable;

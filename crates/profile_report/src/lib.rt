@@ -34,7 +34,7 @@ mod words;
 
 pub use changes::{SHOWN_CHANGES, changes_html};
 pub use denials::{SHOWN_DENIALS, denials_html};
-pub use document::{Parts, page};
+pub use document::{Parts, Report, page};
 pub use drawing::{no_tree_html, tree_html};
 pub use entries::{SHOWN_NAMES, SHOWN_NOTES, SHOWN_OTHERS};
 pub use escaping::Html;

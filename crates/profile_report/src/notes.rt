@@ -112,11 +112,11 @@ fn found_about(finding: &Finding) -> Option<usize>
 {
     match finding {
         Finding::NeverDecides(place)
-        | Finding::SameWithout(place)
+        | Finding::Redundant(place)
         | Finding::NotFoundOut(place)
         | Finding::NotLookedAt(place)
         | Finding::NotCompared(place)
-        | Finding::ReadOtherwise(place, _, _)
+        | Finding::EnginesDiffer(place, _, _)
         | Finding::Overlap(place, _, _) => Some(*place),
         Finding::NewerCalls(_) => None,
         Finding::Advised(advice) => advice.entry(),

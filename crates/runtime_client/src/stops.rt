@@ -6,7 +6,7 @@ use command_line::LineFault;
 use cri_frames::Lost;
 use fault_notes::ShownPath;
 use node_io::Cause;
-use runtime_stops::{ServerStop, SocketFault, Told, socket_stop};
+use runtime_stops::{ServerStop, SocketFault, StopLine, socket_stop};
 use std::alloc::AllocError;
 use std::fmt;
 
@@ -37,7 +37,7 @@ impl fmt::Display for ClientStop<'_> {
     fn fmt<W: fmt::Write>(&self, f: &mut fmt::Formatter<W>) -> fmt::Result {
         match self {
             ClientStop::Server(stop) => {
-                let told = Told {
+                let told = StopLine {
                     program: "scriptctl",
                     stop,
                 };

@@ -32,7 +32,7 @@ use Rattle.runtime_history.specs.declared.room.View.{View}
 use Rattle.runtime_history.specs.History.{IsRunning, named, unseen}
 use Rattle.runtime_history.specs.Sandboxes.{IsLive, started_by}
 use Rattle.runtime_history.specs.Agreed.{Fits, HasCells, IfCells, IfRegistry, IsOver, Kept}
-use Rattle.runtime_history.specs.Agreed.{Looked, MayRun, Told, cells_in}
+use Rattle.runtime_history.specs.Agreed.{Looked, MayRun, HasAdded, cells_in}
 use Rattle.runtime_history.specs.Agreed.{cells_of, keeper, lists_in, nobody, once, once_of, registries_in}
 use Rattle.runtime_history.specs.Agreed.{registry_of, total, view, with_cells, with_registry, with_started}
 use Rattle.runtime_history.specs.Agreed.{without, without_cells, without_registry}
@@ -155,7 +155,7 @@ module _ (baseline : Option (List Insn)) where
       (seen : Seen) (e : Event)
       → ((s : Runtime) → IfRegistry s r → IfCells s c → (s' : Runtime) × Goes s s' e r r' c c')
       → Allows (Holds baseline) slots by (view r c seen, []) 0 (λ x. x)
-      (λ x m. Told baseline e (view r' c' unseen) (view r c seen, []) m)
+      (λ x m. HasAdded baseline e (view r' c' unseen) (view r c seen, []) m)
   goes_on by slots r r' c c' seen e step t kept len at bound =
       let views = t.views in
       let v = view r c seen in

@@ -176,7 +176,7 @@ pub record Kept (baseline : Option (List Insn)) (views : List View) : Type 0 whe
   pub each : (by : ℕ) (v : View) → get_elem? views by ≡ some v → Fits (now baseline links) log v
 
 -- the event was added to the history, all of which was seen then
-pub record Told (baseline : Option (List Insn)) (event : Event) (after : View) (me me' : Me (Unit {0}) View)
+pub record HasAdded (baseline : Option (List Insn)) (event : Event) (after : View) (me me' : Me (Unit {0}) View)
     : Type 0 where
   pub knows : me'.0 ≡ seeing after me'.0.seen
   pub grows : Grows baseline me.0.seen event me'.0.seen

@@ -103,9 +103,9 @@ pub struct Tells<E> {
 }
 
 impl<E: Happens> Play<(), View> for Tells<E> {
-    ghost use Rattle.runtime_history.specs.Agreed.{Told};
+    ghost use Rattle.runtime_history.specs.Agreed.{HasAdded};
 
-    ghost then = { λ _ me _ me'. Told E.baseline E.event E.after me me' };
+    ghost then = { λ _ me _ me'. HasAdded E.baseline E.event E.after me me' };
 }
 
 /// A step that sees all of the history, and adds nothing to it.

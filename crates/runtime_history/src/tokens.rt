@@ -12,7 +12,7 @@ ghost use Rattle.runtime_core.specs.Stands.{LendsTo};
 ghost use Rattle.runtime_history.specs.declared.event.Event.TheVariants.{Served, Stepped};
 ghost use Rattle.runtime_history.specs.History.{unseen};
 ghost use Rattle.runtime_history.specs.Sandboxes.{IsLive, started_by};
-ghost use Rattle.runtime_history.specs.Agreed.{IsOver, Looked, MayRunIn, Told, cells_of, forgetting, nobody};
+ghost use Rattle.runtime_history.specs.Agreed.{IsOver, Looked, MayRunIn, HasAdded, cells_of, forgetting, nobody};
 ghost use Rattle.runtime_history.specs.Agreed.{registry_of, started_in, uid_by, view, with_cells};
 ghost use Rattle.runtime_history.specs.Agreed.{with_registry, with_started, without_cells};
 ghost use Rattle.runtime_history.specs.Agreed.{without_registry};
@@ -95,7 +95,7 @@ pub(crate) fn note_served<E: Happens, Q: Asked>(
         × LendsTo old registry.now Q.call Q.files answer.now before cells.now
         × (started ≡ started_by Q.call answer.now before) }
     ensures table { me.new.table_id ≡ me.old.table_id }
-    ensures told { Told notes.now.key.baseline (Served Q.call Q.files answer.now)
+    ensures told { HasAdded notes.now.key.baseline (Served Q.call Q.files answer.now)
         (view (Some (registry.now, with_started started (started_in me.old.me.0.registry)))
         (Some (uid_of Q.call, cells.now)) unseen) me.old.me me.new.me }
 {
@@ -119,7 +119,7 @@ pub(crate) fn note_absent<E: Happens, Q: Asked>(
         × (IsLive (stages_in old (uid_of Q.call)) → ⊥)
         × (IsLive (stages_in registry.now (uid_of Q.call)) → ⊥) }
     ensures table { me.new.table_id ≡ me.old.table_id }
-    ensures told { Told notes.now.key.baseline (Served Q.call Q.files answer.now)
+    ensures told { HasAdded notes.now.key.baseline (Served Q.call Q.files answer.now)
         (view (Some (registry.now, started_in me.old.me.0.registry)) None unseen) me.old.me me.new.me }
 {
     notes.load::<Tells<E>>(me, 0);
@@ -144,7 +144,7 @@ pub(crate) fn note_new<E: Happens, Q: Asked>(
         × (stages_in old (uid_of Q.call) ≡ Unknown)
         × IsLive (stages_in registry.now (uid_of Q.call)) }
     ensures table { me.new.table_id ≡ me.old.table_id }
-    ensures told { Told notes.now.key.baseline (Served Q.call Q.files answer.now)
+    ensures told { HasAdded notes.now.key.baseline (Served Q.call Q.files answer.now)
         (view (Some (registry.now, started_in me.old.me.0.registry)) (Some (uid_of Q.call, cells.now)) unseen)
         me.old.me me.new.me }
 {
@@ -165,7 +165,7 @@ pub(crate) fn note_told<E: Happens, Q: Asked>(
         × (me.old.me ≡ (view None (Some (uid_of Q.call, cells.now)) me.old.me.0.seen, [])) }
     requires told { TellsCells Q.call cells.now answer.now }
     ensures table { me.new.table_id ≡ me.old.table_id }
-    ensures told { Told notes.now.key.baseline (Served Q.call Q.files answer.now)
+    ensures told { HasAdded notes.now.key.baseline (Served Q.call Q.files answer.now)
         (view None (Some (uid_of Q.call, cells.now)) unseen) me.old.me me.new.me }
 {
     notes.load::<Tells<E>>(me, 0);
@@ -187,7 +187,7 @@ pub(crate) fn note_stepped<E: Happens>(
         × (me.old.me ≡ (view None (Some (uid_by me.old.me.0.cells, before)) me.old.me.0.seen, []))
         × MayStepIn before id (Some did) cells.now × (map id_of cells.now ≡ map id_of before) }
     ensures table { me.new.table_id ≡ me.old.table_id }
-    ensures told { Told notes.now.key.baseline (Stepped id did)
+    ensures told { HasAdded notes.now.key.baseline (Stepped id did)
         (view None (Some (uid_by me.old.me.0.cells, cells.now)) unseen) me.old.me me.new.me }
 {
     notes.load::<Tells<E>>(me, 0);

@@ -4,5 +4,5 @@ pub mod Steps
 pub mod Goes
 pub mod Seen
 pub mod Every
-pub mod Told
+pub mod Reported
 pub mod Links

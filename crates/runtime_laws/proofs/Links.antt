@@ -21,7 +21,7 @@ use Rattle.runtime_laws.specs.Runs.Event.{Stepped}
 use Rattle.runtime_laws.proofs.Slots.{CellGoes, SlotGoes}
 use Rattle.runtime_laws.proofs.Goes.{IsMadeIn, MovesKey, came_from, key_goes, step_key}
 use Rattle.runtime_laws.proofs.Seen.{Grows, IsAfter, LinkHolds, first_holds, seen_now}
-use Rattle.runtime_laws.proofs.Told.{status_true, told_true}
+use Rattle.runtime_laws.proofs.Reported.{status_true, told_true}
 
 -- the content of the slot before a link, after a cell was seen there
 seen_before : Grows → (baseline : Option (List Insn)) (l : Link) (before : List Link)

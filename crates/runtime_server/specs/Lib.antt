@@ -1,3 +1,4 @@
+pub mod Inputs
 pub mod Accepting
 pub mod Places
 pub mod Queue

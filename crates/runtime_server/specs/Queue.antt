@@ -10,12 +10,12 @@ capped count = min count 18446744073709551615
 abbrev pub is_none : {A : Type 0} → List A → ℕ → Bool
 is_none lines left_out = (length lines == 0) && (left_out == 0)
 
--- a line is added behind the others
+-- a line is added after the others
 abbrev pub IsQueued : {A E : Type 0} → Result A E → List A → ℕ → List A → ℕ → Type 0
 IsQueued (Ok line) old before new after = (new ≡ old ++ line ∷ []) × (after ≡ before)
 IsQueued (Err fault) old before new after = (new ≡ old) × (after ≡ capped (before + 1))
 
--- a line is added behind the others, if there are fewer than 16,384, or it is left out and counted
+-- a line is added after the others, if there are fewer than 16,384, or it is left out and counted
 abbrev pub Adds : {A E : Type 0} → Result A E → List A → ℕ → List A → ℕ → Type 0
 Adds (Ok line) old before new after =
     ((length old < 16384) × ((new ≡ old ++ line ∷ []) × (after ≡ before)))

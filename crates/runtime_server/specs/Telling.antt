@@ -4,9 +4,9 @@ use Rattle.cri_msgs.specs.declared.replies.Answer.{Answer}
 use Rattle.cri_msgs.specs.declared.replies.Answer.TheVariants.{Refused}
 use Rattle.fault_notes.specs.Paths.{shown_path}
 use Rattle.fault_notes.specs.Refusals.{refusal_text}
-use Rattle.runtime_server.specs.declared.site.Address.{Address}
-use Rattle.runtime_server.specs.declared.site.Tells.{Tells}
-use Rattle.runtime_server.specs.declared.site.Tells.TheVariants.{Nothing, WrongFiles, Each}
+use Rattle.runtime_server.specs.declared.server.ServerConfig.{ServerConfig}
+use Rattle.runtime_server.specs.declared.server.Tells.{Tells}
+use Rattle.runtime_server.specs.declared.server.Tells.TheVariants.{Nothing, WrongFiles, Each}
 
 -- whether an answer is reported, given whether a bad file caused it
 abbrev pub is_told : Tells → Bool → Bool
@@ -25,8 +25,8 @@ name_behind (Refused refusal) = codes " refused " ++ refusal_text refusal
 name_behind _ = []
 
 -- the first log line of a runtime
-abbrev pub listening_text : Address → List ℕ
-listening_text address =
-    codes "listens at " ++ (shown_path address.socket.now
-    ++ (codes ", scripts in " ++ (shown_path address.scripts.now
-    ++ (codes ", profiles in " ++ shown_path address.profiles.now))))
+abbrev pub listening_text : ServerConfig → List ℕ
+listening_text config =
+    codes "listens at " ++ (shown_path config.socket.now
+    ++ (codes ", scripts in " ++ (shown_path config.scripts.now
+    ++ (codes ", profiles in " ++ shown_path config.profiles.now))))

@@ -17,17 +17,28 @@ use Rattle.fault_notes.specs.Notes.{IsNote}
 use Rattle.fault_notes.specs.Paths.{shown_path}
 use Rattle.fault_notes.specs.declared.named.Named.TheVariants as named
 use Rattle.refusal_causes.specs.declared.causes.Cause.{Cause}
+use Rattle.wrong_files.specs.HintText.{hint_after}
+use Rattle.wrong_files.specs.Hints.{IsHint, hints_for}
+use Rattle.wrong_files.specs.declared.hint.Hint.{Hint}
+use Rattle.wrong_files.specs.declared.hint.Wanted.{Wanted}
+use Rattle.wrong_files.specs.declared.hint.Wanted.TheVariants as wanted
 use Rattle.runtime_server.specs.declared.diagnosis.FileKind.{FileKind}
 use Rattle.runtime_server.specs.declared.diagnosis.FileKind.TheVariants as kind
 use Rattle.runtime_server.specs.declared.diagnosis.Wrong.{Wrong}
 
--- the file's name, then the first fault of this text with its place and the value there
+-- the file's name, the note on the text, and the hint on what its bytes seem to be
+pub record Tells (path bytes note : List ℕ) (wanted : Wanted) (text : List ℕ) : Type 0 where
+  pub hint : Option Hint
+  pub is_hint : IsHint bytes (hints_for wanted) hint
+  pub is : text ≡ shown_path path ++ (note ++ hint_after hint)
+
+-- the first fault of this text with its place and the value there
 abbrev pub TellsScript : {Y : Type 0} → List ℕ → FileText → Option (String Y) → Type 0
 TellsScript path file None = ⊤
 TellsScript path file (Some text) =
     (found : ScriptFaultAt) × IsFirstFaultAt file.calls file.bytes found
     × ((note : List ℕ) × IsNote file.bytes (named.Script found.fault) found.place note
-    × (string_bytes text ≡ shown_path path ++ note))
+    × Tells path file.bytes note wanted.Script (string_bytes text))
 
 -- the same for a profile, or that it is too heavy
 abbrev pub TellsProfile : {Y : Type 0} → List ℕ → FileText → Option (String Y) → Type 0
@@ -37,7 +48,7 @@ TellsProfile path file (Some text) =
     ++ codes ": TooLong"))
     ⊎ ((found : ProfileFaultAt) × (first_fault_at file.calls file.bytes ≡ Some found)
     × ((note : List ℕ) × IsNote file.bytes (named.Profile found.fault) found.place note
-    × (string_bytes text ≡ shown_path path ++ note)))
+    × Tells path file.bytes note wanted.Profile (string_bytes text)))
 
 abbrev pub kind_text : FileKind → List ℕ
 kind_text kind.Script = codes "script "

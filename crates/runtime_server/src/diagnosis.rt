@@ -2,6 +2,7 @@
 //! request refused for another reason is reported without them.
 ghost use Rattle.std.specs.Prelude.{◌≡◌, ◌++◌, IfOk, IfSome, string_bytes};
 ghost use Rattle.fault_notes.specs.Paths.{shown_path};
+ghost use Rattle.wrong_files.specs.HintText.{hint_after};
 ghost use Rattle.runtime_server.specs.Wrong.{TellsProfile, TellsScript, cause_in, cause_text, is_of_files, kind_text};
 
 use compile::{CompileFault, compile};
@@ -15,6 +16,7 @@ use refusal_causes::{Cause, CauseText};
 use runtime_core::{CompiledProfile, Contents, FileAnswer, FileAnswers};
 use script::{Script, ScriptFault};
 use std::alloc::{AllocError, Global};
+use wrong_files::{Hint, HintAfter, Wanted, hint_of_text};
 
 /// The kind of a request's file.
 #[derive(Clone, Copy, Debug)]
@@ -190,16 +192,21 @@ fn script_fault(
         Ok(_script) => Ok(None),
         Err(found) => match found.fault {
             ScriptFault::Memory => Ok(None),
-            _ => Ok(Some(behind(alloc, path, &script_note(alloc, bytes, &found)?)?)),
+            _ => Ok(Some(behind(
+                alloc,
+                path,
+                &script_note(alloc, bytes, &found)?,
+                hint_of_text(alloc, bytes, Wanted::Script)?,
+            )?)),
         },
     }
 }
 
-// The file's path, followed by the note.
-fn behind(alloc: Global, path: &str, told: &str) -> Result<String, AllocError>
-    ensures { IfOk result (λ text. string_bytes text ≡ shown_path path.now ++ told.now) }
+// The file's path, the note, and the hint on what the file seems to be, if there is one.
+fn behind(alloc: Global, path: &str, note: &str, hint: Option<Hint>) -> Result<String, AllocError>
+    ensures { IfOk result (λ text. string_bytes text ≡ shown_path path.now ++ (note.now ++ hint_after hint)) }
 {
-    format!(in alloc; "{}{told}", ShownPath(path))
+    format!(in alloc; "{}{note}{}", ShownPath(path), HintAfter(hint))
 }
 
 fn wrong_profile(
@@ -227,11 +234,16 @@ fn profile_fault(
     match oci_profile::read_placed_with(alloc, calls, bytes) {
         Ok(profile) => match compile(alloc, &profile) {
             Ok(_) | Err(CompileFault::Memory) => Ok(None),
-            Err(CompileFault::TooLong) => Ok(Some(behind(alloc, path, ": TooLong")?)),
+            Err(CompileFault::TooLong) => Ok(Some(behind(alloc, path, ": TooLong", None)?)),
         },
         Err(found) => match found.fault {
             ProfileFault::Memory => Ok(None),
-            _ => Ok(Some(behind(alloc, path, &profile_note(alloc, bytes, &found)?)?)),
+            _ => Ok(Some(behind(
+                alloc,
+                path,
+                &profile_note(alloc, bytes, &found)?,
+                hint_of_text(alloc, bytes, Wanted::Profile)?,
+            )?)),
         },
     }
 }

@@ -1,11 +1,11 @@
 ghost use Rattle.std.specs.Prelude.{◌≡◌};
 ghost use Rattle.runtime_server.specs.declared.connections.TheConstants.{MAX_CONNECTIONS};
-ghost use Rattle.runtime_server.specs.declared.site.TheConstants.{REST};
+ghost use Rattle.runtime_server.specs.declared.server.TheConstants.{REST};
 ghost use Rattle.runtime_server.specs.declared.path_lock.TheConstants.{LOCKS};
 ghost use Rattle.runtime_server.specs.declared.sockets.TheConstants.{FOLDERS};
 ghost use Rattle.runtime_stops.specs.declared.socket_fault.TheConstants.{MAX_NAME};
 ghost use Rattle.runtime_server.specs.declared.line_queue.TheConstants.{MAX_WAITING};
-ghost use Rattle.runtime_server.specs.declared.teller.TheConstants.{READER_PATIENCE};
+ghost use Rattle.runtime_server.specs.declared.line_writer.TheConstants.{READER_PATIENCE};
 ghost use Rattle.runtime_server.specs.declared.templates.TheConstants.{MAX_SEEN};
 
 /// The values of this crate's constants.

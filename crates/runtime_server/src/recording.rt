@@ -2,8 +2,8 @@
 ghost use Rattle.std.specs.Prelude.{◌≡◌, ◌↔◌, IsTrue};
 ghost use Rattle.runtime_server.specs.Recording.{HasEndedAlone, calls_of};
 
+use crate::line_writer::LineWriter;
 use crate::records_file::RecordsFile;
-use crate::teller::Teller;
 use cell_records::{RecordCalls, record_line};
 use cri_msgs::{Call, Request};
 use node_io::CausedFault;
@@ -24,7 +24,7 @@ pub struct Recorder {
     alloc: Global,
     known: CallTable,
     calls: RecordCalls,
-    lines: Arc<Teller, Global>,
+    lines: Arc<LineWriter, Global>,
 }
 
 /// Why no records can be written.
@@ -60,7 +60,7 @@ impl Recorder {
     ) -> Result<Recorder, RecordsFault> {
         let alloc = system.alloc();
         let file = RecordsFile::at(&system, program, path)?;
-        let lines = Teller::start(rt, system, file)?;
+        let lines = LineWriter::start(rt, system, file)?;
         Ok(Recorder {
             alloc,
             known,

@@ -1,7 +1,7 @@
 //! The file to which records are appended.
 
+use crate::line_writer::Outlet;
 use crate::recording::RecordsFault;
-use crate::teller::Outlet;
 use fault_notes::ShownPath;
 use node_io::{Cause, CausedFault};
 use std::alloc::AllocError;

@@ -1,14 +1,14 @@
 ghost use Rattle.std.specs.Prelude.{◌≡◌};
 ghost use Rattle.runtime_server.specs.Telling.{told_where};
 
-use crate::engine::start_runners;
 use crate::inputs::{baseline_at, look_at_folders};
+use crate::line_writer::{LineWriter, Stream};
 use crate::recording::recorder_for;
-use crate::site::{Address, Reports, Site, Tells, accept_all};
-use crate::teller::{Stream, Teller};
+use crate::server::{Reports, RuntimeServer, ServerConfig, Tells, accept_all};
+use crate::threads::start_runners;
 use command_line::{ScriptdLine, scriptd_line};
 use runner::{Begun, Node};
-use runtime_stops::{ServerStop, Told, socket_stop};
+use runtime_stops::{ServerStop, StopLine, socket_stop};
 use std::alloc::AllocError;
 use std::io::Write;
 use std::marker::Brand;
@@ -35,7 +35,7 @@ pub fn scriptd_run<R: Threads + Wait + Clock + Copy + Send + Sync + 'static, O: 
 
 // Reports why the program ends, and returns its status, even if the report can't be written.
 fn tell_stop<E: Write>(stop: &ServerStop<'_>, err: &mut E) -> u8 {
-    let told = Told {
+    let told = StopLine {
         program: "scriptd",
         stop,
     };
@@ -64,29 +64,29 @@ fn run_line<'a, B: Node + Send + Sync, R: Threads + Wait + Clock + Copy + Send +
 ) -> Result<(), ServerStop<'a>>
     requires { begun ≡ (B.filter, B.table) }
 {
-    let teller = Teller::start(*rt, *system, Stream::Error)?;
+    let writer = LineWriter::start(*rt, *system, Stream::Error)?;
     let (path, calls) = (line.records, line.calls);
     let recorder = recorder_for(rt, system, "scriptd", path, calls, line.records_all)?;
     let reports = Reports {
-        teller: Some(teller),
+        writer: Some(writer),
         recorder,
         causes: None,
     };
-    let site = match Site::<B>::open(rt, system, address_of(line), begun, reports) {
-        Ok(site) => site,
+    let server = match RuntimeServer::<B>::open(rt, system, config_of(line), begun, reports) {
+        Ok(server) => server,
         Err(fault) => return Err(socket_stop(line.socket, fault)),
     };
-    Ok(serve(rt, system, &site, line.runners)?)
+    Ok(serve(rt, system, &server, line.runners)?)
 }
 
-fn address_of<'a>(line: &ScriptdLine<'a>) -> Address<'a>
+fn config_of<'a>(line: &ScriptdLine<'a>) -> ServerConfig<'a>
     ensures socket { result.socket ≡ line.now.socket }
     ensures scripts { result.scripts ≡ line.now.scripts }
     ensures profiles { result.profiles ≡ line.now.profiles }
     ensures calls { result.calls ≡ line.now.calls }
     ensures tells { result.tells ≡ told_where line.now.verbose }
 {
-    Address {
+    ServerConfig {
         socket: line.socket,
         scripts: line.scripts,
         profiles: line.profiles,
@@ -99,16 +99,16 @@ fn address_of<'a>(line: &ScriptdLine<'a>) -> Address<'a>
     }
 }
 
-// Serves until the site is closed. If a thread for a runner can't be started, it is closed immediately.
+// Serves until the server is closed. If a thread for a runner can't be started, it is closed immediately.
 fn serve<B: Node + Send + Sync, R: Threads + Wait + Clock + Sync>(
     rt: &R,
     system: &HostRuntime,
-    site: &Site<'_, B>,
+    server: &RuntimeServer<'_, B>,
     runners: u32,
 ) -> Result<(), AllocError> {
     scope(scope_env(), rt, move |scope| {
-        let served = serve_in(scope, rt, system, site, runners);
-        site.close(rt, system);
+        let served = serve_in(scope, rt, system, server, runners);
+        server.close(rt, system);
         served
     })
 }
@@ -117,10 +117,10 @@ fn serve_in<'s, 'e, B: Node + Send + Sync, R: Threads + Wait + Clock + Sync>(
     scope: &'s Scope<'s, &'e ()>,
     rt: &'e R,
     system: &'e HostRuntime,
-    site: &'e Site<'e, B>,
+    server: &'e RuntimeServer<'e, B>,
     runners: u32,
 ) -> Result<(), AllocError> {
-    start_runners(scope, rt, &site.engine, runners)?;
-    accept_all(scope, rt, system, site);
+    start_runners(scope, rt, &server.threads, runners)?;
+    accept_all(scope, rt, system, server);
     Ok(())
 }

@@ -4,7 +4,7 @@ ghost use Rattle.std.specs.Prelude.{◌≡◌, IfOk, string_bytes};
 ghost use Rattle.runtime_server.specs.Telling.{listening_text, name_behind};
 
 use crate::diagnosis::Wrong;
-use crate::site::Address;
+use crate::server::ServerConfig;
 use cri_msgs::{Answer, Reply, Request, Version};
 use fault_notes::{ShownPath, refusal_name};
 use runtime_core::uid_of;
@@ -12,12 +12,12 @@ use std::alloc::{AllocError, Global};
 use std::str;
 
 /// The first log line of a runtime.
-pub(crate) fn listening_line(alloc: Global, address: Address<'_>) -> Result<String, AllocError>
-    ensures { IfOk result (λ line. string_bytes line ≡ listening_text address.entry) }
+pub(crate) fn listening_line(alloc: Global, config: ServerConfig<'_>) -> Result<String, AllocError>
+    ensures { IfOk result (λ line. string_bytes line ≡ listening_text config.entry) }
 {
-    let socket = ShownPath(address.socket);
-    let scripts = ShownPath(address.scripts);
-    let profiles = ShownPath(address.profiles);
+    let socket = ShownPath(config.socket);
+    let scripts = ShownPath(config.scripts);
+    let profiles = ShownPath(config.profiles);
     format!(in alloc; "listens at {socket}, scripts in {scripts}, profiles in {profiles}")
 }
 

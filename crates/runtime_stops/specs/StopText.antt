@@ -14,6 +14,7 @@ use Rattle.node_io.specs.Causes.{cause_text}
 use Rattle.node_io.specs.declared.causes.Cause.{Cause}
 use Rattle.node_io.specs.declared.causes.Cause.TheVariants.{Gone}
 use Rattle.node_io.specs.FaultText.{caused_text}
+use Rattle.wrong_files.specs.HintText.{hint_after}
 use Rattle.runtime_stops.specs.declared.socket_fault.SocketFault.{SocketFault}
 use Rattle.runtime_stops.specs.declared.socket_fault.SocketFault.TheVariants as socket
 use Rattle.runtime_stops.specs.declared.socket_fault.TheConstants.{MAX_NAME}
@@ -75,8 +76,9 @@ stop_text program (UnknownCommand word) = Some (program ++ codes ": " ++ shown_p
     ++ codes ": UnknownCommand\n")
 stop_text program (Misfit word why) = Some (program ++ codes ": " ++ word.now ++ codes ": " ++ misfit_text why
     ++ codes "\n")
-stop_text program (Baseline path refusal) =
-    Some (program ++ codes ": " ++ shown_path path.now ++ codes ": " ++ refusal_name refusal ++ codes "\n")
+stop_text program (Baseline path refusal hint) =
+    Some (program ++ codes ": " ++ shown_path path.now ++ codes ": " ++ refusal_name refusal
+    ++ hint_after hint ++ codes "\n")
 stop_text program (File path caused) = Some
     (program ++ codes ": " ++ shown_path path.now ++ codes ": " ++ caused_text caused ++ codes "\n")
 stop_text program (Socket path fault) =

@@ -17,7 +17,7 @@ use Rattle.runtime_stops.specs.declared.stops.ServerStop.TheVariants.{Baseline, 
 use Rattle.runtime_stops.specs.declared.stops.ServerStop.TheVariants.{Memory, UnknownCommand}
 
 abbrev pub status_of : ServerStop → ℕ
-status_of (Baseline path refusal) = 1
+status_of (Baseline path refusal hint) = 1
 status_of (CommandLine error) = 2
 status_of (BadNumber word) = 2
 status_of (UnknownCommand word) = 2

@@ -2,7 +2,7 @@
 //!
 //! # What is proved
 //!
-//! - The text and the status, except for clap's words: `ServerStop::status`, `Display` of `Told`,
+//! - The text and the status, except for clap's words: `ServerStop::status`, `Display` of `StopLine`,
 //!   `file_stop`, `From` of `ServerStop`.
 //! - Why no socket can be made, from the error it is made from: `socket_stop`, `From` of `SocketFault`.
 #![tactic(auto)]
@@ -11,4 +11,4 @@ mod socket_fault;
 mod stops;
 
 pub use socket_fault::{MAX_NAME, SocketFault};
-pub use stops::{ServerStop, Told, file_stop, socket_stop};
+pub use stops::{ServerStop, StopLine, file_stop, socket_stop};

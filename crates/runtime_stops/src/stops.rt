@@ -10,6 +10,7 @@ use fault_notes::ShownPath;
 use node_io::{Cause, CausedFault, FileFault};
 use std::alloc::{AllocError, AllocFailed};
 use std::fmt;
+use wrong_files::{Hint, HintAfter};
 
 /// Why a program that serves a runtime ends before its work is done.
 #[derive(Debug, Drop)]
@@ -22,8 +23,8 @@ pub enum ServerStop<'a> {
     UnknownCommand(&'a str),
     /// This option of the command line does not go with the others, or is required and missing.
     Misfit(&'static str, Misfit),
-    /// The node's own filter is refused.
-    Baseline(&'a str, Refusal),
+    /// The node's own filter is refused; the hint states what its file seems to be.
+    Baseline(&'a str, Refusal, Option<Hint>),
     /// A file can't be read, or there is no such folder.
     File(&'a str, CausedFault),
     /// No socket can be made at this path.
@@ -43,7 +44,7 @@ impl ServerStop<'_> {
         ensures { result ≡ status_of self.now }
     {
         match self {
-            ServerStop::Baseline(_, _) => 1,
+            ServerStop::Baseline(_, _, _) => 1,
             ServerStop::CommandLine(_)
             | ServerStop::BadNumber(_)
             | ServerStop::UnknownCommand(_)
@@ -88,7 +89,7 @@ fn is_gone(cause: Cause) -> bool
 
 /// A stop as the program of this name prints it, with the line end.
 #[derive(Clone, Copy)]
-pub struct Told<'t, 'a> {
+pub struct StopLine<'t, 'a> {
     /// The program's name.
     pub program: &'static str,
     /// Why it ends.
@@ -96,7 +97,7 @@ pub struct Told<'t, 'a> {
 }
 
 /// A refused command line is reported with clap's own message.
-impl fmt::Display for Told<'_, '_> {
+impl fmt::Display for StopLine<'_, '_> {
     ghost use Rattle.runtime_stops.specs.StopText.{stop_text};
 
     ghost output = { λ told. stop_text told.program.now told.stop.now };
@@ -110,11 +111,12 @@ impl fmt::Display for Told<'_, '_> {
                 writeln!(f, "{program}: {}: UnknownCommand", ShownPath(word))
             }
             ServerStop::Misfit(word, why) => writeln!(f, "{program}: {word}: {why}"),
-            ServerStop::Baseline(path, refusal) => writeln!(
+            ServerStop::Baseline(path, refusal, hint) => writeln!(
                 f,
-                "{program}: {}: {}",
+                "{program}: {}: {}{}",
                 ShownPath(path),
-                name_of(*refusal)
+                name_of(*refusal),
+                HintAfter(*hint)
             ),
             ServerStop::File(path, fault) => writeln!(f, "{program}: {}: {fault}", ShownPath(path)),
             ServerStop::Socket(path, fault) => writeln!(

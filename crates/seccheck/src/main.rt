@@ -1,8 +1,8 @@
 //! Inspects seccomp filters, and runs them: see `seccheck --help`.
 #![tactic(auto)]
 
-use checker::seccheck_run_on;
 use host_io::open_closed;
+use seccheck_cli::seccheck_run_on;
 use std::env;
 use std::io::{self, ErrorKind, IsTerminal};
 use std::process::ExitCode;

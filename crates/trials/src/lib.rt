@@ -6,4 +6,4 @@ mod samples;
 mod trial;
 
 pub use samples::{PROFILE, SCRIPT, files};
-pub use trial::{Came, Told, Trial, tried};
+pub use trial::{Came, Trial, TrialResult, tried};

@@ -38,7 +38,7 @@ pub trait Trial {
 
 /// The result of a trial.
 #[derive(Clone, Copy, PartialEq, Eq)]
-pub enum Told {
+pub enum TrialResult {
     /// There was no memory for the state, or the state is not valid.
     NotSetUp,
     /// A line around the call was not written.
@@ -53,48 +53,48 @@ pub enum Told {
     Refused(Came),
 }
 
-impl Told {
+impl TrialResult {
     /// The text that a program of trials prints.
     pub fn text(self) -> &'static str {
         match self {
-            Told::NotSetUp => "not set up",
-            Told::Unmarked => "no line can be written",
-            Told::Right => "right",
-            Told::Wrong => "wrong",
-            Told::Changed => "Memory, and something changed",
-            Told::Refused(Came::Right) => "Memory, nothing changed, then right",
-            Told::Refused(Came::Wrong) => "Memory, nothing changed, then wrong",
-            Told::Refused(Came::Memory) => "Memory, nothing changed, then Memory",
+            TrialResult::NotSetUp => "not set up",
+            TrialResult::Unmarked => "no line can be written",
+            TrialResult::Right => "right",
+            TrialResult::Wrong => "wrong",
+            TrialResult::Changed => "Memory, and something changed",
+            TrialResult::Refused(Came::Right) => "Memory, nothing changed, then right",
+            TrialResult::Refused(Came::Wrong) => "Memory, nothing changed, then wrong",
+            TrialResult::Refused(Came::Memory) => "Memory, nothing changed, then Memory",
         }
     }
 }
 
 /// Makes the call between the two lines that delimit where allocations are counted and refused, and returns
 /// the result. After a refusal the same call is made once more.
-pub fn tried<T: Trial + Drop>(rt: &HostRuntime, trial: Option<T>) -> Told {
+pub fn tried<T: Trial + Drop>(rt: &HostRuntime, trial: Option<T>) -> TrialResult {
     let Some(mut trial) = trial else {
-        return Told::NotSetUp;
+        return TrialResult::NotSetUp;
     };
     let begun = tell(rt, "call begins\n");
     let answer = trial.call();
     let ended = tell(rt, "call ended\n");
     if begun.is_err() || ended.is_err() {
-        return Told::Unmarked;
+        return TrialResult::Unmarked;
     }
     match trial.came(&answer) {
-        Came::Right => Told::Right,
-        Came::Wrong => Told::Wrong,
+        Came::Right => TrialResult::Right,
+        Came::Wrong => TrialResult::Wrong,
         Came::Memory => behind(&mut trial),
     }
 }
 
 /// The result after a refusal.
-fn behind<T: Trial>(trial: &mut T) -> Told {
+fn behind<T: Trial>(trial: &mut T) -> TrialResult {
     if !trial.is_unchanged() {
-        return Told::Changed;
+        return TrialResult::Changed;
     }
     let answer = trial.call();
-    Told::Refused(trial.came(&answer))
+    TrialResult::Refused(trial.came(&answer))
 }
 
 fn tell(rt: &HostRuntime, line: &str) -> io::Result<()> {

@@ -22,8 +22,8 @@ use Rattle.worker_pod.specs.declared.sandbox.Sandbox.TheVariants as sandbox
 use Rattle.worker_pod.specs.declared.settings.Settings.{Settings}
 use Rattle.cri_msgs.specs.Calls.{uid_of}
 use Rattle.worker_pod.specs.Laws.{AreNumbered, AreOf, Creation, EndedWell, Follows, HasEnded, IsNumberedIn}
-use Rattle.worker_pod.specs.Laws.{LastRun, Told, WasTold, key_named}
-use Rattle.worker_pod.specs.Next.{due_of, duty_in, duty_of, has_come, next_by, next_of, numbered, phase_in}
+use Rattle.worker_pod.specs.Laws.{LastRun, RunReported, RunsReported, key_named}
+use Rattle.worker_pod.specs.Next.{action_in, action_of, due_of, has_come, next_by, next_of, numbered, phase_in}
 use Rattle.worker_pod.specs.Next.{unmaking}
 use Rattle.worker_pod.specs.Past.{Claimed, Kept, Past, held_of, read_off}
 use Rattle.worker_core.specs.declared.answers.Answer.{Answer}
@@ -79,13 +79,13 @@ made_undeleted : (kept : Kept) (now : ℕ) (key : Key) (image : List ℕ) (profi
     → next_of kept now ≡ Some (CreateContainer key image profile) → kept.deleted ≡ false
 made_undeleted kept now key image profile e = by_rest (nat_le kept.rest now) e where
   by_deleted : (d : Bool) → kept.deleted ≡ d
-      → next_by kept now (if d then unmaking kept.sandbox else duty_in (phase_in kept) kept.sandbox)
+      → next_by kept now (if d then unmaking kept.sandbox else action_in (phase_in kept) kept.sandbox)
       ≡ Some (CreateContainer key image profile)
       → kept.deleted ≡ false
   by_deleted true is e = absurd (unmakes kept now key image profile kept.sandbox e)
   by_deleted false is e = is
 
-  by_rest : (b : Bool) → (if b then next_by kept now (duty_of kept) else None)
+  by_rest : (b : Bool) → (if b then next_by kept now (action_of kept) else None)
       ≡ Some (CreateContainer key image profile) → kept.deleted ≡ false
   by_rest true e = by_deleted kept.deleted refl e
   by_rest false e = absurd cc
@@ -100,7 +100,7 @@ module _
     (tolds : (settings : Settings) (pod : Pod) (claims : List Claimed) → AreOf pod.uid claims
     → (at : ℕ) (track : Track) (container : Container)
     → slice_get (read_off pod settings claims).tracks at ≡ Some track
-    → slice_get pod.containers.all at ≡ Some container → WasTold pod.uid claims container.name track)
+    → slice_get pod.containers.all at ≡ Some container → RunsReported pod.uid claims container.name track)
     (numbers : (settings : Settings) (past : Past) (now : ℕ) (call : Call) → AreOf past.pod.uid past.claims
     → AreNumbered settings past.pod past.claims
     → next_of (held_of settings past) now ≡ Some call
@@ -109,7 +109,7 @@ module _
     → AreNumbered settings pod claims → (at : ℕ) (track : Track) (container : Container)
     → slice_get (read_off pod settings claims).tracks at ≡ Some track
     → slice_get pod.containers.all at ≡ Some container
-    → (k : ℕ) (run : Run) → slice_get track.runs k ≡ Some run → Told pod.uid claims container.name k run)
+    → (k : ℕ) (run : Run) → slice_get track.runs k ≡ Some run → RunReported pod.uid claims container.name k run)
     (counts : (settings : Settings) (pod : Pod) (claims : List Claimed)
     → length (read_off pod settings claims).tracks ≡ length pod.containers.all)
     (inits : (settings : Settings) (pod : Pod) (claims : List Claimed) (at : ℕ) (track : Track)
@@ -264,10 +264,10 @@ module _
 
     -- the last of a container's runs was reported
     told_last : (uid : List ℕ) (claims : List Claimed) (name : List ℕ) (track : Track)
-        → WasTold uid claims name track → (run : Run) → last_of track.runs ≡ Some run
-        → (k : ℕ) × Told uid claims name k run
+        → RunsReported uid claims name track → (run : Run) → last_of track.runs ≡ Some run
+        → (k : ℕ) × RunReported uid claims name k run
     told_last uid claims name track told run last =
-        subst (λ (r : Run). (k : ℕ) × Told uid claims name k r)
+        subst (λ (r : Run). (k : ℕ) × RunReported uid claims name k r)
         (get_or_from_slice_get track.runs (length track.runs - 1) run run last)
         (told.runs (length track.runs - 1) run (slice_get_within track.runs (length track.runs - 1) run last))
 
@@ -295,7 +295,7 @@ module _
               c.in_order at track found.2 (inits old.settings p.past.pod p.past.claims at track found.2 ∙ is)
               (λ init. before (sym (inits old.settings p.past.pod p.past.claims c.place c.track c.here)
               ∙ init)) in
-              let told : (k : ℕ) × Told p.past.pod.uid p.past.claims container.name k e.run =
+              let told : (k : ℕ) × RunReported p.past.pod.uid p.past.claims container.name k e.run =
               told_last p.past.pod.uid p.past.claims container.name track
               (tolds old.settings p.past.pod p.past.claims (good.of_pod from p here) at track container
               found.2 there) e.run e.last in
@@ -322,7 +322,7 @@ module _
         let pod_same : (state_of old p).pod ≡ p.past.pod = pod_is old.settings p.past.pod p.past.claims in
         let named : slice_get p.past.pod.containers.all c.place ≡ Some c.container =
         ap (λ (pod : Pod). slice_get pod.containers.all c.place) (sym pod_same) ∙ c.named in
-        let told : WasTold p.past.pod.uid p.past.claims c.container.name c.track =
+        let told : RunsReported p.past.pod.uid p.past.claims c.container.name c.track =
         tolds old.settings p.past.pod p.past.claims (good.of_pod g.place p g.here) c.place c.track
         c.container c.here named in
         record {

@@ -16,7 +16,7 @@ use Rattle.worker_pod.specs.declared.settings.Outcome.{Outcome}
 use Rattle.worker_pod.specs.declared.settings.Outcome.TheVariants as outcome
 use Rattle.worker_pod.specs.declared.settings.Settings.{Settings}
 use Rattle.cri_msgs.specs.Calls.{uid_of}
-use Rattle.worker_pod.specs.Laws.{AreOf, Creation, Told, WasTold, key_named}
+use Rattle.worker_pod.specs.Laws.{AreOf, Creation, RunReported, RunsReported, key_named}
 use Rattle.worker_pod.specs.Next.{is_gone, next_of}
 use Rattle.worker_pod.specs.Past.{Claimed, Kept, held_of, read_off}
 use Rattle.worker_core.specs.declared.answers.Answer.{Answer}
@@ -147,14 +147,14 @@ pub record NodeLaws (settings : Settings) (ls : List NodeLink) : Type 0 where
       ≡ Some track
       → slice_get p.past.pod.containers.all place ≡ Some container
       → (k : ℕ) (run : Run) → slice_get track.runs k ≡ Some run
-      → Told p.past.pod.uid p.past.claims container.name k run
+      → RunReported p.past.pod.uid p.past.claims container.name k run
   -- and if the container's attempt ended, the last run is that attempt's
   pub told : (at : ℕ) (p : OnNode) → slice_get (node_now settings ls).pods at ≡ Some p
       → (place : ℕ) (track : Track) (container : Container)
       → slice_get (read_off p.past.pod (node_now settings ls).settings p.past.claims).tracks place
       ≡ Some track
       → slice_get p.past.pod.containers.all place ≡ Some container
-      → WasTold p.past.pod.uid p.past.claims container.name track
+      → RunsReported p.past.pod.uid p.past.claims container.name track
 
 abbrev pub state_of : NodeState → OnNode → Kept
 state_of node p = held_of node.settings p.past
@@ -181,7 +181,7 @@ pub record Again (node : NodeState) (p : OnNode) (place : ℕ) (track : Track) (
     (k : ℕ) : Type 0 where
   pub run : Run
   pub last : last_of track.runs ≡ Some run
-  pub was_told : Told p.past.pod.uid p.past.claims container.name k run
+  pub was_told : RunReported p.past.pod.uid p.past.claims container.name k run
   pub may : may_restart p.past.pod.policy (is_init p.past.pod place) run.code ≡ true
   pub ready : ready_at track.runs ≤ node.moment
 
@@ -193,7 +193,7 @@ pub record EndedWithZero (node : NodeState) (p : OnNode) (place : ℕ) (containe
   pub last : last_of track.runs ≡ Some run
   pub zero : run.code ≡ 0
   pub attempt : ℕ
-  pub was_told : Told p.past.pod.uid p.past.claims container.name attempt run
+  pub was_told : RunReported p.past.pod.uid p.past.claims container.name attempt run
 
 -- if an attempt at a container is made: the request follows the manifest; the init containers, for one of
 -- them those before it, have ended with code 0; and a further attempt comes after one that ended

@@ -7,8 +7,8 @@ use Rattle.worker_core.specs.declared.events.AgentEvent.TheVariants.{Claim}
 use Rattle.worker_core.specs.Slots.{held_in, is_settled}
 use Rattle.worker_core.specs.Turns.{soonest}
 use Rattle.node_lock.specs.Books.{Books, last_number, needed}
-use Rattle.worker_crew.specs.declared.idle.Standstill.{Standstill}
-use Rattle.worker_crew.specs.declared.idle.Standstill.TheVariants as idle
+use Rattle.worker_crew.specs.declared.idle.IdleReason.{IdleReason}
+use Rattle.worker_crew.specs.declared.idle.IdleReason.TheVariants as idle
 use Rattle.worker_crew.specs.declared.pace.Ended.TheVariants as ended
 use Rattle.worker_crew.specs.declared.pace.Next.{Next}
 use Rattle.worker_crew.specs.declared.pace.Next.TheVariants as next
@@ -37,7 +37,7 @@ IsBusy book workers now = (0 < workers) × ((0 < held_in book.node.slots)
 
 -- What stops the node at this moment; none if the workers have something to do. Each case excludes the
 -- others.
-abbrev pub Stands : Books → ℕ → ℕ → Option Standstill → Type 0
+abbrev pub Stands : Books → ℕ → ℕ → Option IdleReason → Type 0
 Stands book workers now None = IsBusy book workers now
 Stands book workers now (Some idle.Deserted) = workers ≡ 0
 Stands book workers now (Some idle.Over) = IsIdle book workers × IsOver book
@@ -53,7 +53,7 @@ abbrev pub entries_since : Books → ℕ → ℕ
 entries_since book ticked = last_number book - ticked
 
 -- the same by the virtual clock: a moment with too many entries counts as endless
-abbrev pub StandsByCount : Books → ℕ → ℕ → ℕ → Option Standstill → Type 0
+abbrev pub StandsByCount : Books → ℕ → ℕ → ℕ → Option IdleReason → Type 0
 StandsByCount book workers ticked now None = IsBusy book workers now
     × (entries_since book ticked ≤ MAX_AT_MOMENT)
 StandsByCount book workers ticked now (Some idle.Endless) = IsBusy book workers now
@@ -62,13 +62,13 @@ StandsByCount book workers ticked now found = Stands book workers now found
 
 -- when to read the machine's clock again, if nothing changes before: in a second, if workers have something
 -- to do
-abbrev pub next_look : Option Standstill → ℕ → ℕ
+abbrev pub next_look : Option IdleReason → ℕ → ℕ
 next_look None now = later now 1
 next_look (Some (idle.At due)) now = due
 next_look (Some found) now = 2 ^ 64 - 1
 
 -- what the virtual clock does next
-abbrev pub next_of : Option Standstill → ℕ → Next
+abbrev pub next_of : Option IdleReason → ℕ → Next
 next_of None until = next.Nothing
 next_of (Some idle.Over) until = next.End ended.Settled
 next_of (Some idle.Never) until = next.End ended.TimeUp

@@ -154,7 +154,7 @@ reasons_behind moment call trouble cause None reasons = without_pod (uid_of call
 reasons_behind moment call trouble cause (Some slot) reasons = noted moment call trouble cause reasons
 
 -- the report on the end of a call: what changed of its pod, and then why the pod's containers wait
-pub record EndsTold (form : Form) (moment : ℕ) (call : Call) (trouble : Option Trouble)
+pub record EndsReported (form : Form) (moment : ℕ) (call : Call) (trouble : Option Trouble)
     (cause : Option (List ℕ)) (slot : Option Slot) (seen : Option PodSeen) (waits : Option PodWaits) (old new : Beside) : Type 0 where
   pub changed : Beside
   pub noted : Beside
@@ -191,7 +191,7 @@ EndsCounted Reasons moment node event cause call seen waits old new =
 EndsCounted (Changes form) moment node event cause call seen waits old new =
     Adds (IsChange form moment old.counts (uid_of call) (slot_of (uid_of call) node.slots) seen) old new
 EndsCounted (ChangesAndReasons form) moment node event cause call seen waits old new =
-    EndsTold form moment call (trouble_of event (slot_of (uid_of call) node.slots)) cause
+    EndsReported form moment call (trouble_of event (slot_of (uid_of call) node.slots)) cause
     (slot_of (uid_of call) node.slots) seen waits old new
 
 -- the same, with the update of the counts first
@@ -218,7 +218,7 @@ AdmitsWaits form moment None old new = new ≡ old
 AdmitsWaits form moment (Some slot) old new =
     Adds (IsWaitChange form moment old.reasons (Some slot) None) old new
 
-pub record AdmitsTold (form : Form) (moment : ℕ) (slot : Option Slot) (old new : Beside) : Type 0 where
+pub record AdmitsReported (form : Form) (moment : ℕ) (slot : Option Slot) (old new : Beside) : Type 0 where
   pub changed : Beside
   pub change : AdmitsSeen form moment slot old changed
   pub wait : AdmitsWaits form moment slot changed new
@@ -227,7 +227,7 @@ abbrev pub Admits : Observed → ℕ → Option Slot → Beside → Beside → T
 Admits Nothing moment slot old new = new ≡ old
 Admits Reasons moment slot old new = new ≡ old
 Admits (Changes form) moment slot old new = AdmitsSeen form moment slot old new
-Admits (ChangesAndReasons form) moment slot old new = AdmitsTold form moment slot old new
+Admits (ChangesAndReasons form) moment slot old new = AdmitsReported form moment slot old new
 
 -- what worker 0 did: the admission of a pod is a change
 abbrev pub Observes : Observed → ℕ → KeptNode → AgentEvent → core_answer.Answer → Beside → Beside → Type 0

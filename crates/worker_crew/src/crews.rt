@@ -3,9 +3,9 @@ ghost use Rattle.std.specs.Prelude.{◌≡◌, ◌+◌, ◌<◌, ◌≤◌, IfSo
 ghost use Rattle.node_lock.specs.declared.limits.TheConstants.{PARTS};
 
 use crate::coordinator::Coordinator;
-use crate::errands::Errands;
 use crate::pace::{Counterpart, Ended, Pace, TimeKeeper};
 use crate::shared::Shared;
+use crate::tasks::CoordinatorTasks;
 use crate::worker::{Gate, Peer, work};
 use crate::worker_share::WorkerShare;
 use node_lock::Tally;
@@ -134,22 +134,22 @@ fn join_workers<L: Ledger, P: Drop, R: Threads>(
     whole
 }
 
-// Who works at a part of a history, and the errands of worker 0.
+// Who works at a part of a history, and the tasks of worker 0.
 #[derive(Drop)]
 struct WorkGroup<L: Ledger, P: Drop, E: Drop> {
     coordinator: Coordinator<L>,
     peers: Vec<P>,
-    errands: E,
+    tasks: E,
 }
 
 // The end of a part: the receipts for all that was done in it, if they could be joined, the peers, and the
-// errands of worker 0.
+// tasks of worker 0.
 #[derive(Drop)]
 struct PartEnd<L: Ledger, P: Drop, E: Drop> {
     ended: Ended,
     tally: Option<Tally<L>>,
     peers: Vec<P>,
-    errands: E,
+    tasks: E,
 }
 
 /// The end of a crew.
@@ -160,7 +160,7 @@ pub struct CrewEnd<L: Ledger, E: Drop> {
     /// The receipts for all that was done in the last part of the history. `None` if they could not be
     /// joined.
     pub tally: Option<Tally<L>>,
-    pub errands: E,
+    pub tasks: E,
 }
 
 // Works in a scope of threads until the part of the history is full, or there is nothing left to wait for.
@@ -171,7 +171,7 @@ fn work_part<
     P: Peer + Send + Drop + 's,
     G: Gate + Sync,
     C: Counterpart + Sync,
-    E: Errands + Drop,
+    E: CoordinatorTasks + Drop,
     R: Threads + Wait + Clock + Sync,
 >(
     scope: &'s Scope<'s, &'e ()>,
@@ -191,11 +191,11 @@ fn work_part<
     let WorkGroup {
         mut coordinator,
         peers,
-        mut errands,
+        mut tasks,
     } = crew;
     let pool = start_workers(scope, rt, alloc, shared, gate, &mut coordinator, peers);
     let mut ended = if pool.complete {
-        keeper.keep(rt, shared, counterpart, &mut coordinator, &mut errands)
+        keeper.keep(rt, shared, counterpart, &mut coordinator, &mut tasks)
     } else {
         Ended::Memory
     };
@@ -209,12 +209,12 @@ fn work_part<
     let mut tally = coordinator.into_tally();
     let mut back = Vec::new(alloc);
     let is_whole = join_workers(rt, &mut tally, &mut back, pool);
-    errands.tell(shared.take_changes(rt));
+    tasks.tell(shared.take_changes(rt));
     PartEnd {
         ended,
         tally: if is_whole { Some(tally) } else { None },
         peers: back,
-        errands,
+        tasks,
     }
 }
 
@@ -224,7 +224,7 @@ fn part<
     P: Peer + Send + Drop,
     G: Gate + Sync,
     C: Counterpart + Sync,
-    E: Errands + Drop,
+    E: CoordinatorTasks + Drop,
     R: Threads + Wait + Clock + Sync,
 >(
     rt: &R,
@@ -253,7 +253,7 @@ fn part<
 }
 
 /// Starts a worker for each of these peers, numbered from 1, in a thread of its own. Beside them, it advances
-/// the time and runs the errands until there is nothing left to wait for; a virtual clock waits for the
+/// the time and runs the tasks until there is nothing left to wait for; a virtual clock waits for the
 /// counterpart's containers before it moves on. When a part of the history is full, the workers stop, and
 /// start again with the next part; the result is HistoryFull if the part can't end. At the end the book is
 /// closed, and calls in progress are ended. The tally has the receipts of all workers and of the coordinator
@@ -263,7 +263,7 @@ pub fn crew<
     P: Peer + Send + Drop,
     G: Gate + Sync,
     C: Counterpart + Sync,
-    E: Errands + Drop,
+    E: CoordinatorTasks + Drop,
     R: Threads + Wait + Clock + Sync,
 >(
     rt: &R,
@@ -273,7 +273,7 @@ pub fn crew<
     counterpart: &C,
     coordinator: Coordinator<L>,
     peers: Vec<P>,
-    errands: E,
+    tasks: E,
     pace: Pace,
 ) -> CrewEnd<L, E>
     requires few { vec_len peers < PARTS }
@@ -285,33 +285,33 @@ pub fn crew<
     let mut crew = WorkGroup {
         coordinator,
         peers,
-        errands,
+        tasks,
     };
     for _ in rt.forever() {
         let PartEnd {
             ended,
             tally,
             peers,
-            errands,
+            tasks,
         } = part(rt, alloc, shared, gate, counterpart, crew, keeper);
         let Some(mut tally) = tally else {
             return CrewEnd {
                 ended,
                 tally: None,
-                errands,
+                tasks,
             };
         };
         if ended != Ended::HistoryFull || shared.end_part(rt, &mut tally).is_err() {
             return CrewEnd {
                 ended,
                 tally: Some(tally),
-                errands,
+                tasks,
             };
         }
         crew = WorkGroup {
             coordinator: Coordinator::resume(tally),
             peers,
-            errands,
+            tasks,
         };
     }
     unreachable!()

@@ -7,7 +7,7 @@ use worker_core::AgentEvent;
 
 /// Why no worker has anything to do.
 #[derive(Clone, Copy, Debug, PartialEq, Eq)]
-pub(crate) enum Standstill {
+pub(crate) enum IdleReason {
     /// No worker is left.
     Deserted,
     /// Each pod is Succeeded or Failed.
@@ -23,12 +23,12 @@ pub(crate) enum Standstill {
 }
 
 /// What worker 0 has to do at this moment. `None` if the workers have something to do.
-pub(crate) fn standstill_of<L: Ledger>(book: &Book<L>, workers: u32, now: u64) -> Option<Standstill>
+pub(crate) fn idle_reason<L: Ledger>(book: &Book<L>, workers: u32, now: u64) -> Option<IdleReason>
     ensures { Stands book.now workers now result }
 {
     let node = book.node();
     if workers == 0 {
-        return Some(Standstill::Deserted);
+        return Some(IdleReason::Deserted);
     }
     if node.held() > 0 {
         return None;
@@ -36,14 +36,14 @@ pub(crate) fn standstill_of<L: Ledger>(book: &Book<L>, workers: u32, now: u64) -
     // A pod that is over has something due if it was deleted: it must leave.
     let due = node.next_due();
     if due.is_none() && node.is_settled() {
-        return Some(Standstill::Over);
+        return Some(IdleReason::Over);
     }
     if !book.has_room(&AgentEvent::Claim(1)) {
-        return Some(Standstill::Full);
+        return Some(IdleReason::Full);
     }
     match due {
-        None => Some(Standstill::Never),
-        Some(due) if due > now => Some(Standstill::At(due)),
+        None => Some(IdleReason::Never),
+        Some(due) if due > now => Some(IdleReason::At(due)),
         Some(_) => None,
     }
 }

@@ -13,7 +13,7 @@
 //! - No receipt is lost: the tally of a crew has all parts of the ledger. So it has as many receipts as the
 //!   last part of the history has entries: `crew`, `into_tally`.
 //! - These calls state what stops a node when its workers have nothing to do, when the machine's clock is
-//!   read again, and what the virtual clock does next: `standstill_of`, `counted_standstill`, `next_look`,
+//!   read again, and what the virtual clock does next: `idle_reason`, `virtual_idle_reason`, `next_look`,
 //!   `next_of`, which are private.
 //! - The reason why a claim failed follows from the event that ended it and from the kept state of its pod.
 //!   Each entry adds its line or reason: `observe`, `observe_end`, which are private.
@@ -24,20 +24,20 @@
 
 mod coordinator;
 mod crews;
-mod errands;
 mod idle;
 mod laws;
 mod observer;
 mod pace;
 mod shared;
+mod tasks;
 mod worker;
 mod worker_share;
 
 pub use coordinator::Coordinator;
 pub use crews::{CrewEnd, crew};
-pub use errands::{Errands, NoErrands};
 pub use laws::constants_are_as_stated;
 pub use observer::{Changes, MAX_CHANGES, Observed};
 pub use pace::{Counterpart, Ended, Pace};
-pub use shared::{BesideBook, NodeTeller, Shared};
+pub use shared::{BesideBook, DescribeNode, Shared};
+pub use tasks::{CoordinatorTasks, NoTasks};
 pub use worker::{Always, Gate, Peer, work};

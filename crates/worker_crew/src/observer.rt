@@ -18,8 +18,8 @@ ghost use Rattle.node_watch.specs.declared.seen.PodSeen.{PodSeen};
 ghost use Rattle.node_watch.specs.declared.waits.PodWaits.{PodWaits};
 ghost use Rattle.worker_core.specs.Slots.{claim_of, slot_of};
 ghost use Rattle.worker_crew.specs.declared.observer.TheConstants.{MAX_CHANGES};
-ghost use Rattle.worker_crew.specs.Observed.{Adds, Admits, AdmitsSeen, AdmitsTold, AdmitsWaits};
-ghost use Rattle.worker_crew.specs.Observed.{AreWaitsBefore, CountsTo, Ends, EndsCounted, EndsTold, IsBefore};
+ghost use Rattle.worker_crew.specs.Observed.{Adds, Admits, AdmitsSeen, AdmitsReported, AdmitsWaits};
+ghost use Rattle.worker_crew.specs.Observed.{AreWaitsBefore, CountsTo, Ends, EndsCounted, EndsReported, IsBefore};
 ghost use Rattle.worker_crew.specs.Observed.{IsChange, IsSeenBefore, counts_behind, counts_told};
 ghost use Rattle.worker_crew.specs.Observed.{IsWaitChange, Notes, reasons_behind, refusal_by, refusal_in};
 ghost use Rattle.worker_crew.specs.Observed.{trouble_by, trouble_of};
@@ -437,7 +437,7 @@ impl Observer {
         cause: Option<CauseText>,
         before: &Before,
     )
-        ensures { EndsTold form moment before.now.call
+        ensures { EndsReported form moment before.now.call
             (trouble_of entry.now.event (slot_of (uid_of before.now.call) node.now.slots)) cause
             (slot_of (uid_of before.now.call) node.now.slots) before.now.seen before.now.waits self.old
             self.new }
@@ -546,7 +546,7 @@ impl Observer {
     }
 
     fn tell_first(&mut self, form: Form, moment: u64, node: &Node, uid: &Uid)
-        ensures { AdmitsTold form moment (slot_of uid.now node.now.slots) self.old self.new }
+        ensures { AdmitsReported form moment (slot_of uid.now node.now.slots) self.old self.new }
     {
         self.add_first(form, moment, node, uid);
         self.add_first_waits(form, moment, node, uid);

@@ -6,9 +6,9 @@ ghost use Rattle.worker_crew.specs.Idle.{next_look, next_of};
 ghost use Rattle.worker_crew.specs.declared.pace.TheConstants.{LONGEST_WAIT};
 
 use crate::coordinator::Coordinator;
-use crate::errands::Errands;
-use crate::idle::Standstill;
+use crate::idle::IdleReason;
 use crate::shared::Shared;
+use crate::tasks::CoordinatorTasks;
 use std::sync::Wait;
 use std::sync::ledger::Ledger;
 use std::time::{Clock, Duration, Instant};
@@ -20,9 +20,9 @@ pub enum Pace {
     /// A virtual clock that starts at 0. Once no request is due and no pod is held, it moves to the next
     /// moment at which a request is due. It ends when each pod is Succeeded or Failed, and before any moment
     /// above this one.
-    Counted(u64),
+    Virtual(u64),
     /// The machine's clock. It ends at this moment, if there is one.
-    Machine(Option<u64>),
+    Real(Option<u64>),
 }
 
 /// Why a crew ended.
@@ -71,26 +71,26 @@ impl TimeKeeper {
     }
 
     /// Advances the time until there is nothing left to wait for, or the part of the history is full.
-    pub(crate) fn keep<L: Ledger, C: Counterpart, E: Errands, R: Wait + Clock>(
+    pub(crate) fn keep<L: Ledger, C: Counterpart, E: CoordinatorTasks, R: Wait + Clock>(
         &self,
         rt: &R,
         shared: &Shared<L>,
         counterpart: &C,
         coordinator: &mut Coordinator<L>,
-        errands: &mut E,
+        tasks: &mut E,
     ) -> Ended
         ensures { coordinator.new.parts ≡ coordinator.old.parts }
     {
         match self.pace {
-            Pace::Counted(until) => count(rt, shared, counterpart, coordinator, errands, until),
-            Pace::Machine(until) => self.watch(rt, shared, coordinator, errands, until),
+            Pace::Virtual(until) => count(rt, shared, counterpart, coordinator, tasks, until),
+            Pace::Real(until) => self.watch(rt, shared, coordinator, tasks, until),
         }
     }
 
     /// Waits for the workers of a full part, until the last moment at most. Each worker ends once its call has
     /// returned.
     pub(crate) fn rest<L: Ledger, R: Wait + Clock>(&self, rt: &R, shared: &Shared<L>) -> Ended {
-        if let Pace::Machine(Some(until)) = self.pace {
+        if let Pace::Real(Some(until)) = self.pace {
             for _ in rt.forever() {
                 if shared.wait_deserted_for(rt, self.left_until(rt, until)) {
                     break;
@@ -121,39 +121,39 @@ impl TimeKeeper {
         left_of(self.elapsed(rt), moment)
     }
 
-    fn watch<L: Ledger, E: Errands, R: Wait + Clock>(
+    fn watch<L: Ledger, E: CoordinatorTasks, R: Wait + Clock>(
         &self,
         rt: &R,
         shared: &Shared<L>,
         coordinator: &mut Coordinator<L>,
-        errands: &mut E,
+        tasks: &mut E,
         until: Option<u64>,
     ) -> Ended
         ensures { coordinator.new.parts ≡ coordinator.old.parts }
     {
         for _ in rt.forever() {
             let now = self.seconds(rt);
-            if !ran_errands(rt, shared, coordinator, errands, now) {
+            if !ran_tasks(rt, shared, coordinator, tasks, now) {
                 return fault_of(rt, shared);
             }
-            let found = shared.standstill(rt, now);
+            let found = shared.idle_reason(rt, now);
             match found {
-                Some(Standstill::Deserted) => return fault_of(rt, shared),
-                Some(Standstill::Full) => return Ended::HistoryFull,
+                Some(IdleReason::Deserted) => return fault_of(rt, shared),
+                Some(IdleReason::Full) => return Ended::HistoryFull,
                 // Nothing is due, so no entry is used to advance the time.
-                Some(Standstill::Over | Standstill::Never | Standstill::At(_)) => {}
-                Some(Standstill::Endless) | None => {
-                    if now > shared.moment() && !ticked(rt, shared, coordinator, errands, now) {
+                Some(IdleReason::Over | IdleReason::Never | IdleReason::At(_)) => {}
+                Some(IdleReason::Endless) | None => {
+                    if now > shared.moment() && !ticked(rt, shared, coordinator, tasks, now) {
                         return fault_of(rt, shared);
                     }
                 }
             }
-            if errands.stops() || until.is_some_and(|until| now >= until) {
+            if tasks.stops() || until.is_some_and(|until| now >= until) {
                 return Ended::TimeUp;
             }
             let next = next_look(found, now)
                 .min(until.unwrap_or(u64::MAX))
-                .min(next_errand(errands, now));
+                .min(next_task(tasks, now));
             shared.wait_change(rt, now, found, self.left_until(rt, next));
         }
         unreachable!()
@@ -162,19 +162,19 @@ impl TimeKeeper {
 
 // When to read the machine's clock again, if nothing changes before: in a second, if workers have something
 // to do.
-fn next_look(found: Option<Standstill>, now: u64) -> u64
+fn next_look(found: Option<IdleReason>, now: u64) -> u64
     ensures { result ≡ next_look found now }
 {
     match found {
-        Some(Standstill::At(due)) => due,
+        Some(IdleReason::At(due)) => due,
         Some(_) => u64::MAX,
         None => now.saturating_add(1),
     }
 }
 
-// When there may be an errand again.
-fn next_errand<E: Errands>(errands: &E, now: u64) -> u64 {
-    match errands.pause() {
+// When there may be an task again.
+fn next_task<E: CoordinatorTasks>(tasks: &E, now: u64) -> u64 {
+    match tasks.pause() {
         Some(seconds) => now.saturating_add(seconds),
         None => u64::MAX,
     }
@@ -197,28 +197,28 @@ fn left_of(passed: Duration, moment: u64) -> Duration
 }
 
 // Records the events due at this moment, and reports what changed. False if the book took no entry.
-fn ran_errands<L: Ledger, E: Errands, R: Wait>(
+fn ran_tasks<L: Ledger, E: CoordinatorTasks, R: Wait>(
     rt: &R,
     shared: &Shared<L>,
     coordinator: &mut Coordinator<L>,
-    errands: &mut E,
+    tasks: &mut E,
     now: u64,
 ) -> bool
     ensures { coordinator.new.parts ≡ coordinator.old.parts }
 {
     for _ in rt.forever() {
-        let Some(event) = errands.next() else {
+        let Some(event) = tasks.next() else {
             break;
         };
-        if now > shared.moment() && !ticked(rt, shared, coordinator, errands, now) {
+        if now > shared.moment() && !ticked(rt, shared, coordinator, tasks, now) {
             return false;
         }
         match coordinator.record(rt, shared, event) {
-            Ok(refusal) => errands.recorded(refusal),
+            Ok(refusal) => tasks.recorded(refusal),
             Err(_) => return false,
         }
     }
-    errands.tell(shared.take_changes(rt));
+    tasks.tell(shared.take_changes(rt));
     true
 }
 
@@ -233,17 +233,17 @@ fn fault_of<L: Ledger, R: Wait>(rt: &R, shared: &Shared<L>) -> Ended {
 
 // Advances the time to this moment. It is set first, so that workers woken by the tick see it. False if the
 // book took no entry.
-fn ticked<L: Ledger, E: Errands, R: Wait>(
+fn ticked<L: Ledger, E: CoordinatorTasks, R: Wait>(
     rt: &R,
     shared: &Shared<L>,
     coordinator: &mut Coordinator<L>,
-    errands: &mut E,
+    tasks: &mut E,
     now: u64,
 ) -> bool
     ensures { coordinator.new.parts ≡ coordinator.old.parts }
 {
     shared.tell(now);
-    errands.ticks(now);
+    tasks.ticks(now);
     coordinator
         .record(rt, shared, AgentEvent::Tick(now))
         .is_ok()
@@ -261,49 +261,49 @@ enum Next {
     Nothing,
 }
 
-fn next_of(found: Option<Standstill>, until: u64) -> Next
+fn next_of(found: Option<IdleReason>, until: u64) -> Next
     ensures { result ≡ next_of found until }
 {
     match found {
         None => Next::Nothing,
-        Some(Standstill::Over) => Next::End(Ended::Settled),
-        Some(Standstill::Never) => Next::End(Ended::TimeUp),
-        Some(Standstill::Endless) => Next::End(Ended::Endless),
-        Some(Standstill::Full) => Next::End(Ended::HistoryFull),
-        Some(Standstill::Deserted) => Next::Stuck,
-        Some(Standstill::At(due)) if due > until => Next::End(Ended::TimeUp),
-        Some(Standstill::At(due)) => Next::To(due),
+        Some(IdleReason::Over) => Next::End(Ended::Settled),
+        Some(IdleReason::Never) => Next::End(Ended::TimeUp),
+        Some(IdleReason::Endless) => Next::End(Ended::Endless),
+        Some(IdleReason::Full) => Next::End(Ended::HistoryFull),
+        Some(IdleReason::Deserted) => Next::Stuck,
+        Some(IdleReason::At(due)) if due > until => Next::End(Ended::TimeUp),
+        Some(IdleReason::At(due)) => Next::To(due),
     }
 }
 
-fn count<L: Ledger, C: Counterpart, E: Errands, R: Wait>(
+fn count<L: Ledger, C: Counterpart, E: CoordinatorTasks, R: Wait>(
     rt: &R,
     shared: &Shared<L>,
     counterpart: &C,
     coordinator: &mut Coordinator<L>,
-    errands: &mut E,
+    tasks: &mut E,
     until: u64,
 ) -> Ended
     ensures { coordinator.new.parts ≡ coordinator.old.parts }
 {
     for _ in rt.forever() {
         let now = shared.moment();
-        if !ran_errands(rt, shared, coordinator, errands, now) {
+        if !ran_tasks(rt, shared, coordinator, tasks, now) {
             return fault_of(rt, shared);
         }
-        match next_of(shared.next_standstill(rt, now), errands.until(until)) {
+        match next_of(shared.next_idle_reason(rt, now), tasks.until(until)) {
             Next::Nothing => {}
             Next::Stuck => return fault_of(rt, shared),
             Next::End(Ended::HistoryFull) => return Ended::HistoryFull,
             Next::End(ended) => {
-                if let Some(ended) = errands.at_end(ended, now) {
+                if let Some(ended) = tasks.at_end(ended, now) {
                     return ended;
                 }
             }
             Next::To(due) => {
                 // So the requests at the next moment do not depend on how far a runner has come.
                 counterpart.wait_idle();
-                if !ticked(rt, shared, coordinator, errands, due) {
+                if !ticked(rt, shared, coordinator, tasks, due) {
                     return fault_of(rt, shared);
                 }
             }

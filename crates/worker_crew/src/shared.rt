@@ -5,7 +5,7 @@ ghost use Rattle.node_lock.specs.Books.{worker_of};
 ghost use Rattle.worker_crew.specs.Idle.{Stands, StandsByCount};
 ghost use Rattle.worker_crew.specs.Observed.{Ends, IsBefore, Observes, ticked_by};
 
-use crate::idle::{Standstill, standstill_of};
+use crate::idle::{IdleReason, idle_reason};
 use crate::observer::{Before, Changes, Observed, Observer};
 use cri_msgs::Call;
 use manifest::Uid;
@@ -91,26 +91,26 @@ fn has_nothing<L: Ledger>(book: &Book<L>, worker: u32) -> bool {
 }
 
 /// Describes a node.
-pub trait NodeTeller {
+pub trait DescribeNode {
     /// The description.
-    type Told;
+    type Output;
 
     /// Describes the node, why its containers wait, and their calls' counts. Uses no file and no socket.
-    fn tell(
+    fn describe(
         &self,
         node: &Node,
         reasons: &Reasons,
         counts: &Counts,
-    ) -> Result<Self::Told, AllocError>;
+    ) -> Result<Self::Output, AllocError>;
 }
 
 // What worker 0 has to do, by the virtual clock.
-fn counted_standstill<L: Ledger>(guarded: &Guarded<L>, now: u64) -> Option<Standstill>
+fn virtual_idle_reason<L: Ledger>(guarded: &Guarded<L>, now: u64) -> Option<IdleReason>
     ensures { StandsByCount guarded.now.book guarded.now.workers guarded.now.ticked now result }
 {
-    match standstill_of(&guarded.book, guarded.workers, now) {
+    match idle_reason(&guarded.book, guarded.workers, now) {
         None if guarded.book.last_number().saturating_sub(guarded.ticked) > MAX_AT_MOMENT => Some(
-            Standstill::Endless,
+            IdleReason::Endless,
         ),
         found => found,
     }
@@ -347,19 +347,19 @@ impl<L: Ledger> Shared<L> {
     }
 
     /// What worker 0 has to do at this moment. `None` if workers have something to do.
-    pub(crate) fn standstill<R: Wait>(&self, rt: &R, now: u64) -> Option<Standstill> {
+    pub(crate) fn idle_reason<R: Wait>(&self, rt: &R, now: u64) -> Option<IdleReason> {
         let guarded = self.guarded.lock(rt);
-        standstill_of(&guarded.book, guarded.workers, now)
+        idle_reason(&guarded.book, guarded.workers, now)
     }
 
     /// Waits until workers have nothing to do, or have too much to ever end at this moment of the virtual
     /// clock, and returns which.
-    pub(crate) fn next_standstill<R: Wait>(&self, rt: &R, now: u64) -> Option<Standstill> {
+    pub(crate) fn next_idle_reason<R: Wait>(&self, rt: &R, now: u64) -> Option<IdleReason> {
         let guarded = self.guarded.lock(rt);
         let guarded = self.changed.wait_while(rt, guarded, |guarded| {
-            counted_standstill(guarded, now).is_none()
+            virtual_idle_reason(guarded, now).is_none()
         });
-        counted_standstill(&guarded, now)
+        virtual_idle_reason(&guarded, now)
     }
 
     /// Waits, for this long at most, until there is something else to do at this moment than was found, or a
@@ -368,7 +368,7 @@ impl<L: Ledger> Shared<L> {
         &self,
         rt: &R,
         now: u64,
-        found: Option<Standstill>,
+        found: Option<IdleReason>,
         most: Duration,
     ) {
         let guarded = self.guarded.lock(rt);
@@ -376,7 +376,7 @@ impl<L: Ledger> Shared<L> {
             .changed
             .wait_timeout_while(rt, guarded, most, |guarded| {
                 !guarded.observer.has_changes()
-                    && standstill_of(&guarded.book, guarded.workers, now) == found
+                    && idle_reason(&guarded.book, guarded.workers, now) == found
             });
         drop((guarded, timed));
     }
@@ -435,16 +435,15 @@ impl<L: Ledger> Shared<L> {
         }
     }
 
-    /// A teller's description of the node, of why its containers wait and of their calls, made under the
-    /// lock.
-    pub fn told_by<R: Wait, T: NodeTeller>(
+    /// A description of the node, of why its containers wait and of their calls, made under the lock.
+    pub fn describe<R: Wait, T: DescribeNode>(
         &self,
         rt: &R,
-        teller: &T,
-    ) -> Result<T::Told, AllocError> {
+        form: &T,
+    ) -> Result<T::Output, AllocError> {
         let guarded = self.guarded.lock(rt);
         let observer = &guarded.observer;
-        teller.tell(guarded.book.node(), observer.reasons(), observer.counts())
+        form.describe(guarded.book.node(), observer.reasons(), observer.counts())
     }
 
     /// Whether the book still has room for a claim.

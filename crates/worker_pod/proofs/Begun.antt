@@ -10,10 +10,10 @@ use Rattle.lifecycle.specs.declared.track.Track.{Track}
 use Rattle.manifest.specs.Containers.{ContainerList}
 use Rattle.manifest.specs.declared.containers.Container.{Container}
 use Rattle.cri_msgs.specs.declared.calls.Request.{Request}
-use Rattle.worker_pod.specs.declared.news.News.{News}
-use Rattle.worker_pod.specs.declared.news.News.TheVariants as news
+use Rattle.worker_pod.specs.declared.update.StatusUpdate.{StatusUpdate}
+use Rattle.worker_pod.specs.declared.update.StatusUpdate.TheVariants as update
 use Rattle.worker_pod.specs.declared.settings.Outcome.{Outcome}
-use Rattle.worker_pod.specs.News.{told_of}
+use Rattle.worker_pod.specs.Updates.{told_of}
 use Rattle.worker_pod.specs.Past.{fresh_tracks}
 use Rattle.worker_pod.specs.Tracks.{AllWithin, begun_of, exit_at, fresh, run_after, run_at, run_by}
 use Rattle.worker_pod.specs.Tracks.{running_in, stage_at, stage_by, track_after, tracks_after, with_run}
@@ -36,7 +36,7 @@ going s = if is_some (running_in s) then 1 else 0
 abbrev counted : List Run → Stage → ℕ
 counted runs s = length runs + going s
 
--- News of an attempt begins at most one run of it:
+-- An update on an attempt begins at most one run of it:
 module _ (now of most : ℕ) (runs : List Run) where
   started_grows : (attempt : ℕ) (b : Bool) → length runs ≤ most
       → counted runs (if b then stage.Running attempt now None else stage.Made attempt) ≤ most + 1
@@ -61,40 +61,40 @@ module _ (now of most : ℕ) (runs : List Run) where
   exited_grows attempt started polled run true few = omega (arith, few, length-append runs (run ∷ []))
   exited_grows attempt started polled run false few = omega (arith, few)
 
-  grown_at : (n : News) (s : Stage) → counted runs s ≤ most
+  grown_at : (n : StatusUpdate) (s : Stage) → counted runs s ≤ most
       → counted (with_run (run_at now of n s) runs) (stage_at now of n s) ≤ most + 1
-  grown_at news.Lost s few = omega (arith, few)
-  grown_at news.Refused s few = omega (arith, few)
-  grown_at news.SandboxReady s few = omega (arith, few)
-  grown_at news.SandboxStopped s few = omega (arith, few)
-  grown_at news.SandboxRemoved s few = omega (arith, few)
-  grown_at news.Made s few = omega (arith, few)
-  grown_at news.Started stage.Absent few = omega (arith, few)
-  grown_at news.Started (stage.Made attempt) few =
+  grown_at update.Lost s few = omega (arith, few)
+  grown_at update.Refused s few = omega (arith, few)
+  grown_at update.SandboxReady s few = omega (arith, few)
+  grown_at update.SandboxStopped s few = omega (arith, few)
+  grown_at update.SandboxRemoved s few = omega (arith, few)
+  grown_at update.Made s few = omega (arith, few)
+  grown_at update.Started stage.Absent few = omega (arith, few)
+  grown_at update.Started (stage.Made attempt) few =
       started_grows attempt (attempt == of) (omega (arith, few))
-  grown_at news.Started (stage.Running attempt started polled) few = omega (arith, few)
-  grown_at news.Started (stage.Exited attempt) few = omega (arith, few)
-  grown_at news.Started (stage.Removed attempt) few = omega (arith, few)
-  grown_at news.NotExited stage.Absent few = omega (arith, few)
-  grown_at news.NotExited (stage.Made attempt) few = omega (arith, few)
-  grown_at news.NotExited (stage.Running attempt started polled) few =
+  grown_at update.Started (stage.Running attempt started polled) few = omega (arith, few)
+  grown_at update.Started (stage.Exited attempt) few = omega (arith, few)
+  grown_at update.Started (stage.Removed attempt) few = omega (arith, few)
+  grown_at update.NotExited stage.Absent few = omega (arith, few)
+  grown_at update.NotExited (stage.Made attempt) few = omega (arith, few)
+  grown_at update.NotExited (stage.Running attempt started polled) few =
       seen_grows attempt started polled (attempt == of) few
-  grown_at news.NotExited (stage.Exited attempt) few = omega (arith, few)
-  grown_at news.NotExited (stage.Removed attempt) few = omega (arith, few)
-  grown_at (news.Exited code) stage.Absent few = omega (arith, few)
-  grown_at (news.Exited code) (stage.Made attempt) few = omega (arith, few)
-  grown_at (news.Exited code) (stage.Running attempt started polled) few =
+  grown_at update.NotExited (stage.Exited attempt) few = omega (arith, few)
+  grown_at update.NotExited (stage.Removed attempt) few = omega (arith, few)
+  grown_at (update.Exited code) stage.Absent few = omega (arith, few)
+  grown_at (update.Exited code) (stage.Made attempt) few = omega (arith, few)
+  grown_at (update.Exited code) (stage.Running attempt started polled) few =
       exited_grows attempt started polled (record { started = started; code = code; recorded = now })
       (attempt == of) few
-  grown_at (news.Exited code) (stage.Exited attempt) few = omega (arith, few)
-  grown_at (news.Exited code) (stage.Removed attempt) few = omega (arith, few)
-  grown_at news.Cleared stage.Absent few = omega (arith, few)
-  grown_at news.Cleared (stage.Made attempt) few = omega (arith, few)
-  grown_at news.Cleared (stage.Running attempt started polled) few = omega (arith, few)
-  grown_at news.Cleared (stage.Exited attempt) few =
+  grown_at (update.Exited code) (stage.Exited attempt) few = omega (arith, few)
+  grown_at (update.Exited code) (stage.Removed attempt) few = omega (arith, few)
+  grown_at update.Cleared stage.Absent few = omega (arith, few)
+  grown_at update.Cleared (stage.Made attempt) few = omega (arith, few)
+  grown_at update.Cleared (stage.Running attempt started polled) few = omega (arith, few)
+  grown_at update.Cleared (stage.Exited attempt) few =
       cleared_grows attempt (attempt == of) (omega (arith, few))
-  grown_at news.Cleared (stage.Removed attempt) few = omega (arith, few)
-  grown_at news.Nothing s few = omega (arith, few)
+  grown_at update.Cleared (stage.Removed attempt) few = omega (arith, few)
+  grown_at update.Nothing s few = omega (arith, few)
 
 -- and so does the end of a claim, for each container
 module _ (now : ℕ) (request : Request) (how : Outcome) where
@@ -131,18 +131,18 @@ exits_going now of code (stage.Running attempt started polled) e = refl
 exits_going now of code (stage.Exited attempt) e = absurd cc
 exits_going now of code (stage.Removed attempt) e = absurd cc
 
-ends_going : (now of : ℕ) (n : News) (s : Stage) → is_some (run_at now of n s) ≡ true → going s ≡ 1
-ends_going now of news.Lost s e = absurd cc
-ends_going now of news.Refused s e = absurd cc
-ends_going now of news.SandboxReady s e = absurd cc
-ends_going now of news.SandboxStopped s e = absurd cc
-ends_going now of news.SandboxRemoved s e = absurd cc
-ends_going now of news.Made s e = absurd cc
-ends_going now of news.Started s e = absurd cc
-ends_going now of news.NotExited s e = absurd cc
-ends_going now of (news.Exited code) s e = exits_going now of code s e
-ends_going now of news.Cleared s e = absurd cc
-ends_going now of news.Nothing s e = absurd cc
+ends_going : (now of : ℕ) (n : StatusUpdate) (s : Stage) → is_some (run_at now of n s) ≡ true → going s ≡ 1
+ends_going now of update.Lost s e = absurd cc
+ends_going now of update.Refused s e = absurd cc
+ends_going now of update.SandboxReady s e = absurd cc
+ends_going now of update.SandboxStopped s e = absurd cc
+ends_going now of update.SandboxRemoved s e = absurd cc
+ends_going now of update.Made s e = absurd cc
+ends_going now of update.Started s e = absurd cc
+ends_going now of update.NotExited s e = absurd cc
+ends_going now of (update.Exited code) s e = exits_going now of code s e
+ends_going now of update.Cleared s e = absurd cc
+ends_going now of update.Nothing s e = absurd cc
 
 was_going : (now : ℕ) (request : Request) (how : Outcome) (name : List ℕ) (s : Stage)
     → is_some (run_after now request how name s) ≡ true → going s ≡ 1

@@ -16,19 +16,20 @@ use Rattle.cri_msgs.specs.declared.calls.Call.TheVariants.{CreateContainer}
 use Rattle.cri_msgs.specs.declared.keys.Key.{Key}
 use Rattle.cri_msgs.specs.declared.version.Version.{Version}
 use Rattle.cri_msgs.specs.declared.version.Version.TheVariants.{V1, V2}
-use Rattle.worker_pod.specs.declared.duty.Duty.{Duty}
-use Rattle.worker_pod.specs.declared.duty.Duty.TheVariants as duty
+use Rattle.worker_pod.specs.declared.action.PodAction.{PodAction}
+use Rattle.worker_pod.specs.declared.action.PodAction.TheVariants as action
 use Rattle.worker_pod.specs.declared.settings.Settings.{Settings}
 use Rattle.worker_pod.specs.declared.settings.TheConstants.{LAST_ATTEMPT}
-use Rattle.worker_pod.specs.declared.wants.Pick.{Pick}
-use Rattle.worker_pod.specs.declared.wants.Want.{Want}
-use Rattle.worker_pod.specs.declared.wants.Work.{Work}
-use Rattle.worker_pod.specs.declared.wants.Work.TheVariants.{Create, Start, Look, Clear}
+use Rattle.worker_pod.specs.declared.container_actions.Pick.{Pick}
+use Rattle.worker_pod.specs.declared.container_actions.ContainerAction.{ContainerAction}
+use Rattle.worker_pod.specs.declared.container_actions.Work.{Work}
+use Rattle.worker_pod.specs.declared.container_actions.Work.TheVariants.{Create, Start, Look, Clear}
 use Rattle.worker_pod.specs.Laws.{Creation, Follows}
-use Rattle.worker_pod.specs.Next.{call_by, call_of, duty_of, key_in, look_by, next_by, next_of}
+use Rattle.worker_pod.specs.Next.{call_by, call_of, action_of, key_in, look_by, next_by, next_of}
 use Rattle.worker_pod.specs.Past.{Kept}
-use Rattle.worker_pod.specs.Wants.{again, again_behind, chosen, front_of, is_in_turn, turn_of, want_in}
-use Rattle.worker_pod.specs.Wants.{want_of, wanted}
+use Rattle.worker_pod.specs.ContainerActions.{again, again_behind, chosen, front_of, is_in_turn, step_in}
+use Rattle.worker_pod.specs.ContainerActions.{turn_of}
+use Rattle.worker_pod.specs.ContainerActions.{step_of, wanted}
 use Rattle.worker_pod.proofs.Inits.{in_front}
 use Rattle.worker_pod.proofs.Offers.{IsAmong, and_left, chosen_among}
 
@@ -84,42 +85,44 @@ again_is policy t k from (Some run) is e =
           }
       by_test false test h = absurd cc
 
-wanted_is : (work : Work) (from : Option ℕ) (want : Want) → option_map (wanted work) from ≡ Some want
-    → (from ≡ Some want.from) × (want.work ≡ work)
-wanted_is work None want e = absurd cc
-wanted_is work (Some from) want e =
-    let same : wanted work from ≡ want = cc in
-    (ap (λ (w : Want). Some w.from) same, sym (ap (λ (w : Want). w.work) same))
+wanted_is : (work : Work) (from : Option ℕ) (step : ContainerAction)
+    → option_map (wanted work) from ≡ Some step
+    → (from ≡ Some step.from) × (step.work ≡ work)
+wanted_is work None step e = absurd cc
+wanted_is work (Some from) step e =
+    let same : wanted work from ≡ step = cc in
+    (ap (λ (w : ContainerAction). Some w.from) same, sym (ap (λ (w : ContainerAction). w.work) same))
 
 create_is : (a b : ℕ) → Create a ≡ Create b → a ≡ b
 create_is a b e = cc
 
-by_stage : (policy : RestartPolicy) (poll now : ℕ) (t : Track) (s : Stage) → t.stage ≡ s → (want : Want)
-    → want_in policy poll t s ≡ Some want → want.from ≤ now
-    → (attempt : ℕ) → want.work ≡ Create attempt → IsMade policy now t attempt
-by_stage policy poll now t stage.Absent is want e due attempt work =
-    let same : wanted (Create 0) 0 ≡ want = cc in
-    let zero_is : 0 ≡ attempt = create_is 0 attempt (ap (λ (w : Want). w.work) same ∙ work) in
+by_stage : (policy : RestartPolicy) (poll now : ℕ) (t : Track) (s : Stage) → t.stage ≡ s
+    → (step : ContainerAction)
+    → step_in policy poll t s ≡ Some step → step.from ≤ now
+    → (attempt : ℕ) → step.work ≡ Create attempt → IsMade policy now t attempt
+by_stage policy poll now t stage.Absent is step e due attempt work =
+    let same : wanted (Create 0) 0 ≡ step = cc in
+    let zero_is : 0 ≡ attempt = create_is 0 attempt (ap (λ (w : ContainerAction). w.work) same ∙ work) in
     record { first = λ _. is; follows = λ k next. absurd (omega (arith, zero_is, next)) }
-by_stage policy poll now t (stage.Made of) is want e due attempt work =
-    let same : wanted (Start of) 0 ≡ want = cc in
-    let differ : Start of ≡ Create attempt = ap (λ (w : Want). w.work) same ∙ work in absurd cc
-by_stage policy poll now t (stage.Running of started polled) is want e due attempt work =
-    let same : Look of ≡ want.work = ap (λ (w : Option Want). work_or w) e in
+by_stage policy poll now t (stage.Made of) is step e due attempt work =
+    let same : wanted (Start of) 0 ≡ step = cc in
+    let differ : Start of ≡ Create attempt = ap (λ (w : ContainerAction). w.work) same ∙ work in absurd cc
+by_stage policy poll now t (stage.Running of started polled) is step e due attempt work =
+    let same : Look of ≡ step.work = ap (λ (w : Option ContainerAction). work_or w) e in
     let differ : Look of ≡ Create attempt = same ∙ work in absurd cc
   where
-    work_or : Option Want → Work
+    work_or : Option ContainerAction → Work
     work_or None = Look of
     work_or (Some w) = w.work
-by_stage policy poll now t (stage.Exited of) is want e due attempt work =
-    let found : (again policy t of ≡ Some want.from) × (want.work ≡ Clear of) =
-    wanted_is (Clear of) (again policy t of) want e in
+by_stage policy poll now t (stage.Exited of) is step e due attempt work =
+    let found : (again policy t of ≡ Some step.from) × (step.work ≡ Clear of) =
+    wanted_is (Clear of) (again policy t of) step e in
     let differ : Clear of ≡ Create attempt = sym found.1 ∙ work in absurd cc
-by_stage policy poll now t (stage.Removed of) is want e due attempt work =
-    let found : (again policy t of ≡ Some want.from) × (want.work ≡ Create (of + 1)) =
-    wanted_is (Create (of + 1)) (again policy t of) want e in
+by_stage policy poll now t (stage.Removed of) is step e due attempt work =
+    let found : (again policy t of ≡ Some step.from) × (step.work ≡ Create (of + 1)) =
+    wanted_is (Create (of + 1)) (again policy t of) step e in
     let next_is : of + 1 ≡ attempt = create_is (of + 1) attempt (sym found.1 ∙ work) in
-    let why : IsAgain policy t want.from = again_is policy t of want.from (last_of t.runs) refl found.0 in
+    let why : IsAgain policy t step.from = again_is policy t of step.from (last_of t.runs) refl found.0 in
     record {
       first = λ none. absurd (omega (arith, next_is, none));
       follows = λ k next.
@@ -133,12 +136,12 @@ by_stage policy poll now t (stage.Removed of) is want e due attempt work =
           };
     }
 
-turn_is : (policy : RestartPolicy) (poll : ℕ) (front : Option ℕ) (at : ℕ) (t : Track) (want : Want)
-    → turn_of policy poll front at t ≡ Some want
-    → (is_in_turn front at t ≡ true) × (want_of policy poll t ≡ Some want)
-turn_is policy poll front at t want e = by_test (is_in_turn front at t) refl e where
-  by_test : (b : Bool) → is_in_turn front at t ≡ b → (if b then want_of policy poll t else None) ≡ Some want
-      → (is_in_turn front at t ≡ true) × (want_of policy poll t ≡ Some want)
+turn_is : (policy : RestartPolicy) (poll : ℕ) (front : Option ℕ) (at : ℕ) (t : Track) (step : ContainerAction)
+    → turn_of policy poll front at t ≡ Some step
+    → (is_in_turn front at t ≡ true) × (step_of policy poll t ≡ Some step)
+turn_is policy poll front at t step e = by_test (is_in_turn front at t) refl e where
+  by_test : (b : Bool) → is_in_turn front at t ≡ b → (if b then step_of policy poll t else None) ≡ Some step
+      → (is_in_turn front at t ≡ true) × (step_of policy poll t ≡ Some step)
   by_test true test h = (test, h)
   by_test false test h = absurd cc
 
@@ -155,10 +158,10 @@ made_of kept now pick among container named key image profile sent =
     let there : slice_get kept.tracks pick.at ≡ Some among.track =
     ap (slice_get kept.tracks) (omega (arith, among.at_is)) ∙ among.here in
     let turn : (is_in_turn front pick.at among.track ≡ true)
-    × (want_of policy kept.settings.poll among.track ≡ Some among.want) =
-    turn_is policy kept.settings.poll front pick.at among.track among.want among.turn in
+    × (step_of policy kept.settings.poll among.track ≡ Some among.step) =
+    turn_is policy kept.settings.poll front pick.at among.track among.step among.turn in
     let made : IsMade policy now among.track sent.attempt =
-    by_stage policy kept.settings.poll now among.track among.track.stage refl among.want turn.1 among.due
+    by_stage policy kept.settings.poll now among.track among.track.stage refl among.step turn.1 among.due
     sent.attempt (sym among.work ∙ sent.is) in
     let attempt_is : key.container.attempt ≡ sent.attempt =
     ap (λ (k : Key). k.container.attempt) sent.the_key in
@@ -204,19 +207,19 @@ by_pick kept now (Some pick) is key image profile e =
           image profile e
     ]
 
-by_duty : (kept : Kept) (now : ℕ) (key : Key) (image : List ℕ) (profile : SeccompProfile) (d : Duty)
+by_action : (kept : Kept) (now : ℕ) (key : Key) (image : List ℕ) (profile : SeccompProfile) (d : PodAction)
     → next_by kept now d ≡ Some (CreateContainer key image profile) → Creation kept now key image profile
-by_duty kept now key image profile duty.Nothing e = absurd cc
-by_duty kept now key image profile duty.RunSandbox e = absurd cc
-by_duty kept now key image profile duty.StopSandbox e = absurd cc
-by_duty kept now key image profile duty.RemoveSandbox e = absurd cc
-by_duty kept now key image profile duty.Containers e =
+by_action kept now key image profile action.Nothing e = absurd cc
+by_action kept now key image profile action.RunSandbox e = absurd cc
+by_action kept now key image profile action.StopSandbox e = absurd cc
+by_action kept now key image profile action.RemoveSandbox e = absurd cc
+by_action kept now key image profile action.Containers e =
     by_pick kept now (chosen kept.pod.policy kept.settings.poll now kept.tracks) refl key image profile e
 
 pub creation : (kept : Kept) (now : ℕ) (key : Key) (image : List ℕ) (profile : SeccompProfile)
     → next_of kept now ≡ Some (CreateContainer key image profile) → Creation kept now key image profile
 creation kept now key image profile e = by_rest (nat_le kept.rest now) e where
-  by_rest : (b : Bool) → (if b then next_by kept now (duty_of kept) else None)
+  by_rest : (b : Bool) → (if b then next_by kept now (action_of kept) else None)
       ≡ Some (CreateContainer key image profile) → Creation kept now key image profile
-  by_rest true h = by_duty kept now key image profile (duty_of kept) h
+  by_rest true h = by_action kept now key image profile (action_of kept) h
   by_rest false h = absurd cc

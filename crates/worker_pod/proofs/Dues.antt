@@ -11,15 +11,16 @@ use Rattle.manifest.specs.declared.containers.Container.{Container}
 use Rattle.manifest.specs.declared.pods.Pod.{Pod}
 use Rattle.cri_msgs.specs.declared.calls.Call.{Call}
 use Rattle.cri_msgs.specs.declared.calls.Call.TheVariants.{RunPodSandbox, StopPodSandbox, RemovePodSandbox}
-use Rattle.worker_pod.specs.declared.duty.Duty.{Duty}
-use Rattle.worker_pod.specs.declared.duty.Duty.TheVariants as duty
+use Rattle.worker_pod.specs.declared.action.PodAction.{PodAction}
+use Rattle.worker_pod.specs.declared.action.PodAction.TheVariants as action
 use Rattle.worker_pod.specs.declared.settings.Settings.{Settings}
-use Rattle.worker_pod.specs.declared.wants.Pick.{Pick}
-use Rattle.worker_pod.specs.declared.wants.Want.{Want}
-use Rattle.worker_pod.specs.Next.{call_by, call_of, due_by, due_of, duty_of, has_come, next_by, next_of}
+use Rattle.worker_pod.specs.declared.container_actions.Pick.{Pick}
+use Rattle.worker_pod.specs.declared.container_actions.ContainerAction.{ContainerAction}
+use Rattle.worker_pod.specs.Next.{call_by, call_of, due_by, due_of, action_of, has_come, next_by, next_of}
 use Rattle.worker_pod.specs.Past.{Kept, Past, held_of}
-use Rattle.worker_pod.specs.Wants.{better, chosen, chosen_from, front_of, sooner, soonest, soonest_from}
-use Rattle.worker_pod.specs.Wants.{turn_of}
+use Rattle.worker_pod.specs.ContainerActions.{better, chosen, chosen_from, front_of, sooner, soonest}
+use Rattle.worker_pod.specs.ContainerActions.{soonest_from}
+use Rattle.worker_pod.specs.ContainerActions.{turn_of}
 use Rattle.worker_pod.proofs.Offers.{chosen_among, pick_of}
 use Rattle.worker_pod.proofs.Places.{length_is, pod_is}
 
@@ -51,19 +52,19 @@ and_true true = refl
 and_true false = refl
 
 -- one more container
-same_step : (now at : ℕ) (t : Track) (turn : Option Want) (best : Option Pick) (moment : Option ℕ)
+same_step : (now at : ℕ) (t : Track) (turn : Option ContainerAction) (best : Option Pick) (moment : Option ℕ)
     → is_some best ≡ has_come moment now → is_some (better now best at t turn)
     ≡ has_come (sooner moment turn) now
 same_step now at t None best moment e = e
-same_step now at t (Some want) None None e =
-    some_if (nat_le want.from now && true) (pick_of at t want) None refl ∙ and_true (nat_le want.from now)
-same_step now at t (Some want) None (Some m) e =
-    some_if (nat_le want.from now && true) (pick_of at t want) None refl ∙ and_true (nat_le want.from now)
-    ∙ sym (sooner_come m want.from now (sym e))
-same_step now at t (Some want) (Some best) None e = absurd cc
-same_step now at t (Some want) (Some best) (Some m) e =
-    some_either (nat_le want.from now && nat_lt t.worked best.worked) (pick_of at t want) best
-    ∙ sym (first_come m want.from now (sym e))
+same_step now at t (Some step) None None e =
+    some_if (nat_le step.from now && true) (pick_of at t step) None refl ∙ and_true (nat_le step.from now)
+same_step now at t (Some step) None (Some m) e =
+    some_if (nat_le step.from now && true) (pick_of at t step) None refl ∙ and_true (nat_le step.from now)
+    ∙ sym (sooner_come m step.from now (sym e))
+same_step now at t (Some step) (Some best) None e = absurd cc
+same_step now at t (Some step) (Some best) (Some m) e =
+    some_either (nat_le step.from now && nat_lt t.worked best.worked) (pick_of at t step) best
+    ∙ sym (first_come m step.from now (sym e))
 
 same_from : (policy : RestartPolicy) (poll now : ℕ) (front : Option ℕ) (at : ℕ) (best : Option Pick)
     (moment : Option ℕ) (ts : List Track)
@@ -71,7 +72,7 @@ same_from : (policy : RestartPolicy) (poll now : ℕ) (front : Option ℕ) (at :
     ≡ has_come (soonest_from policy poll front at moment ts) now
 same_from policy poll now front at best moment [] e = e
 same_from policy poll now front at best moment (t ∷ ts) e =
-    let turn : Option Want = turn_of policy poll front at t in
+    let turn : Option ContainerAction = turn_of policy poll front at t in
     same_from policy poll now front (at + 1) (better now best at t turn) (sooner moment turn) ts
     (same_step now at t turn best moment e)
 
@@ -111,21 +112,22 @@ come_map : (rest now : ℕ) (o : Option ℕ) → has_come (option_map (λ m. max
 come_map rest now None = refl
 come_map rest now (Some m) = latest_come m rest now
 
-by_duty : (kept : Kept) (now : ℕ) → length kept.tracks ≡ length kept.pod.containers.all → (d : Duty)
+by_action : (kept : Kept) (now : ℕ) → length kept.tracks ≡ length kept.pod.containers.all → (d : PodAction)
     → is_some (if nat_le kept.rest now then next_by kept now d else None) ≡ has_come (due_by kept d) now
-by_duty kept now long duty.Nothing = none_if (nat_le kept.rest now) None refl
-by_duty kept now long duty.RunSandbox = some_if (nat_le kept.rest now) (RunPodSandbox kept.pod.uid) None refl
-by_duty kept now long duty.StopSandbox =
+by_action kept now long action.Nothing = none_if (nat_le kept.rest now) None refl
+by_action kept now long action.RunSandbox =
+    some_if (nat_le kept.rest now) (RunPodSandbox kept.pod.uid) None refl
+by_action kept now long action.StopSandbox =
     some_if (nat_le kept.rest now) (StopPodSandbox kept.pod.uid kept.pod.grace) None refl
-by_duty kept now long duty.RemoveSandbox =
+by_action kept now long action.RemoveSandbox =
     some_if (nat_le kept.rest now) (RemovePodSandbox kept.pod.uid) None refl
-by_duty kept now long duty.Containers =
-    let is : is_some (next_by kept now duty.Containers)
+by_action kept now long action.Containers =
+    let is : is_some (next_by kept now action.Containers)
     ≡ has_come (soonest kept.pod.policy kept.settings.poll kept.tracks) now =
     some_call kept now long (chosen kept.pod.policy kept.settings.poll now kept.tracks) refl
     ∙ same_from kept.pod.policy kept.settings.poll now (front_of kept.pod.policy kept.tracks) 0 None None
     kept.tracks refl in
-    by_test (nat_le kept.rest now) (next_by kept now duty.Containers)
+    by_test (nat_le kept.rest now) (next_by kept now action.Containers)
     (has_come (soonest kept.pod.policy kept.settings.poll kept.tracks) now) is
     ∙ sym (come_map kept.rest now (soonest kept.pod.policy kept.settings.poll kept.tracks))
   where
@@ -142,4 +144,4 @@ due_when_next settings past now =
     let kept : Kept = held_of settings past in
     let long : length kept.tracks ≡ length kept.pod.containers.all = length_is settings past.pod past.claims
     ∙ ap (λ (p : Pod). length p.containers.all) (sym (pod_is settings past.pod past.claims)) in
-    by_duty kept now long (duty_of kept)
+    by_action kept now long (action_of kept)

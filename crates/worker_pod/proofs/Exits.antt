@@ -23,14 +23,14 @@ use Rattle.cri_msgs.specs.declared.replies.Reply.{Reply}
 use Rattle.cri_msgs.specs.declared.states.State.{State}
 use Rattle.cri_msgs.specs.declared.states.State.TheVariants as state
 use Rattle.cri_msgs.specs.Tells.{IsExitOf, TellsExit}
-use Rattle.worker_pod.specs.declared.news.News.{News}
-use Rattle.worker_pod.specs.declared.news.News.TheVariants as news
+use Rattle.worker_pod.specs.declared.update.StatusUpdate.{StatusUpdate}
+use Rattle.worker_pod.specs.declared.update.StatusUpdate.TheVariants as update
 use Rattle.worker_pod.specs.declared.settings.Outcome.{Outcome}
 use Rattle.worker_pod.specs.declared.settings.Outcome.TheVariants as outcome
-use Rattle.worker_pod.specs.News.{answer_tells_of, cell_tells, done_tells, is_cell_of, hearing_of, heard}
-use Rattle.worker_pod.specs.News.{made_tells, state_tells, status_tells, statuses_tell_of, told_of}
+use Rattle.worker_pod.specs.Updates.{answer_tells_of, cell_tells, done_tells, is_cell_of, hearing_of, heard}
+use Rattle.worker_pod.specs.Updates.{made_tells, state_tells, status_tells, statuses_tell_of, told_of}
 use Rattle.cri_msgs.specs.Calls.{uid_of}
-use Rattle.worker_pod.specs.Laws.{HasEnded, LastRun, Told, TellsRun, WasTold, key_named}
+use Rattle.worker_pod.specs.Laws.{HasEnded, LastRun, RunReported, TellsRun, RunsReported, key_named}
 use Rattle.worker_pod.specs.Past.{Claimed}
 use Rattle.worker_pod.specs.Tracks.{cleared_at, exit_at, exited_at, named_in, number_by, run_at, run_by}
 use Rattle.worker_pod.specs.Tracks.{seen_at, stage_at, stage_by, started_at, track_after, with_run, worked_in}
@@ -39,7 +39,8 @@ use Rattle.worker_pod.proofs.Offers.{and_left, and_right}
 abbrev metadata : List ℕ → ℕ → ContainerMetadata
 metadata name of = record { name = name; attempt = of }
 
-done_silent : (n : News) (a : Answer) (code : ℕ) → done_tells n a ≡ news.Exited code → n ≡ news.Exited code
+done_silent : (n : StatusUpdate) (a : Answer) (code : ℕ) → done_tells n a ≡ update.Exited code
+    → n ≡ update.Exited code
 done_silent n answer.Done code e = e
 done_silent n (answer.Refused refusal) code e = absurd cc
 done_silent n (answer.Container id) code e = absurd cc
@@ -47,7 +48,7 @@ done_silent n (answer.Status status) code e = absurd cc
 done_silent n (answer.List items) code e = absurd cc
 done_silent n (answer.Statuses items) code e = absurd cc
 
-made_silent : (a : Answer) (code : ℕ) → made_tells a ≡ news.Exited code → ⊥
+made_silent : (a : Answer) (code : ℕ) → made_tells a ≡ update.Exited code → ⊥
 made_silent answer.Done code e = cc
 made_silent (answer.Refused refusal) code e = cc
 made_silent (answer.Container id) code e = cc
@@ -55,7 +56,7 @@ made_silent (answer.Status status) code e = cc
 made_silent (answer.List items) code e = cc
 made_silent (answer.Statuses items) code e = cc
 
-state_is : (s : State) (code : ℕ) → state_tells s ≡ news.Exited code → s ≡ state.Exited code
+state_is : (s : State) (code : ℕ) → state_tells s ≡ update.Exited code → s ≡ state.Exited code
 state_is state.Created code e = absurd cc
 state_is state.Running code e = absurd cc
 state_is (state.Exited its) code e = let same : its ≡ code = cc in ap (λ (n : ℕ). state.Exited n) same
@@ -77,7 +78,7 @@ key_is : (key : Key) (uid name : List ℕ) (of : ℕ) → key.uid ≡ uid → (k
     × (key.container.attempt ≡ of) → key ≡ key_named uid name of
 key_is key uid name of u n = rw (← u, ← n.0, ← n.1) refl
 
-status_is : (asked key : Key) (a : Answer) (code : ℕ) → asked ≡ key → status_tells a ≡ news.Exited code
+status_is : (asked key : Key) (a : Answer) (code : ℕ) → asked ≡ key → status_tells a ≡ update.Exited code
     → TellsExit (call.ContainerStatus asked) a key code
 status_is asked key (answer.Status status) code same e = (same, state_is status.state code e)
 status_is asked key answer.Done code same e = absurd cc
@@ -98,13 +99,13 @@ cell_is name of listed e =
     rw (← same, ← attempt) refl
 
 found_in : (name : List ℕ) (of code : ℕ) (items : List ListedStatus)
-    → cell_tells (find (is_cell_of name of) items) ≡ news.Exited code
+    → cell_tells (find (is_cell_of name of) items) ≡ update.Exited code
     → Any (IsExitOf (metadata name of) code) items
 found_in name of code [] e = absurd cc
 found_in name of code (l ∷ ls) e = by_test (is_cell_of name of l) refl e (found_in name of code ls) where
   by_test : (b : Bool) → is_cell_of name of l ≡ b
-      → cell_tells (cond b (Some l) (find (is_cell_of name of) ls)) ≡ news.Exited code
-      → (cell_tells (find (is_cell_of name of) ls) ≡ news.Exited code
+      → cell_tells (cond b (Some l) (find (is_cell_of name of) ls)) ≡ update.Exited code
+      → (cell_tells (find (is_cell_of name of) ls) ≡ update.Exited code
       → Any (IsExitOf (metadata name of) code) ls) → Any (IsExitOf (metadata name of) code) (l ∷ ls)
   by_test true test h behind = (
     0,
@@ -118,7 +119,7 @@ found_in name of code (l ∷ ls) e = by_test (is_cell_of name of l) refl e (foun
       (suc found.0, found.1, omega (arith, found.2), found.3, found.4)
 
 statuses_are : (u uid name : List ℕ) (of : ℕ) (a : Answer) (code : ℕ) → u ≡ uid → statuses_tell_of name of
-    a ≡ news.Exited code
+    a ≡ update.Exited code
     → TellsExit (call.ContainerStatuses u) a (key_named uid name of) code
 statuses_are u uid name of (answer.Statuses items) code same e = (same, found_in name of code items e)
 statuses_are u uid name of answer.Done code same e = absurd cc
@@ -130,18 +131,18 @@ statuses_are u uid name of (answer.List items) code same e = absurd cc
 -- an answer to the call reports the exit of the attempt that the claim works on
 answer_is : (c : Call) (a : Answer) (uid name : List ℕ) (s : Stage) (of code : ℕ) → uid_of c ≡ uid
     → worked_in c name s ≡ Some of
-    → answer_tells_of name of c a ≡ news.Exited code → TellsExit c a (key_named uid name of) code
+    → answer_tells_of name of c a ≡ update.Exited code → TellsExit c a (key_named uid name of) code
 answer_is (call.RunPodSandbox u) a uid name s of code same works e = absurd cc
 answer_is (call.StopPodSandbox u grace) a uid name s of code same works e = absurd cc
 answer_is (call.RemovePodSandbox u) a uid name s of code same works e = absurd cc
 answer_is (call.CreateContainer its image profile) a uid name s of code same works e =
     absurd (made_silent a code e)
 answer_is (call.StartContainer its) a uid name s of code same works e =
-    let never : news.Started ≡ news.Exited code = done_silent news.Started a code e in absurd cc
+    let never : update.Started ≡ update.Exited code = done_silent update.Started a code e in absurd cc
 answer_is (call.StopContainer its grace) a uid name s of code same works e =
-    let never : news.Nothing ≡ news.Exited code = done_silent news.Nothing a code e in absurd cc
+    let never : update.Nothing ≡ update.Exited code = done_silent update.Nothing a code e in absurd cc
 answer_is (call.RemoveContainer its) a uid name s of code same works e =
-    let never : news.Cleared ≡ news.Exited code = done_silent news.Cleared a code e in absurd cc
+    let never : update.Cleared ≡ update.Exited code = done_silent update.Cleared a code e in absurd cc
 answer_is (call.ContainerStatus asked) a uid name s of code same works e =
     status_is asked (key_named uid name of) a code (key_is asked uid name of same (names asked name of works))
     e
@@ -159,7 +160,7 @@ pub record IsTold (request : Request) (how : Outcome) (key : Key) (code : ℕ) :
 by_answer : (request : Request) (how : Outcome) (said : Option Answer) → heard request how ≡ said
     → (uid name : List ℕ) (s : Stage) (of code : ℕ)
     → uid_of request.call ≡ uid → worked_in request.call name s ≡ Some of → hearing_of name of
-    request.call said ≡ news.Exited code → IsTold request how (key_named uid name of) code
+    request.call said ≡ update.Exited code → IsTold request how (key_named uid name of) code
 by_answer request how None is uid name s of code same works e = absurd cc
 by_answer request (outcome.Replied reply) (Some said) is uid name s of code same works e =
     by_number (reply.id == request.id) refl is where
@@ -181,26 +182,26 @@ by_answer request outcome.Abandoned (Some said) is uid name s of code same works
 
 pub told_is : (request : Request) (how : Outcome) (uid name : List ℕ) (s : Stage) (of code : ℕ)
     → uid_of request.call ≡ uid → worked_in request.call name s ≡ Some of
-    → told_of name of request how ≡ news.Exited code → IsTold request how (key_named uid name of) code
+    → told_of name of request how ≡ update.Exited code → IsTold request how (key_named uid name of) code
 told_is request how uid name s of code same works e =
     by_answer request how (heard request how) refl uid name s of code same works e
 
 -- what was reported before still is
 pub told_more : (uid : List ℕ) (c : Claimed) (cs : List Claimed) (name : List ℕ) (k : ℕ) (run : Run)
-    → Told uid cs name k run → Told uid (c ∷ cs) name k run
+    → RunReported uid cs name k run → RunReported uid (c ∷ cs) name k run
 told_more uid c cs name k run t = (suc t.0, t.1, omega (arith, t.2), t.3, t.4)
 
 -- a track with the same runs, and without a newly ended attempt
 unchanged : (uid : List ℕ) (c : Claimed) (cs : List Claimed) (name : List ℕ) (old new : Track)
     → new.runs ≡ old.runs
-    → ((k : ℕ) → HasEnded k new.stage → HasEnded k old.stage) → WasTold uid cs name old
-    → WasTold uid (c ∷ cs) name new
+    → ((k : ℕ) → HasEnded k new.stage → HasEnded k old.stage) → RunsReported uid cs name old
+    → RunsReported uid (c ∷ cs) name new
 unchanged uid c cs name old new runs same was = record {
   ended = λ k h.
       let l : LastRun uid cs name old k = was.ended k (same k h) in
       record { run = l.run; last = ap last_of runs ∙ l.last; told = told_more uid c cs name k l.run l.told };
-  runs = rw runs (All-weaker (λ (run : Run). (k : ℕ) × Told uid cs name k run) (λ (run : Run). (k : ℕ)
-      × Told uid (c ∷ cs) name k run)
+  runs = rw runs (All-weaker (λ (run : Run). (k : ℕ) × RunReported uid cs name k run) (λ (run : Run). (k : ℕ)
+      × RunReported uid (c ∷ cs) name k run)
       (λ run t. (t.0, told_more uid c cs name t.0 run t.1)) old.runs was.runs);
 }
 
@@ -250,8 +251,8 @@ exited : (uid : List ℕ) (c : Claimed) (cs : List Claimed) (name : List ℕ) (o
     (attempt started code : ℕ) (polled : Option ℕ)
     → TellsRun (key_named uid name of) (record { started = started; code = code; recorded = c.moment }) c
     → (b : Bool) → (attempt == of) ≡ b → old.stage ≡ stage.Running attempt started polled
-    → WasTold uid cs name old
-    → WasTold uid (c ∷ cs) name (record {
+    → RunsReported uid cs name old
+    → RunsReported uid (c ∷ cs) name (record {
       init = old.init;
       stage = if b then stage.Exited attempt else stage.Running attempt started polled;
       runs = with_run (if b then Some (record { started = started; code = code; recorded = c.moment })
@@ -261,16 +262,16 @@ exited : (uid : List ℕ) (c : Claimed) (cs : List Claimed) (name : List ℕ) (o
 exited uid c cs name of old attempt started code polled tells true test at was =
     let run : Run = record { started = started; code = code; recorded = c.moment } in
     let same : of ≡ attempt = sym (eqb-true attempt of test) in
-    let here : Told uid (c ∷ cs) name attempt run = rw (← same) (0, c, omega arith, refl, tells) in
+    let here : RunReported uid (c ∷ cs) name attempt run = rw (← same) (0, c, omega arith, refl, tells) in
     record {
       ended = λ k h. record {
         run = run;
         last = last_pushed old.runs run;
         told = rw (← h) here;
       };
-      runs = All-push (λ (run : Run). (k : ℕ) × Told uid (c ∷ cs) name k run) old.runs run
-          (All-weaker (λ (run : Run). (k : ℕ) × Told uid cs name k run) (λ (run : Run). (k : ℕ)
-          × Told uid (c ∷ cs) name k run)
+      runs = All-push (λ (run : Run). (k : ℕ) × RunReported uid (c ∷ cs) name k run) old.runs run
+          (All-weaker (λ (run : Run). (k : ℕ) × RunReported uid cs name k run) (λ (run : Run). (k : ℕ)
+          × RunReported uid (c ∷ cs) name k run)
           (λ run t. (t.0, told_more uid c cs name t.0 run t.1)) old.runs was.runs)
           (attempt, here);
     }
@@ -285,8 +286,8 @@ exited uid c cs name of old attempt started code polled tells false test at was 
 by_stage : (uid : List ℕ) (c : Claimed) (cs : List Claimed) (name : List ℕ) (of code : ℕ) (old : Track)
     → ((started : ℕ) → TellsRun (key_named uid name of)
     (record { started = started; code = code; recorded = c.moment }) c)
-    → (s : Stage) → old.stage ≡ s → WasTold uid cs name old
-    → WasTold uid (c ∷ cs) name (record {
+    → (s : Stage) → old.stage ≡ s → RunsReported uid cs name old
+    → RunsReported uid (c ∷ cs) name (record {
       init = old.init;
       stage = exited_at of s;
       runs = with_run (exit_at c.moment of code s) old.runs;
@@ -303,8 +304,8 @@ by_stage uid c cs name of code old tells (stage.Exited attempt) at was =
 by_stage uid c cs name of code old tells (stage.Removed attempt) at was =
     unchanged uid c cs name old _ refl (λ k h. rw at h) was
 
--- the track after a claim that worked on this attempt, with this news of it
-abbrev behind : Claimed → ℕ → News → Track → Track
+-- the track after a claim that worked on this attempt, with this update on it
+abbrev behind : Claimed → ℕ → StatusUpdate → Track → Track
 behind c of n old = record {
   init = old.init;
   stage = stage_at c.moment of n old.stage;
@@ -312,33 +313,38 @@ behind c of n old = record {
   worked = c.request.id;
 }
 
-by_news : (uid : List ℕ) (c : Claimed) (cs : List Claimed) (name : List ℕ) (of : ℕ) (old : Track) (n : News)
-    → ((code : ℕ) → n ≡ news.Exited code → (started : ℕ)
+by_update : (uid : List ℕ) (c : Claimed) (cs : List Claimed) (name : List ℕ) (of : ℕ)
+    (old : Track) (n : StatusUpdate)
+    → ((code : ℕ) → n ≡ update.Exited code → (started : ℕ)
     → TellsRun (key_named uid name of) (record { started = started; code = code; recorded = c.moment }) c)
-    → WasTold uid cs name old → WasTold uid (c ∷ cs) name (behind c of n old)
-by_news uid c cs name of old (news.Exited code) tells was = by_stage uid c cs name of
+    → RunsReported uid cs name old → RunsReported uid (c ∷ cs) name (behind c of n old)
+by_update uid c cs name of old (update.Exited code) tells was = by_stage uid c cs name of
     code old (tells code refl) old.stage refl was
-by_news uid c cs name of old news.Made tells was = unchanged uid c cs name old _ refl (λ k h. absurd h) was
-by_news uid c cs name of old news.Started tells was =
+by_update uid c cs name of old update.Made tells was =
+    unchanged uid c cs name old _ refl (λ k h. absurd h) was
+by_update uid c cs name of old update.Started tells was =
     unchanged uid c cs name old _ refl (started_same c.moment of old.stage) was
-by_news uid c cs name of old news.NotExited tells was =
+by_update uid c cs name of old update.NotExited tells was =
     unchanged uid c cs name old _ refl (seen_same c.moment of old.stage) was
-by_news uid c cs name of old news.Cleared tells was =
+by_update uid c cs name of old update.Cleared tells was =
     unchanged uid c cs name old _ refl (cleared_same of old.stage) was
-by_news uid c cs name of old news.Lost tells was = unchanged uid c cs name old _ refl (λ k h. h) was
-by_news uid c cs name of old news.Refused tells was = unchanged uid c cs name old _ refl (λ k h. h) was
-by_news uid c cs name of old news.SandboxReady tells was = unchanged uid c cs name old _ refl (λ k h. h) was
-by_news uid c cs name of old news.SandboxStopped tells was = unchanged uid c cs name old _ refl (λ k h. h) was
-by_news uid c cs name of old news.SandboxRemoved tells was = unchanged uid c cs name old _ refl (λ k h. h) was
-by_news uid c cs name of old news.Nothing tells was = unchanged uid c cs name old _ refl (λ k h. h) was
+by_update uid c cs name of old update.Lost tells was = unchanged uid c cs name old _ refl (λ k h. h) was
+by_update uid c cs name of old update.Refused tells was = unchanged uid c cs name old _ refl (λ k h. h) was
+by_update uid c cs name of old update.SandboxReady tells was =
+    unchanged uid c cs name old _ refl (λ k h. h) was
+by_update uid c cs name of old update.SandboxStopped tells was =
+    unchanged uid c cs name old _ refl (λ k h. h) was
+by_update uid c cs name of old update.SandboxRemoved tells was =
+    unchanged uid c cs name old _ refl (λ k h. h) was
+by_update uid c cs name of old update.Nothing tells was = unchanged uid c cs name old _ refl (λ k h. h) was
 
 -- a claim of the pod
 pub told_behind : (uid : List ℕ) (c : Claimed) (cs : List Claimed) (name : List ℕ) (old : Track)
-    → uid_of c.request.call ≡ uid → WasTold uid cs name old
-    → WasTold uid (c ∷ cs) name (track_after c.moment c.request c.outcome name old)
+    → uid_of c.request.call ≡ uid → RunsReported uid cs name old
+    → RunsReported uid (c ∷ cs) name (track_after c.moment c.request c.outcome name old)
 told_behind uid c cs name old same was = by_attempt (worked_in c.request.call name old.stage) refl where
   by_attempt : (works : Option ℕ) → worked_in c.request.call name old.stage ≡ works
-      → WasTold uid (c ∷ cs) name (record {
+      → RunsReported uid (c ∷ cs) name (record {
         init = old.init;
         stage = stage_by c.moment c.request c.outcome name old.stage works;
         runs = with_run (run_by c.moment c.request c.outcome name old.stage works) old.runs;
@@ -346,7 +352,7 @@ told_behind uid c cs name old same was = by_attempt (worked_in c.request.call na
       })
   by_attempt None is = unchanged uid c cs name old _ refl (λ k h. h) was
   by_attempt (Some of) is =
-      by_news uid c cs name of old (told_of name of c.request c.outcome)
+      by_update uid c cs name of old (told_of name of c.request c.outcome)
       (λ code e started.
       let found : IsTold c.request c.outcome (key_named uid name of) code =
       told_is c.request c.outcome uid name old.stage of code same is e in

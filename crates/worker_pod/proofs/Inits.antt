@@ -16,7 +16,7 @@ use Rattle.lifecycle.specs.declared.track.Stage.{Stage}
 use Rattle.lifecycle.specs.declared.track.Stage.TheVariants as stage
 use Rattle.lifecycle.specs.declared.track.Track.{Track}
 use Rattle.worker_pod.specs.Laws.{EndedWell}
-use Rattle.worker_pod.specs.Wants.{front_of, is_in_turn}
+use Rattle.worker_pod.specs.ContainerActions.{front_of, is_in_turn}
 use Rattle.worker_pod.proofs.Offers.{and_left}
 
 -- ended with code 0

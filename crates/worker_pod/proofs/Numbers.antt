@@ -19,14 +19,14 @@ use Rattle.cri_msgs.specs.declared.replies.Answer.TheVariants as answer
 use Rattle.cri_msgs.specs.declared.states.State.{State}
 use Rattle.cri_msgs.specs.declared.states.State.TheVariants as state
 use Rattle.cri_msgs.specs.declared.lists.ListedStatus.{ListedStatus}
-use Rattle.worker_pod.specs.declared.news.News.{News}
-use Rattle.worker_pod.specs.declared.news.News.TheVariants as news
+use Rattle.worker_pod.specs.declared.update.StatusUpdate.{StatusUpdate}
+use Rattle.worker_pod.specs.declared.update.StatusUpdate.TheVariants as update
 use Rattle.worker_pod.specs.declared.settings.Settings.{Settings}
 use Rattle.cri_msgs.specs.Calls.{uid_of}
 use Rattle.worker_pod.specs.Laws.{AreNumbered, AreOf, Creation, Follows, IsNumbered, IsNumberedIn, TellsRun}
-use Rattle.worker_pod.specs.Laws.{Told, key_named}
-use Rattle.worker_pod.specs.News.{answer_tells_of, cell_tells, done_tells, hearing_of, heard, is_cell_of}
-use Rattle.worker_pod.specs.News.{list_tells, state_tells, status_tells, statuses_tell_of, told_of}
+use Rattle.worker_pod.specs.Laws.{RunReported, key_named}
+use Rattle.worker_pod.specs.Updates.{answer_tells_of, cell_tells, done_tells, hearing_of, heard, is_cell_of}
+use Rattle.worker_pod.specs.Updates.{list_tells, state_tells, status_tells, statuses_tell_of, told_of}
 use Rattle.worker_pod.specs.Next.{next_of}
 use Rattle.worker_pod.specs.Past.{Claimed, Kept, Past, held_of, read_off}
 use Rattle.worker_pod.specs.Tracks.{cleared_at, exit_at, exited_at, fresh, number_by, run_after, run_at}
@@ -46,10 +46,10 @@ CountIs (stage.Removed k) n = k + 1 ≡ n
 
 record Counted (uid : List ℕ) (cs : List Claimed) (name : List ℕ) (track : Track) : Type 0 where
   count : CountIs track.stage (length track.runs)
-  each : (k : ℕ) (run : Run) → slice_get track.runs k ≡ Some run → Told uid cs name k run
+  each : (k : ℕ) (run : Run) → slice_get track.runs k ≡ Some run → RunReported uid cs name k run
 
--- Only the news that a container was made can begin an attempt.
-done_makes : (n : News) (a : Answer) → done_tells n a ≡ news.Made → n ≡ news.Made
+-- Only the update that a container was made can begin an attempt.
+done_makes : (n : StatusUpdate) (a : Answer) → done_tells n a ≡ update.Made → n ≡ update.Made
 done_makes n answer.Done e = e
 done_makes n (answer.Refused refusal) e = absurd cc
 done_makes n (answer.Container id) e = absurd cc
@@ -57,12 +57,12 @@ done_makes n (answer.Status status) e = absurd cc
 done_makes n (answer.List items) e = absurd cc
 done_makes n (answer.Statuses items) e = absurd cc
 
-state_silent : (s : State) → state_tells s ≡ news.Made → ⊥
+state_silent : (s : State) → state_tells s ≡ update.Made → ⊥
 state_silent state.Created e = cc
 state_silent state.Running e = cc
 state_silent (state.Exited code) e = cc
 
-status_silent : (a : Answer) → status_tells a ≡ news.Made → ⊥
+status_silent : (a : Answer) → status_tells a ≡ update.Made → ⊥
 status_silent answer.Done e = cc
 status_silent (answer.Refused refusal) e = cc
 status_silent (answer.Container id) e = cc
@@ -70,7 +70,7 @@ status_silent (answer.Status status) e = state_silent status.state e
 status_silent (answer.List items) e = cc
 status_silent (answer.Statuses items) e = cc
 
-list_silent : (a : Answer) → list_tells a ≡ news.Made → ⊥
+list_silent : (a : Answer) → list_tells a ≡ update.Made → ⊥
 list_silent answer.Done e = cc
 list_silent (answer.Refused refusal) e = cc
 list_silent (answer.Container id) e = cc
@@ -78,11 +78,11 @@ list_silent (answer.Status status) e = cc
 list_silent (answer.List items) e = cc
 list_silent (answer.Statuses items) e = cc
 
-cell_silent : (o : Option ListedStatus) → cell_tells o ≡ news.Made → ⊥
+cell_silent : (o : Option ListedStatus) → cell_tells o ≡ update.Made → ⊥
 cell_silent None e = cc
 cell_silent (Some listed) e = state_silent listed.status.state e
 
-statuses_silent : (name : List ℕ) (of : ℕ) (a : Answer) → statuses_tell_of name of a ≡ news.Made → ⊥
+statuses_silent : (name : List ℕ) (of : ℕ) (a : Answer) → statuses_tell_of name of a ≡ update.Made → ⊥
 statuses_silent name of answer.Done e = cc
 statuses_silent name of (answer.Refused refusal) e = cc
 statuses_silent name of (answer.Container id) e = cc
@@ -100,26 +100,26 @@ record IsCreation (c : Call) (name : List ℕ) (of : ℕ) : Type 0 where
   attempt : key.container.attempt ≡ of
 
 creation_is : (c : Call) (a : Answer) (name : List ℕ) (s : Stage) (of : ℕ) → worked_in c name s ≡ Some of
-    → answer_tells_of name of c a ≡ news.Made → IsCreation c name of
+    → answer_tells_of name of c a ≡ update.Made → IsCreation c name of
 creation_is (call.CreateContainer key image profile) a name s of works e =
     let its : (key.container.name ≡ name) × (key.container.attempt ≡ of) = names key name of works in
     record { key = key; image = image; profile = profile; is = refl; named = its.0; attempt = its.1 }
 creation_is (call.RunPodSandbox u) a name s of works e = absurd cc
 creation_is (call.StopPodSandbox u grace) a name s of works e = absurd cc
 creation_is (call.RemovePodSandbox u) a name s of works e = absurd cc
-creation_is (call.StartContainer its) a name s of works e = let never : news.Started ≡ news.Made =
-    done_makes news.Started a e in absurd cc
-creation_is (call.StopContainer its grace) a name s of works e = let never : news.Nothing ≡ news.Made =
-    done_makes news.Nothing a e in absurd cc
-creation_is (call.RemoveContainer its) a name s of works e = let never : news.Cleared ≡ news.Made =
-    done_makes news.Cleared a e in absurd cc
+creation_is (call.StartContainer its) a name s of works e = let never : update.Started ≡ update.Made =
+    done_makes update.Started a e in absurd cc
+creation_is (call.StopContainer its grace) a name s of works e = let never : update.Nothing ≡ update.Made =
+    done_makes update.Nothing a e in absurd cc
+creation_is (call.RemoveContainer its) a name s of works e = let never : update.Cleared ≡ update.Made =
+    done_makes update.Cleared a e in absurd cc
 creation_is (call.ContainerStatus asked) a name s of works e = absurd (status_silent a e)
 creation_is (call.ListContainers u) a name s of works e = absurd (list_silent a e)
 creation_is (call.ContainerStatuses u) a name s of works e = absurd (statuses_silent name of a e)
 
 by_answer : (c : Claimed) (said : Option Answer) → heard c.request c.outcome ≡ said
     → (name : List ℕ) (s : Stage) (of : ℕ) → worked_in c.request.call name s ≡ Some of
-    → hearing_of name of c.request.call said ≡ news.Made → IsCreation c.request.call name of
+    → hearing_of name of c.request.call said ≡ update.Made → IsCreation c.request.call name of
 by_answer c None is name s of works e = absurd cc
 by_answer c (Some said) is name s of works e = creation_is c.request.call said name s of works e
 
@@ -200,8 +200,8 @@ module _ (uid : List ℕ) (c : Claimed) (cs : List Claimed) (name : List ℕ) (o
               | inl before ↦ told_more uid c cs name k r (was.each k r before)
               | inr now ↦
                   let k_is : of ≡ k = omega (arith, same, count, now.0) in
-                  subst (λ (x : Run). Told uid (c ∷ cs) name k x) (sym now.1)
-                  (subst (λ (n : ℕ). Told uid (c ∷ cs) name n run) k_is (0, c, omega arith, refl, tells))
+                  subst (λ (x : Run). RunReported uid (c ∷ cs) name k x) (sym now.1)
+                  (subst (λ (n : ℕ). RunReported uid (c ∷ cs) name n run) k_is (0, c, omega arith, refl, tells))
             ];
       }
   exited of code attempt started polled at tells false test =
@@ -231,29 +231,29 @@ module _ (uid : List ℕ) (c : Claimed) (cs : List Claimed) (name : List ℕ) (o
       same_runs (stage.Removed attempt) c.request.id
       (subst (λ (s : Stage). CountIs s (length old.runs)) at was.count)
 
-  by_news : (of : ℕ) (n : News) → ((code : ℕ) → n ≡ news.Exited code → (started : ℕ)
+  by_update : (of : ℕ) (n : StatusUpdate) → ((code : ℕ) → n ≡ update.Exited code → (started : ℕ)
       → TellsRun (key_named uid name of) (record { started = started; code = code; recorded = c.moment }) c)
-      → (n ≡ news.Made → of ≡ length old.runs)
+      → (n ≡ update.Made → of ≡ length old.runs)
       → Counted uid (c ∷ cs) name (record {
         init = old.init;
         stage = stage_at c.moment of n old.stage;
         runs = with_run (run_at c.moment of n old.stage) old.runs;
         worked = c.request.id;
       })
-  by_news of (news.Exited code) tells made = by_stage of code (tells code refl) old.stage refl
-  by_news of news.Made tells made = same_runs (stage.Made of) c.request.id (made refl)
-  by_news of news.Started tells made = same_runs _ c.request.id (started_count c.moment of
+  by_update of (update.Exited code) tells made = by_stage of code (tells code refl) old.stage refl
+  by_update of update.Made tells made = same_runs (stage.Made of) c.request.id (made refl)
+  by_update of update.Started tells made = same_runs _ c.request.id (started_count c.moment of
       old.stage (length old.runs) was.count)
-  by_news of news.NotExited tells made =
+  by_update of update.NotExited tells made =
       same_runs _ c.request.id (seen_count c.moment of old.stage (length old.runs) was.count)
-  by_news of news.Cleared tells made = same_runs _ c.request.id (cleared_count of
+  by_update of update.Cleared tells made = same_runs _ c.request.id (cleared_count of
       old.stage (length old.runs) was.count)
-  by_news of news.Lost tells made = same_runs _ c.request.id was.count
-  by_news of news.Refused tells made = same_runs _ c.request.id was.count
-  by_news of news.SandboxReady tells made = same_runs _ c.request.id was.count
-  by_news of news.SandboxStopped tells made = same_runs _ c.request.id was.count
-  by_news of news.SandboxRemoved tells made = same_runs _ c.request.id was.count
-  by_news of news.Nothing tells made = same_runs _ c.request.id was.count
+  by_update of update.Lost tells made = same_runs _ c.request.id was.count
+  by_update of update.Refused tells made = same_runs _ c.request.id was.count
+  by_update of update.SandboxReady tells made = same_runs _ c.request.id was.count
+  by_update of update.SandboxStopped tells made = same_runs _ c.request.id was.count
+  by_update of update.SandboxRemoved tells made = same_runs _ c.request.id was.count
+  by_update of update.Nothing tells made = same_runs _ c.request.id was.count
 
   counted_behind : uid_of c.request.call ≡ uid → IsNumbered name old c.request.call
       → Counted uid (c ∷ cs) name (track_after c.moment c.request c.outcome name old)
@@ -267,7 +267,7 @@ module _ (uid : List ℕ) (c : Claimed) (cs : List Claimed) (name : List ℕ) (o
         })
     by_attempt None is = same_runs old.stage old.worked was.count
     by_attempt (Some of) is =
-        by_news of (told_of name of c.request c.outcome)
+        by_update of (told_of name of c.request c.outcome)
         (λ code e started.
         let found : IsTold c.request c.outcome (key_named uid name of) code =
         told_is c.request c.outcome uid name old.stage of code same is e in
@@ -313,7 +313,7 @@ pub runs_numbered : (settings : Settings) (pod : Pod) (cs : List Claimed) → Ar
     → AreNumbered settings pod cs → (at : ℕ) (track : Track) (container : Container)
     → slice_get (read_off pod settings cs).tracks at ≡ Some track
     → slice_get pod.containers.all at ≡ Some container
-    → (k : ℕ) (run : Run) → slice_get track.runs k ≡ Some run → Told pod.uid cs container.name k run
+    → (k : ℕ) (run : Run) → slice_get track.runs k ≡ Some run → RunReported pod.uid cs container.name k run
 runs_numbered settings pod cs of numbered at track container e here =
     (counted settings pod cs of numbered at track container e here).each
 

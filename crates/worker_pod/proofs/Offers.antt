@@ -4,9 +4,9 @@ use Rattle.std.proofs.Common.{Option, Some, None, slice_get, ◌⊎◌, inl, inr
 use Rattle.std.proofs.lemmas.Bool.{leb-true}
 use Rattle.lifecycle.specs.declared.policy.RestartPolicy.{RestartPolicy}
 use Rattle.lifecycle.specs.declared.track.Track.{Track}
-use Rattle.worker_pod.specs.declared.wants.Pick.{Pick}
-use Rattle.worker_pod.specs.declared.wants.Want.{Want}
-use Rattle.worker_pod.specs.Wants.{better, chosen_from, is_longer, turn_of}
+use Rattle.worker_pod.specs.declared.container_actions.Pick.{Pick}
+use Rattle.worker_pod.specs.declared.container_actions.ContainerAction.{ContainerAction}
+use Rattle.worker_pod.specs.ContainerActions.{better, chosen_from, is_longer, turn_of}
 
 pub and_left : (a b : Bool) → (a && b) ≡ true → a ≡ true
 and_left true b e = refl
@@ -17,37 +17,37 @@ and_right true b e = e
 and_right false b e = absurd cc
 
 -- the pick of a container, with the work due for it
-abbrev pub pick_of : ℕ → Track → Want → Pick
-pick_of at t want = record { at = at; worked = t.worked; work = want.work }
+abbrev pub pick_of : ℕ → Track → ContainerAction → Pick
+pick_of at t step = record { at = at; worked = t.worked; work = step.work }
 
 -- the pick is the container at this place, with the work due for it
-pub record IsOffer (now at : ℕ) (t : Track) (turn : Option Want) (best : Option Pick)
+pub record IsOffer (now at : ℕ) (t : Track) (turn : Option ContainerAction) (best : Option Pick)
     (pick : Pick) : Type 0 where
-  pub want : Want
-  pub turn_is : turn ≡ Some want
-  pub due : want.from ≤ now
+  pub step : ContainerAction
+  pub turn_is : turn ≡ Some step
+  pub due : step.from ≤ now
   pub longer : is_longer best t.worked ≡ true
-  pub is : pick_of at t want ≡ pick
+  pub is : pick_of at t step ≡ pick
 
 -- a better one is the best so far or the new one
-by_test : (now at : ℕ) (t : Track) (want : Want) (best : Option Pick) (pick : Pick) (b : Bool)
-    → (nat_le want.from now && is_longer best t.worked) ≡ b
-    → (if b then Some (pick_of at t want) else best) ≡ Some pick
-    → (best ≡ Some pick) ⊎ IsOffer now at t (Some want) best pick
-by_test now at t want best pick true test e = inr (record {
-  want = want;
+by_test : (now at : ℕ) (t : Track) (step : ContainerAction) (best : Option Pick) (pick : Pick) (b : Bool)
+    → (nat_le step.from now && is_longer best t.worked) ≡ b
+    → (if b then Some (pick_of at t step) else best) ≡ Some pick
+    → (best ≡ Some pick) ⊎ IsOffer now at t (Some step) best pick
+by_test now at t step best pick true test e = inr (record {
+  step = step;
   turn_is = refl;
-  due = leb-true want.from now (and_left (nat_le want.from now) (is_longer best t.worked) test);
-  longer = and_right (nat_le want.from now) (is_longer best t.worked) test;
+  due = leb-true step.from now (and_left (nat_le step.from now) (is_longer best t.worked) test);
+  longer = and_right (nat_le step.from now) (is_longer best t.worked) test;
   is = cc;
 })
-by_test now at t want best pick false test e = inl e
+by_test now at t step best pick false test e = inl e
 
-pub better_is : (now at : ℕ) (t : Track) (turn : Option Want) (best : Option Pick) (pick : Pick)
+pub better_is : (now at : ℕ) (t : Track) (turn : Option ContainerAction) (best : Option Pick) (pick : Pick)
     → better now best at t turn ≡ Some pick → (best ≡ Some pick) ⊎ IsOffer now at t turn best pick
 better_is now at t None best pick e = inl e
-better_is now at t (Some want) best pick e =
-    by_test now at t want best pick (nat_le want.from now && is_longer best t.worked) refl e
+better_is now at t (Some step) best pick e =
+    by_test now at t step best pick (nat_le step.from now && is_longer best t.worked) refl e
 
 -- the pick is one of these containers, the first of which is at this place
 pub record IsAmong (policy : RestartPolicy) (poll now : ℕ) (front : Option ℕ) (at : ℕ) (ts : List Track)
@@ -56,10 +56,10 @@ pub record IsAmong (policy : RestartPolicy) (poll now : ℕ) (front : Option ℕ
   pub track : Track
   pub here : slice_get ts off ≡ Some track
   pub at_is : pick.at ≡ at + off
-  pub want : Want
-  pub turn : turn_of policy poll front pick.at track ≡ Some want
-  pub due : want.from ≤ now
-  pub work : pick.work ≡ want.work
+  pub step : ContainerAction
+  pub turn : turn_of policy poll front pick.at track ≡ Some step
+  pub due : step.from ≤ now
+  pub work : pick.work ≡ step.work
 
 among_more : (policy : RestartPolicy) (poll now : ℕ) (front : Option ℕ) (at : ℕ) (t : Track) (ts : List Track)
     (pick : Pick)
@@ -69,7 +69,7 @@ among_more policy poll now front at t ts pick a = record {
   track = a.track;
   here = a.here;
   at_is = omega (arith, a.at_is);
-  want = a.want;
+  step = a.step;
   turn = a.turn;
   due = a.due;
   work = a.work;
@@ -86,7 +86,7 @@ among_first policy poll now front at t ts best pick o =
       track = t;
       here = refl;
       at_is = omega (arith, place);
-      want = o.want;
+      step = o.step;
       turn = rw place o.turn_is;
       due = o.due;
       work = sym (ap (λ (p : Pick). p.work) o.is);

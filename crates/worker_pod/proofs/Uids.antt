@@ -7,16 +7,16 @@ use Rattle.manifest.specs.declared.pods.Pod.{Pod}
 use Rattle.cri_msgs.specs.declared.calls.Call.{Call}
 use Rattle.cri_msgs.specs.declared.version.Version.{Version}
 use Rattle.cri_msgs.specs.declared.version.Version.TheVariants.{V1, V2}
-use Rattle.worker_pod.specs.declared.duty.Duty.{Duty}
-use Rattle.worker_pod.specs.declared.duty.Duty.TheVariants as duty
+use Rattle.worker_pod.specs.declared.action.PodAction.{PodAction}
+use Rattle.worker_pod.specs.declared.action.PodAction.TheVariants as action
 use Rattle.worker_pod.specs.declared.settings.Settings.{Settings}
-use Rattle.worker_pod.specs.declared.wants.Pick.{Pick}
-use Rattle.worker_pod.specs.declared.wants.Work.{Work}
-use Rattle.worker_pod.specs.declared.wants.Work.TheVariants.{Create, Start, Look, Clear}
+use Rattle.worker_pod.specs.declared.container_actions.Pick.{Pick}
+use Rattle.worker_pod.specs.declared.container_actions.Work.{Work}
+use Rattle.worker_pod.specs.declared.container_actions.Work.TheVariants.{Create, Start, Look, Clear}
 use Rattle.cri_msgs.specs.Calls.{uid_of}
-use Rattle.worker_pod.specs.Next.{call_by, call_of, duty_of, key_in, look_by, next_by, next_of}
+use Rattle.worker_pod.specs.Next.{call_by, call_of, action_of, key_in, look_by, next_by, next_of}
 use Rattle.worker_pod.specs.Past.{Kept}
-use Rattle.worker_pod.specs.Wants.{chosen}
+use Rattle.worker_pod.specs.ContainerActions.{chosen}
 
 by_work : (pod : Pod) (settings : Settings) (c : Container) (work : Work)
     → uid_of (call_of pod settings c work) ≡ pod.uid
@@ -44,19 +44,19 @@ by_pick pod settings (Some pick) call e =
 uid_is : (a b : Call) → Some a ≡ Some b → uid_of b ≡ uid_of a
 uid_is a b e = let same : b ≡ a = cc in ap uid_of same
 
-by_duty : (kept : Kept) (now : ℕ) (call : Call) (d : Duty) → next_by kept now d ≡ Some call
+by_action : (kept : Kept) (now : ℕ) (call : Call) (d : PodAction) → next_by kept now d ≡ Some call
     → uid_of call ≡ kept.pod.uid
-by_duty kept now call duty.Nothing e = absurd cc
-by_duty kept now call duty.RunSandbox e = uid_is _ call e
-by_duty kept now call duty.StopSandbox e = uid_is _ call e
-by_duty kept now call duty.RemoveSandbox e = uid_is _ call e
-by_duty kept now call duty.Containers e =
+by_action kept now call action.Nothing e = absurd cc
+by_action kept now call action.RunSandbox e = uid_is _ call e
+by_action kept now call action.StopSandbox e = uid_is _ call e
+by_action kept now call action.RemoveSandbox e = uid_is _ call e
+by_action kept now call action.Containers e =
     by_pick kept.pod kept.settings (chosen kept.pod.policy kept.settings.poll now kept.tracks) call e
 
 pub of_the_pod : (kept : Kept) (now : ℕ) (call : Call) → next_of kept now ≡ Some call
     → uid_of call ≡ kept.pod.uid
 of_the_pod kept now call e = by_rest (nat_le kept.rest now) e where
-  by_rest : (b : Bool) → (if b then next_by kept now (duty_of kept) else None) ≡ Some call
+  by_rest : (b : Bool) → (if b then next_by kept now (action_of kept) else None) ≡ Some call
       → uid_of call ≡ kept.pod.uid
-  by_rest true h = by_duty kept now call (duty_of kept) h
+  by_rest true h = by_action kept now call (action_of kept) h
   by_rest false h = absurd cc

@@ -21,11 +21,11 @@ use Rattle.cri_msgs.specs.declared.keys.Key.{Key}
 use Rattle.cri_msgs.specs.declared.replies.Reply.{Reply}
 use Rattle.worker_pod.specs.declared.settings.Outcome.TheVariants.{Replied}
 use Rattle.worker_pod.specs.declared.settings.Settings.{Settings}
-use Rattle.worker_pod.specs.declared.wants.Pick.{Pick}
-use Rattle.worker_pod.specs.declared.wants.Want.{Want}
+use Rattle.worker_pod.specs.declared.container_actions.Pick.{Pick}
+use Rattle.worker_pod.specs.declared.container_actions.ContainerAction.{ContainerAction}
 use Rattle.worker_pod.specs.Next.{key_in}
 use Rattle.worker_pod.specs.Past.{Claimed, Kept, read_off}
-use Rattle.worker_pod.specs.Wants.{front_of, is_in_turn, turn_of}
+use Rattle.worker_pod.specs.ContainerActions.{front_of, is_in_turn, turn_of}
 
 -- the claims are of this pod
 abbrev pub AreOf : List ℕ → List Claimed → Type 0
@@ -77,8 +77,8 @@ pub record TellsRun (key : Key) (run : Run) (c : Claimed) : Type 0 where
 abbrev pub key_named : List ℕ → List ℕ → ℕ → Key
 key_named uid name attempt = record { uid = uid; container = record { name = name; attempt = attempt } }
 
-abbrev pub Told : List ℕ → List Claimed → List ℕ → ℕ → Run → Type 0
-Told uid cs name k run = Any (TellsRun (key_named uid name k) run) cs
+abbrev pub RunReported : List ℕ → List Claimed → List ℕ → ℕ → Run → Type 0
+RunReported uid cs name k run = Any (TellsRun (key_named uid name k) run) cs
 
 -- attempt k has ended
 abbrev pub HasEnded : ℕ → Stage → Type 0
@@ -90,17 +90,18 @@ HasEnded k s = ⊥
 pub record LastRun (uid : List ℕ) (cs : List Claimed) (name : List ℕ) (track : Track) (k : ℕ) : Type 0 where
   pub run : Run
   pub last : last_of track.runs ≡ Some run
-  pub told : Told uid cs name k run
+  pub told : RunReported uid cs name k run
 
 -- the kept runs of a container were reported by replies to claims of its attempts
-pub record WasTold (uid : List ℕ) (cs : List Claimed) (name : List ℕ) (track : Track) : Type 0 where
+pub record RunsReported (uid : List ℕ) (cs : List Claimed) (name : List ℕ) (track : Track) : Type 0 where
   pub ended : (k : ℕ) → HasEnded k track.stage → LastRun uid cs name track k
-  pub runs : All (λ (run : Run). (k : ℕ) × Told uid cs name k run) track.runs
+  pub runs : All (λ (run : Run). (k : ℕ) × RunReported uid cs name k run) track.runs
 
 -- the container's turn has come, and so has the moment from which its work is due
 abbrev pub IsDue : RestartPolicy → ℕ → ℕ → List Track → ℕ → Track → Type 0
 IsDue policy poll now tracks at track =
-    (want : Want) × (turn_of policy poll (front_of policy tracks) at track ≡ Some want) × (want.from ≤ now)
+    (step : ContainerAction) × (turn_of policy poll (front_of policy tracks) at track ≡ Some step)
+    × (step.from ≤ now)
 
 -- of those that are due it was worked on longest ago, and is the first of equal ones
 abbrev pub WaitedLongest : RestartPolicy → ℕ → ℕ → List Track → Pick → Type 0

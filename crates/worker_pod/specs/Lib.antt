@@ -1,6 +1,6 @@
-pub mod News
+pub mod Updates
 pub mod Tracks
 pub mod Past
-pub mod Wants
+pub mod ContainerActions
 pub mod Next
 pub mod Laws

@@ -16,51 +16,51 @@ use Rattle.cri_msgs.specs.declared.calls.Request.{Request}
 use Rattle.cri_msgs.specs.declared.keys.Key.{Key}
 use Rattle.cri_msgs.specs.declared.version.Version.{Version}
 use Rattle.cri_msgs.specs.declared.version.Version.TheVariants.{V1, V2}
-use Rattle.worker_pod.specs.declared.duty.Duty.{Duty}
-use Rattle.worker_pod.specs.declared.duty.Duty.TheVariants as duty
+use Rattle.worker_pod.specs.declared.action.PodAction.{PodAction}
+use Rattle.worker_pod.specs.declared.action.PodAction.TheVariants as action
 use Rattle.worker_pod.specs.declared.sandbox.Sandbox.{Sandbox}
 use Rattle.worker_pod.specs.declared.sandbox.Sandbox.TheVariants as sandbox
 use Rattle.worker_pod.specs.declared.settings.Settings.{Settings}
-use Rattle.worker_pod.specs.declared.wants.Pick.{Pick}
-use Rattle.worker_pod.specs.declared.wants.Work.{Work}
-use Rattle.worker_pod.specs.declared.wants.Work.TheVariants.{Create, Start, Look, Clear}
+use Rattle.worker_pod.specs.declared.container_actions.Pick.{Pick}
+use Rattle.worker_pod.specs.declared.container_actions.Work.{Work}
+use Rattle.worker_pod.specs.declared.container_actions.Work.TheVariants.{Create, Start, Look, Clear}
 use Rattle.worker_pod.specs.Past.{Kept}
-use Rattle.worker_pod.specs.Wants.{chosen, soonest}
+use Rattle.worker_pod.specs.ContainerActions.{chosen, soonest}
 
 abbrev pub phase_in : Kept → Phase
 phase_in kept = phase_of kept.pod.policy kept.lost kept.tracks
 
 -- a deleted pod's sandbox is stopped, and then removed
-abbrev pub unmaking : Sandbox → Duty
-unmaking sandbox.Stopped = duty.RemoveSandbox
-unmaking sandbox.Removed = duty.Nothing
-unmaking s = duty.StopSandbox
+abbrev pub unmaking : Sandbox → PodAction
+unmaking sandbox.Stopped = action.RemoveSandbox
+unmaking sandbox.Removed = action.Nothing
+unmaking s = action.StopSandbox
 
-abbrev pub making : Sandbox → Duty
-making sandbox.Ready = duty.Containers
-making s = duty.RunSandbox
+abbrev pub making : Sandbox → PodAction
+making sandbox.Ready = action.Containers
+making s = action.RunSandbox
 
 -- nothing is done for a pod that is over
-abbrev pub duty_in : Phase → Sandbox → Duty
-duty_in phase.Succeeded s = duty.Nothing
-duty_in phase.Failed s = duty.Nothing
-duty_in p s = making s
+abbrev pub action_in : Phase → Sandbox → PodAction
+action_in phase.Succeeded s = action.Nothing
+action_in phase.Failed s = action.Nothing
+action_in p s = making s
 
 -- what comes next
-abbrev pub duty_of : Kept → Duty
-duty_of kept = if kept.deleted then unmaking kept.sandbox else duty_in (phase_in kept) kept.sandbox
+abbrev pub action_of : Kept → PodAction
+action_of kept = if kept.deleted then unmaking kept.sandbox else action_in (phase_in kept) kept.sandbox
 
 -- the moment from which it is due
-abbrev pub due_by : Kept → Duty → Option ℕ
-due_by kept duty.Nothing = None
-due_by kept duty.RunSandbox = Some kept.rest
-due_by kept duty.StopSandbox = Some kept.rest
-due_by kept duty.RemoveSandbox = Some kept.rest
-due_by kept duty.Containers = option_map (λ moment. max moment kept.rest)
+abbrev pub due_by : Kept → PodAction → Option ℕ
+due_by kept action.Nothing = None
+due_by kept action.RunSandbox = Some kept.rest
+due_by kept action.StopSandbox = Some kept.rest
+due_by kept action.RemoveSandbox = Some kept.rest
+due_by kept action.Containers = option_map (λ moment. max moment kept.rest)
     (soonest kept.pod.policy kept.settings.poll kept.tracks)
 
 abbrev pub due_of : Kept → Option ℕ
-due_of kept = due_by kept (duty_of kept)
+due_of kept = due_by kept (action_of kept)
 
 abbrev pub key_in : Pod → Container → ℕ → Key
 key_in pod container attempt = record {
@@ -87,17 +87,17 @@ call_by pod settings None = None
 call_by pod settings (Some pick) = option_map (λ c. call_of pod settings c pick.work)
     (slice_get pod.containers.all pick.at)
 
-abbrev pub next_by : Kept → ℕ → Duty → Option Call
-next_by kept now duty.Nothing = None
-next_by kept now duty.RunSandbox = Some (RunPodSandbox kept.pod.uid)
-next_by kept now duty.StopSandbox = Some (StopPodSandbox kept.pod.uid kept.pod.grace)
-next_by kept now duty.RemoveSandbox = Some (RemovePodSandbox kept.pod.uid)
-next_by kept now duty.Containers =
+abbrev pub next_by : Kept → ℕ → PodAction → Option Call
+next_by kept now action.Nothing = None
+next_by kept now action.RunSandbox = Some (RunPodSandbox kept.pod.uid)
+next_by kept now action.StopSandbox = Some (StopPodSandbox kept.pod.uid kept.pod.grace)
+next_by kept now action.RemoveSandbox = Some (RemovePodSandbox kept.pod.uid)
+next_by kept now action.Containers =
     call_by kept.pod kept.settings (chosen kept.pod.policy kept.settings.poll now kept.tracks)
 
 -- the call that is due at this moment
 abbrev pub next_of : Kept → ℕ → Option Call
-next_of kept now = if nat_le kept.rest now then next_by kept now (duty_of kept) else None
+next_of kept now = if nat_le kept.rest now then next_by kept now (action_of kept) else None
 
 abbrev pub numbered : ℕ → Call → Request
 numbered number call = record { id = number; call = call }

@@ -7,14 +7,14 @@ use Rattle.lifecycle.specs.declared.track.Track.{Track}
 use Rattle.manifest.specs.Containers.{ContainerList}
 use Rattle.manifest.specs.declared.pods.Pod.{Pod}
 use Rattle.cri_msgs.specs.declared.calls.Request.{Request}
-use Rattle.worker_pod.specs.declared.news.News.{News}
-use Rattle.worker_pod.specs.declared.news.News.TheVariants as news
+use Rattle.worker_pod.specs.declared.update.StatusUpdate.{StatusUpdate}
+use Rattle.worker_pod.specs.declared.update.StatusUpdate.TheVariants as update
 use Rattle.worker_pod.specs.declared.sandbox.Sandbox.{Sandbox}
 use Rattle.worker_pod.specs.declared.sandbox.Sandbox.TheVariants as sandbox
 use Rattle.worker_pod.specs.declared.settings.Outcome.{Outcome}
 use Rattle.worker_pod.specs.declared.settings.Settings.{Settings}
 use Rattle.worker_pod.specs.declared.settings.TheConstants.{REST}
-use Rattle.worker_pod.specs.News.{is_lost, told}
+use Rattle.worker_pod.specs.Updates.{is_lost, told}
 use Rattle.worker_pod.specs.Tracks.{fresh, records_in, tracks_after}
 
 pub record Kept : Type 0 where
@@ -34,16 +34,16 @@ pub record Kept : Type 0 where
   -- its containers, init ones first
   pub tracks : List Track
 
-abbrev pub sandbox_at : News → Sandbox → Sandbox
-sandbox_at news.SandboxReady s = sandbox.Ready
-sandbox_at news.SandboxStopped s = sandbox.Stopped
-sandbox_at news.SandboxRemoved s = sandbox.Removed
+abbrev pub sandbox_at : StatusUpdate → Sandbox → Sandbox
+sandbox_at update.SandboxReady s = sandbox.Ready
+sandbox_at update.SandboxStopped s = sandbox.Stopped
+sandbox_at update.SandboxRemoved s = sandbox.Removed
 sandbox_at n s = s
 
 -- for ten seconds after a refusal, a loss or an abandoned claim nothing is due
-abbrev pub rest_at : ℕ → News → ℕ
-rest_at now news.Lost = later now REST
-rest_at now news.Refused = later now REST
+abbrev pub rest_at : ℕ → StatusUpdate → ℕ
+rest_at now update.Lost = later now REST
+rest_at now update.Refused = later now REST
 rest_at now n = 0
 
 -- after the claim of the request has ended, now and with this outcome

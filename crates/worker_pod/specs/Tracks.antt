@@ -17,16 +17,16 @@ use Rattle.cri_msgs.specs.declared.calls.Call.TheVariants.{RemoveContainer, Cont
 use Rattle.cri_msgs.specs.declared.calls.Call.TheVariants.{ContainerStatuses}
 use Rattle.cri_msgs.specs.declared.calls.Request.{Request}
 use Rattle.cri_msgs.specs.declared.keys.Key.{Key}
-use Rattle.worker_pod.specs.declared.news.News.{News}
-use Rattle.worker_pod.specs.declared.news.News.TheVariants as news
+use Rattle.worker_pod.specs.declared.update.StatusUpdate.{StatusUpdate}
+use Rattle.worker_pod.specs.declared.update.StatusUpdate.TheVariants as update
 use Rattle.worker_pod.specs.declared.settings.Outcome.{Outcome}
-use Rattle.worker_pod.specs.News.{told_of}
+use Rattle.worker_pod.specs.Updates.{told_of}
 
 -- a container of which nothing was reported
 abbrev pub fresh : Bool → Track
 fresh init = record { init = init; stage = stage.Absent; runs = []; worked = 0 }
 
--- One container, by the news of its attempt `of`. Only news of the current attempt counts.
+-- One container, by the update on its attempt `of`. Only an update on the current attempt counts.
 abbrev pub made_at : ℕ → Stage → Stage
 made_at of s = stage.Made of
 
@@ -50,22 +50,22 @@ abbrev pub cleared_at : ℕ → Stage → Stage
 cleared_at of (stage.Exited attempt) = if attempt == of then stage.Removed attempt else stage.Exited attempt
 cleared_at of s = s
 
-abbrev pub stage_at : ℕ → ℕ → News → Stage → Stage
-stage_at now of news.Made s = made_at of s
-stage_at now of news.Started s = started_at now of s
-stage_at now of news.NotExited s = seen_at now of s
-stage_at now of (news.Exited code) s = exited_at of s
-stage_at now of news.Cleared s = cleared_at of s
+abbrev pub stage_at : ℕ → ℕ → StatusUpdate → Stage → Stage
+stage_at now of update.Made s = made_at of s
+stage_at now of update.Started s = started_at now of s
+stage_at now of update.NotExited s = seen_at now of s
+stage_at now of (update.Exited code) s = exited_at of s
+stage_at now of update.Cleared s = cleared_at of s
 stage_at now of n s = s
 
--- the run that ends by the news: its exit is recorded now
+-- the run that ends by the update: its exit is recorded now
 abbrev pub exit_at : ℕ → ℕ → ℕ → Stage → Option Run
 exit_at now of code (stage.Running attempt started polled) =
     if attempt == of then Some (record { started = started; code = code; recorded = now }) else None
 exit_at now of code s = None
 
-abbrev pub run_at : ℕ → ℕ → News → Stage → Option Run
-run_at now of (news.Exited code) s = exit_at now of code s
+abbrev pub run_at : ℕ → ℕ → StatusUpdate → Stage → Option Run
+run_at now of (update.Exited code) s = exit_at now of code s
 run_at now of n s = None
 
 abbrev pub with_run : Option Run → List Run → List Run

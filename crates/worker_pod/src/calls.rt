@@ -2,8 +2,8 @@ ghost use Rattle.std.specs.Prelude.{◌≡◌, IfOk, Ok, Some, None, slice_get};
 ghost use Rattle.profile_pick.specs.Choice.{choice_of, choice_seen};
 ghost use Rattle.worker_pod.specs.Next.{call_by, call_of, key_in, look_by};
 
+use crate::container_actions::{Pick, Work};
 use crate::settings::Settings;
-use crate::wants::{Pick, Work};
 use cri_msgs::{Call, ContainerMetadata, Key, Version};
 use manifest::{Container, Pod, SeccompProfile};
 use profile_pick::{Choice, pick};

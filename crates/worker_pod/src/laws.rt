@@ -12,14 +12,14 @@ ghost use Rattle.cri_msgs.specs.declared.calls.Call.{Call};
 ghost use Rattle.cri_msgs.specs.declared.keys.Key.{Key};
 ghost use Rattle.worker_pod.specs.declared.settings.Settings.{Settings};
 ghost use Rattle.worker_pod.specs.declared.settings.TheConstants.{LAST_ATTEMPT, REST};
-ghost use Rattle.worker_pod.specs.declared.wants.Pick.{Pick};
-ghost use Rattle.worker_pod.specs.declared.wants.Work.TheVariants.{Create};
+ghost use Rattle.worker_pod.specs.declared.container_actions.Pick.{Pick};
+ghost use Rattle.worker_pod.specs.declared.container_actions.Work.TheVariants.{Create};
 ghost use Rattle.cri_msgs.specs.Calls.{uid_of};
-ghost use Rattle.worker_pod.specs.Laws.{AreNumbered, AreOf, Creation, IsNumberedIn, Told, WaitedLongest};
-ghost use Rattle.worker_pod.specs.Laws.{WasTold};
+ghost use Rattle.worker_pod.specs.Laws.{AreNumbered, AreOf, Creation, IsNumberedIn, RunReported, WaitedLongest};
+ghost use Rattle.worker_pod.specs.Laws.{RunsReported};
 ghost use Rattle.worker_pod.specs.Next.{due_of, has_come, next_of};
 ghost use Rattle.worker_pod.specs.Past.{Claimed, Kept, Past, held_of, read_off};
-ghost use Rattle.worker_pod.specs.Wants.{chosen, want_of};
+ghost use Rattle.worker_pod.specs.ContainerActions.{chosen, step_of};
 
 /// An attempt at a container follows the manifest, and is made once the init containers before it have
 /// succeeded; after an attempt that ended, only if another is allowed, and not before its back-off is over.
@@ -34,7 +34,7 @@ pub fn runs_were_told()
     ensures { (settings : Settings) (pod : Pod) (claims : List Claimed) → AreOf pod.uid claims
         → (at : ℕ) (track : Track) (container : Container)
         → slice_get (read_off pod settings claims).tracks at ≡ Some track
-        → slice_get pod.containers.all at ≡ Some container → WasTold pod.uid claims container.name track }
+        → slice_get pod.containers.all at ≡ Some container → RunsReported pod.uid claims container.name track }
 {}
 
 /// A pod's creations are numbered by the runs of their containers.
@@ -52,7 +52,7 @@ pub fn runs_are_numbered()
         → (at : ℕ) (track : Track) (container : Container)
         → slice_get (read_off pod settings claims).tracks at ≡ Some track
         → slice_get pod.containers.all at ≡ Some container
-        → (k : ℕ) (run : Run) → slice_get track.runs k ≡ Some run → Told pod.uid claims container.name k run }
+        → (k : ℕ) (run : Run) → slice_get track.runs k ≡ Some run → RunReported pod.uid claims container.name k run }
 {}
 
 /// Each container of the manifest has its track, at its place.
@@ -67,10 +67,10 @@ pub fn containers_have_tracks()
 /// After the last attempt at a container there is no other; after the one before it there is.
 pub fn attempts_end_at_the_last()
     ensures exited { (policy : RestartPolicy) (poll : ℕ) (track : Track)
-        → track.stage ≡ stage.Exited LAST_ATTEMPT → want_of policy poll track ≡ None }
+        → track.stage ≡ stage.Exited LAST_ATTEMPT → step_of policy poll track ≡ None }
     ensures removed { (policy : RestartPolicy) (poll : ℕ) (track : Track)
-        → track.stage ≡ stage.Removed LAST_ATTEMPT → want_of policy poll track ≡ None }
-    ensures one_more { (poll worked : ℕ) → want_of RestartPolicy.Always poll (record {
+        → track.stage ≡ stage.Removed LAST_ATTEMPT → step_of policy poll track ≡ None }
+    ensures one_more { (poll worked : ℕ) → step_of RestartPolicy.Always poll (record {
       init = false;
       stage = stage.Removed 4294967294;
       runs = record { started = 0; code = 1; recorded = 5 } ∷ [];

@@ -27,16 +27,16 @@
 //! - All of it holds whether statuses are asked for one by one or by pod.
 #![tactic(auto)]
 
+mod action;
 mod calls;
-mod duty;
+mod container_actions;
 mod laws;
-mod news;
 mod pod;
 mod sandbox;
 mod settings;
 mod tracks;
 mod turns;
-mod wants;
+mod update;
 
 pub use laws::{
     attempts_end_at_the_last, calls_are_of_the_pod, constants_are_as_stated,

@@ -1,21 +1,21 @@
 ghost use Rattle.std.specs.Prelude.{◌≡◌, ℕ, ◌+◌, ◌<◌, ◌≤◌, IfOk, Ok, OnOk, OnErr, IsOk, Some, None, true};
 ghost use Rattle.std.specs.Prelude.{false, option_map};
 ghost use Rattle.lifecycle.specs.declared.runs.TheConstants.{MAX_RUNS};
-ghost use Rattle.worker_pod.specs.News.{told};
-ghost use Rattle.worker_pod.specs.Next.{due_by, due_of, duty_of, is_gone, next_by, next_of, numbered};
+ghost use Rattle.worker_pod.specs.Updates.{told};
+ghost use Rattle.worker_pod.specs.Next.{due_by, due_of, action_of, is_gone, next_by, next_of, numbered};
 ghost use Rattle.worker_pod.specs.Next.{phase_in};
 ghost use Rattle.worker_pod.specs.Past.{Past, StandsFor, admitted, after, as_deleted, records_exit, rest_at};
 ghost use Rattle.worker_pod.specs.Past.{start, with_claim, with_deleted};
 ghost use Rattle.worker_pod.specs.Tracks.{AllWithin};
-ghost use Rattle.worker_pod.specs.Wants.{chosen};
+ghost use Rattle.worker_pod.specs.ContainerActions.{chosen};
 
+use crate::action::{PodAction, action_in, unmaking};
 use crate::calls::call_by;
-use crate::duty::{Duty, duty_in, unmaking};
-use crate::news::{News, news_of};
 use crate::sandbox::{Sandbox, sandbox_at};
 use crate::settings::{Outcome, REST, Settings};
 use crate::tracks::{fresh_tracks, tracks_ended};
 use crate::turns::{chosen, soonest};
+use crate::update::{StatusUpdate, update_of};
 use cri_msgs::{Call, Request};
 use lifecycle::{Phase, Track, phase};
 use manifest::Pod;
@@ -143,34 +143,36 @@ impl PodState {
     pub fn due(&self) -> Option<u64>
         ensures { result ≡ due_of self.now }
     {
-        self.due_by(self.duty())
+        self.due_by(self.action())
     }
 
-    fn due_by(&self, duty: Duty) -> Option<u64>
-        ensures { result ≡ due_by self.now duty }
+    fn due_by(&self, action: PodAction) -> Option<u64>
+        ensures { result ≡ due_by self.now action }
     {
-        match duty {
-            Duty::Nothing => None,
-            Duty::RunSandbox | Duty::StopSandbox | Duty::RemoveSandbox => Some(self.rest),
-            Duty::Containers => self.containers_due(),
+        match action {
+            PodAction::Nothing => None,
+            PodAction::RunSandbox | PodAction::StopSandbox | PodAction::RemoveSandbox => Some(
+                self.rest,
+            ),
+            PodAction::Containers => self.containers_due(),
         }
     }
 
     fn containers_due(&self) -> Option<u64>
-        ensures { result ≡ due_by self.now Duty.Containers }
+        ensures { result ≡ due_by self.now PodAction.Containers }
     {
         soonest(self.pod.policy, self.settings.poll, self.tracks.as_slice()).map(
             |moment| moment.max(self.rest),
         )
     }
 
-    fn duty(&self) -> Duty
-        ensures { result ≡ duty_of self.now }
+    fn action(&self) -> PodAction
+        ensures { result ≡ action_of self.now }
     {
         if self.deleted {
             unmaking(self.sandbox)
         } else {
-            duty_in(self.phase, self.sandbox)
+            action_in(self.phase, self.sandbox)
         }
     }
 
@@ -192,35 +194,35 @@ impl PodState {
         ensures none { next_of self.now now ≡ None → result ≡ Ok None }
     {
         if self.rest <= now {
-            self.call_for(now, self.duty())
+            self.call_for(now, self.action())
         } else {
             Ok(None)
         }
     }
 
-    fn call_for(&self, now: u64, duty: Duty) -> Result<Option<Call>, AllocError>
-        ensures next { IfOk result (λ next. next ≡ next_by self.now now duty) }
-        ensures none { next_by self.now now duty ≡ None → result ≡ Ok None }
+    fn call_for(&self, now: u64, action: PodAction) -> Result<Option<Call>, AllocError>
+        ensures next { IfOk result (λ next. next ≡ next_by self.now now action) }
+        ensures none { next_by self.now now action ≡ None → result ≡ Ok None }
     {
-        match duty {
-            Duty::Nothing => Ok(None),
-            Duty::RunSandbox => Ok(Some(Call::RunPodSandbox {
+        match action {
+            PodAction::Nothing => Ok(None),
+            PodAction::RunSandbox => Ok(Some(Call::RunPodSandbox {
                 uid: self.pod.uid.try_clone(self.alloc)?,
             })),
-            Duty::StopSandbox => Ok(Some(Call::StopPodSandbox {
+            PodAction::StopSandbox => Ok(Some(Call::StopPodSandbox {
                 uid: self.pod.uid.try_clone(self.alloc)?,
                 grace: self.pod.grace,
             })),
-            Duty::RemoveSandbox => Ok(Some(Call::RemovePodSandbox {
+            PodAction::RemoveSandbox => Ok(Some(Call::RemovePodSandbox {
                 uid: self.pod.uid.try_clone(self.alloc)?,
             })),
-            Duty::Containers => self.container_call(now),
+            PodAction::Containers => self.container_call(now),
         }
     }
 
     fn container_call(&self, now: u64) -> Result<Option<Call>, AllocError>
-        ensures next { IfOk result (λ next. next ≡ next_by self.now now Duty.Containers) }
-        ensures none { next_by self.now now Duty.Containers ≡ None → result ≡ Ok None }
+        ensures next { IfOk result (λ next. next ≡ next_by self.now now PodAction.Containers) }
+        ensures none { next_by self.now now PodAction.Containers ≡ None → result ≡ Ok None }
     {
         let chosen = chosen(
             self.pod.policy,
@@ -260,10 +262,10 @@ impl PodState {
             request,
             &outcome,
         )?;
-        let news = news_of(request, &outcome);
-        self.sandbox = sandbox_at(news, self.sandbox);
-        self.lost = news.is_lost();
-        self.rest = rest_at(now, news);
+        let update = update_of(request, &outcome);
+        self.sandbox = sandbox_at(update, self.sandbox);
+        self.lost = update.is_lost();
+        self.rest = rest_at(now, update);
         self.latest = now;
         self.worked = request.id;
         self.phase = phase(self.tracks.as_slice(), self.pod.policy, self.lost);
@@ -271,11 +273,11 @@ impl PodState {
     }
 }
 
-fn rest_at(now: u64, news: News) -> u64
-    ensures { result ≡ rest_at now news }
+fn rest_at(now: u64, update: StatusUpdate) -> u64
+    ensures { result ≡ rest_at now update }
 {
-    match news {
-        News::Lost | News::Refused => now.saturating_add(REST),
+    match update {
+        StatusUpdate::Lost | StatusUpdate::Refused => now.saturating_add(REST),
         _ => 0,
     }
 }

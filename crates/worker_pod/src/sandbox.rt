@@ -2,7 +2,7 @@ ghost use Rattle.std.specs.Prelude.{◌≡◌};
 ghost use Rattle.worker_pod.specs.Past.{sandbox_at};
 ghost use Rattle.worker_pod.specs.Next.{is_gone};
 
-use crate::news::News;
+use crate::update::StatusUpdate;
 
 // The state of a pod's sandbox, by the answers.
 #[derive(Clone, Copy)]
@@ -24,13 +24,13 @@ impl Sandbox {
     }
 }
 
-pub(crate) fn sandbox_at(news: News, sandbox: Sandbox) -> Sandbox
-    ensures { result ≡ sandbox_at news sandbox }
+pub(crate) fn sandbox_at(update: StatusUpdate, sandbox: Sandbox) -> Sandbox
+    ensures { result ≡ sandbox_at update sandbox }
 {
-    match news {
-        News::SandboxReady => Sandbox::Ready,
-        News::SandboxStopped => Sandbox::Stopped,
-        News::SandboxRemoved => Sandbox::Removed,
+    match update {
+        StatusUpdate::SandboxReady => Sandbox::Ready,
+        StatusUpdate::SandboxStopped => Sandbox::Stopped,
+        StatusUpdate::SandboxRemoved => Sandbox::Removed,
         _ => sandbox,
     }
 }

@@ -8,8 +8,8 @@ ghost use Rattle.worker_pod.specs.Tracks.{records_in};
 ghost use Rattle.worker_pod.specs.Tracks.{run_after, run_at, running_in, stage_after, stage_at, tracks_after};
 ghost use Rattle.worker_pod.specs.Tracks.{worked_in};
 
-use crate::news::{News, told_of};
 use crate::settings::Outcome;
+use crate::update::{StatusUpdate, told_of};
 use cri_msgs::{Call, Key, Request};
 use lifecycle::{MAX_RUNS, PastRun, Runs, Stage, Track};
 use manifest::{Container, Containers, Label};
@@ -35,20 +35,20 @@ pub(crate) fn fresh_tracks(alloc: Global, containers: &Containers) -> Result<Vec
     (0..count).map(|place| fresh(place < inits)).collect(alloc)
 }
 
-// News of the attempt `of` moves the container on only if that attempt is the current one.
-fn stage_at(now: u64, of: u32, news: News, stage: Stage) -> Stage
-    ensures value { result ≡ stage_at now of news stage }
+// An update on the attempt `of` moves the container on only if that attempt is the current one.
+fn stage_at(now: u64, of: u32, update: StatusUpdate, stage: Stage) -> Stage
+    ensures value { result ≡ stage_at now of update stage }
     ensures started { StartedBy now stage → StartedBy now result }
 {
-    match (news, stage) {
-        (News::Made, _) => Stage::Made { attempt: of },
-        (News::Started, Stage::Made { attempt }) if attempt == of => Stage::Running {
+    match (update, stage) {
+        (StatusUpdate::Made, _) => Stage::Made { attempt: of },
+        (StatusUpdate::Started, Stage::Made { attempt }) if attempt == of => Stage::Running {
             attempt,
             started: now,
             polled: None,
         },
         (
-            News::NotExited,
+            StatusUpdate::NotExited,
             Stage::Running {
                 attempt,
                 started,
@@ -59,22 +59,24 @@ fn stage_at(now: u64, of: u32, news: News, stage: Stage) -> Stage
             started,
             polled: Some(now),
         },
-        (News::Exited(_), Stage::Running { attempt, .. }) if attempt == of => {
+        (StatusUpdate::Exited(_), Stage::Running { attempt, .. }) if attempt == of => {
             Stage::Exited { attempt }
         }
-        (News::Cleared, Stage::Exited { attempt }) if attempt == of => Stage::Removed { attempt },
+        (StatusUpdate::Cleared, Stage::Exited { attempt }) if attempt == of => Stage::Removed {
+            attempt,
+        },
         _ => stage,
     }
 }
 
-// The run that ends by the news.
-fn run_at(now: u64, of: u32, news: News, stage: Stage) -> Option<PastRun>
+// The run that ends by the update.
+fn run_at(now: u64, of: u32, update: StatusUpdate, stage: Stage) -> Option<PastRun>
     requires { StartedBy now stage }
-    ensures { result ≡ run_at now of news stage }
+    ensures { result ≡ run_at now of update stage }
 {
-    match (news, stage) {
+    match (update, stage) {
         (
-            News::Exited(code),
+            StatusUpdate::Exited(code),
             Stage::Running {
                 attempt,
                 started,

@@ -1,8 +1,9 @@
 ghost use Rattle.std.specs.Prelude.{◌≡◌};
-ghost use Rattle.worker_pod.specs.Wants.{better, chosen, front_of, is_in_turn, is_longer, sooner, soonest};
-ghost use Rattle.worker_pod.specs.Wants.{turn_of};
+ghost use Rattle.worker_pod.specs.ContainerActions.{better, chosen, front_of, is_in_turn, is_longer, sooner};
+ghost use Rattle.worker_pod.specs.ContainerActions.{soonest};
+ghost use Rattle.worker_pod.specs.ContainerActions.{turn_of};
 
-use crate::wants::{Pick, Want, want_of};
+use crate::container_actions::{ContainerAction, Pick, step_of};
 use lifecycle::{RestartPolicy, Track};
 
 // The first init container that has not succeeded.
@@ -29,11 +30,11 @@ fn turn(
     front: Option<usize>,
     at: usize,
     track: &Track,
-) -> Option<Want>
+) -> Option<ContainerAction>
     ensures { result ≡ turn_of policy poll front at track.now }
 {
     if is_in_turn(front, at, track) {
-        want_of(policy, poll, track)
+        step_of(policy, poll, track)
     } else {
         None
     }
@@ -54,15 +55,15 @@ fn better(
     best: Option<Pick>,
     at: usize,
     track: &Track,
-    want: Option<Want>,
+    step: Option<ContainerAction>,
 ) -> Option<Pick>
-    ensures { result ≡ better now best at track.now want }
+    ensures { result ≡ better now best at track.now step }
 {
-    match want {
-        Some(want) if want.from <= now && is_longer(best, track.worked) => Some(Pick {
+    match step {
+        Some(step) if step.from <= now && is_longer(best, track.worked) => Some(Pick {
             at,
             worked: track.worked,
-            work: want.work,
+            work: step.work,
         }),
         _ => best,
     }
@@ -80,13 +81,13 @@ pub(crate) fn chosen(policy: RestartPolicy, poll: u64, now: u64, tracks: &[Track
     best
 }
 
-fn sooner(best: Option<u64>, want: Option<Want>) -> Option<u64>
-    ensures { result ≡ sooner best want }
+fn sooner(best: Option<u64>, step: Option<ContainerAction>) -> Option<u64>
+    ensures { result ≡ sooner best step }
 {
-    match (best, want) {
+    match (best, step) {
         (best, None) => best,
-        (None, Some(want)) => Some(want.from),
-        (Some(best), Some(want)) => Some(best.min(want.from)),
+        (None, Some(step)) => Some(step.from),
+        (Some(best), Some(step)) => Some(best.min(step.from)),
     }
 }
 

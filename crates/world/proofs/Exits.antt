@@ -11,7 +11,7 @@ use Rattle.runtime_laws.specs.Laws.{LinkLaws}
 use Rattle.runtime_laws.specs.Runs.{IsRun, Link}
 use Rattle.worker_pod.specs.declared.settings.Outcome.TheVariants as outcome
 use Rattle.worker_pod.specs.declared.settings.Settings.{Settings}
-use Rattle.worker_pod.specs.Laws.{Told, key_named}
+use Rattle.worker_pod.specs.Laws.{RunReported, key_named}
 use Rattle.worker_pod.specs.Past.{Claimed}
 use Rattle.worker_core.specs.Laws.{Among, Ends, EndsBy, Happened, Holds, IsNodeRun, NodeLaws}
 use Rattle.worker_core.specs.Nodes.{NodeState}
@@ -62,7 +62,7 @@ acts_end_none (Abandon its) worker reply e = let differ : outcome.Abandoned ≡ 
 -- a run that was reported to a node is the end of a cell
 pub told_truly : (ls : List WorldLink) → EndTruly ls → (uid : List ℕ) (cs : List Claimed)
     → ((c : Claimed) → Among c cs → Happened (Ends uid c) (node_part ls))
-    → (name : List ℕ) (k : ℕ) (run : Run) → Told uid cs name k run
+    → (name : List ℕ) (k : ℕ) (run : Run) → RunReported uid cs name k run
     → EndedWith ls (key_named uid name k) run.code
 told_truly ls truly uid cs ended name k run (at, c, less, here, tells) =
     truly uid c tells.reply (ended c (among_of cs at c less here)) tells.is

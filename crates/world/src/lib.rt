@@ -19,7 +19,7 @@
 //!   by their attempts, and have the codes of the cells. Nothing is performed after a removal. A pod has one
 //!   worker: `laws::every_run`.
 //!
-//! Only tested: 100 drawn lists of 1,000 events, checked by plain code over what was seen (`world_tests`),
+//! Only tested: 100 drawn lists of 1,000 events, checked by plain code over what was seen (`tests_world`),
 //! and that there is memory.
 #![tactic(auto)]
 

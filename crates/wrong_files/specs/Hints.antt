@@ -8,7 +8,7 @@ use Rattle.bpf_verify.specs.Sound.{IsSound}
 use Rattle.fault_notes.specs.Starts.{begins_object}
 use Rattle.wrong_files.specs.Documents.{are_documents}
 use Rattle.wrong_files.specs.Texts.{begins_with_mark, without_space}
-use Rattle.wrong_files.specs.Trees.{is_config, is_manifest, is_profile}
+use Rattle.wrong_files.specs.Trees.{is_config, is_manifest, is_profile, is_script}
 use Rattle.wrong_files.specs.declared.hint.Hint.{Hint}
 use Rattle.wrong_files.specs.declared.hint.Hint.TheVariants as hint
 use Rattle.wrong_files.specs.declared.hint.Wanted.{Wanted}
@@ -30,19 +30,23 @@ Suits bytes hint.Config = is_config bytes ≡ true
 Suits bytes hint.Documents = are_documents bytes ≡ true
 Suits bytes hint.Manifest = is_manifest bytes ≡ true
 Suits bytes hint.Profile = is_profile bytes ≡ true
+Suits bytes hint.Script = is_script bytes ≡ true
 Suits bytes hint.Uncompiled = begins_object bytes ≡ true
 Suits bytes hint.Base64 = IsBase64 bytes
 
 -- the hints that are tried in the place of a profile or a template, in their order
 abbrev pub profile_hints : List Hint
-profile_hints = hint.ByteOrderMark ∷ hint.Filter ∷ hint.Config ∷ hint.Documents ∷ hint.Manifest ∷ []
+profile_hints = hint.ByteOrderMark ∷ hint.Filter ∷ hint.Config ∷ hint.Documents ∷ hint.Manifest ∷ hint.Script
+    ∷ []
 
 -- the hints that are tried where this text was wanted, in their order
 abbrev pub hints_for : Wanted → List Hint
 hints_for wanted.Profile = profile_hints
 hints_for wanted.Template = profile_hints
-hints_for wanted.Manifest = hint.ByteOrderMark ∷ hint.Filter ∷ hint.Documents ∷ hint.Profile ∷ []
-hints_for wanted.Script = hint.ByteOrderMark ∷ hint.Filter ∷ hint.Documents ∷ []
+hints_for wanted.Manifest =
+    hint.ByteOrderMark ∷ hint.Filter ∷ hint.Documents ∷ hint.Profile ∷ hint.Script ∷ []
+hints_for wanted.Script =
+    hint.ByteOrderMark ∷ hint.Filter ∷ hint.Documents ∷ hint.Profile ∷ hint.Manifest ∷ []
 
 -- the hints that are tried in the place of a filter, in their order
 abbrev pub filter_hints : List Hint

@@ -1,5 +1,5 @@
 -- What the members of a text's tree show: OCI runtime-spec 1.1, config.md (`ociVersion`) and config-linux
--- (`defaultAction`); Kubernetes 1.27, required fields of an object (`apiVersion`, `kind`).
+-- (`defaultAction`); Kubernetes 1.27, required fields of an object (`apiVersion`, `kind`). `steps` is own.
 use Rattle.std.specs.Prelude.{ℕ, List, Bool, false, ◌&&◌, codes, Option, Some, None}
 use Rattle.serde_json.specs.Data.{Data}
 use Rattle.json_tree.specs.Tree.{has, tree_of}
@@ -17,3 +17,6 @@ is_manifest bytes = passes (λ tree. has (codes "apiVersion") tree && has (codes
 
 abbrev pub is_profile : List ℕ → Bool
 is_profile bytes = passes (has (codes "defaultAction")) (tree_of bytes)
+
+abbrev pub is_script : List ℕ → Bool
+is_script bytes = passes (has (codes "steps")) (tree_of bytes)

@@ -23,10 +23,12 @@ pub enum Hint {
     Config,
     /// One document of JSON after another.
     Documents,
-    /// The manifest of a pod, where a profile is wanted.
+    /// The manifest of a pod.
     Manifest,
-    /// A profile, where a manifest is wanted.
+    /// A profile.
     Profile,
+    /// A script.
+    Script,
     /// An object of JSON, where a filter is wanted.
     Uncompiled,
     /// The Base64 (RFC 4648) of a filter.
@@ -71,8 +73,9 @@ fn text_of(hint: Hint) -> &'static str
         Hint::Filter => "(a filter? see seccheck show)",
         Hint::Config => "(an OCI config.json? give linux.seccomp of it: jq .linux.seccomp)",
         Hint::Documents => "(several documents? give one)",
-        Hint::Manifest => "(a manifest? a profile is wanted)",
-        Hint::Profile => "(a profile? a manifest is wanted)",
+        Hint::Manifest => "(a manifest?)",
+        Hint::Profile => "(a profile?)",
+        Hint::Script => "(a script?)",
         Hint::Uncompiled => "(a profile? see seccheck compile)",
         Hint::Base64 => "(Base64? decode it: base64 -d)",
     }

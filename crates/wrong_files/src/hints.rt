@@ -36,22 +36,30 @@ fn filter_hints() -> &'static [Hint]
     &FILTER_HINTS
 }
 
-static PROFILE_HINTS: [Hint; 5] = [
+static PROFILE_HINTS: [Hint; 6] = [
     Hint::ByteOrderMark,
     Hint::Filter,
     Hint::Config,
     Hint::Documents,
     Hint::Manifest,
+    Hint::Script,
 ];
 
-static MANIFEST_HINTS: [Hint; 4] = [
+static MANIFEST_HINTS: [Hint; 5] = [
     Hint::ByteOrderMark,
     Hint::Filter,
     Hint::Documents,
     Hint::Profile,
+    Hint::Script,
 ];
 
-static SCRIPT_HINTS: [Hint; 3] = [Hint::ByteOrderMark, Hint::Filter, Hint::Documents];
+static SCRIPT_HINTS: [Hint; 5] = [
+    Hint::ByteOrderMark,
+    Hint::Filter,
+    Hint::Documents,
+    Hint::Profile,
+    Hint::Manifest,
+];
 
 static FILTER_HINTS: [Hint; 2] = [Hint::Uncompiled, Hint::Base64];
 

@@ -5,7 +5,7 @@ use crate::documents::are_documents;
 use crate::filters::{is_base64, is_filter};
 use crate::hint::Hint;
 use crate::starts::begins_with_mark;
-use crate::trees::{is_config, is_manifest, is_profile};
+use crate::trees::{is_config, is_manifest, is_profile, is_script};
 use fault_notes::begins_object;
 use std::alloc::{AllocError, Global};
 
@@ -20,6 +20,7 @@ pub(crate) fn suits(alloc: Global, bytes: &[u8], hint: Hint) -> Result<bool, All
         Hint::Documents => are_documents(alloc, bytes),
         Hint::Manifest => is_manifest(alloc, bytes),
         Hint::Profile => is_profile(alloc, bytes),
+        Hint::Script => is_script(alloc, bytes),
         Hint::Uncompiled => Ok(begins_object(bytes)),
         Hint::Base64 => is_base64(alloc, bytes),
     }

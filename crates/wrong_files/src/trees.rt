@@ -37,6 +37,16 @@ pub(crate) fn is_profile(alloc: Global, bytes: &[u8]) -> Result<bool, AllocError
     }
 }
 
+/// Whether the text is an object with the member that a script has to have.
+pub(crate) fn is_script(alloc: Global, bytes: &[u8]) -> Result<bool, AllocError>
+    ensures { IfOk result (λ is. is ≡ tree.is_script bytes.now) }
+{
+    match tree_in(alloc, bytes)? {
+        Some(tree) => Ok(has(&tree, "steps")),
+        None => Ok(false),
+    }
+}
+
 /// The tree of a text, if it is JSON.
 pub(crate) fn tree_in(alloc: Global, bytes: &[u8]) -> Result<Option<Value>, AllocError>
     ensures { IfOk result (λ tree. option_map view tree ≡ tree_of bytes.now) }

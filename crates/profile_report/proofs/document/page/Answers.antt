@@ -5,10 +5,8 @@ use Rattle.profile_report.proofs.document.page.Goals as goal
 
 pub returns : goal.returns
 returns c =
-    is_page c.with_lower_part.result c.args.calls c.args.style.now c.args.name.now c.args.profile.now c.args.passed.now
-    c.args.found.now c.args.lines.now c.args.parts.now c.in_ok-rows.rows.items c.as_str.result.now
-    c.in_ok-rows.ensures.each c.in_ok-rows.ensures.real
+    is_page c.with_lower_part.result c.args.style.now c.args.report.now c.args.parts.now c.in_ok-rows.rows.items
+    c.as_str.result.now c.in_ok-rows.ensures.each c.in_ok-rows.ensures.real
     (c.as_str.ensures.value ∙ (c.in_ok-upper.ensures
-    ∙ ap (λ rows. upper_part c.args.calls c.args.style.now c.args.name.now c.args.profile.now c.args.lines.now rows
-    c.args.parts.now) c.as_slice.ensures.value))
+    ∙ ap (λ rows. upper_part c.args.style.now c.args.report.now rows c.args.parts.now) c.as_slice.ensures.value))
     c.with_lower_part.ensures

@@ -1,5 +1,5 @@
 use Rattle.std.proofs.Common.{◌≡◌, drop}
-use Rattle.worker_pod.specs.Wants.{chosen, chosen_from}
+use Rattle.worker_pod.specs.ContainerActions.{chosen, chosen_from}
 use Rattle.worker_pod.proofs.turns.chosen.Given as goal
 
 abbrev pub invariant-loop-at : goal.invariant-loop-at

@@ -1,5 +1,5 @@
 use Rattle.std.proofs.Common.{◌≡◌, drop}
-use Rattle.worker_pod.specs.Wants.{soonest, soonest_from}
+use Rattle.worker_pod.specs.ContainerActions.{soonest, soonest_from}
 use Rattle.worker_pod.proofs.turns.soonest.Given as goal
 
 abbrev pub invariant-loop-at : goal.invariant-loop-at

@@ -1,8 +1,0 @@
-use Rattle.std.proofs.Common.{◌≡◌, string_bytes, take}
-use Rattle.check_answers.specs.ListObjects.{container_object}
-use Rattle.check_answers.specs.Texts.{lines_text}
-use Rattle.check_answers.proofs.list_objects.picked_objects.Given as goal
-
-abbrev pub invariant-loop-place : goal.invariant-loop-place
-invariant-loop-place l = string_bytes l.text
-    ≡ lines_text (container_object l.pod.profile l.seccomp_default) 0 (take l.place l.pod.containers.all)

@@ -1,9 +1,0 @@
-use Rattle.std.proofs.Common.{string_bytes}
-use Rattle.check_answers.specs.ListObjects.{entry_object}
-use Rattle.check_answers.proofs.Lines.{one_more_line}
-use Rattle.check_answers.proofs.list_objects.record_objects.Goals as goal
-
-pub loop-place-preserved : goal.loop-place-preserved
-loop-place-preserved c = one_more_line (entry_object c.args.naming) c.args.outcome.now.entries _
-    c.loop-place.place _ (string_bytes c.loop-place.text) _ c.entries-entry-items.ensures
-    c.loop-place-test.true c.loop-place.invariant c.in_ok-writeln.ensures.bytes

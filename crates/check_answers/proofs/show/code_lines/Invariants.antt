@@ -1,6 +1,0 @@
-use Rattle.std.proofs.Common.{◌≡◌, string_bytes, take}
-use Rattle.check_answers.specs.Texts.{line_text, lines_text}
-use Rattle.check_answers.proofs.show.code_lines.Given as goal
-
-abbrev pub invariant-loop-place : goal.invariant-loop-place
-invariant-loop-place l = string_bytes l.text ≡ lines_text (line_text l.calls l.number_tests) 0 (take l.place l.code)
