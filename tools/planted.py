@@ -13,7 +13,7 @@ import tempfile
 import time
 
 sys.dont_write_bytecode = True
-from side_by_side import ROOT, build_libraries, crates_of, run, run_all, timed
+from side_by_side import ROOT, build_crates, crates_of, run, run_all, timed
 
 
 def copy_into(folder):
@@ -62,7 +62,7 @@ def main():
         counts = {name: edits_of(folder, name) for name in names or crates}
         chosen = [name for name, count in counts.items() if count]
         below = {it for name in chosen for it in crates[name]}
-        if not build_libraries("planted, proving", folder, crates, below):
+        if not build_crates("planted, proving", folder, crates, below):
             sys.exit("planted: a crate is not proved, so nothing was tried")
         tasks = [(name, [], lambda name=name: tried(folder, name, counts[name])) for name in chosen]
         found = run_all("planted, trying", tasks)

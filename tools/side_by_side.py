@@ -1,10 +1,13 @@
 """Commands for crates, side by side: as many as there are processors, and as memory allows."""
 import os
 import re
+import shutil
 import subprocess
 import sys
+import tempfile
 import time
 from concurrent.futures import FIRST_COMPLETED, ThreadPoolExecutor, wait
+from queue import SimpleQueue
 
 ROOT = os.path.dirname(os.path.dirname(os.path.abspath(__file__)))
 ROOM = 4_000_000_000  # what a check may take
@@ -93,19 +96,63 @@ def timed(start):
     return f"{seconds // 60} min {seconds % 60} s"
 
 
-def build_libraries(what, root, crates, names):
-    """Proves and builds the libraries with these names and those that they use, except for those that are
-    built and have not changed. Returns whether all are proved."""
-    libraries = [name for name in with_below(crates, names) if not is_program(name, root)]
+def copies_of(root, folder):
+    """Copies of the crates at the root, one for each lane, in a queue. rt locks the folders of all libraries below
+    a crate while it works there, so each lane has its own, and takes what another one has built."""
+    free = SimpleQueue()
+    for lane in range(lanes()):
+        copy = f"{folder}/{lane}"
+        shutil.copytree(f"{root}/crates", f"{copy}/crates", ignore=shutil.ignore_patterns("out"))
+        for name in ("crates.txt", "HANDLES"):
+            shutil.copyfile(f"{root}/{name}", f"{copy}/{name}")
+        free.put(copy)
+    return free
 
-    def build(name):
-        status, said = run(["rt", "lib"], f"{root}/crates/{name}")
-        told = f"{what}: {name} is proved" if status == 0 else f"{said}{what}: {name} IS NOT PROVED"
-        print(told, flush=True)
-        return status == 0
 
-    tasks = [(name, crates[name], lambda name=name: build(name)) for name in libraries]
-    return all(run_all(what, tasks).values())
+def library(folder):
+    """Proves and builds the library in this folder. Returns whether it is built, and what was printed."""
+    status, said = run(["rt", "lib"], folder)
+    return status == 0, said
+
+
+def program(folder, name):
+    """Proves and builds the program in this folder by rt run, which also runs it: the program prints its help, and
+    ends with another status than 0. Returns whether it is built, and what was printed."""
+    made = f"{folder}/out/{name}"
+    if os.path.exists(made):
+        os.remove(made)
+    _, said = run(["rt", "run", "--", "--help"], folder)
+    return os.access(made, os.X_OK), said
+
+
+def build_crates(what, root, crates, names):
+    """Proves and builds the crates with these names and those that they use, except for libraries that are built
+    and have not changed. Returns whether all are proved."""
+    wanted = with_below(crates, names)
+    libraries = [name for name in wanted if not is_program(name, root)]
+    os.makedirs(f"{root}/out", exist_ok=True)
+    with tempfile.TemporaryDirectory(prefix="copies-", dir=f"{root}/out") as folder:
+        free = copies_of(root, folder)
+
+        def build(name):
+            copy = free.get()
+            at, own = f"{copy}/crates/{name}", f"{root}/crates/{name}/out"
+            is_built, said = library(at) if name in libraries else program(at, name)
+            if is_built and name not in libraries:
+                os.makedirs(own, exist_ok=True)
+                shutil.copy2(f"{at}/out/{name}", f"{own}/{name}")
+            free.put(copy)
+            told = f"{what}: {name} is proved" if is_built else f"{said}{what}: {name} IS NOT PROVED"
+            print(told, flush=True)
+            return is_built
+
+        tasks = [(name, crates[name], lambda name=name: build(name)) for name in wanted]
+        found = run_all(what, tasks)
+        # What is built is taken from the copies before these are removed.
+        made = [name for name in libraries if found[name]]
+        below = {it for name in made for it in crates[name]}
+        taken = [library(f"{root}/crates/{name}")[0] for name in made if name not in below]
+    return all(found.values()) and all(taken)
 
 
 sys.dont_write_bytecode = True
