@@ -98,12 +98,12 @@ pub(crate) fn compiled_at(
 {
     match read_placed_with(alloc, known, profile) {
         Ok(profile) => compiled(alloc, &profile, filter, len),
-        Err(found) => told(alloc, &found, place, place_len),
+        Err(found) => write_place(alloc, &found, place, place_len),
     }
 }
 
 /// Writes the place of a fault, if there is room for it.
-fn told(alloc: Global, found: &ProfileFaultAt, place: &mut [u8], len: &mut usize) -> Status
+fn write_place(alloc: Global, found: &ProfileFaultAt, place: &mut [u8], len: &mut usize) -> Status
     ensures told { result ≢ Memory → result ≡ status_of_profile found.now.fault }
     ensures put { result ≢ Memory → IsPut (place_text found.now.place) place.old place.new len.new }
     ensures kept { result ≡ Memory → place.new ≡ place.old }

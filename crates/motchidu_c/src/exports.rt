@@ -42,7 +42,7 @@ pub extern "C" fn motchidu_verify(alloc: Global, filter: &[u8], at: &mut usize) 
 {
     match filter_of(alloc, filter) {
         Ok(_) => Status::Accepted.number(),
-        Err(refusal) => tell(refusal, at),
+        Err(refusal) => report_refusal(refusal, at),
     }
 }
 
@@ -122,12 +122,12 @@ pub extern "C" fn motchidu_longest(
             *longest = filter.longest();
             Status::Accepted.number()
         }
-        Err(refusal) => tell(refusal, at),
+        Err(refusal) => report_refusal(refusal, at),
     }
 }
 
 /// Reports a refused filter: its fault, and the fault's place if it has one.
-fn tell(refusal: Refusal, at: &mut usize) -> u32
+fn report_refusal(refusal: Refusal, at: &mut usize) -> u32
     ensures number { result ≡ number_of (status_of refusal) }
     ensures place { at.new ≡ place_or refusal at.old }
 {

@@ -14,23 +14,23 @@ use Rattle.profile_report.specs.Ways.{asking, shown_for, ways_html}
 use Rattle.profile_report.specs.Words.{letter_in, linked_text}
 
 -- the classes of a cell whose call entries with conditions may decide, and of one that differs
-abbrev pub asked_class : Bool → List ℕ
-asked_class true = codes " q"
-asked_class false = codes ""
+abbrev pub conditional_class : Bool → List ℕ
+conditional_class true = codes " q"
+conditional_class false = codes ""
 
 abbrev pub changed_class : Bool → List ℕ
 changed_class true = codes " d"
 changed_class false = codes ""
 
 -- what one sees when one points at the cell: the decision, of other calls if there are conditions
-abbrev pub asked_title : Bool → List ℕ
-asked_title true = codes "by conditions, else "
-asked_title false = codes ""
+abbrev pub conditional_title : Bool → List ℕ
+conditional_title true = codes "by conditions, else "
+conditional_title false = codes ""
 
 -- the marks in a cell, so that no colour and no frame is needed
-abbrev pub asked_mark : Bool → List ℕ
-asked_mark true = codes "<i>?</i>"
-asked_mark false = codes ""
+abbrev pub conditional_mark : Bool → List ℕ
+conditional_mark true = codes "<i>?</i>"
+conditional_mark false = codes ""
 
 abbrev pub changed_mark : Bool → List ℕ
 changed_mark true = codes "<i>&ne;</i>"
@@ -39,10 +39,10 @@ changed_mark false = codes ""
 -- the closed cell: the letter of the action, and the name
 unfoldable pub head_html : CallTable → Row → Bool → List ℕ
 head_html calls row is_changed =
-    codes "<details class=\"" ++ (letter_in row.value ++ (asked_class row.is_asked ++ (changed_class is_changed
-    ++ (codes "\"><summary title=\"" ++ (asked_title row.is_asked ++ (decided_text row.value row.decider
+    codes "<details class=\"" ++ (letter_in row.value ++ (conditional_class row.is_asked ++ (changed_class is_changed
+    ++ (codes "\"><summary title=\"" ++ (conditional_title row.is_asked ++ (decided_text row.value row.decider
     ++ (codes "\"><b>" ++ (letter_in row.value ++ (codes "</b> " ++ (call_text (Name calls) row.nr
-    ++ (asked_mark row.is_asked ++ (changed_mark is_changed ++ codes "</summary>"))))))))))))
+    ++ (conditional_mark row.is_asked ++ (changed_mark is_changed ++ codes "</summary>"))))))))))))
 
 -- the number of the call, and what decides it
 unfoldable pub body_html : ℕ → Profile → Row → List ℕ

@@ -24,12 +24,12 @@ entry_of (of.Entry entry) = Some entry
 entry_of (of.Arg entry arg) = Some entry
 
 -- the entry that a finding about the text is about
-abbrev pub told_about : PassedData → Option ℕ
-told_about (Ignored holder key) = entry_of holder
-told_about OtherArchitectures = None
-told_about (UnknownArchitecture index name) = None
-told_about (UnknownName entry index name) = Some entry
-told_about (RepeatedName entry index name) = Some entry
+abbrev pub passed_about : PassedData → Option ℕ
+passed_about (Ignored holder key) = entry_of holder
+passed_about OtherArchitectures = None
+passed_about (UnknownArchitecture index name) = None
+passed_about (UnknownName entry index name) = Some entry
+passed_about (RepeatedName entry index name) = Some entry
 
 -- the entry that a finding about the profile is about: the first one of two that overlap
 abbrev pub found_about : Finding → Option ℕ
@@ -50,16 +50,16 @@ is_about None (Some other) = false
 is_about (Some place) None = false
 
 -- the line of a finding, if it is about this entry, or about none if none is meant
-unfoldable pub told_line : CallTable → Option ℕ → PassedData → List (List ℕ)
-told_line calls about t = if is_about (told_about t) about then told_text calls t ∷ [] else []
+unfoldable pub passed_line : CallTable → Option ℕ → PassedData → List (List ℕ)
+passed_line calls about t = if is_about (passed_about t) about then told_text calls t ∷ [] else []
 
 unfoldable pub found_line : CallTable → Option ℕ → Finding → List (List ℕ)
 found_line calls about f = if is_about (found_about f) about then found_text calls f ∷ [] else []
 
 -- the lines about the text, in order
-abbrev pub told_lines : CallTable → Option ℕ → List Passed → List (List ℕ)
-told_lines calls about [] = []
-told_lines calls about (item ∷ passed) = told_line calls about (told item) ++ told_lines calls about passed
+abbrev pub passed_lines : CallTable → Option ℕ → List Passed → List (List ℕ)
+passed_lines calls about [] = []
+passed_lines calls about (item ∷ passed) = passed_line calls about (told item) ++ passed_lines calls about passed
 
 -- the lines about the profile, in order
 abbrev pub found_lines : CallTable → Option ℕ → List Finding → List (List ℕ)
@@ -85,4 +85,4 @@ notes_html count lines = if length lines == 0 then [] else list_html count lines
 -- the findings about this entry, or about none
 abbrev pub notes_about : CallTable → ℕ → Option ℕ → List Passed → List Finding → List ℕ
 notes_about calls count about passed finds =
-    notes_html count (told_lines calls about passed ++ found_lines calls about finds)
+    notes_html count (passed_lines calls about passed ++ found_lines calls about finds)

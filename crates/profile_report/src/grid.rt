@@ -1,6 +1,6 @@
 //! The grid: one cell for each call of the table.
 ghost use Rattle.std.specs.Prelude.{◌≡◌, IfOk, string_bytes};
-ghost use Rattle.profile_report.specs.Grid.{asked, asked_class, asked_mark, asked_title, body_html, cell_html};
+ghost use Rattle.profile_report.specs.Grid.{asked, conditional_class, conditional_mark, conditional_title, body_html, cell_html};
 ghost use Rattle.profile_report.specs.Grid.{cells_html, changed_class, changed_mark, grid_html};
 
 use crate::changes::{changes_at, is_changed};
@@ -108,9 +108,9 @@ impl fmt::Display for Head {
     fn fmt<W: fmt::Write>(&self, f: &mut fmt::Formatter<W>) -> fmt::Result {
         let (calls, row, is_changed) = (self.0, self.1, self.2);
         let (letter, decided) = (letter_in(row.value), Decided(row.value, row.decider));
-        let (asked, changed) = (asked_class(row.is_asked), changed_class(is_changed));
-        let (title, name) = (asked_title(row.is_asked), named(calls, row.nr));
-        let (asks, changes) = (asked_mark(row.is_asked), changed_mark(is_changed));
+        let (asked, changed) = (conditional_class(row.is_asked), changed_class(is_changed));
+        let (title, name) = (conditional_title(row.is_asked), named(calls, row.nr));
+        let (asks, changes) = (conditional_mark(row.is_asked), changed_mark(is_changed));
         write!(
             f,
             "<details class=\"{letter}{asked}{changed}\"><summary title=\"{title}{decided}\">\
@@ -119,8 +119,8 @@ impl fmt::Display for Head {
     }
 }
 
-fn asked_class(is_asked: bool) -> &'static str
-    ensures { result.now ≡ asked_class is_asked }
+fn conditional_class(is_asked: bool) -> &'static str
+    ensures { result.now ≡ conditional_class is_asked }
 {
     if is_asked { " q" } else { "" }
 }
@@ -131,14 +131,14 @@ fn changed_class(is_changed: bool) -> &'static str
     if is_changed { " d" } else { "" }
 }
 
-fn asked_title(is_asked: bool) -> &'static str
-    ensures { result.now ≡ asked_title is_asked }
+fn conditional_title(is_asked: bool) -> &'static str
+    ensures { result.now ≡ conditional_title is_asked }
 {
     if is_asked { "by conditions, else " } else { "" }
 }
 
-fn asked_mark(is_asked: bool) -> &'static str
-    ensures { result.now ≡ asked_mark is_asked }
+fn conditional_mark(is_asked: bool) -> &'static str
+    ensures { result.now ≡ conditional_mark is_asked }
 {
     if is_asked { "<i>?</i>" } else { "" }
 }

@@ -2,8 +2,8 @@
 ghost use Rattle.std.specs.Prelude.{◌≡◌, ◌++◌, IfOk, map, string_bytes};
 ghost use Rattle.profile_lint.specs.Passed.{told};
 ghost use Rattle.profile_report.specs.Notes.{entry_of, found_about, found_line, found_lines, is_about};
-ghost use Rattle.profile_report.specs.Notes.{items_html, list_html, notes_about, notes_html, told_about, told_line};
-ghost use Rattle.profile_report.specs.Notes.{told_lines};
+ghost use Rattle.profile_report.specs.Notes.{items_html, list_html, notes_about, notes_html, passed_about, passed_line};
+ghost use Rattle.profile_report.specs.Notes.{passed_lines};
 
 use crate::escaping::Html;
 use crate::more::More;
@@ -36,11 +36,11 @@ fn lines_about(
     found: &[Finding],
 ) -> Result<Vec<String>, AllocError>
     ensures { IfOk result (λ lines. map string_bytes lines.items
-        ≡ told_lines calls about passed.now ++ found_lines calls about found.now) }
+        ≡ passed_lines calls about passed.now ++ found_lines calls about found.now) }
 {
     let mut lines = Vec::new(alloc);
     for item in passed {
-        add_told(alloc, calls, &mut lines, about, item)?;
+        add_passed(alloc, calls, &mut lines, about, item)?;
     }
     for finding in found {
         add_found(alloc, calls, &mut lines, about, finding)?;
@@ -49,8 +49,8 @@ fn lines_about(
 }
 
 /// Adds the line of a finding about the text, if it is about this.
-#[tactic(auto, unfolding(crate::specs::Notes::told_line))]
-fn add_told(
+#[tactic(auto, unfolding(crate::specs::Notes::passed_line))]
+fn add_passed(
     alloc: Global,
     calls: CallTable,
     lines: &mut Vec<String>,
@@ -58,9 +58,9 @@ fn add_told(
     item: &Passed<'_>,
 ) -> Result<(), AllocError>
     ensures { IfOk result (λ _. map string_bytes lines.new.items
-        ≡ map string_bytes lines.old.items ++ told_line calls about (told item.now)) }
+        ≡ map string_bytes lines.old.items ++ passed_line calls about (told item.now)) }
 {
-    if is_about(told_about(item), about) {
+    if is_about(passed_about(item), about) {
         let shown = ShownPassed(calls, item);
         lines.push(format!(in alloc; "{shown}")?)?;
     }
@@ -87,8 +87,8 @@ fn add_found(
 }
 
 /// The entry that a finding about the text is about.
-fn told_about(item: &Passed<'_>) -> Option<usize>
-    ensures { result ≡ told_about (told item.now) }
+fn passed_about(item: &Passed<'_>) -> Option<usize>
+    ensures { result ≡ passed_about (told item.now) }
 {
     match item {
         Passed::Ignored(holder, _) => entry_of(*holder),

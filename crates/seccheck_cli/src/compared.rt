@@ -34,7 +34,7 @@ const BUDGET_NOTE: &str = "seccheck: the budget is used up; --budget N follows m
 
 /// The words of `compare`, or of `table --against`.
 #[derive(Clone, Copy)]
-pub(crate) struct CompareAsked<'a> {
+pub(crate) struct CompareOptions<'a> {
     /// The file of the first filter or profile.
     pub(crate) first: &'a str,
     /// The file of the second one.
@@ -51,17 +51,17 @@ pub(crate) struct CompareAsked<'a> {
 }
 
 /// The words of `compare`, with `--all` or without it.
-pub(crate) fn compare_asked<'a>(
+pub(crate) fn compare_options<'a>(
     matches: &ArgMatches<'a>,
     is_all: bool,
     form: Form,
-) -> Result<CompareAsked<'a>, Stop<'a>>
-    ensures budget { IfOk result (λ asked.
-        budget_in (default_budget is_all) (found_of matches.now) ≡ Ok asked.budget) }
+) -> Result<CompareOptions<'a>, Stop<'a>>
+    ensures budget { IfOk result (λ options.
+        budget_in (default_budget is_all) (found_of matches.now) ≡ Ok options.budget) }
 {
     let known = known_at(matches).map_err(calls_stop)?;
     let budget = budget_at(default_budget(is_all), matches).map_err(Stop::BadNumber)?;
-    Ok(CompareAsked {
+    Ok(CompareOptions {
         first: word_at(matches, "A"),
         second: word_at(matches, "B"),
         known,
@@ -73,11 +73,11 @@ pub(crate) fn compare_asked<'a>(
 }
 
 /// The words of `table --against`. OLD comes first.
-pub(crate) fn against_asked<'a>(
+pub(crate) fn against_options<'a>(
     matches: &ArgMatches<'a>,
     form: Form,
-) -> Result<CompareAsked<'a>, Stop<'a>> {
-    Ok(CompareAsked {
+) -> Result<CompareOptions<'a>, Stop<'a>> {
+    Ok(CompareOptions {
         first: matches.get_str("against").unwrap_or(""),
         second: word_at(matches, "PROFILE"),
         known: known_at(matches).map_err(calls_stop)?,
@@ -130,32 +130,32 @@ pub(crate) fn same_or_stop<'a>(known: CallTable, found: Comparison) -> Result<()
 /// Whether the filters of two files are the same on these calls.
 pub(crate) fn compare_output<'a, R: rt::Files + AllocGlobal, W: Watch>(
     rt: &R,
-    asked: CompareAsked<'a>,
+    options: CompareOptions<'a>,
     watch: &mut W,
 ) -> Result<Output, Stop<'a>> {
     let alloc = rt.alloc();
-    let first = side_at(rt, asked.known, asked.first)?;
-    let second = side_at(rt, asked.known, asked.second)?;
+    let first = side_at(rt, options.known, options.first)?;
+    let second = side_at(rt, options.known, options.second)?;
     let found = compare_watched(
         alloc,
         first.side.filter(),
         second.side.filter(),
-        asked.calls.scope(),
-        asked.budget,
+        options.calls.scope(),
+        options.budget,
         watch,
     )?;
     let aside = joined(first.aside, second.aside.as_str())?;
-    let Err(stop) = same_or_stop(asked.known, found) else {
-        return Ok(Output::with_aside(same_text(alloc, asked)?, aside));
+    let Err(stop) = same_or_stop(options.known, found) else {
+        return Ok(Output::with_aside(same_text(alloc, options)?, aside));
     };
     let aside = joined(aside, budget_note(&stop))?;
-    Ok(Output::of_stop(alloc, &stop, asked.form, aside)?)
+    Ok(Output::of_stop(alloc, &stop, options.form, aside)?)
 }
 
-fn same_text(alloc: Global, asked: CompareAsked<'_>) -> Result<String, AllocError> {
-    match asked.form {
-        Form::Text => same_line(alloc, asked.calls),
-        Form::Json => same_object(alloc, asked.calls),
+fn same_text(alloc: Global, options: CompareOptions<'_>) -> Result<String, AllocError> {
+    match options.form {
+        Form::Text => same_line(alloc, options.calls),
+        Form::Json => same_object(alloc, options.calls),
     }
 }
 
@@ -181,28 +181,28 @@ pub(crate) fn budget_note(stop: &Stop<'_>) -> &'static str
 /// Every call on which the filters of two files differ, with status 1 if there is one.
 pub(crate) fn differences_output<'a, R: rt::Files + AllocGlobal, W: Watch>(
     rt: &R,
-    asked: CompareAsked<'a>,
+    options: CompareOptions<'a>,
     watch: &mut W,
 ) -> Result<Output, Stop<'a>> {
     let alloc = rt.alloc();
-    let first = side_at(rt, asked.known, asked.first)?;
-    let second = side_at(rt, asked.known, asked.second)?;
+    let first = side_at(rt, options.known, options.first)?;
+    let second = side_at(rt, options.known, options.second)?;
     let found = differences(
         alloc,
-        asked.known,
+        options.known,
         first.side.filter(),
         second.side.filter(),
-        asked.calls,
-        asked.budget,
+        options.calls,
+        options.budget,
         watch,
     )?;
     let lines = lines(alloc, &first.side, &second.side, found.as_slice())?;
-    let text = match asked.form {
-        Form::Text => all_lines(alloc, asked.known, asked.calls, lines.as_slice())?,
-        Form::Json => all_objects(alloc, asked.known, asked.calls, lines.as_slice())?,
+    let text = match options.form {
+        Form::Text => all_lines(alloc, options.known, options.calls, lines.as_slice())?,
+        Form::Json => all_objects(alloc, options.known, options.calls, lines.as_slice())?,
     };
     let aside = joined(first.aside, second.aside.as_str())?;
-    let aside = joined(aside, lines_note(asked.takes_budget, lines.as_slice()))?;
+    let aside = joined(aside, lines_note(options.takes_budget, lines.as_slice()))?;
     Ok(output_of(text, aside, lines.as_slice()))
 }
 

@@ -13,7 +13,7 @@
 //! - The file that is read as a profile when two are compared: `is_profile`, `same_or_stop`.
 //! - The capabilities that words name, by their whole names, or the first word that names none: `caps_of`.
 //! - The settings of a template that words write, or the word that is refused: `settings_of` (caps, told).
-//! - The budget of `compare` that a word writes, or the default: `compare_asked` (budget), `default_budget`.
+//! - The budget of `compare` that a word writes, or the default: `compare_options` (budget), `default_budget`.
 //! - The lines or objects of `lint` about a manifest, and their status: `manifest_output` (text, status). Only
 //!   what looks like a manifest is linted as one: `refused_output`.
 //! - The line on a budget that is used up: `budget_note`, `lines_note`.

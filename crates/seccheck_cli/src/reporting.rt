@@ -17,7 +17,7 @@ use sys_table::CallTable;
 
 /// The words of `report`.
 #[derive(Clone, Copy)]
-pub(crate) struct ReportAsked<'a> {
+pub(crate) struct ReportOptions<'a> {
     pub profile: &'a str,
     /// The profile or filter with which it is compared, if one is given.
     pub old: Option<&'a str>,
@@ -30,25 +30,25 @@ pub(crate) struct ReportAsked<'a> {
 /// The page of a profile. A line of the records that is none is reported on standard error, and the status is 1.
 pub(crate) fn report_output<'a, R: rt::Files + AllocGlobal>(
     rt: &R,
-    asked: ReportAsked<'a>,
+    options: ReportOptions<'a>,
 ) -> Result<Output, Stop<'a>> {
     let alloc = rt.alloc();
-    let path = asked.profile;
+    let path = options.profile;
     let ProfileFile {
         bytes,
         profile,
         aside: sign,
-    } = profile_at(rt, asked.calls, path)?;
-    let compared = compared_with_old(rt, asked, &bytes)?;
-    let (denied, faults) = denied(rt, asked.calls, asked.records)?;
-    let tree = filter_part(alloc, asked.calls, &profile)?;
+    } = profile_at(rt, options.calls, path)?;
+    let compared = compared_with_old(rt, options, &bytes)?;
+    let (denied, faults) = denied(rt, options.calls, options.records)?;
+    let tree = filter_part(alloc, options.calls, &profile)?;
     let parts = Parts {
         changes: compared.html.as_str(),
         tree: tree.as_str(),
         denied: denied.as_str(),
     };
     let lines = compared.lines.as_slice();
-    let text = page_text(alloc, asked, &bytes, &profile, lines, &parts)?;
+    let text = page_text(alloc, options, &bytes, &profile, lines, &parts)?;
     let output = Output::with_faults(text, faults).after(compared.aside)?;
     Ok(output.after(sign)?)
 }
@@ -65,7 +65,7 @@ fn filter_part(alloc: Global, calls: CallTable, profile: &Profile) -> Result<Str
 /// The page, with what `lint` finds.
 fn page_text(
     alloc: Global,
-    asked: ReportAsked<'_>,
+    options: ReportOptions<'_>,
     bytes: &[u8],
     profile: &Profile,
     lines: &[Line],
@@ -73,11 +73,11 @@ fn page_text(
 ) -> Result<String, AllocError> {
     // The bytes were read before, so that this fails only if memory runs out.
     let tree = json_tree::read(alloc, bytes).map_err(|_| AllocError)?;
-    let passed = passed_in(alloc, asked.calls, profile, &tree)?;
+    let passed = passed_in(alloc, options.calls, profile, &tree)?;
     let found = once(alloc, all_findings(alloc, profile)?.as_slice())?;
     let report = Report {
-        calls: asked.calls,
-        name: asked.profile,
+        calls: options.calls,
+        name: options.profile,
         profile,
         passed: passed.as_slice(),
         found: found.as_slice(),
@@ -97,27 +97,27 @@ struct Compared {
 
 fn compared_with_old<'a, R: rt::Files + AllocGlobal>(
     rt: &R,
-    asked: ReportAsked<'a>,
+    options: ReportOptions<'a>,
     bytes: &[u8],
 ) -> Result<Compared, Stop<'a>> {
     let alloc = rt.alloc();
-    let Some(path) = asked.old else {
+    let Some(path) = options.old else {
         return Ok(Compared {
             lines: Vec::new(alloc),
             html: String::new(alloc),
             aside: String::new(alloc),
         });
     };
-    let old = side_at(rt, asked.calls, path)?;
+    let old = side_at(rt, options.calls, path)?;
     let new = side_of(
         alloc,
-        asked.calls,
-        asked.profile,
+        options.calls,
+        options.profile,
         Vec::from_slice(alloc, bytes)?,
     )?;
     let found = differences(
         alloc,
-        asked.calls,
+        options.calls,
         old.side.filter(),
         new.side.filter(),
         Calls::Native,
@@ -125,7 +125,7 @@ fn compared_with_old<'a, R: rt::Files + AllocGlobal>(
         &mut Unwatched,
     )?;
     let lines = lines(alloc, &old.side, &new.side, found.as_slice())?;
-    let html = changes_html(alloc, asked.calls, path, lines.as_slice())?;
+    let html = changes_html(alloc, options.calls, path, lines.as_slice())?;
     Ok(Compared {
         lines,
         html,

@@ -2,12 +2,12 @@ ghost use Rattle.std.specs.Prelude.{◌≡◌, ◌==◌, count_by, map, string_b
 ghost use Rattle.std.specs.Str.{bytes_eq};
 ghost use Rattle.seccheck_cli.specs.Ends.{call_stop, calls_stop, is_dash, is_silent, reads_twice};
 
-use crate::compared::{against_asked, compare_asked, compare_output, differences_output};
+use crate::compared::{against_options, compare_options, compare_output, differences_output};
 use crate::file::is_same_file;
 use crate::linting::{beside, lint_output};
 use crate::profiles::{default_line, explain_output, table_output};
 use crate::progress::Progress;
-use crate::reporting::{ReportAsked, report_output};
+use crate::reporting::{ReportOptions, report_output};
 use crate::resolving::resolve_output;
 use crate::settings::{caps_of, settings_of};
 use crate::written::{file_bytes, unit_output};
@@ -21,8 +21,8 @@ use compile::compile;
 use host_io::replace;
 use node_io::Cause;
 use profile_learn::Wanted;
-use seccheck_containers::{DeniedAsked, PodAsked, denied_output, pod_output};
-use seccheck_logs::{LearnAsked, audit_output, learn_output};
+use seccheck_containers::{DeniedOptions, PodOptions, denied_output, pod_output};
+use seccheck_logs::{LearnOptions, audit_output, learn_output};
 use seccheck_output::{
     Outcome, accepted_line, accepted_object, code_lines, code_objects, compiled_line,
     compiled_object, judge, judged_line, judged_object, longest_line, longest_object,
@@ -60,8 +60,8 @@ pub fn seccheck_run_on<R: rt::Files + AllocGlobal + Clock, O: Write, E: Write>(
     err: &mut E,
     is_terminal: bool,
 ) -> u8 {
-    let (name, matches) = match asked(rt, words) {
-        Ok(asked) => asked,
+    let (name, matches) = match command_of(rt, words) {
+        Ok(command) => command,
         Err(stop) => return report(&stop, err),
     };
     let form = if matches.get_flag("json") {
@@ -140,7 +140,7 @@ fn is_silent(stop: &Stop) -> bool
 }
 
 /// The command that the words name, and its own words.
-fn asked<'a, R: rt::Files + AllocGlobal>(
+fn command_of<'a, R: rt::Files + AllocGlobal>(
     rt: &R,
     words: &'a [String],
 ) -> Result<(&'a str, ArgMatches<'a>), Stop<'a>> {
@@ -228,50 +228,50 @@ fn output_of<'a, R: rt::Files + AllocGlobal, W: Watch>(
             lint_output(rt, calls, path, matches.get_flag("all"), allowed, form)
         }
         "table" if matches.get_str("against").is_some() => {
-            differences_output(rt, against_asked(matches, form)?, watch)
+            differences_output(rt, against_options(matches, form)?, watch)
         }
         "table" => {
             let calls = calls_at(matches).map_err(calls_stop)?;
             table_output(rt, calls, word_at(matches, "PROFILE"), form)
         }
         "report" => {
-            let asked = ReportAsked {
+            let options = ReportOptions {
                 profile: word_at(matches, "PROFILE"),
                 old: matches.get_str("against"),
                 records: matches.get_str("records"),
                 calls: calls_at(matches).map_err(calls_stop)?,
             };
-            report_output(rt, asked)
+            report_output(rt, options)
         }
         "compare" if matches.get_flag("all") => {
-            differences_output(rt, compare_asked(matches, true, form)?, watch)
+            differences_output(rt, compare_options(matches, true, form)?, watch)
         }
-        "compare" => compare_output(rt, compare_asked(matches, false, form)?, watch),
+        "compare" => compare_output(rt, compare_options(matches, false, form)?, watch),
         "pick" => {
             let seccomp_default = matches.get_flag("seccomp-default");
             pick_output(rt, word_at(matches, "MANIFEST"), seccomp_default, form)
         }
-        "play" if matches.get_str("pod").is_some() => pod_output(rt, pod_asked(matches, form)?),
+        "play" if matches.get_str("pod").is_some() => pod_output(rt, pod_options(matches, form)?),
         "denied" => {
-            let asked = DeniedAsked {
+            let options = DeniedOptions {
                 calls: calls_at(matches).map_err(calls_stop)?,
                 by_call: matches.get_flag("by-call"),
                 profiles: matches.get_str("profiles"),
                 form,
             };
-            denied_output(rt, matches.get_strs("FILE").unwrap_or(&[]), asked)
+            denied_output(rt, matches.get_strs("FILE").unwrap_or(&[]), options)
         }
         "learn" => {
             let files = matches.get_strs("FILE").unwrap_or(&[]);
-            learn_output(rt, files, learn_asked(matches)?)
+            learn_output(rt, files, learn_options(matches)?)
         }
         _ => Ok(Output::plain(rt.alloc(), text_of(rt, name, matches, form)?)),
     }
 }
 
 /// The options of `learn`.
-fn learn_asked<'a>(matches: &ArgMatches<'a>) -> Result<LearnAsked<'a>, Stop<'a>> {
-    Ok(LearnAsked {
+fn learn_options<'a>(matches: &ArgMatches<'a>) -> Result<LearnOptions<'a>, Stop<'a>> {
+    Ok(LearnOptions {
         calls: calls_at(matches).map_err(calls_stop)?,
         base: matches.get_str("base"),
         default: matches.get_str("default"),
@@ -284,9 +284,9 @@ fn learn_asked<'a>(matches: &ArgMatches<'a>) -> Result<LearnAsked<'a>, Stop<'a>>
 }
 
 /// The options of `play --pod`.
-fn pod_asked<'a>(matches: &ArgMatches<'a>, form: Form) -> Result<PodAsked<'a>, Stop<'a>> {
+fn pod_options<'a>(matches: &ArgMatches<'a>, form: Form) -> Result<PodOptions<'a>, Stop<'a>> {
     let calls = calls_at(matches).map_err(calls_stop)?;
-    Ok(PodAsked {
+    Ok(PodOptions {
         manifest: matches.get_str("pod").unwrap_or(""),
         scripts: matches.get_str("scripts").unwrap_or("."),
         profiles: matches.get_str("profiles").unwrap_or("."),

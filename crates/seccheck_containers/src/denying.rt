@@ -17,7 +17,7 @@ const MAX_RECORDS_BYTES: u64 = 268_435_456;
 
 /// The options of `seccheck denied`.
 #[derive(Clone, Copy)]
-pub struct DeniedAsked<'a> {
+pub struct DeniedOptions<'a> {
     /// The calls that are named, and that profiles may name.
     pub calls: CallTable,
     /// Whether the calls are added up over all containers.
@@ -32,10 +32,10 @@ pub struct DeniedAsked<'a> {
 pub fn denied_output<'a, R: rt::Files + AllocGlobal>(
     rt: &R,
     paths: &[&'a str],
-    asked: DeniedAsked<'a>,
+    options: DeniedOptions<'a>,
 ) -> Result<Output, Stop<'a>> {
     let alloc = rt.alloc();
-    if let Some(folder) = asked.profiles {
+    if let Some(folder) = options.profiles {
         look_at_folder(rt, folder).map_err(|fault| Stop::File(folder, fault))?;
     }
     let mut found = Found {
@@ -51,10 +51,10 @@ pub fn denied_output<'a, R: rt::Files + AllocGlobal>(
         mut aside,
     } = found;
     let sightings = in_order(sightings)?;
-    let text = if asked.by_call {
-        totals_text(alloc, sightings.as_slice(), asked)?
+    let text = if options.by_call {
+        totals_text(alloc, sightings.as_slice(), options)?
     } else {
-        rows_text(rt, sightings.as_slice(), asked, &mut aside)?
+        rows_text(rt, sightings.as_slice(), options, &mut aside)?
     };
     Ok(Output::with_faults(text, aside))
 }
@@ -139,21 +139,21 @@ fn add_line(
 fn totals_text(
     alloc: Global,
     sightings: &[Sighting],
-    asked: DeniedAsked<'_>,
+    options: DeniedOptions<'_>,
 ) -> Result<String, AllocError> {
     let totals = totals(alloc, sightings)?;
-    match asked.form {
+    match options.form {
         Form::Text => {
             let mut lines = vec![in alloc; total_head(alloc)?]?;
             for total in totals.as_slice() {
-                lines.push(total_line(alloc, asked.calls, *total)?)?;
+                lines.push(total_line(alloc, options.calls, *total)?)?;
             }
             table(alloc, lines.as_slice())
         }
         Form::Json => {
             let mut text = String::new(alloc);
             for total in totals.as_slice() {
-                text.push_str(total_object(alloc, asked.calls, *total)?.as_str())?;
+                text.push_str(total_object(alloc, options.calls, *total)?.as_str())?;
             }
             Ok(text)
         }
@@ -164,17 +164,17 @@ fn totals_text(
 fn rows_text<'a, R: rt::Files + AllocGlobal>(
     rt: &R,
     sightings: &[Sighting],
-    asked: DeniedAsked<'a>,
+    options: DeniedOptions<'a>,
     aside: &mut String,
 ) -> Result<String, AllocError> {
     let alloc = rt.alloc();
-    let mut used = UsedProfiles::new(alloc, asked.calls, asked.profiles);
-    let mut text = Rows::new(alloc, asked)?;
+    let mut used = UsedProfiles::new(alloc, options.calls, options.profiles);
+    let mut text = Rows::new(alloc, options)?;
     for row in rows(alloc, sightings)?.as_slice() {
         // Each place is one of the sightings.
         if let Some(sighting) = sightings.get(row.place) {
             let by = used.deciders(rt, sighting, aside)?;
-            text.add(alloc, asked.calls, sighting, *row, by.as_ref())?;
+            text.add(alloc, options.calls, sighting, *row, by.as_ref())?;
         }
     }
     text.text(alloc)
@@ -188,11 +188,11 @@ enum Rows {
 }
 
 impl Rows {
-    fn new(alloc: Global, asked: DeniedAsked<'_>) -> Result<Rows, AllocError> {
-        match asked.form {
+    fn new(alloc: Global, options: DeniedOptions<'_>) -> Result<Rows, AllocError> {
+        match options.form {
             Form::Text => {
                 let mut head = row_head(alloc)?;
-                if asked.profiles.is_some() {
+                if options.profiles.is_some() {
                     head.push(String::from_str(alloc, "BY")?)?;
                 }
                 Ok(Rows::Lines(vec![in alloc; head]?))

@@ -15,5 +15,5 @@ mod denying;
 mod pod_playing;
 mod used_profiles;
 
-pub use denying::{DeniedAsked, denied_lines, denied_output};
-pub use pod_playing::{PodAsked, pod_output};
+pub use denying::{DeniedOptions, denied_lines, denied_output};
+pub use pod_playing::{PodOptions, pod_output};

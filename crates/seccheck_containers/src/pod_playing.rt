@@ -24,7 +24,7 @@ use verdict::Stack;
 
 /// The options of `seccheck play --pod`: a manifest, and the node for its pod.
 #[derive(Clone, Copy)]
-pub struct PodAsked<'a> {
+pub struct PodOptions<'a> {
     pub manifest: &'a str,
     /// The folder of the containers' scripts.
     pub scripts: &'a str,
@@ -78,25 +78,25 @@ impl<T: Drop> From<AllocFailed<T>> for Ended {
 /// How each container of the pod ended, init ones first, and its denied calls.
 pub fn pod_output<'a, R: rt::Files + AllocGlobal>(
     rt: &R,
-    asked: PodAsked<'a>,
+    options: PodOptions<'a>,
 ) -> Result<Output, Stop<'a>> {
-    for folder in [asked.scripts, asked.profiles] {
+    for folder in [options.scripts, options.profiles] {
         look_at_folder(rt, folder).map_err(|fault| Stop::File(folder, fault))?;
     }
-    let baseline = match asked.baseline {
+    let baseline = match options.baseline {
         Some(path) => Some(filter_at(rt, path)?),
         None => None,
     };
-    let bytes = bytes_at(rt, asked.manifest)?;
+    let bytes = bytes_at(rt, options.manifest)?;
     let pod = match manifest::read_placed(rt.alloc(), &bytes) {
         Ok(pod) => pod,
         Err(found) => {
             let refused = Refused::Manifest(found);
-            return Err(refused_stop(asked.manifest, bytes, refused));
+            return Err(refused_stop(options.manifest, bytes, refused));
         }
     };
-    let mut aside = manifest_lines(rt.alloc(), asked.manifest, &bytes)?;
-    match pod_text(rt, asked, &pod, baseline.as_ref(), &mut aside) {
+    let mut aside = manifest_lines(rt.alloc(), options.manifest, &bytes)?;
+    match pod_text(rt, options, &pod, baseline.as_ref(), &mut aside) {
         Ok(text) => Ok(Output::with_aside(text, aside)),
         Err(Ended::Printed(output)) => Ok(output.after(aside)?),
         Err(Ended::Memory) => Err(Stop::Memory),
@@ -106,24 +106,24 @@ pub fn pod_output<'a, R: rt::Files + AllocGlobal>(
 /// The lines of all containers. Those about profiles that are templates go to `aside`.
 fn pod_text<'a, R: rt::Files + AllocGlobal>(
     rt: &R,
-    asked: PodAsked<'a>,
+    options: PodOptions<'a>,
     pod: &Pod,
     baseline: Option<&Filter>,
     aside: &mut String,
 ) -> Result<String, Ended> {
     let mut text = String::new(rt.alloc());
     for (place, container) in pod.containers.as_slice().iter().enumerate() {
-        let choice = pick(pod, place, asked.seccomp_default);
-        let script = script_of(rt, asked, container)?;
-        let own = own_of(rt, asked, choice, aside)?;
+        let choice = pick(pod, place, options.seccomp_default);
+        let script = script_of(rt, options, container)?;
+        let own = own_of(rt, options, choice, aside)?;
         let filter = own.as_ref().map(|own| &own.filter);
         let stack = stack_of(rt.alloc(), baseline, filter)?;
         let played = Played {
             choice,
             profile: own.as_ref().map(|own| &own.profile),
-            outcome: &play(rt.alloc(), script, stack, asked.attempt)?,
+            outcome: &play(rt.alloc(), script, stack, options.attempt)?,
         };
-        let lines = container_text(rt.alloc(), asked, container, played)?;
+        let lines = container_text(rt.alloc(), options, container, played)?;
         text.push_str(lines.as_str())?;
     }
     Ok(text)
@@ -132,12 +132,12 @@ fn pod_text<'a, R: rt::Files + AllocGlobal>(
 /// The lines or objects of a container that was played: how it ended, and its denied calls.
 fn container_text(
     alloc: Global,
-    asked: PodAsked<'_>,
+    options: PodOptions<'_>,
     container: &Container,
     played: Played<'_>,
 ) -> Result<String, AllocError> {
     let code = played.outcome.code();
-    let mut text = match asked.form {
+    let mut text = match options.form {
         Form::Text => ended_line(alloc, container, played.choice, code)?,
         Form::Json => ended_object(alloc, container, played.choice, code)?,
     };
@@ -150,10 +150,10 @@ fn container_text(
             let denied = DeniedCall {
                 place,
                 entry: *entry,
-                naming: asked.naming,
+                naming: options.naming,
                 by,
             };
-            let line = match asked.form {
+            let line = match options.form {
                 Form::Text => denied_line(alloc, denied)?,
                 Form::Json => denied_object(alloc, container, denied)?,
             };
@@ -166,18 +166,18 @@ fn container_text(
 /// The script of a container.
 fn script_of<R: rt::Files + AllocGlobal>(
     rt: &R,
-    asked: PodAsked<'_>,
+    options: PodOptions<'_>,
     container: &Container,
 ) -> Result<Script, Ended> {
     let alloc = rt.alloc();
-    let (folder, image) = (asked.scripts, container.image.as_str());
+    let (folder, image) = (options.scripts, container.image.as_str());
     let path = format!(in alloc; "{folder}/{image}")?;
-    let bytes = bytes_in(rt, path.as_str(), asked.form)?;
-    match script::read_placed_with(alloc, asked.calls, &bytes) {
+    let bytes = bytes_in(rt, path.as_str(), options.form)?;
+    match script::read_placed_with(alloc, options.calls, &bytes) {
         Ok(script) => Ok(script),
         Err(found) => {
             let stop = refused_stop(path.as_str(), bytes, Refused::Script(found));
-            Err(ended_by(alloc, &stop, asked.form)?)
+            Err(ended_by(alloc, &stop, options.form)?)
         }
     }
 }
@@ -185,7 +185,7 @@ fn script_of<R: rt::Files + AllocGlobal>(
 /// The profile that is chosen with its filter, if one is.
 fn own_of<R: rt::Files + AllocGlobal>(
     rt: &R,
-    asked: PodAsked<'_>,
+    options: PodOptions<'_>,
     choice: Choice<'_>,
     aside: &mut String,
 ) -> Result<Option<Own>, Ended> {
@@ -195,37 +195,37 @@ fn own_of<R: rt::Files + AllocGlobal>(
         Choice::RuntimeDefault => {
             let profile = runtime_default(alloc)?;
             let bytes = Vec::new(alloc);
-            Ok(Some(compiled(alloc, asked, profile, "runtime/default", bytes)?))
+            Ok(Some(compiled(alloc, options, profile, "runtime/default", bytes)?))
         }
-        Choice::Localhost(path) => Ok(Some(own_at(rt, asked, path.as_str(), aside)?)),
+        Choice::Localhost(path) => Ok(Some(own_at(rt, options, path.as_str(), aside)?)),
     }
 }
 
 /// The profile in a file of the folder of profiles, with its filter.
 fn own_at<R: rt::Files + AllocGlobal>(
     rt: &R,
-    asked: PodAsked<'_>,
+    options: PodOptions<'_>,
     path: &str,
     aside: &mut String,
 ) -> Result<Own, Ended> {
     let alloc = rt.alloc();
-    let folder = asked.profiles;
+    let folder = options.profiles;
     let path = format!(in alloc; "{folder}/{path}")?;
-    let bytes = bytes_in(rt, path.as_str(), asked.form)?;
-    let file = match profile_of(alloc, asked.calls, path.as_str(), bytes) {
+    let bytes = bytes_in(rt, path.as_str(), options.form)?;
+    let file = match profile_of(alloc, options.calls, path.as_str(), bytes) {
         Ok(file) => file,
-        Err(stop) => return Err(ended_by(alloc, &stop, asked.form)?),
+        Err(stop) => return Err(ended_by(alloc, &stop, options.form)?),
     };
     // Another container may have this profile too.
     if !aside.as_str().contains(file.aside.as_str()) {
         aside.push_str(file.aside.as_str())?;
     }
-    compiled(alloc, asked, file.profile, path.as_str(), file.bytes)
+    compiled(alloc, options, file.profile, path.as_str(), file.bytes)
 }
 
 fn compiled(
     alloc: Global,
-    asked: PodAsked<'_>,
+    options: PodOptions<'_>,
     profile: Profile,
     path: &str,
     bytes: Vec<u8>,
@@ -234,7 +234,7 @@ fn compiled(
         Ok(filter) => Ok(Own { profile, filter }),
         Err(fault) => {
             let stop = refused_stop(path, bytes, Refused::Compile(fault));
-            Err(ended_by(alloc, &stop, asked.form)?)
+            Err(ended_by(alloc, &stop, options.form)?)
         }
     }
 }

@@ -12,7 +12,7 @@ use sys_table::CallTable;
 
 /// What the command line asks for, without its files.
 #[derive(Clone, Copy)]
-pub struct LearnAsked<'a> {
+pub struct LearnOptions<'a> {
     /// The known calls.
     pub calls: CallTable,
     /// The profile to which the calls are added, if one is given.
@@ -28,18 +28,18 @@ pub struct LearnAsked<'a> {
 pub fn learn_output<'a, R: rt::Files + AllocGlobal>(
     rt: &R,
     paths: &[&'a str],
-    asked: LearnAsked<'a>,
+    options: LearnOptions<'a>,
 ) -> Result<Output, Stop<'a>> {
     let alloc = rt.alloc();
-    let base = base_of(rt, asked)?;
-    let mut found = Found::new(alloc, asked.calls, asked.is_strict);
+    let base = base_of(rt, options)?;
+    let mut found = Found::new(alloc, options.calls, options.is_strict);
     for path in paths {
         add_file(rt, path, &mut found)?;
         if found.is_refused() {
             return Ok(refused_line(alloc, found)?.after(base.aside)?);
         }
     }
-    let output = output_of(alloc, found, &base.profile, asked.wanted)?;
+    let output = output_of(alloc, found, &base.profile, options.wanted)?;
     Ok(output.after(base.aside)?)
 }
 
@@ -53,14 +53,14 @@ struct Base {
 /// The profile that decides calls that were not seen.
 fn base_of<'a, R: rt::Files + AllocGlobal>(
     rt: &R,
-    asked: LearnAsked<'a>,
+    options: LearnOptions<'a>,
 ) -> Result<Base, Stop<'a>> {
     let alloc = rt.alloc();
-    if let Some(path) = asked.base {
-        let ProfileFile { profile, aside, .. } = profile_at(rt, asked.calls, path)?;
+    if let Some(path) = options.base {
+        let ProfileFile { profile, aside, .. } = profile_at(rt, options.calls, path)?;
         return Ok(Base { profile, aside });
     }
-    let default = match asked.default {
+    let default = match options.default {
         Some(word) => default_of(alloc, word)?.map_err(|fault| Stop::BadWord(word, fault))?,
         None => Decision::Errno(Errno::eperm()),
     };

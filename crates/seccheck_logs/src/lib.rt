@@ -21,4 +21,4 @@ mod printed;
 mod reports;
 
 pub use audit_answer::audit_output;
-pub use learner::{LearnAsked, learn_output};
+pub use learner::{LearnOptions, learn_output};

@@ -25,23 +25,23 @@ returns-in-Err-clause-large c more =
     let is_large : c.in-Err.found.fault ≡ kind.TooLarge = c.in-Err.ensures.large.1 more in
     let first = c.in-Err.ensures.first (λ e. absurd cc) in
     let root : c.in-Err.found.place ≡ [] = is_at_root _ _ _ more first in
-    c.told.ensures.whole root ∙ ap status_of_profile is_large
+    c.write_place.ensures.whole root ∙ ap status_of_profile is_large
 
 pub returns-in-Err-clause-first : goal.returns-in-Err-clause-first
 returns-in-Err-clause-first c found is enough =
-    let status = c.told.ensures.told enough in
+    let status = c.write_place.ensures.told enough in
     let first = c.in-Err.ensures.first (λ e. enough (status ∙ ap status_of_profile e)) in
     let same : c.in-Err.found ≡ found = cc in
     status ∙ ap (λ it. status_of_profile it.fault) same
 
 pub returns-in-Err-clause-heavy : goal.returns-in-Err-clause-heavy
 returns-in-Err-clause-heavy c p reads heavy enough =
-    let status = c.told.ensures.told enough in
+    let status = c.write_place.ensures.told enough in
     let never = c.in-Err.ensures.only p reads (λ e. enough (status ∙ ap status_of_profile e)) in
     absurd cc
 
 pub returns-in-Err-clause-accepts : goal.returns-in-Err-clause-accepts
 returns-in-Err-clause-accepts c p reads light enough =
-    let status = c.told.ensures.told enough in
+    let status = c.write_place.ensures.told enough in
     let never = c.in-Err.ensures.only p reads (λ e. enough (status ∙ ap status_of_profile e)) in
     absurd cc

@@ -12,7 +12,7 @@ returns-in-Ok-clause-first c code fault is short first enough =
 pub returns-in-Err-clause-first : goal.returns-in-Err-clause-first
 returns-in-Err-clause-first c code fault is short first enough =
     let not_memory : c.in-Err.refusal ≢ Code Memory = λ e.
-    enough (c.tell.ensures.number ∙ ap (λ r. number_of (status_of r)) e) in
+    enough (c.report_refusal.ensures.number ∙ ap (λ r. number_of (status_of r)) e) in
     let told = c.in-Err.ensures.first code fault is short first (λ e. not_memory (cc)) in
     let same : c.in-Err.refusal ≡ Filter fault = cc in
-    c.tell.ensures.number ∙ ap (λ r. number_of (status_of r)) same
+    c.report_refusal.ensures.number ∙ ap (λ r. number_of (status_of r)) same

@@ -12,7 +12,7 @@ returns-clause-first c code fault is short first enough = elim c.match-filter_of
       cc
   | in-Err w ↦
       let number : c.match-filter_of.result ≡ number_of (status_of w.in-Err.refusal) = w.result-is
-      ∙ w.tell.ensures.number in
+      ∙ w.report_refusal.ensures.number in
       let not_memory : w.in-Err.refusal ≢ Code Memory = λ e.
       enough (number ∙ ap (λ r. number_of (status_of r)) e) in
       let told = w.in-Err.ensures.first code fault is short first (λ e. not_memory (cc)) in
