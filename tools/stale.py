@@ -1,8 +1,8 @@
 #!/usr/bin/env python3
 """stale.py: finds what a renaming has left behind, in seconds and without a proof: imports of specs/, proofs/ and
-ghost uses whose file or name is not there, and wrong bodies (must-fail/, planted/, tests/mutants) whose old text
-their file does not have exactly once. Modules that a check makes (Goals, Given, TheConstants, contracts) are
-passed over. The last line has the counts.
+ghost uses whose file or name is not there, proofs of functions that are gone, and wrong bodies (must-fail/,
+planted/, tests/mutants) whose old text their file does not have exactly once. Modules that a check makes (Goals,
+Given, TheConstants, contracts) are passed over. The last line has the counts.
 """
 import glob
 import os
@@ -70,6 +70,17 @@ def imports():
                     yield path, [f"{crate} has no {name} in {kind}.{where}" for name in lacking]
 
 
+def proofs():
+    """Each file of a function's proof, whose folder has the function's name, and what is wrong with it."""
+    for crate in sorted(glob.glob(f"{ROOT}/crates/*")):
+        sources = "".join(map(text_of, glob.glob(f"{crate}/src/**/*.rt", recursive=True)))
+        names = set(re.findall(r"\bfn (\w+)", sources))
+        for path in sorted(glob.glob(f"{crate}/proofs/**/*.antt", recursive=True)):
+            name = os.path.basename(os.path.dirname(path)).lstrip("+")
+            if os.path.basename(path) in ("Answers.antt", "Invariants.antt"):
+                yield path, [] if name in names else [f"{os.path.basename(crate)} has no function {name}"]
+
+
 def wrong_bodies():
     """The file of each wrong body, the file that it changes, and the old text."""
     for path in sorted(glob.glob(f"{ROOT}/crates/*/must-fail/*.edit") + glob.glob(f"{ROOT}/crates/*/planted/*.edit")):
@@ -96,7 +107,7 @@ def edits():
 
 def main():
     passed = failed = 0
-    for path, faults in [*imports(), *edits()]:
+    for path, faults in [*imports(), *proofs(), *edits()]:
         for fault in faults:
             print(f"stale: {os.path.relpath(path, ROOT)}: {fault}", flush=True)
         passed, failed = passed + (not faults), failed + len(faults)
