@@ -63,7 +63,7 @@ def imports():
     """Each import of the repository's crates, and what is missing of it."""
     crates = crates_of()
     for path in sorted(glob.glob(f"{ROOT}/crates/*/*/**/*", recursive=True)):
-        if path.endswith((".rt", ".antt")):
+        if path.endswith((".rt", ".antt")) and "/out/" not in path:
             for crate, kind, where, words in USE.findall(text_of(path)):
                 if crate in crates:
                     lacking = missing(crate, kind, where.split("."), names_in(words))

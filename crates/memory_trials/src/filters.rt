@@ -2,16 +2,16 @@
 use bpf_code::{CodeFault, Insn};
 use bpf_verify::{Filter, Refusal, filter_of};
 use std::alloc::{AllocError, Global};
-use trials::{Came, Trial, TrialResult, tried};
+use trials::{CallResult, Trial, TrialResult, try_call};
 
 /// Tries the call of this name, if it is one of this module's.
-pub(crate) fn told(rt: &HostRuntime, name: &str) -> Option<TrialResult> {
+pub(crate) fn run_trial(rt: &HostRuntime, name: &str) -> Option<TrialResult> {
     let alloc = rt.alloc();
     match name {
-        "bpf_code::read" => Some(tried(rt, Reads::new(alloc))),
-        "bpf_code::write" => Some(tried(rt, Writes::new(alloc))),
-        "filter_of" => Some(tried(rt, Verifies::new(alloc))),
-        "Filter::try_clone" => Some(tried(rt, Copies::new(alloc))),
+        "bpf_code::read" => Some(try_call(rt, Reads::new(alloc))),
+        "bpf_code::write" => Some(try_call(rt, Writes::new(alloc))),
+        "filter_of" => Some(try_call(rt, Verifies::new(alloc))),
+        "Filter::try_clone" => Some(try_call(rt, Copies::new(alloc))),
         _ => None,
     }
 }
@@ -55,11 +55,11 @@ impl Trial for Reads {
         bpf_code::read(self.alloc, &FILTER)
     }
 
-    fn came(&mut self, answer: &Result<Vec<Insn>, CodeFault>) -> Came {
+    fn check(&mut self, answer: &Result<Vec<Insn>, CodeFault>) -> CallResult {
         match answer {
-            Ok(insns) => Came::right_if(insns.as_slice() == self.wanted.insns()),
-            Err(CodeFault::Memory) => Came::Memory,
-            Err(_) => Came::Wrong,
+            Ok(insns) => CallResult::right_if(insns.as_slice() == self.wanted.insns()),
+            Err(CodeFault::Memory) => CallResult::Memory,
+            Err(_) => CallResult::Wrong,
         }
     }
 }
@@ -85,11 +85,11 @@ impl Trial for Verifies {
         filter_of(self.alloc, &FILTER)
     }
 
-    fn came(&mut self, answer: &Result<Filter, Refusal>) -> Came {
+    fn check(&mut self, answer: &Result<Filter, Refusal>) -> CallResult {
         match answer {
-            Ok(filter) => Came::right_if(are_same(filter, &self.wanted)),
-            Err(Refusal::Code(CodeFault::Memory)) => Came::Memory,
-            Err(_) => Came::Wrong,
+            Ok(filter) => CallResult::right_if(are_same(filter, &self.wanted)),
+            Err(Refusal::Code(CodeFault::Memory)) => CallResult::Memory,
+            Err(_) => CallResult::Wrong,
         }
     }
 }
@@ -115,10 +115,10 @@ impl Trial for Writes {
         bpf_code::write(self.alloc, self.filter.insns())
     }
 
-    fn came(&mut self, answer: &Result<Vec<u8>, AllocError>) -> Came {
+    fn check(&mut self, answer: &Result<Vec<u8>, AllocError>) -> CallResult {
         match answer {
-            Ok(bytes) => Came::right_if(bytes.as_slice() == FILTER.as_slice()),
-            Err(AllocError) => Came::Memory,
+            Ok(bytes) => CallResult::right_if(bytes.as_slice() == FILTER.as_slice()),
+            Err(AllocError) => CallResult::Memory,
         }
     }
 }
@@ -144,10 +144,10 @@ impl Trial for Copies {
         self.filter.try_clone(self.alloc)
     }
 
-    fn came(&mut self, answer: &Result<Filter, AllocError>) -> Came {
+    fn check(&mut self, answer: &Result<Filter, AllocError>) -> CallResult {
         match answer {
-            Ok(copy) => Came::right_if(are_same(copy, &self.filter)),
-            Err(AllocError) => Came::Memory,
+            Ok(copy) => CallResult::right_if(are_same(copy, &self.filter)),
+            Err(AllocError) => CallResult::Memory,
         }
     }
 }

@@ -6,15 +6,15 @@ use cri_frames::{Feed, FeedFault, Lost, call_over};
 use cri_msgs::{Answer, Reply, Request, Version};
 use node_io::{Wire, WireFault};
 use std::alloc::Global;
-use trials::{Came, Trial, TrialResult, tried};
+use trials::{CallResult, Trial, TrialResult, try_call};
 
 /// Tries the call of this name, if it is one of this module's.
-pub(crate) fn told(rt: &HostRuntime, name: &str) -> Option<TrialResult> {
+pub(crate) fn run_trial(rt: &HostRuntime, name: &str) -> Option<TrialResult> {
     let alloc = rt.alloc();
     match name {
-        "Feed::push" => Some(tried(rt, Feeds::new(alloc))),
-        "Feed::take" => Some(tried(rt, Takes::new(alloc))),
-        "call_over" => Some(tried(rt, Calls::new(alloc))),
+        "Feed::push" => Some(try_call(rt, Feeds::new(alloc))),
+        "Feed::take" => Some(try_call(rt, Takes::new(alloc))),
+        "call_over" => Some(try_call(rt, Calls::new(alloc))),
         _ => None,
     }
 }
@@ -66,11 +66,11 @@ impl Trial for Feeds {
         self.feed.push(PIECE.as_bytes())
     }
 
-    fn came(&mut self, answer: &Result<(), FeedFault>) -> Came {
+    fn check(&mut self, answer: &Result<(), FeedFault>) -> CallResult {
         match answer {
-            Ok(()) => Came::right_if(gives(&mut self.feed, &TEXTS)),
-            Err(FeedFault::Memory) => Came::Memory,
-            Err(FeedFault::BadLength) => Came::Wrong,
+            Ok(()) => CallResult::right_if(gives(&mut self.feed, &TEXTS)),
+            Err(FeedFault::Memory) => CallResult::Memory,
+            Err(FeedFault::BadLength) => CallResult::Wrong,
         }
     }
 
@@ -102,8 +102,8 @@ impl Trial for Takes {
         gives(&mut self.feed, &TEXTS)
     }
 
-    fn came(&mut self, answer: &bool) -> Came {
-        Came::right_if(*answer)
+    fn check(&mut self, answer: &bool) -> CallResult {
+        CallResult::right_if(*answer)
     }
 }
 
@@ -166,11 +166,13 @@ impl Trial for Calls {
         call_over(self.alloc, &mut line, &self.request, Version::V2)
     }
 
-    fn came(&mut self, answer: &Result<Reply, Lost>) -> Came {
+    fn check(&mut self, answer: &Result<Reply, Lost>) -> CallResult {
         match answer {
-            Ok(reply) => Came::right_if(reply.id == 1 && matches!(&reply.answer, Answer::Done)),
-            Err(Lost::Memory) => Came::Memory,
-            Err(_) => Came::Wrong,
+            Ok(reply) => CallResult::right_if(
+                reply.id == 1 && matches!(&reply.answer, Answer::Done),
+            ),
+            Err(Lost::Memory) => CallResult::Memory,
+            Err(_) => CallResult::Wrong,
         }
     }
 }

@@ -1,19 +1,19 @@
 //! Hints on refused files.
 use std::alloc::{AllocError, Global};
-use trials::{Came, Trial, TrialResult, tried};
+use trials::{CallResult, Trial, TrialResult, try_call};
 use wrong_files::{Hint, Wanted, hint_of_filter, hint_of_text};
 
 /// Tries the call of this name, if it is one of this module's.
-pub(crate) fn told(rt: &HostRuntime, name: &str) -> Option<TrialResult> {
+pub(crate) fn run_trial(rt: &HostRuntime, name: &str) -> Option<TrialResult> {
     let alloc = rt.alloc();
     match name {
-        "hint_of_text" => Some(tried(rt, Some(OfText { alloc }))),
-        "hint_of_filter" => Some(tried(rt, Some(OfFilter { alloc }))),
+        "hint_of_text" => Some(try_call(rt, Some(OfText { alloc }))),
+        "hint_of_filter" => Some(try_call(rt, Some(OfFilter { alloc }))),
         _ => None,
     }
 }
 
-/// A manifest. That is the last hint that is tried where a profile is wanted.
+/// A manifest. That is the last hint that is try_call where a profile is wanted.
 const POD: &str =
     r#"{"apiVersion":"v1","kind":"Pod","metadata":{"name":"web-in-front"},"spec":{"containers":[]}}"#;
 
@@ -33,10 +33,10 @@ impl Trial for OfText {
         hint_of_text(self.alloc, POD.as_bytes(), Wanted::Profile)
     }
 
-    fn came(&mut self, answer: &Result<Option<Hint>, AllocError>) -> Came {
+    fn check(&mut self, answer: &Result<Option<Hint>, AllocError>) -> CallResult {
         match answer {
-            Ok(hint) => Came::right_if(*hint == Some(Hint::Manifest)),
-            Err(AllocError) => Came::Memory,
+            Ok(hint) => CallResult::right_if(*hint == Some(Hint::Manifest)),
+            Err(AllocError) => CallResult::Memory,
         }
     }
 }
@@ -54,10 +54,10 @@ impl Trial for OfFilter {
         hint_of_filter(self.alloc, BASE64.as_bytes())
     }
 
-    fn came(&mut self, answer: &Result<Option<Hint>, AllocError>) -> Came {
+    fn check(&mut self, answer: &Result<Option<Hint>, AllocError>) -> CallResult {
         match answer {
-            Ok(hint) => Came::right_if(*hint == Some(Hint::Base64)),
-            Err(AllocError) => Came::Memory,
+            Ok(hint) => CallResult::right_if(*hint == Some(Hint::Base64)),
+            Err(AllocError) => CallResult::Memory,
         }
     }
 }

@@ -7,13 +7,13 @@ use bpf_verify::{Filter, verify};
 use call_data::{NATIVE_ARCH, SysCall};
 use std::alloc::Global;
 use sys_table::{name, number};
-use trials::{Came, Trial, TrialResult, tried};
+use trials::{CallResult, Trial, TrialResult, try_call};
 use verdict::Stack;
 
 /// Tries to judge calls.
-pub(crate) fn told(rt: &HostRuntime, name: &str) -> Option<TrialResult> {
+pub(crate) fn run_trial(rt: &HostRuntime, name: &str) -> Option<TrialResult> {
     match name {
-        "judging" => Some(tried(rt, Judges::new(rt.alloc()))),
+        "judging" => Some(try_call(rt, Judges::new(rt.alloc()))),
         _ => None,
     }
 }
@@ -69,7 +69,7 @@ impl Judges {
 }
 
 /// Whether calls, values and names are as seccomp(2) and the call table have them.
-fn are_told() -> bool {
+fn are_as_documented() -> bool {
     GETPID.to_bytes()[0] == 39
         && GETPID.word(4) == NATIVE_ARCH
         && Insn::new(0xff, 0, 0, 0).is_none()
@@ -92,14 +92,14 @@ impl Trial for Judges {
         let is_open = Stack::new(self.alloc).judge(&GETPID).performs();
         match self.judged() {
             Some((alone, together)) => is_open
-                && are_told()
+                && are_as_documented()
                 && is_killed(alone)
                 && is_killed(together),
             None => false,
         }
     }
 
-    fn came(&mut self, answer: &bool) -> Came {
-        Came::right_if(*answer)
+    fn check(&mut self, answer: &bool) -> CallResult {
+        CallResult::right_if(*answer)
     }
 }

@@ -25,8 +25,8 @@ fn main(rt: HostRuntime) -> io::Result<()> {
     let mut words = words.as_slice().iter().skip(1).map(|word| word.as_str());
     let name = words.next().unwrap_or("");
     let given = words.next().unwrap_or("");
-    let text = match told(&rt, name, given) {
-        Some(told) => told.text(),
+    let text = match run_trial(&rt, name, given) {
+        Some(result) => result.text(),
         None => "there is no such call",
     };
     println!(rt; "{text}")?;
@@ -34,49 +34,49 @@ fn main(rt: HostRuntime) -> io::Result<()> {
 }
 
 /// Tries the call of this name, with what is given for it.
-fn told(rt: &HostRuntime, name: &str, given: &str) -> Option<TrialResult> {
-    if let Some(told) = of_filters(rt, name) {
-        return Some(told);
+fn run_trial(rt: &HostRuntime, name: &str, given: &str) -> Option<TrialResult> {
+    if let Some(result) = of_filters(rt, name) {
+        return Some(result);
     }
-    if let Some(told) = of_messages(rt, name) {
-        return Some(told);
+    if let Some(result) = of_messages(rt, name) {
+        return Some(result);
     }
-    serving::told(rt, name, given)
+    serving::run_trial(rt, name, given)
 }
 
 /// Tries a call for judging calls.
 fn of_filters(rt: &HostRuntime, name: &str) -> Option<TrialResult> {
-    if let Some(told) = filters::told(rt, name) {
-        return Some(told);
+    if let Some(result) = filters::run_trial(rt, name) {
+        return Some(result);
     }
-    if let Some(told) = stacks::told(rt, name) {
-        return Some(told);
+    if let Some(result) = stacks::run_trial(rt, name) {
+        return Some(result);
     }
-    if let Some(told) = judging::told(rt, name) {
-        return Some(told);
+    if let Some(result) = judging::run_trial(rt, name) {
+        return Some(result);
     }
-    if let Some(told) = profiles::told(rt, name) {
-        return Some(told);
+    if let Some(result) = profiles::run_trial(rt, name) {
+        return Some(result);
     }
-    if let Some(told) = profile_uses::told(rt, name) {
-        return Some(told);
+    if let Some(result) = profile_uses::run_trial(rt, name) {
+        return Some(result);
     }
-    scripts::told(rt, name)
+    scripts::run_trial(rt, name)
 }
 
 /// Tries a call for what is read and written between a user, an agent and a runtime.
 fn of_messages(rt: &HostRuntime, name: &str) -> Option<TrialResult> {
-    if let Some(told) = manifests::told(rt, name) {
-        return Some(told);
+    if let Some(result) = manifests::run_trial(rt, name) {
+        return Some(result);
     }
-    if let Some(told) = hints::told(rt, name) {
-        return Some(told);
+    if let Some(result) = hints::run_trial(rt, name) {
+        return Some(result);
     }
-    if let Some(told) = requests::told(rt, name) {
-        return Some(told);
+    if let Some(result) = requests::run_trial(rt, name) {
+        return Some(result);
     }
-    if let Some(told) = replies::told(rt, name) {
-        return Some(told);
+    if let Some(result) = replies::run_trial(rt, name) {
+        return Some(result);
     }
-    frames::told(rt, name)
+    frames::run_trial(rt, name)
 }

@@ -2,15 +2,15 @@
 use crate::places::is_at;
 use manifest::{Pod, PodFault, PodFaultAt};
 use std::alloc::{AllocError, Global};
-use trials::{Came, Trial, TrialResult, tried};
+use trials::{CallResult, Trial, TrialResult, try_call};
 
 /// Tries the call of this name, if it is one of this module's.
-pub(crate) fn told(rt: &HostRuntime, name: &str) -> Option<TrialResult> {
+pub(crate) fn run_trial(rt: &HostRuntime, name: &str) -> Option<TrialResult> {
     let alloc = rt.alloc();
     match name {
-        "manifest::read" => Some(tried(rt, Reads::new(alloc))),
-        "manifest::read_placed" => Some(tried(rt, Some(Places { alloc }))),
-        "Pod::try_clone" => Some(tried(rt, Copies::new(alloc))),
+        "manifest::read" => Some(try_call(rt, Reads::new(alloc))),
+        "manifest::read_placed" => Some(try_call(rt, Some(Places { alloc }))),
+        "Pod::try_clone" => Some(try_call(rt, Copies::new(alloc))),
         _ => None,
     }
 }
@@ -46,11 +46,11 @@ impl Trial for Reads {
         manifest::read(self.alloc, POD.as_bytes())
     }
 
-    fn came(&mut self, answer: &Result<Pod, PodFault>) -> Came {
+    fn check(&mut self, answer: &Result<Pod, PodFault>) -> CallResult {
         match answer {
-            Ok(pod) => Came::right_if(pod.same(&self.wanted)),
-            Err(PodFault::Memory) => Came::Memory,
-            Err(_) => Came::Wrong,
+            Ok(pod) => CallResult::right_if(pod.same(&self.wanted)),
+            Err(PodFault::Memory) => CallResult::Memory,
+            Err(_) => CallResult::Wrong,
         }
     }
 }
@@ -72,15 +72,19 @@ impl Trial for Places {
         manifest::read_placed(self.alloc, FAULTY.as_bytes())
     }
 
-    fn came(&mut self, answer: &Result<Pod, PodFaultAt>) -> Came {
+    fn check(&mut self, answer: &Result<Pod, PodFaultAt>) -> CallResult {
         match answer {
-            Ok(_) => Came::Wrong,
+            Ok(_) => CallResult::Wrong,
             Err(found) => match found.fault {
-                PodFault::Memory => Came::Memory,
+                PodFault::Memory => CallResult::Memory,
                 PodFault::Missing => {
-                    Came::right_if(is_at(self.alloc, &found.place, "spec.containers[1].image"))
+                    CallResult::right_if(is_at(
+                        self.alloc,
+                        &found.place,
+                        "spec.containers[1].image",
+                    ))
                 },
-                _ => Came::Wrong,
+                _ => CallResult::Wrong,
             },
         }
     }
@@ -107,10 +111,10 @@ impl Trial for Copies {
         self.pod.try_clone(self.alloc)
     }
 
-    fn came(&mut self, answer: &Result<Pod, AllocError>) -> Came {
+    fn check(&mut self, answer: &Result<Pod, AllocError>) -> CallResult {
         match answer {
-            Ok(copy) => Came::right_if(copy.same(&self.pod)),
-            Err(AllocError) => Came::Memory,
+            Ok(copy) => CallResult::right_if(copy.same(&self.pod)),
+            Err(AllocError) => CallResult::Memory,
         }
     }
 }

@@ -7,17 +7,17 @@ use oci_profile::{Decision, Errno, Profile, ProfileFault, ProfileFaultAt};
 use profile_text::{WriteFault, default_text, write};
 use std::alloc::{AllocError, Global};
 use sys_table::CallTable;
-use trials::{Came, Trial, TrialResult, tried};
+use trials::{CallResult, Trial, TrialResult, try_call};
 
 /// Tries the call of this name, if it is one of this module's.
-pub(crate) fn told(rt: &HostRuntime, name: &str) -> Option<TrialResult> {
+pub(crate) fn run_trial(rt: &HostRuntime, name: &str) -> Option<TrialResult> {
     let alloc = rt.alloc();
     match name {
-        "oci_profile::read_placed" => Some(tried(rt, Some(Places { alloc }))),
-        "profile_text::write" => Some(tried(rt, Writes::new(alloc))),
-        "profile_text::default_text" => Some(tried(rt, Some(Defaults { alloc }))),
-        "explain" => Some(tried(rt, Explains::new(alloc))),
-        "explanation_lines" => Some(tried(rt, Lines::new(alloc))),
+        "oci_profile::read_placed" => Some(try_call(rt, Some(Places { alloc }))),
+        "profile_text::write" => Some(try_call(rt, Writes::new(alloc))),
+        "profile_text::default_text" => Some(try_call(rt, Some(Defaults { alloc }))),
+        "explain" => Some(try_call(rt, Explains::new(alloc))),
+        "explanation_lines" => Some(try_call(rt, Lines::new(alloc))),
         _ => None,
     }
 }
@@ -38,15 +38,15 @@ impl Trial for Places {
         oci_profile::read_placed(self.alloc, FAULTY.as_bytes())
     }
 
-    fn came(&mut self, answer: &Result<Profile, ProfileFaultAt>) -> Came {
+    fn check(&mut self, answer: &Result<Profile, ProfileFaultAt>) -> CallResult {
         match answer {
-            Ok(_) => Came::Wrong,
+            Ok(_) => CallResult::Wrong,
             Err(found) => match found.fault {
-                ProfileFault::Memory => Came::Memory,
+                ProfileFault::Memory => CallResult::Memory,
                 ProfileFault::UnknownCall => {
-                    Came::right_if(is_at(self.alloc, &found.place, "syscalls[1].names[1]"))
+                    CallResult::right_if(is_at(self.alloc, &found.place, "syscalls[1].names[1]"))
                 },
-                _ => Came::Wrong,
+                _ => CallResult::Wrong,
             },
         }
     }
@@ -79,11 +79,11 @@ impl Trial for Writes {
         write(self.alloc, CallTable::Linux5_8, &self.profile)
     }
 
-    fn came(&mut self, answer: &Result<String, WriteFault>) -> Came {
+    fn check(&mut self, answer: &Result<String, WriteFault>) -> CallResult {
         match answer {
-            Ok(text) => Came::right_if(text.as_str() == self.wanted.as_str()),
-            Err(WriteFault::Memory) => Came::Memory,
-            Err(WriteFault::NoName | WriteFault::TooLarge) => Came::Wrong,
+            Ok(text) => CallResult::right_if(text.as_str() == self.wanted.as_str()),
+            Err(WriteFault::Memory) => CallResult::Memory,
+            Err(WriteFault::NoName | WriteFault::TooLarge) => CallResult::Wrong,
         }
     }
 }
@@ -101,10 +101,13 @@ impl Trial for Defaults {
         default_text(self.alloc)
     }
 
-    fn came(&mut self, answer: &Result<String, AllocError>) -> Came {
+    fn check(&mut self, answer: &Result<String, AllocError>) -> CallResult {
         match answer {
-            Ok(text) => Came::right_if(oci_profile::read(self.alloc, text.as_bytes()).is_ok()),
-            Err(AllocError) => Came::Memory,
+            Ok(text) => CallResult::right_if(oci_profile::read(
+                self.alloc,
+                text.as_bytes(),
+            ).is_ok()),
+            Err(AllocError) => CallResult::Memory,
         }
     }
 }
@@ -153,10 +156,10 @@ impl Trial for Explains {
         explain(self.alloc, &self.profile, &clone_call(3))
     }
 
-    fn came(&mut self, answer: &Result<Explanation, AllocError>) -> Came {
+    fn check(&mut self, answer: &Result<Explanation, AllocError>) -> CallResult {
         match answer {
-            Ok(explanation) => Came::right_if(passes_over_the_third(explanation)),
-            Err(AllocError) => Came::Memory,
+            Ok(explanation) => CallResult::right_if(passes_over_the_third(explanation)),
+            Err(AllocError) => CallResult::Memory,
         }
     }
 }
@@ -182,12 +185,12 @@ impl Trial for Lines {
         explanation_lines(self.alloc, &self.explanation)
     }
 
-    fn came(&mut self, answer: &Result<String, AllocError>) -> Came {
+    fn check(&mut self, answer: &Result<String, AllocError>) -> CallResult {
         let wanted =
             "not syscalls[2]: args[1] is 3, wanted GT 9\nERRNO 13 (EACCES) by defaultAction\n";
         match answer {
-            Ok(text) => Came::right_if(text.as_str() == wanted),
-            Err(AllocError) => Came::Memory,
+            Ok(text) => CallResult::right_if(text.as_str() == wanted),
+            Err(AllocError) => CallResult::Memory,
         }
     }
 }

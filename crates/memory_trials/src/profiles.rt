@@ -3,15 +3,15 @@ use bpf_verify::Filter;
 use compile::{CompileFault, compile};
 use oci_profile::{Entry, Profile, ProfileFault, runtime_default};
 use std::alloc::{AllocError, Global};
-use trials::{Came, PROFILE, Trial, TrialResult, tried};
+use trials::{CallResult, PROFILE, Trial, TrialResult, try_call};
 
 /// Tries the call of this name, if it is one of this module's.
-pub(crate) fn told(rt: &HostRuntime, name: &str) -> Option<TrialResult> {
+pub(crate) fn run_trial(rt: &HostRuntime, name: &str) -> Option<TrialResult> {
     let alloc = rt.alloc();
     match name {
-        "oci_profile::read" => Some(tried(rt, Reads::new(alloc))),
-        "runtime_default" => Some(tried(rt, Defaults::new(alloc))),
-        "compile" => Some(tried(rt, Compiles::new(alloc))),
+        "oci_profile::read" => Some(try_call(rt, Reads::new(alloc))),
+        "runtime_default" => Some(try_call(rt, Defaults::new(alloc))),
+        "compile" => Some(try_call(rt, Compiles::new(alloc))),
         _ => None,
     }
 }
@@ -59,11 +59,11 @@ impl Trial for Reads {
         oci_profile::read(self.alloc, PROFILE.as_bytes())
     }
 
-    fn came(&mut self, answer: &Result<Profile, ProfileFault>) -> Came {
+    fn check(&mut self, answer: &Result<Profile, ProfileFault>) -> CallResult {
         match answer {
-            Ok(profile) => Came::right_if(are_same(profile, &self.wanted)),
-            Err(ProfileFault::Memory) => Came::Memory,
-            Err(_) => Came::Wrong,
+            Ok(profile) => CallResult::right_if(are_same(profile, &self.wanted)),
+            Err(ProfileFault::Memory) => CallResult::Memory,
+            Err(_) => CallResult::Wrong,
         }
     }
 }
@@ -89,10 +89,10 @@ impl Trial for Defaults {
         runtime_default(self.alloc)
     }
 
-    fn came(&mut self, answer: &Result<Profile, AllocError>) -> Came {
+    fn check(&mut self, answer: &Result<Profile, AllocError>) -> CallResult {
         match answer {
-            Ok(profile) => Came::right_if(are_same(profile, &self.wanted)),
-            Err(AllocError) => Came::Memory,
+            Ok(profile) => CallResult::right_if(are_same(profile, &self.wanted)),
+            Err(AllocError) => CallResult::Memory,
         }
     }
 }
@@ -124,11 +124,11 @@ impl Trial for Compiles {
         compile(self.alloc, &self.profile)
     }
 
-    fn came(&mut self, answer: &Result<Filter, CompileFault>) -> Came {
+    fn check(&mut self, answer: &Result<Filter, CompileFault>) -> CallResult {
         match answer {
-            Ok(filter) => Came::right_if(filter.insns() == self.wanted.insns()),
-            Err(CompileFault::Memory) => Came::Memory,
-            Err(CompileFault::TooLong) => Came::Wrong,
+            Ok(filter) => CallResult::right_if(filter.insns() == self.wanted.insns()),
+            Err(CompileFault::Memory) => CallResult::Memory,
+            Err(CompileFault::TooLong) => CallResult::Wrong,
         }
     }
 }

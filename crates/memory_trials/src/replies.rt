@@ -1,15 +1,15 @@
 //! Reading, writing and copying replies.
 use cri_msgs::{MessageFault, Reply, Version};
 use std::alloc::{AllocError, Global};
-use trials::{Came, Trial, TrialResult, tried};
+use trials::{CallResult, Trial, TrialResult, try_call};
 
 /// Tries the call of this name, if it is one of this module's.
-pub(crate) fn told(rt: &HostRuntime, name: &str) -> Option<TrialResult> {
+pub(crate) fn run_trial(rt: &HostRuntime, name: &str) -> Option<TrialResult> {
     let alloc = rt.alloc();
     match name {
-        "Reply::read" => Some(tried(rt, Reads::new(alloc))),
-        "Reply::write" => Some(tried(rt, Writes::new(alloc))),
-        "Reply::try_clone" => Some(tried(rt, Copies::new(alloc))),
+        "Reply::read" => Some(try_call(rt, Reads::new(alloc))),
+        "Reply::write" => Some(try_call(rt, Writes::new(alloc))),
+        "Reply::try_clone" => Some(try_call(rt, Copies::new(alloc))),
         _ => None,
     }
 }
@@ -43,11 +43,11 @@ impl Trial for Reads {
         Reply::read(self.alloc, Version::V2, STATUSES.as_bytes())
     }
 
-    fn came(&mut self, answer: &Result<Reply, MessageFault>) -> Came {
+    fn check(&mut self, answer: &Result<Reply, MessageFault>) -> CallResult {
         match answer {
-            Ok(reply) => Came::right_if(reply.same(&self.wanted)),
-            Err(MessageFault::Memory) => Came::Memory,
-            Err(_) => Came::Wrong,
+            Ok(reply) => CallResult::right_if(reply.same(&self.wanted)),
+            Err(MessageFault::Memory) => CallResult::Memory,
+            Err(_) => CallResult::Wrong,
         }
     }
 }
@@ -73,10 +73,10 @@ impl Trial for Writes {
         self.reply.write(self.alloc, Version::V2)
     }
 
-    fn came(&mut self, answer: &Result<Vec<u8>, AllocError>) -> Came {
+    fn check(&mut self, answer: &Result<Vec<u8>, AllocError>) -> CallResult {
         match answer {
-            Ok(bytes) => Came::right_if(bytes.as_slice() == STATUSES.as_bytes()),
-            Err(AllocError) => Came::Memory,
+            Ok(bytes) => CallResult::right_if(bytes.as_slice() == STATUSES.as_bytes()),
+            Err(AllocError) => CallResult::Memory,
         }
     }
 }
@@ -102,10 +102,10 @@ impl Trial for Copies {
         self.reply.try_clone(self.alloc)
     }
 
-    fn came(&mut self, answer: &Result<Reply, AllocError>) -> Came {
+    fn check(&mut self, answer: &Result<Reply, AllocError>) -> CallResult {
         match answer {
-            Ok(copy) => Came::right_if(copy.same(&self.reply)),
-            Err(AllocError) => Came::Memory,
+            Ok(copy) => CallResult::right_if(copy.same(&self.reply)),
+            Err(AllocError) => CallResult::Memory,
         }
     }
 }

@@ -1,15 +1,15 @@
 //! Reading, writing and copying requests.
 use cri_msgs::{MessageFault, Request, Version};
 use std::alloc::{AllocError, Global};
-use trials::{Came, Trial, TrialResult, tried};
+use trials::{CallResult, Trial, TrialResult, try_call};
 
 /// Tries the call of this name, if it is one of this module's.
-pub(crate) fn told(rt: &HostRuntime, name: &str) -> Option<TrialResult> {
+pub(crate) fn run_trial(rt: &HostRuntime, name: &str) -> Option<TrialResult> {
     let alloc = rt.alloc();
     match name {
-        "Request::read" => Some(tried(rt, Reads::new(alloc))),
-        "Request::write" => Some(tried(rt, Writes::new(alloc))),
-        "Request::try_clone" => Some(tried(rt, Copies::new(alloc))),
+        "Request::read" => Some(try_call(rt, Reads::new(alloc))),
+        "Request::write" => Some(try_call(rt, Writes::new(alloc))),
+        "Request::try_clone" => Some(try_call(rt, Copies::new(alloc))),
         _ => None,
     }
 }
@@ -44,11 +44,11 @@ impl Trial for Reads {
         Request::read(self.alloc, Version::V2, CREATE.as_bytes())
     }
 
-    fn came(&mut self, answer: &Result<Request, MessageFault>) -> Came {
+    fn check(&mut self, answer: &Result<Request, MessageFault>) -> CallResult {
         match answer {
-            Ok(request) => Came::right_if(request.same(&self.wanted)),
-            Err(MessageFault::Memory) => Came::Memory,
-            Err(_) => Came::Wrong,
+            Ok(request) => CallResult::right_if(request.same(&self.wanted)),
+            Err(MessageFault::Memory) => CallResult::Memory,
+            Err(_) => CallResult::Wrong,
         }
     }
 }
@@ -74,10 +74,10 @@ impl Trial for Writes {
         self.request.write(self.alloc, Version::V2)
     }
 
-    fn came(&mut self, answer: &Result<Vec<u8>, AllocError>) -> Came {
+    fn check(&mut self, answer: &Result<Vec<u8>, AllocError>) -> CallResult {
         match answer {
-            Ok(bytes) => Came::right_if(bytes.as_slice() == CREATE.as_bytes()),
-            Err(AllocError) => Came::Memory,
+            Ok(bytes) => CallResult::right_if(bytes.as_slice() == CREATE.as_bytes()),
+            Err(AllocError) => CallResult::Memory,
         }
     }
 }
@@ -103,10 +103,10 @@ impl Trial for Copies {
         self.request.try_clone(self.alloc)
     }
 
-    fn came(&mut self, answer: &Result<Request, AllocError>) -> Came {
+    fn check(&mut self, answer: &Result<Request, AllocError>) -> CallResult {
         match answer {
-            Ok(copy) => Came::right_if(copy.same(&self.request)),
-            Err(AllocError) => Came::Memory,
+            Ok(copy) => CallResult::right_if(copy.same(&self.request)),
+            Err(AllocError) => CallResult::Memory,
         }
     }
 }

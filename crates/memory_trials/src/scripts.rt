@@ -5,17 +5,17 @@ use runtime_cell::{Cell, Did, State};
 use script::{Script, ScriptFault, ScriptFaultAt, Step};
 use std::alloc::{AllocError, Global};
 use sys_table::CallTable;
-use trials::{Came, SCRIPT, Trial, TrialResult, tried};
+use trials::{CallResult, SCRIPT, Trial, TrialResult, try_call};
 use verdict::Stack;
 
 /// Tries the call of this name, if it is one of this module's.
-pub(crate) fn told(rt: &HostRuntime, name: &str) -> Option<TrialResult> {
+pub(crate) fn run_trial(rt: &HostRuntime, name: &str) -> Option<TrialResult> {
     let alloc = rt.alloc();
     match name {
-        "script::read" => Some(tried(rt, Reads::new(alloc))),
-        "script::read_placed_with" => Some(tried(rt, Some(Places { alloc }))),
-        "Cell::playing" => Some(tried(rt, Plays::new(alloc))),
-        "Cell::step" => Some(tried(rt, Lives::new(alloc))),
+        "script::read" => Some(try_call(rt, Reads::new(alloc))),
+        "script::read_placed_with" => Some(try_call(rt, Some(Places { alloc }))),
+        "Cell::playing" => Some(try_call(rt, Plays::new(alloc))),
+        "Cell::step" => Some(try_call(rt, Lives::new(alloc))),
         _ => None,
     }
 }
@@ -62,15 +62,15 @@ impl Trial for Places {
         script::read_placed_with(self.alloc, CallTable::Linux5_8, FAULTY.as_bytes())
     }
 
-    fn came(&mut self, answer: &Result<Script, ScriptFaultAt>) -> Came {
+    fn check(&mut self, answer: &Result<Script, ScriptFaultAt>) -> CallResult {
         match answer {
-            Ok(_) => Came::Wrong,
+            Ok(_) => CallResult::Wrong,
             Err(found) => match found.fault {
-                ScriptFault::Memory => Came::Memory,
+                ScriptFault::Memory => CallResult::Memory,
                 ScriptFault::WrongType => {
-                    Came::right_if(is_at(self.alloc, &found.place, "steps[1].args[1]"))
+                    CallResult::right_if(is_at(self.alloc, &found.place, "steps[1].args[1]"))
                 }
-                _ => Came::Wrong,
+                _ => CallResult::Wrong,
             },
         }
     }
@@ -106,11 +106,11 @@ impl Trial for Reads {
         script::read(self.alloc, SCRIPT.as_bytes())
     }
 
-    fn came(&mut self, answer: &Result<Script, ScriptFault>) -> Came {
+    fn check(&mut self, answer: &Result<Script, ScriptFault>) -> CallResult {
         match answer {
-            Ok(script) => Came::right_if(self.is_wanted(script)),
-            Err(ScriptFault::Memory) => Came::Memory,
-            Err(_) => Came::Wrong,
+            Ok(script) => CallResult::right_if(self.is_wanted(script)),
+            Err(ScriptFault::Memory) => CallResult::Memory,
+            Err(_) => CallResult::Wrong,
         }
     }
 }
@@ -142,14 +142,14 @@ impl Trial for Plays {
         Some(Cell::playing(self.alloc, script, stack, 1))
     }
 
-    fn came(&mut self, answer: &Option<Result<Cell, AllocError>>) -> Came {
+    fn check(&mut self, answer: &Option<Result<Cell, AllocError>>) -> CallResult {
         match answer {
             Some(Ok(cell)) => {
                 let is_fresh = cell.record().is_empty() && cell.state() == State::Running;
-                Came::right_if(is_fresh && cell.label().attempt == 1)
+                CallResult::right_if(is_fresh && cell.label().attempt == 1)
             }
-            Some(Err(AllocError)) => Came::Memory,
-            None => Came::Wrong,
+            Some(Err(AllocError)) => CallResult::Memory,
+            None => CallResult::Wrong,
         }
     }
 }
@@ -186,9 +186,9 @@ impl Trial for Lives {
     }
 
     // The filter of the start ends the process for getpid.
-    fn came(&mut self, answer: &Option<u8>) -> Came {
+    fn check(&mut self, answer: &Option<u8>) -> CallResult {
         let counts = self.cell.counts();
         let is_told = counts.performed == 3 && counts.denied == 1 && self.cell.record().len() == 4;
-        Came::right_if(is_told && *answer == Some(159) && self.cell.added() == 1)
+        CallResult::right_if(is_told && *answer == Some(159) && self.cell.added() == 1)
     }
 }

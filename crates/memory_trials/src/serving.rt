@@ -6,19 +6,19 @@ use cri_msgs::{Answer, Refusal, Reply, Request};
 use runtime_cell::{Did, State};
 use runtime_core::{Contents, FileAnswers, Runtime};
 use std::alloc::Global;
-use trials::{Came, Trial, TrialResult, files, tried};
+use trials::{CallResult, Trial, TrialResult, files, try_call};
 
 /// Tries to serve the request of this text.
-pub(crate) fn told(rt: &HostRuntime, name: &str, text: &str) -> Option<TrialResult> {
+pub(crate) fn run_trial(rt: &HostRuntime, name: &str, text: &str) -> Option<TrialResult> {
     match name {
-        "serve" => Some(tried(rt, Serves::new(rt.alloc(), text, false))),
-        "prepare and serve" => Some(tried(rt, Serves::new(rt.alloc(), text, true))),
-        "Runtime::step" => Some(tried(rt, Steps::new(rt.alloc()))),
+        "serve" => Some(try_call(rt, Serves::new(rt.alloc(), text, false))),
+        "prepare and serve" => Some(try_call(rt, Serves::new(rt.alloc(), text, true))),
+        "Runtime::step" => Some(try_call(rt, Steps::new(rt.alloc()))),
         _ => None,
     }
 }
 
-/// The requests before the tried one: `u1` has two containers, one of them started, and had a third one;
+/// The requests before the try_call one: `u1` has two containers, one of them started, and had a third one;
 /// `u2` was stopped, and `u3` removed.
 const BEFORE: &str = r#"{"call":"RunPodSandbox","id":1,"uid":"u1","v":2}
 {"attempt":0,"call":"CreateContainer","id":2,"image":"a","name":"a","profile":{"type":"Unconfined"},"uid":"u1","v":2}
@@ -119,13 +119,13 @@ impl Trial for Serves {
         Some(self.runtime.serve(request, files))
     }
 
-    fn came(&mut self, answer: &Option<Reply>) -> Came {
+    fn check(&mut self, answer: &Option<Reply>) -> CallResult {
         match answer {
             Some(reply) => match &reply.answer {
-                Answer::Refused(Refusal::Memory) => Came::Memory,
-                _ => Came::right_if(reply.same(&self.wanted)),
+                Answer::Refused(Refusal::Memory) => CallResult::Memory,
+                _ => CallResult::right_if(reply.same(&self.wanted)),
             },
-            None => Came::Wrong,
+            None => CallResult::Wrong,
         }
     }
 
@@ -167,13 +167,13 @@ impl Trial for Steps {
         (did, self.runtime.kill(first, 9))
     }
 
-    fn came(&mut self, answer: &(Option<Did>, Option<()>)) -> Came {
+    fn check(&mut self, answer: &(Option<Did>, Option<()>)) -> CallResult {
         let state = self.runtime.cell(1).map(|cell| cell.state());
         let is_killed = state
             == Some(State::Exited {
                 code: 9,
                 killed: true,
             });
-        Came::right_if(*answer == (Some(Did::Performed), Some(())) && is_killed)
+        CallResult::right_if(*answer == (Some(Did::Performed), Some(())) && is_killed)
     }
 }

@@ -2,16 +2,16 @@
 use crate::filters::{are_same, filter};
 use bpf_verify::Filter;
 use std::alloc::{AllocError, Global};
-use trials::{Came, Trial, TrialResult, tried};
+use trials::{CallResult, Trial, TrialResult, try_call};
 use verdict::{Stack, StackFault};
 
 /// Tries the call of this name, if it is one of this module's.
-pub(crate) fn told(rt: &HostRuntime, name: &str) -> Option<TrialResult> {
+pub(crate) fn run_trial(rt: &HostRuntime, name: &str) -> Option<TrialResult> {
     let alloc = rt.alloc();
     match name {
-        "Stack::push" => Some(tried(rt, Pushes::new(alloc))),
-        "Stack::push with room" => Some(tried(rt, Pushes::with_room(alloc))),
-        "Stack::reserve" => Some(tried(rt, Reserves::new(alloc))),
+        "Stack::push" => Some(try_call(rt, Pushes::new(alloc))),
+        "Stack::push with room" => Some(try_call(rt, Pushes::with_room(alloc))),
+        "Stack::reserve" => Some(try_call(rt, Reserves::new(alloc))),
         _ => None,
     }
 }
@@ -76,11 +76,11 @@ impl Trial for Pushes {
         }
     }
 
-    fn came(&mut self, answer: &Option<StackFault>) -> Came {
+    fn check(&mut self, answer: &Option<StackFault>) -> CallResult {
         match answer {
-            None => Came::right_if(has(&self.stack, FILLED + 2, &self.wanted)),
-            Some(StackFault::Memory) => Came::Memory,
-            Some(_) => Came::Wrong,
+            None => CallResult::right_if(has(&self.stack, FILLED + 2, &self.wanted)),
+            Some(StackFault::Memory) => CallResult::Memory,
+            Some(_) => CallResult::Wrong,
         }
     }
 
@@ -125,10 +125,10 @@ impl Trial for Reserves {
         self.stack.reserve(9)
     }
 
-    fn came(&mut self, answer: &Result<(), AllocError>) -> Came {
+    fn check(&mut self, answer: &Result<(), AllocError>) -> CallResult {
         match answer {
-            Ok(()) => Came::right_if(has(&self.stack, 1, &self.wanted)),
-            Err(AllocError) => Came::Memory,
+            Ok(()) => CallResult::right_if(has(&self.stack, 1, &self.wanted)),
+            Err(AllocError) => CallResult::Memory,
         }
     }
 

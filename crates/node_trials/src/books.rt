@@ -7,11 +7,11 @@ use node_lock::{Book, BookFault, MAX_ENTRIES, PARTS, Receipt, Tally, audit};
 use std::alloc::Global;
 use std::marker::Brand;
 use std::sync::ledger::{Blank, Ledger, Share};
-use trials::{Came, Trial, TrialResult, tried};
+use trials::{CallResult, Trial, TrialResult, try_call};
 use worker_core::AgentEvent;
 
 /// Tries to record the event of this name, to join tallies, or what takes no memory.
-pub(crate) fn told(rt: &HostRuntime, name: &str, event: &str) -> Option<TrialResult> {
+pub(crate) fn run_trial(rt: &HostRuntime, name: &str, event: &str) -> Option<TrialResult> {
     match name {
         "record" => {
             let foreseen = Foreseen::new(rt.alloc(), event)?;
@@ -28,7 +28,7 @@ fn recorded<L: Ledger>(rt: &HostRuntime, foreseen: Foreseen, blank: Blank) -> Tr
     requires parts { blank.parts ≡ L.parts }
     requires some { 0 < blank.parts }
 {
-    tried(rt, recording::<L>(rt.alloc(), foreseen, blank))
+    try_call(rt, recording::<L>(rt.alloc(), foreseen, blank))
 }
 
 fn joined<L: Ledger>(rt: &HostRuntime, blank: Blank) -> TrialResult
@@ -36,7 +36,7 @@ fn joined<L: Ledger>(rt: &HostRuntime, blank: Blank) -> TrialResult
     requires parts { blank.parts ≡ L.parts }
     requires two { 2 ≤ blank.parts }
 {
-    tried(rt, joining::<L>(rt.alloc(), blank))
+    try_call(rt, joining::<L>(rt.alloc(), blank))
 }
 
 fn audited<L: Ledger>(rt: &HostRuntime, blank: Blank) -> TrialResult
@@ -44,7 +44,7 @@ fn audited<L: Ledger>(rt: &HostRuntime, blank: Blank) -> TrialResult
     requires parts { blank.parts ≡ L.parts }
     requires some { 0 < blank.parts }
 {
-    tried(rt, auditing::<L>(rt.alloc(), blank))
+    try_call(rt, auditing::<L>(rt.alloc(), blank))
 }
 
 fn worker_of(event: &AgentEvent) -> u32
@@ -102,19 +102,19 @@ impl<L: Ledger> Trial for Records<L> {
         Some(self.record(event))
     }
 
-    fn came(&mut self, answer: &Option<Result<Receipt, BookFault>>) -> Came {
+    fn check(&mut self, answer: &Option<Result<Receipt, BookFault>>) -> CallResult {
         match answer {
             Some(Ok(receipt)) => {
                 let is_last = receipt.number() == self.book.history().len() as u64;
                 let answer = &receipt.entry().answer;
-                match self.foreseen.came(answer, self.book.node()) {
-                    Came::Right => Came::right_if(is_last),
+                match self.foreseen.check(answer, self.book.node()) {
+                    CallResult::Right => CallResult::right_if(is_last),
                     // Out of memory is a fault of the book, and not an answer of the node in an entry.
-                    _ => Came::Wrong,
+                    _ => CallResult::Wrong,
                 }
             }
-            Some(Err(BookFault::Memory)) => Came::Memory,
-            Some(Err(BookFault::HistoryFull)) | None => Came::Wrong,
+            Some(Err(BookFault::Memory)) => CallResult::Memory,
+            Some(Err(BookFault::HistoryFull)) | None => CallResult::Wrong,
         }
     }
 
@@ -191,12 +191,12 @@ impl<L: Ledger> Trial for Joins<L> {
         }
     }
 
-    fn came(&mut self, answer: &Option<bool>) -> Came {
+    fn check(&mut self, answer: &Option<bool>) -> CallResult {
         let receipts = self.tally.receipts();
         match answer {
-            Some(true) => Came::right_if(receipts.len() == 2 && are_from(receipts, 1)),
-            Some(false) => Came::Memory,
-            None => Came::Wrong,
+            Some(true) => CallResult::right_if(receipts.len() == 2 && are_from(receipts, 1)),
+            Some(false) => CallResult::Memory,
+            None => CallResult::Wrong,
         }
     }
 
@@ -239,7 +239,7 @@ impl<L: Ledger> Trial for Audits<L> {
         (stand, entries)
     }
 
-    fn came(&mut self, answer: &(bool, u64)) -> Came {
-        Came::right_if(*answer == (true, 1) && self.book.is_closed())
+    fn check(&mut self, answer: &(bool, u64)) -> CallResult {
+        CallResult::right_if(*answer == (true, 1) && self.book.is_closed())
     }
 }

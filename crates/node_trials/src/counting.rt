@@ -5,7 +5,7 @@ use manifest::{Label, Uid};
 use node_watch::{CallCounts, Counts};
 use refusal_causes::{Cause, CauseText, Causes};
 use std::alloc::{AllocError, Global};
-use trials::{Came, Trial};
+use trials::{CallResult, Trial};
 
 fn label(alloc: Global, text: &str) -> Option<Label> {
     Label::new(alloc, text).ok()?
@@ -65,10 +65,10 @@ impl Trial for Counting {
         self.counts.note(&self.call, &self.answer)
     }
 
-    fn came(&mut self, answer: &Result<(), AllocError>) -> Came {
+    fn check(&mut self, answer: &Result<(), AllocError>) -> CallResult {
         match answer {
-            Ok(()) => Came::right_if(self.has(2)),
-            Err(AllocError) => Came::Memory,
+            Ok(()) => CallResult::right_if(self.has(2)),
+            Err(AllocError) => CallResult::Memory,
         }
     }
 
@@ -121,10 +121,10 @@ impl Trial for Giving {
         self.causes.note(cause)
     }
 
-    fn came(&mut self, answer: &Result<(), AllocError>) -> Came {
+    fn check(&mut self, answer: &Result<(), AllocError>) -> CallResult {
         match answer {
-            Ok(()) => Came::right_if(self.has_text()),
-            Err(AllocError) => Came::Memory,
+            Ok(()) => CallResult::right_if(self.has_text()),
+            Err(AllocError) => CallResult::Memory,
         }
     }
 

@@ -7,21 +7,21 @@ use pod_folder::{
     Reading, Stamp, gives_uid, names_in, uid_for,
 };
 use std::alloc::{AllocError, Global};
-use trials::{Came, Trial, TrialResult, tried};
+use trials::{CallResult, Trial, TrialResult, try_call};
 use worker_core::AgentEvent;
 
 /// Tries the call of this name, if it is one of this module's.
-pub(crate) fn told(rt: &HostRuntime, name: &str) -> Option<TrialResult> {
+pub(crate) fn run_trial(rt: &HostRuntime, name: &str) -> Option<TrialResult> {
     let alloc = rt.alloc();
     match name {
-        "uid_for" => Some(tried(rt, Names::new(alloc))),
-        "gives_uid" => Some(tried(rt, Some(Gives { alloc }))),
-        "Naming::reserve" => Some(tried(rt, Counts::new(alloc))),
-        "names_in" => Some(tried(rt, Lists::new(alloc))),
-        "Looking::begin" => Some(tried(rt, Begins::new(alloc))),
-        "Looking::step" => Some(tried(rt, Steps::new(alloc))),
-        "Folder::next" => Some(tried(rt, Asks::new(alloc, 0, "default.web"))),
-        "Folder::next of two pods of a name" => Some(tried(
+        "uid_for" => Some(try_call(rt, Names::new(alloc))),
+        "gives_uid" => Some(try_call(rt, Some(Gives { alloc }))),
+        "Naming::reserve" => Some(try_call(rt, Counts::new(alloc))),
+        "names_in" => Some(try_call(rt, Lists::new(alloc))),
+        "Looking::begin" => Some(try_call(rt, Begins::new(alloc))),
+        "Looking::step" => Some(try_call(rt, Steps::new(alloc))),
+        "Folder::next" => Some(try_call(rt, Asks::new(alloc, 0, "default.web"))),
+        "Folder::next of two pods of a name" => Some(try_call(
             rt,
             Asks::new(alloc, 1, "default.web-2"),
         )),
@@ -50,11 +50,11 @@ impl Trial for Names {
         uid_for(self.alloc, &self.pod, 3, Some("night"))
     }
 
-    fn came(&mut self, answer: &Result<Option<Uid>, AllocError>) -> Came {
+    fn check(&mut self, answer: &Result<Option<Uid>, AllocError>) -> CallResult {
         match answer {
-            Ok(Some(uid)) => Came::right_if(uid.as_str() == "default.web-3.night"),
-            Ok(None) => Came::Wrong,
-            Err(AllocError) => Came::Memory,
+            Ok(Some(uid)) => CallResult::right_if(uid.as_str() == "default.web-3.night"),
+            Ok(None) => CallResult::Wrong,
+            Err(AllocError) => CallResult::Memory,
         }
     }
 }
@@ -72,10 +72,10 @@ impl Trial for Gives {
         gives_uid(self.alloc, br#"{"metadata":{"name":"a","uid":"u-1"}}"#)
     }
 
-    fn came(&mut self, answer: &Result<bool, AllocError>) -> Came {
+    fn check(&mut self, answer: &Result<bool, AllocError>) -> CallResult {
         match answer {
-            Ok(gives) => Came::right_if(*gives),
-            Err(AllocError) => Came::Memory,
+            Ok(gives) => CallResult::right_if(*gives),
+            Err(AllocError) => CallResult::Memory,
         }
     }
 }
@@ -109,13 +109,13 @@ impl Trial for Counts {
         self.naming.reserve(&self.pod)
     }
 
-    fn came(&mut self, answer: &Result<(), AllocError>) -> Came {
+    fn check(&mut self, answer: &Result<(), AllocError>) -> CallResult {
         match answer {
             Ok(()) => {
                 self.naming.count(&self.pod);
-                Came::right_if(is_uid(self.naming.uid(&self.pod), "default.web-2"))
+                CallResult::right_if(is_uid(self.naming.uid(&self.pod), "default.web-2"))
             }
-            Err(AllocError) => Came::Memory,
+            Err(AllocError) => CallResult::Memory,
         }
     }
 
@@ -189,11 +189,11 @@ impl Trial for Lists {
         names_in(self.alloc, &mut listed)
     }
 
-    fn came(&mut self, answer: &Result<Vec<String>, CausedFault>) -> Came {
+    fn check(&mut self, answer: &Result<Vec<String>, CausedFault>) -> CallResult {
         match answer {
-            Ok(names) => Came::right_if(names.len() == 3),
-            Err(fault) if *fault == CausedFault::from(AllocError) => Came::Memory,
-            Err(_) => Came::Wrong,
+            Ok(names) => CallResult::right_if(names.len() == 3),
+            Err(fault) if *fault == CausedFault::from(AllocError) => CallResult::Memory,
+            Err(_) => CallResult::Wrong,
         }
     }
 }
@@ -290,11 +290,11 @@ impl Trial for Begins {
         Some(Looking::begin(self.alloc, self.names.pop()?))
     }
 
-    fn came(&mut self, answer: &Option<Result<Looking, AllocError>>) -> Came {
+    fn check(&mut self, answer: &Option<Result<Looking, AllocError>>) -> CallResult {
         match answer {
-            Some(Ok(_)) => Came::Right,
-            Some(Err(AllocError)) => Came::Memory,
-            None => Came::Wrong,
+            Some(Ok(_)) => CallResult::Right,
+            Some(Err(AllocError)) => CallResult::Memory,
+            None => CallResult::Wrong,
         }
     }
 }
@@ -326,10 +326,10 @@ impl Trial for Steps {
             .step(&self.folder, &mut Same { alloc }, &Same { alloc })
     }
 
-    fn came(&mut self, answer: &Result<bool, AllocError>) -> Came {
+    fn check(&mut self, answer: &Result<bool, AllocError>) -> CallResult {
         match answer {
-            Ok(more) => Came::right_if(*more),
-            Err(AllocError) => Came::Memory,
+            Ok(more) => CallResult::right_if(*more),
+            Err(AllocError) => CallResult::Memory,
         }
     }
 }
@@ -368,10 +368,10 @@ impl Trial for Asks {
         self.folder.next()
     }
 
-    fn came(&mut self, answer: &Result<Due, AllocError>) -> Came {
+    fn check(&mut self, answer: &Result<Due, AllocError>) -> CallResult {
         match answer {
-            Err(AllocError) => Came::Memory,
-            due => Came::right_if(is_admission(due, self.wanted)),
+            Err(AllocError) => CallResult::Memory,
+            due => CallResult::right_if(is_admission(due, self.wanted)),
         }
     }
 }

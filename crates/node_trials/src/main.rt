@@ -20,8 +20,8 @@ fn main(rt: HostRuntime) -> io::Result<()> {
     let mut words = words.as_slice().iter().skip(1).map(|word| word.as_str());
     let name = words.next().unwrap_or("");
     let given = words.next().unwrap_or("");
-    let text = match told(&rt, name, given) {
-        Some(told) => told.text(),
+    let text = match run_trial(&rt, name, given) {
+        Some(result) => result.text(),
         None => "there is no such call",
     };
     println!(rt; "{text}")?;
@@ -29,29 +29,29 @@ fn main(rt: HostRuntime) -> io::Result<()> {
 }
 
 /// Tries the call of this name, with what is given for it.
-fn told(rt: &HostRuntime, name: &str, given: &str) -> Option<TrialResult> {
-    if let Some(told) = of_pods(rt, name) {
-        return Some(told);
+fn run_trial(rt: &HostRuntime, name: &str, given: &str) -> Option<TrialResult> {
+    if let Some(result) = of_pods(rt, name) {
+        return Some(result);
     }
-    if let Some(told) = nodes::told(rt, name, given) {
-        return Some(told);
+    if let Some(result) = nodes::run_trial(rt, name, given) {
+        return Some(result);
     }
-    if let Some(told) = books::told(rt, name, given) {
-        return Some(told);
+    if let Some(result) = books::run_trial(rt, name, given) {
+        return Some(result);
     }
-    worlds::told(rt, name, given)
+    worlds::run_trial(rt, name, given)
 }
 
 /// Tries a call of what an agent shows of its pods, of their past runs, or of its folder of manifests.
 fn of_pods(rt: &HostRuntime, name: &str) -> Option<TrialResult> {
-    if let Some(told) = watching::told(rt, name) {
-        return Some(told);
+    if let Some(result) = watching::run_trial(rt, name) {
+        return Some(result);
     }
-    if let Some(told) = waiting::told(rt, name) {
-        return Some(told);
+    if let Some(result) = waiting::run_trial(rt, name) {
+        return Some(result);
     }
-    if let Some(told) = runs::told(rt, name) {
-        return Some(told);
+    if let Some(result) = runs::run_trial(rt, name) {
+        return Some(result);
     }
-    folders::told(rt, name)
+    folders::run_trial(rt, name)
 }

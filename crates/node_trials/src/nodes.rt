@@ -5,17 +5,17 @@ use lifecycle::{PastRun, Phase, RestartPolicy, Track, may_restart, phase, ready_
 use manifest::{Pod, Uid};
 use profile_pick::{Choice, pick};
 use std::alloc::Global;
-use trials::{Came, Trial, TrialResult, tried};
+use trials::{CallResult, Trial, TrialResult, try_call};
 use worker_core::{AgentEvent, Answer, Node, Reported};
 use worker_pod::{PodView, Settings};
 
 /// Tries an event of this name, which the node takes, or whose answer it predicts.
-pub(crate) fn told(rt: &HostRuntime, name: &str, event: &str) -> Option<TrialResult> {
+pub(crate) fn run_trial(rt: &HostRuntime, name: &str, event: &str) -> Option<TrialResult> {
     let alloc = rt.alloc();
     match name {
-        "apply" => Some(tried(rt, Applies::new(alloc, event))),
-        "answer" => Some(tried(rt, Foretells::new(alloc, event))),
-        "Node::pod" => Some(tried(rt, Shows::new(alloc))),
+        "apply" => Some(try_call(rt, Applies::new(alloc, event))),
+        "answer" => Some(try_call(rt, Foretells::new(alloc, event))),
+        "Node::pod" => Some(try_call(rt, Shows::new(alloc))),
         _ => None,
     }
 }
@@ -157,11 +157,11 @@ impl Foreseen {
     }
 
     /// The result of the event, if this was the answer and this is the node.
-    pub(crate) fn came(&self, answer: &Answer, node: &Node) -> Came {
+    pub(crate) fn check(&self, answer: &Answer, node: &Node) -> CallResult {
         if answer.is_memory() {
-            return Came::Memory;
+            return CallResult::Memory;
         }
-        Came::right_if(answer.same(&self.wanted) && same_node(node, &self.after))
+        CallResult::right_if(answer.same(&self.wanted) && same_node(node, &self.after))
     }
 }
 
@@ -187,10 +187,10 @@ impl Trial for Applies {
         Some(self.node.apply(self.foreseen.events.pop()?))
     }
 
-    fn came(&mut self, answer: &Option<Answer>) -> Came {
+    fn check(&mut self, answer: &Option<Answer>) -> CallResult {
         match answer {
-            Some(answer) => self.foreseen.came(answer, &self.node),
-            None => Came::Wrong,
+            Some(answer) => self.foreseen.check(answer, &self.node),
+            None => CallResult::Wrong,
         }
     }
 
@@ -226,11 +226,11 @@ impl Trial for Foretells {
         self.node.answer(&self.event)
     }
 
-    fn came(&mut self, answer: &Answer) -> Came {
+    fn check(&mut self, answer: &Answer) -> CallResult {
         if answer.is_memory() {
-            return Came::Memory;
+            return CallResult::Memory;
         }
-        Came::right_if(answer.same(&self.wanted))
+        CallResult::right_if(answer.same(&self.wanted))
     }
 }
 
@@ -295,7 +295,7 @@ impl Trial for Shows {
             && self.node.next_due() == Some(0)
     }
 
-    fn came(&mut self, answer: &bool) -> Came {
-        Came::right_if(*answer)
+    fn check(&mut self, answer: &bool) -> CallResult {
+        CallResult::right_if(*answer)
     }
 }

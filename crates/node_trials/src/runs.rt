@@ -1,11 +1,11 @@
 //! Runs of a container that ended.
 use lifecycle::{PastRun, Runs};
-use trials::{Came, Trial, TrialResult, tried};
+use trials::{CallResult, Trial, TrialResult, try_call};
 
 /// Tries the call of this name, if it is one of this module's.
-pub(crate) fn told(rt: &HostRuntime, name: &str) -> Option<TrialResult> {
+pub(crate) fn run_trial(rt: &HostRuntime, name: &str) -> Option<TrialResult> {
     match name {
-        "Runs::push" => Some(tried(rt, Some(Pushes { runs: Runs::new() }))),
+        "Runs::push" => Some(try_call(rt, Some(Pushes { runs: Runs::new() }))),
         _ => None,
     }
 }
@@ -44,12 +44,12 @@ impl Trial for Pushes {
         true
     }
 
-    fn came(&mut self, answer: &bool) -> Came {
+    fn check(&mut self, answer: &bool) -> CallResult {
         let Some(last) = self.runs.last() else {
-            return Came::Wrong;
+            return CallResult::Wrong;
         };
         let is_last = same_run(last, &PastRun::new(999_999, 1, 1_000_000));
         let is_all = self.runs.count() == 1_000_000 && self.runs.ready_at() == 1_000_300;
-        Came::right_if(*answer && is_last && is_all)
+        CallResult::right_if(*answer && is_last && is_all)
     }
 }

@@ -4,15 +4,15 @@ use cri_msgs::Call;
 use manifest::Uid;
 use node_watch::{Form, PodWaits, Reasons, Trouble, WaitReason, wait_changes};
 use std::alloc::{AllocError, Global};
-use trials::{Came, Trial, TrialResult, tried};
+use trials::{CallResult, Trial, TrialResult, try_call};
 use worker_core::Node;
 
 /// Tries the call of this name, if it is one of this module's.
-pub(crate) fn told(rt: &HostRuntime, name: &str) -> Option<TrialResult> {
+pub(crate) fn run_trial(rt: &HostRuntime, name: &str) -> Option<TrialResult> {
     let alloc = rt.alloc();
     match name {
-        "PodWaits::of" => Some(tried(rt, Waits::new(alloc))),
-        "wait_changes" => Some(tried(rt, Tells::new(alloc))),
+        "PodWaits::of" => Some(try_call(rt, Waits::new(alloc))),
+        "wait_changes" => Some(try_call(rt, Tells::new(alloc))),
         _ => None,
     }
 }
@@ -66,11 +66,11 @@ impl Trial for Waits {
         Some(PodWaits::of(self.alloc, self.node.pod(0)?, &self.reasons, 9))
     }
 
-    fn came(&mut self, answer: &Option<Result<PodWaits, AllocError>>) -> Came {
+    fn check(&mut self, answer: &Option<Result<PodWaits, AllocError>>) -> CallResult {
         match answer {
-            Some(Ok(waits)) => Came::right_if(is_lost_list(waits)),
-            Some(Err(AllocError)) => Came::Memory,
-            None => Came::Wrong,
+            Some(Ok(waits)) => CallResult::right_if(is_lost_list(waits)),
+            Some(Err(AllocError)) => CallResult::Memory,
+            None => CallResult::Wrong,
         }
     }
 }
@@ -98,13 +98,13 @@ impl Trial for Tells {
         wait_changes(self.alloc, Form::Json, 12, None, &self.waits)
     }
 
-    fn came(&mut self, answer: &Result<String, AllocError>) -> Came {
+    fn check(&mut self, answer: &Result<String, AllocError>) -> CallResult {
         let wanted =
             "{\"moment\":12,\"pod\":\"default.a\",\"container\":\"main\",\"waits\":\"ListContainers \
             lost, once since 5 s\"}\n";
         match answer {
-            Ok(text) => Came::right_if(text.as_str() == wanted),
-            Err(AllocError) => Came::Memory,
+            Ok(text) => CallResult::right_if(text.as_str() == wanted),
+            Err(AllocError) => CallResult::Memory,
         }
     }
 }

@@ -6,20 +6,20 @@ use lifecycle::{ContainerState, Phase};
 use manifest::{Label, Uid};
 use node_watch::{Counts, Form, PodSeen, Reasons, Trouble, gone_line, pod_changes};
 use std::alloc::{AllocError, Global};
-use trials::{Came, Trial, TrialResult, tried};
+use trials::{CallResult, Trial, TrialResult, try_call};
 use worker_core::Node;
 
 /// Tries the call of this name, if it is one of this module's.
-pub(crate) fn told(rt: &HostRuntime, name: &str) -> Option<TrialResult> {
+pub(crate) fn run_trial(rt: &HostRuntime, name: &str) -> Option<TrialResult> {
     let alloc = rt.alloc();
     match name {
-        "Reasons::note" => Some(tried(rt, Notes::new(alloc, Some(TROUBLE)))),
-        "Reasons::note in no trouble" => Some(tried(rt, Notes::new(alloc, None))),
-        "Counts::note" => Some(tried(rt, Counting::new(alloc))),
-        "Causes::note" => Some(tried(rt, Giving::new(alloc))),
-        "PodSeen::of" => Some(tried(rt, Sees::new(alloc))),
-        "pod_changes" => Some(tried(rt, Changes::new(alloc))),
-        "gone_line" => Some(tried(rt, Goes::new(alloc))),
+        "Reasons::note" => Some(try_call(rt, Notes::new(alloc, Some(TROUBLE)))),
+        "Reasons::note in no trouble" => Some(try_call(rt, Notes::new(alloc, None))),
+        "Counts::note" => Some(try_call(rt, Counting::new(alloc))),
+        "Causes::note" => Some(try_call(rt, Giving::new(alloc))),
+        "PodSeen::of" => Some(try_call(rt, Sees::new(alloc))),
+        "pod_changes" => Some(try_call(rt, Changes::new(alloc))),
+        "gone_line" => Some(try_call(rt, Goes::new(alloc))),
         _ => None,
     }
 }
@@ -83,13 +83,13 @@ impl Trial for Notes {
         self.reasons.note(9, &self.call, self.trouble, None)
     }
 
-    fn came(&mut self, answer: &Result<(), AllocError>) -> Came {
+    fn check(&mut self, answer: &Result<(), AllocError>) -> CallResult {
         let wanted = self.trouble.map(|_| (9, false));
         match answer {
-            Ok(()) => Came::right_if(
+            Ok(()) => CallResult::right_if(
                 self.since("a") == wanted && self.since("b") == Some((3, true)),
             ),
-            Err(AllocError) => Came::Memory,
+            Err(AllocError) => CallResult::Memory,
         }
     }
 
@@ -143,11 +143,11 @@ impl Trial for Sees {
         Some(PodSeen::of(self.alloc, self.node.pod(0)?, &self.counts))
     }
 
-    fn came(&mut self, answer: &Option<Result<PodSeen, AllocError>>) -> Came {
+    fn check(&mut self, answer: &Option<Result<PodSeen, AllocError>>) -> CallResult {
         match answer {
-            Some(Ok(seen)) => Came::right_if(is_running(seen)),
-            Some(Err(AllocError)) => Came::Memory,
-            None => Came::Wrong,
+            Some(Ok(seen)) => CallResult::right_if(is_running(seen)),
+            Some(Err(AllocError)) => CallResult::Memory,
+            None => CallResult::Wrong,
         }
     }
 }
@@ -166,10 +166,10 @@ impl Changes {
     }
 }
 
-fn came_to(answer: &Result<String, AllocError>, wanted: &str) -> Came {
+fn compare_text(answer: &Result<String, AllocError>, wanted: &str) -> CallResult {
     match answer {
-        Ok(text) => Came::right_if(text.as_str() == wanted),
-        Err(AllocError) => Came::Memory,
+        Ok(text) => CallResult::right_if(text.as_str() == wanted),
+        Err(AllocError) => CallResult::Memory,
     }
 }
 
@@ -180,8 +180,8 @@ impl Trial for Changes {
         pod_changes(self.alloc, Form::Text, 12, None, &self.seen)
     }
 
-    fn came(&mut self, answer: &Result<String, AllocError>) -> Came {
-        came_to(
+    fn check(&mut self, answer: &Result<String, AllocError>) -> CallResult {
+        compare_text(
             answer,
             "12 default.a Running\n12 default.a main Running - 0\n",
         )
@@ -209,7 +209,7 @@ impl Trial for Goes {
         gone_line(self.alloc, Form::Text, 12, &self.uid)
     }
 
-    fn came(&mut self, answer: &Result<String, AllocError>) -> Came {
-        came_to(answer, "12 default.a Deleted\n")
+    fn check(&mut self, answer: &Result<String, AllocError>) -> CallResult {
+        compare_text(answer, "12 default.a Deleted\n")
     }
 }

@@ -4,14 +4,14 @@ use manifest::Uid;
 use runtime_cell::Cell;
 use runtime_core::Runtime;
 use std::alloc::Global;
-use trials::{Came, Trial, TrialResult, files, tried};
+use trials::{CallResult, Trial, TrialResult, files, try_call};
 use world::{Act, World, WorldEvent, WorldFault};
 
 /// Tries the step by an event of this name.
-pub(crate) fn told(rt: &HostRuntime, name: &str, event: &str) -> Option<TrialResult> {
+pub(crate) fn run_trial(rt: &HostRuntime, name: &str, event: &str) -> Option<TrialResult> {
     match name {
-        "World::step" => Some(tried(rt, Steps::new(rt.alloc(), event))),
-        "World::new" => Some(tried(rt, Some(Begins { alloc: rt.alloc() }))),
+        "World::step" => Some(try_call(rt, Steps::new(rt.alloc(), event))),
+        "World::new" => Some(try_call(rt, Some(Begins { alloc: rt.alloc() }))),
         _ => None,
     }
 }
@@ -124,20 +124,20 @@ impl Trial for Steps {
 
     // A refusal by the node or by the runtime is an answer, and the world goes on: the event had no effect,
     // except for the reply that reports the refusal.
-    fn came(&mut self, answer: &Option<Result<(), WorldFault>>) -> Came {
+    fn check(&mut self, answer: &Option<Result<(), WorldFault>>) -> CallResult {
         match answer {
             Some(Ok(())) => {
                 if same_world(&self.world, &self.after) && same_reply(&self.world, &self.after) {
-                    return Came::Right;
+                    return CallResult::Right;
                 }
                 if same_world(&self.world, &self.before) {
-                    Came::Memory
+                    CallResult::Memory
                 } else {
-                    Came::Wrong
+                    CallResult::Wrong
                 }
             }
-            Some(Err(WorldFault::Memory)) => Came::Memory,
-            _ => Came::Wrong,
+            Some(Err(WorldFault::Memory)) => CallResult::Memory,
+            _ => CallResult::Wrong,
         }
     }
 
@@ -160,7 +160,7 @@ impl Trial for Begins {
         world.node().held() == 0 && world.runtime().next_id(0).is_none()
     }
 
-    fn came(&mut self, answer: &bool) -> Came {
-        Came::right_if(*answer)
+    fn check(&mut self, answer: &bool) -> CallResult {
+        CallResult::right_if(*answer)
     }
 }

@@ -6,4 +6,4 @@ mod samples;
 mod trial;
 
 pub use samples::{PROFILE, SCRIPT, files};
-pub use trial::{Came, Trial, TrialResult, tried};
+pub use trial::{CallResult, Trial, TrialResult, try_call};

@@ -1,9 +1,9 @@
 //! Trying a call whose allocations can be refused.
 use std::io::{self, Write};
 
-/// The result of a call.
+/// What the answer of a call is.
 #[derive(Clone, Copy, PartialEq, Eq)]
-pub enum Came {
+pub enum CallResult {
     /// The answer that a first call with enough memory returns.
     Right,
     /// Out of memory.
@@ -12,10 +12,14 @@ pub enum Came {
     Wrong,
 }
 
-impl Came {
+impl CallResult {
     /// Right, if this holds.
-    pub fn right_if(holds: bool) -> Came {
-        if holds { Came::Right } else { Came::Wrong }
+    pub fn right_if(holds: bool) -> CallResult {
+        if holds {
+            CallResult::Right
+        } else {
+            CallResult::Wrong
+        }
     }
 }
 
@@ -27,8 +31,8 @@ pub trait Trial {
     /// Makes the call, and allocates nothing besides. There are at most two calls.
     fn call(&mut self) -> Self::Answer;
 
-    /// The result of the call.
-    fn came(&mut self, answer: &Self::Answer) -> Came;
+    /// Compares the answer with the wanted one.
+    fn check(&mut self, answer: &Self::Answer) -> CallResult;
 
     /// Whether the state is as it was before the call. A call that has none changes nothing.
     fn is_unchanged(&mut self) -> bool {
@@ -50,7 +54,7 @@ pub enum TrialResult {
     /// Out of memory, after which something had changed.
     Changed,
     /// Out of memory, after which nothing had changed, and the result of the same call then.
-    Refused(Came),
+    Refused(CallResult),
 }
 
 impl TrialResult {
@@ -62,41 +66,41 @@ impl TrialResult {
             TrialResult::Right => "right",
             TrialResult::Wrong => "wrong",
             TrialResult::Changed => "Memory, and something changed",
-            TrialResult::Refused(Came::Right) => "Memory, nothing changed, then right",
-            TrialResult::Refused(Came::Wrong) => "Memory, nothing changed, then wrong",
-            TrialResult::Refused(Came::Memory) => "Memory, nothing changed, then Memory",
+            TrialResult::Refused(CallResult::Right) => "Memory, nothing changed, then right",
+            TrialResult::Refused(CallResult::Wrong) => "Memory, nothing changed, then wrong",
+            TrialResult::Refused(CallResult::Memory) => "Memory, nothing changed, then Memory",
         }
     }
 }
 
 /// Makes the call between the two lines that delimit where allocations are counted and refused, and returns
 /// the result. After a refusal the same call is made once more.
-pub fn tried<T: Trial + Drop>(rt: &HostRuntime, trial: Option<T>) -> TrialResult {
+pub fn try_call<T: Trial + Drop>(rt: &HostRuntime, trial: Option<T>) -> TrialResult {
     let Some(mut trial) = trial else {
         return TrialResult::NotSetUp;
     };
-    let begun = tell(rt, "call begins\n");
+    let begun = mark(rt, "call begins\n");
     let answer = trial.call();
-    let ended = tell(rt, "call ended\n");
+    let ended = mark(rt, "call ended\n");
     if begun.is_err() || ended.is_err() {
         return TrialResult::Unmarked;
     }
-    match trial.came(&answer) {
-        Came::Right => TrialResult::Right,
-        Came::Wrong => TrialResult::Wrong,
-        Came::Memory => behind(&mut trial),
+    match trial.check(&answer) {
+        CallResult::Right => TrialResult::Right,
+        CallResult::Wrong => TrialResult::Wrong,
+        CallResult::Memory => retry(&mut trial),
     }
 }
 
 /// The result after a refusal.
-fn behind<T: Trial>(trial: &mut T) -> TrialResult {
+fn retry<T: Trial>(trial: &mut T) -> TrialResult {
     if !trial.is_unchanged() {
         return TrialResult::Changed;
     }
     let answer = trial.call();
-    TrialResult::Refused(trial.came(&answer))
+    TrialResult::Refused(trial.check(&answer))
 }
 
-fn tell(rt: &HostRuntime, line: &str) -> io::Result<()> {
+fn mark(rt: &HostRuntime, line: &str) -> io::Result<()> {
     rt.stderr().write_all(line.as_bytes())
 }

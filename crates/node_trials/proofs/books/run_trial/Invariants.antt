@@ -1,4 +1,4 @@
-use Rattle.node_trials.proofs.books.told.Given as goal
+use Rattle.node_trials.proofs.books.run_trial.Given as goal
 
 abbrev pub ghosts-recorded : goal.ghosts-recorded
 ghosts-recorded a = record { name = a.blank.name; parts = a.blank.parts }
