@@ -18,7 +18,7 @@ make demo     compiles a profile, judges calls with its filter, plays scripts, s
 make try      installs the programs, their manual pages and completions to PREFIX (/usr/local), compiled with
               checks at run time in place of proofs; their --version says unproved. One and a half to eight minutes
 make install  proves the programs and the library for C, and installs them with pages and completions to PREFIX
-              (/usr/local). Two to three hours of one core; make copy installs what is already built, and
+              (/usr/local). Two hours or more on four cores; make copy installs what is already built, and
               make uninstall removes it. At once
 make lib      builds the library for C and its header, proved, in out/c. Half an hour of one core
 make bench    measures the machine and the compiler beside others, the runtime with few and many uids, calls over
